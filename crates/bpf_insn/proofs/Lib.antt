@@ -1,0 +1,5 @@
+pub mod Cuts
+pub mod Words
+pub mod Listings
+pub mod Digits
+pub mod Pieces

@@ -1,0 +1,5 @@
+pub mod Forms
+pub mod Bytes
+pub mod Text
+pub mod Listing
+pub mod Stretches

@@ -1,0 +1,5 @@
+pub mod Words
+pub mod Effects
+pub mod Paths
+pub mod Reached
+pub mod Once

@@ -1,0 +1,13 @@
+//! The filter machine: runs a verified program on a view of a frame (bpf(4), "FILTER MACHINE").
+#![tactic(auto)]
+
+mod laws;
+mod machine;
+mod progress;
+mod state;
+
+pub use laws::runs_once;
+pub use machine::{MAX_VIEW, Outcome, run};
+
+#[cfg(test)]
+mod tests;

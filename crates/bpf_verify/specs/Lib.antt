@@ -1,0 +1,4 @@
+pub mod ControlFlow
+pub mod Validity
+pub mod Refusals
+pub mod ByForm

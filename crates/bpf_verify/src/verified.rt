@@ -1,0 +1,51 @@
+ghost use Rattle.std.specs.Prelude.{◌≡◌, ◌<◌, ◌≤◌, length};
+ghost use Rattle.bpf_verify.specs.Validity.{Valid};
+
+use bpf_insn::{Insn, MAX_INSNS};
+use std::marker::Model;
+
+/// A valid program: whoever holds one may run it on every frame.
+#[derive(Debug, Drop)]
+pub struct Verified {
+    insns: Vec<Insn>,
+}
+
+impl Model for Verified {
+    ghost use Rattle.std.specs.Prelude.{List};
+    ghost use Rattle.bpf_insn.specs.declared.insn.Insn.{Insn};
+    ghost use Rattle.bpf_verify.specs.Validity.{Valid};
+
+    ghost Value = { List Insn };
+
+    ghost view = { λ v. v.insns.items };
+
+    ghost invariant = { λ v. Valid v.insns.items };
+}
+
+impl Verified {
+    /// A program that was found valid.
+    pub(crate) fn new(insns: Vec<Insn>) -> Verified
+        requires { Valid insns.items }
+        ensures program { result ≡ insns.items }
+    {
+        Verified { insns }
+    }
+
+    /// The program's instructions.
+    pub fn insns(&self) -> &[Insn]
+        ensures program { result.now ≡ self.now }
+        ensures valid { Valid self.now }
+    {
+        self.insns.as_slice()
+    }
+
+    /// How many instructions the program has: from 1 to [`bpf_insn::MAX_INSNS`].
+    #[allow(clippy::len_without_is_empty)]
+    pub fn len(&self) -> usize
+        ensures length { result ≡ length self.now }
+        ensures some { 0 < result }
+        ensures fits { result ≤ MAX_INSNS }
+    {
+        self.insns.len()
+    }
+}

@@ -1,0 +1,116 @@
+ghost use Rattle.std.specs.Prelude.{ℕ, ◌≡◌, ◌+◌, ◌<◌, ◌≤◌, ◌⊎◌, ◌↔◌, length, Some, slice_get, MatchOption, IfNone, IfOk, IfErr, IsTrue};
+ghost use Rattle.bpf_insn.specs.Forms.{form};
+ghost use Rattle.bpf_verify.specs.Validity.{Valid, FormDividesByZero, EndsWithReturn};
+ghost use Rattle.bpf_verify.specs.ByForm.{FormUsesScratch, FormJumpsOut};
+ghost use Rattle.bpf_verify.specs.Refusals.{Refuses, HasLength, NoneBreaksBelow, UsesScratch};
+
+use super::fault::{Refused, VerifyFault};
+use super::verified::Verified;
+use bpf_insn::{Form, Insn, MAX_INSNS, Op, Src, form_of};
+
+/// Takes a valid program, and refuses any other with its first fault: its length, then the least
+/// place at which an instruction breaks a condition, then the missing return at its end.
+pub fn verify(program: Vec<Insn>) -> Result<Verified, Refused>
+    ensures accepted { IfOk result (λ v. v ≡ program.items) }
+    ensures valid { IfOk result (λ v. Valid v) }
+    ensures no_scratch { IfOk result (λ v. (at : ℕ) → UsesScratch v at → ⊥) }
+    ensures back { IfErr result (λ r. r.program ≡ program) }
+    ensures refused { IfErr result (λ r. Refuses program.items r.fault) }
+{
+    match fault_of(program.as_slice()) {
+        Some(fault) => Err(Refused { program, fault }),
+        None => Ok(Verified::new(program)),
+    }
+}
+
+/// The first fault of a program.
+fn fault_of(insns: &[Insn]) -> Option<VerifyFault>
+    ensures fault { MatchOption result (Valid insns.now) (λ fault. Refuses insns.now fault) }
+    ensures no_scratch { IfNone result ((at : ℕ) → UsesScratch insns.now at → ⊥) }
+{
+    if insns.is_empty() {
+        return Some(VerifyFault::Empty);
+    }
+    if insns.len() > MAX_INSNS {
+        return Some(VerifyFault::TooLong);
+    }
+    if let Some(fault) = first_break(insns) {
+        return Some(fault);
+    }
+    if !ends_with_return(insns) {
+        return Some(VerifyFault::NoReturn);
+    }
+    None
+}
+
+/// The first instruction that breaks a condition of its own.
+fn first_break(insns: &[Insn]) -> Option<VerifyFault>
+    requires { HasLength insns.now }
+    ensures { MatchOption result (NoneBreaksBelow insns.now (length insns.now)) (λ fault. Refuses insns.now fault) }
+{
+    'places: for at in 0..insns.len() {
+        if let Some(fault) = break_at(insns, at, insns[at]) {
+            return Some(fault);
+        }
+    }
+    None
+}
+
+/// The condition of its own that the instruction at a place breaks.
+fn break_at(insns: &[Insn], at: usize, insn: Insn) -> Option<VerifyFault>
+    requires length { HasLength insns.now }
+    requires insn { slice_get insns.now at ≡ Some insn }
+    requires place { at < length insns.now }
+    requires below { NoneBreaksBelow insns.now at }
+    ensures { MatchOption result (NoneBreaksBelow insns.now (at + 1)) (λ fault. Refuses insns.now fault) }
+{
+    let place = at as u16;
+    let Some(form) = form_of(insn) else {
+        return Some(VerifyFault::BadOpcode(place));
+    };
+    if uses_scratch(form) {
+        Some(VerifyFault::BadOpcode(place))
+    } else if divides_by_zero(form, insn) {
+        Some(VerifyFault::ZeroDivisor(place))
+    } else if jumps_out(form, insn, at, insns.len()) {
+        Some(VerifyFault::JumpOut(place))
+    } else {
+        None
+    }
+}
+
+/// Whether an instruction of this form reads or writes a scratch word.
+fn uses_scratch(form: Form) -> bool
+    ensures { IsTrue result ↔ FormUsesScratch form }
+{
+    matches!(form, Form::LdMem | Form::LdxMem | Form::St | Form::Stx)
+}
+
+/// Whether an instruction divides by the constant 0.
+fn divides_by_zero(form: Form, insn: Insn) -> bool
+    ensures { IsTrue result ↔ FormDividesByZero (Some form) insn }
+{
+    matches!(form, Form::Alu(Op::Div | Op::Mod, Src::K)) && insn.k == 0
+}
+
+/// Whether an instruction at this place has a target at or past a program's end.
+fn jumps_out(form: Form, insn: Insn, at: usize, len: usize) -> bool
+    requires { at < len }
+    ensures { IsTrue result ↔ FormJumpsOut form insn at len }
+{
+    let room = len - at - 1;
+    match form {
+        Form::Ja => insn.k as usize >= room,
+        Form::Test(_, _) => usize::from(insn.jt) >= room || usize::from(insn.jf) >= room,
+        _ => false,
+    }
+}
+
+/// Whether the last instruction returns.
+fn ends_with_return(insns: &[Insn]) -> bool
+    requires { 0 < length insns.now }
+    ensures { IsTrue result ↔ EndsWithReturn insns.now }
+{
+    let last = insns[insns.len() - 1];
+    matches!(form_of(last), Some(Form::RetK | Form::RetA))
+}

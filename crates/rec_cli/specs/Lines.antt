@@ -1,0 +1,35 @@
+-- The input of a run without words, and its answer.
+use Rattle.std.specs.Prelude.{ℕ, ◌≡◌, ◌==◌, if◌then◌else◌, List, [], ◌∷◌, ◌++◌, Ok, Option}
+use Rattle.std.specs.List.{before_first, after_first}
+use Rattle.std.specs.Fmt.{decimal}
+use Rattle.std.specs.Io.KnownBytes.{Appends}
+use Rattle.hex.specs.Hex.{decode_of}
+use Rattle.bpf_insn.specs.declared.insn.Insn.{Insn}
+use Rattle.bpf_insn.specs.Listing.{listing}
+use Rattle.bpf_verify.specs.Validity.{Valid}
+use Rattle.bpf_machine.specs.Machine.{Runs}
+
+-- a line without a carriage return at its end
+abbrev pub without_return : List ℕ → List ℕ
+without_return [] = []
+without_return (b ∷ []) = if b == 13 then [] else b ∷ []
+without_return (b ∷ c ∷ line) = b ∷ without_return (c ∷ line)
+
+-- the first line of an input
+abbrev pub first_line : List ℕ → List ℕ
+first_line input = without_return (before_first (λ b. b == 10) input)
+
+-- its second line; empty where it is missing
+abbrev pub second_line : List ℕ → List ℕ
+second_line input = without_return (before_first (λ b. b == 10) (after_first (λ b. b == 10) input))
+
+-- the program that this listing lists is valid, and on the view that these hexadecimal digits write it returns the value in so many steps
+abbrev pub RunsOn : List ℕ → List ℕ → ℕ → ℕ → Type 0
+RunsOn listing_text view_text steps value =
+    (p : List Insn) × (view : List ℕ) × (listing listing_text ≡ Ok p) × (decode_of view_text ≡ Ok view) × Valid p × Runs p view steps value
+
+-- the output took the value and the steps of the program of the first line on the view of the second, a space between them and a line feed after them
+abbrev pub AnswersLines : List ℕ → Option (List ℕ) → Option (List ℕ) → Type 0
+AnswersLines input before after =
+    (steps : ℕ) × (value : ℕ) × RunsOn (first_line input) (second_line input) steps value
+    × Appends before after (decimal value ++ (32 ∷ []) ++ decimal steps ++ (10 ∷ []))

@@ -1,0 +1,77 @@
+ghost use Rattle.std.specs.Prelude.{◌≡◌, ◌==◌, ◌∷◌, [], ◌++◌, OnOk, IfOk, IfSome, string_bytes};
+ghost use Rattle.std.specs.List.{before_first, after_first};
+ghost use Rattle.std.specs.Fmt.{decimal};
+ghost use Rattle.std.specs.Io.KnownBytes.{Appends};
+ghost use Rattle.rec_cli.specs.Lines.{AnswersLines, RunsOn, without_return};
+
+use super::ending::Ending;
+use super::view::view_of;
+use bpf_insn::parse_listing;
+use bpf_machine::{Outcome, run};
+use bpf_verify::verify;
+use std::alloc::Global;
+use std::io;
+use std::io::{ErrorKind, Read, Write};
+
+/// Reads a listing and a view in hexadecimal, a line each, and prints `<value> <steps>`.
+pub(crate) fn answer_lines<I: Read, O: Write>(
+    alloc: Global,
+    input: &mut I,
+    output: &mut O,
+) -> Result<(), Ending>
+    ensures { OnOk result (IfSome (I.remaining input.old) (λ bytes. AnswersLines bytes (O.contents output.old) (O.contents output.new))) }
+{
+    let text = whole_text(alloc, input)?;
+    let (listing, rest) = cut_line(text.as_str());
+    let (view, _) = cut_line(rest);
+    let outcome = outcome_of(alloc, listing, view)?;
+    match print_outcome(output, outcome) {
+        Ok(()) => Ok(()),
+        Err(_) => Err(Ending::Stream),
+    }
+}
+
+/// What the listed program returns on the view.
+fn outcome_of(alloc: Global, listing: &str, view: &str) -> Result<Outcome, Ending>
+    ensures { IfOk result (λ outcome. RunsOn listing.now view.now outcome.steps outcome.value) }
+{
+    let program = verify(parse_listing(alloc, listing)?)?;
+    let view = view_of(alloc, view)?;
+    Ok(run(&program, view.as_slice()))
+}
+
+fn print_outcome<O: Write>(output: &mut O, outcome: Outcome) -> io::Result<()>
+    ensures { OnOk result (Appends (O.contents output.old) (O.contents output.new) (decimal outcome.value ++ (32 ∷ []) ++ decimal outcome.steps ++ (10 ∷ []))) }
+{
+    let Outcome { value, steps } = outcome;
+    writeln!(output, "{value} {steps}")?;
+    output.flush()
+}
+
+/// The whole input, as text.
+fn whole_text<I: Read>(alloc: Global, input: &mut I) -> Result<String, Ending>
+    ensures { IfOk result (λ text. IfSome (I.remaining input.old) (λ bytes. string_bytes text ≡ bytes)) }
+{
+    let mut text = String::new(alloc);
+    match input.read_to_string(&mut text) {
+        Ok(_) => Ok(text),
+        Err(error) if error.kind() == ErrorKind::OutOfMemory => Err(Ending::Memory),
+        Err(_) => Err(Ending::Stream),
+    }
+}
+
+/// The first line, without a carriage return at its end, and what follows its line feed.
+fn cut_line(text: &str) -> (&str, &str)
+    ensures line { result.0.now ≡ without_return (before_first (λ b. b == 10) text.now) }
+    ensures rest { result.1.now ≡ after_first (λ b. b == 10) text.now }
+{
+    let (line, rest) = text.split_once('\n').unwrap_or((text, ""));
+    (stripped(line), rest)
+}
+
+/// A line without a carriage return at its end.
+fn stripped(line: &str) -> &str
+    ensures { result.now ≡ without_return line.now }
+{
+    line.strip_suffix('\r').unwrap_or(line)
+}
