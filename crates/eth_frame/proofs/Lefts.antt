@@ -1,0 +1,86 @@
+-- What a source over a feed has left, before and after it took a record.
+use Rattle.std.proofs.Common.{◌≡◌, ℕ, zero, suc, ◌+◌, ◌-◌, ◌<◌, ◌⊎◌, inl, inr, List, [], ◌∷◌, length, drop, Option, None, Some, Result, Ok, Err, IfSome, IfErr, refl, sym, ap, subst, ◌∙◌, arith, lit<}
+use Rattle.eth_frame.specs.declared.limits.TheConstants.{HEAD_LEN}
+use Rattle.eth_frame.specs.declared.source.Next.{Next}
+use Rattle.eth_frame.specs.declared.source.Next.TheVariants as next
+use Rattle.eth_frame.specs.declared.source.SourceFault.{SourceFault}
+use Rattle.eth_frame.specs.declared.source.SourceFault.TheVariants.{Device}
+use Rattle.eth_frame.specs.declared.source.SourceEnding.{SourceEnding}
+use Rattle.eth_frame.specs.declared.source.SourceEnding.TheVariants.{End, Fault}
+use Rattle.eth_frame.specs.Frame.{FrameData}
+use Rattle.eth_frame.specs.Source.{only, with_first, ending_of, GivesFirst, GivesEnding, Fails}
+use Rattle.eth_frame.specs.Record.{record_at}
+use Rattle.eth_frame.specs.Feed.{left_from, left_of_feed, after_record, left_of_source, failures_before}
+use Rattle.eth_frame.specs.Taking.{TakesRecord}
+use Rattle.eth_frame.proofs.Records.{record_at-nil}
+
+-- to pass over bytes is to drop them
+pub left_from-drop : (n : ℕ) (bytes : List ℕ) → left_from n bytes ≡ left_of_feed (drop n bytes)
+unfolding left_from
+left_from-drop zero bytes = refl
+left_from-drop (suc n) [] = refl
+left_from-drop (suc n) (b ∷ bs) = left_from-drop n bs
+
+-- the bytes begin with a record
+pub left_of_feed-frame : (bytes : List ℕ) (frame : FrameData) → record_at bytes ≡ Ok frame → left_of_feed bytes ≡ with_first frame (left_of_feed (drop (HEAD_LEN + length frame.bytes) bytes))
+unfolding left_from
+left_of_feed-frame [] frame e = absurd (let nil = record_at-nil in cc)
+left_of_feed-frame (b ∷ bs) frame e =
+    let skipped = (length frame.bytes + HEAD_LEN) - 1 in
+    let size : HEAD_LEN + length frame.bytes ≡ suc skipped = omega arith in
+    ap (λ (r : Result FrameData SourceEnding). after_record r (λ n. left_from (n - 1) bs)) e ∙ ap (with_first frame) (left_from-drop skipped bs ∙ ap (λ n. left_of_feed (drop n (b ∷ bs))) (sym size))
+
+-- the bytes begin with no record
+pub left_of_feed-ending : (bytes : List ℕ) (ending : SourceEnding) → record_at bytes ≡ Err ending → left_of_feed bytes ≡ only ending
+unfolding left_from
+left_of_feed-ending [] ending e = let nil = record_at-nil in let same : End ≡ ending = cc in ap only same
+left_of_feed-ending (b ∷ bs) ending e = ap (λ (r : Result FrameData SourceEnding). after_record r (λ n. left_from (n - 1) bs)) e
+
+-- a frame was taken
+pub GivesFirst-taken : (ended now : Option SourceEnding) (a c : Option (List ℕ)) (result : Result Next SourceFault) (held : Option FrameData) → ended ≡ None → now ≡ ending_of result → result ≡ Ok next.Frame
+    → IfSome a (λ bytes. TakesRecord bytes result held c) → GivesFirst (left_of_source ended a) held (left_of_source now c)
+GivesFirst-taken (Some ending) now a c result held e n r took = absurd cc
+GivesFirst-taken None now None c result held e n r took = tt
+GivesFirst-taken None now (Some x) c (Err fault) held e n r took = absurd cc
+GivesFirst-taken None now (Some x) c (Ok next.End) held e n r took = absurd cc
+GivesFirst-taken None now (Some x) c (Ok next.Frame) None e n r took = absurd took
+GivesFirst-taken None (Some ending) (Some x) c (Ok next.Frame) (Some frame) e n r took = absurd cc
+GivesFirst-taken None None (Some x) None (Ok next.Frame) (Some frame) e n r took = absurd (let after = took.1 in cc)
+GivesFirst-taken None None (Some x) (Some z) (Ok next.Frame) (Some frame) e n r took =
+    let rest : z ≡ drop (HEAD_LEN + length frame.bytes) x = let after = took.1 in cc in
+    left_of_feed-frame x frame took.0 ∙ ap (λ l. with_first frame (left_of_feed l)) (sym rest)
+
+-- the end was met
+pub GivesEnding-end : (ended now : Option SourceEnding) (a c : Option (List ℕ)) (result : Result Next SourceFault) (held : Option FrameData) → ended ≡ None → now ≡ ending_of result → result ≡ Ok next.End
+    → IfSome a (λ bytes. TakesRecord bytes result held c) → GivesEnding (left_of_source ended a) End (left_of_source now c)
+GivesEnding-end (Some ending) now a c result held e n r took = absurd cc
+GivesEnding-end None now None c result held e n r took = tt
+GivesEnding-end None now (Some x) c (Err fault) held e n r took = absurd cc
+GivesEnding-end None now (Some x) c (Ok next.Frame) held e n r took = absurd cc
+GivesEnding-end None None (Some x) c (Ok next.End) held e n r took = absurd cc
+GivesEnding-end None (Some ending) (Some x) c (Ok next.End) held e n r took =
+    let same : ending ≡ End = cc in
+    (left_of_feed-ending x End took.0, ap (λ (d : SourceEnding). Some (only d)) same)
+
+-- a fault was met
+pub GivesEnding-fault : (ended now : Option SourceEnding) (a c : Option (List ℕ)) (result : Result Next SourceFault) (held : Option FrameData) → ended ≡ None → now ≡ ending_of result
+    → IfSome a (λ bytes. TakesRecord bytes result held c) → IfErr result (λ fault. (fault ≡ Device) ⊎ GivesEnding (left_of_source ended a) (Fault fault) (left_of_source now c))
+GivesEnding-fault ended now a c (Ok answer) held e n took = tt
+GivesEnding-fault (Some ending) now a c (Err fault) held e n took = absurd cc
+GivesEnding-fault None None a c (Err fault) held e n took = absurd cc
+GivesEnding-fault None (Some ending) None c (Err fault) held e n took = inr tt
+GivesEnding-fault None (Some ending) (Some x) c (Err fault) held e n (inl read) =
+    let same : ending ≡ Fault fault = cc in
+    inr (left_of_feed-ending x (Fault fault) read, ap (λ (d : SourceEnding). Some (only d)) same)
+GivesEnding-fault None (Some ending) (Some x) c (Err fault) held e n (inr device) = inl device
+
+-- the device failed
+pub Fails-device : (ended now : Option SourceEnding) (a c : Option (List ℕ)) (result : Result Next SourceFault) → ended ≡ None → now ≡ ending_of result → result ≡ Err Device
+    → Fails (left_of_source ended a) ended (failures_before ended) (left_of_source now c) (failures_before now)
+Fails-device (Some ending) now a c result e n r = absurd cc
+Fails-device None now None c result e n r = tt
+Fails-device None now (Some x) c (Ok answer) e n r = absurd cc
+Fails-device None None (Some x) c (Err fault) e n r = absurd cc
+Fails-device None (Some ending) (Some x) c (Err fault) e n r =
+    let same : ending ≡ Fault Device = cc in
+    (refl, subst (λ (d : SourceEnding). 0 < failures_before (Some d)) (sym same) (lit< tt), ap (λ (d : SourceEnding). Some (only d)) same)

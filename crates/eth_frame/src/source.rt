@@ -1,0 +1,110 @@
+use crate::buffer::FrameBuf;
+use thiserror::Error;
+
+/// What a source gave.
+#[derive(Clone, Copy, Debug, PartialEq, Eq)]
+pub enum Next {
+    /// A frame, which the buffer holds now.
+    Frame,
+    /// No frame: the source is at its end.
+    End,
+}
+
+/// Why a source gives no more frames.
+#[derive(Clone, Copy, Debug, PartialEq, Eq, Error)]
+pub enum SourceFault {
+    /// The bytes end within a record.
+    #[error("Truncated")]
+    Truncated,
+    /// A record says a length that no frame has.
+    #[error("Length")]
+    Length,
+    /// A record has marks that are not known.
+    #[error("Marks")]
+    Marks,
+    /// The device failed.
+    #[error("Device")]
+    Device,
+}
+
+/// How a source has ended.
+#[derive(Clone, Copy, Debug, PartialEq, Eq)]
+pub enum SourceEnding {
+    /// It gave all its frames.
+    End,
+    /// It came to a fault.
+    Fault(SourceFault),
+}
+
+impl SourceEnding {
+    ghost use Rattle.std.specs.Prelude.{◌≡◌};
+    ghost use Rattle.eth_frame.specs.Source.{answer, ending_of};
+
+    /// What a source answers once it has ended so.
+    pub fn answer(self) -> Result<Next, SourceFault>
+        ensures answer { result ≡ answer self }
+    {
+        match self {
+            SourceEnding::End => Ok(Next::End),
+            SourceEnding::Fault(fault) => Err(fault),
+        }
+    }
+
+    /// How a source has ended that answered so: `None` where it gave a frame.
+    pub fn of(answer: Result<Next, SourceFault>) -> Option<SourceEnding>
+        ensures ending { result ≡ ending_of answer }
+    {
+        match answer {
+            Ok(Next::Frame) => None,
+            Ok(Next::End) => Some(SourceEnding::End),
+            Err(fault) => Some(SourceEnding::Fault(fault)),
+        }
+    }
+}
+
+/// Gives the frames of a channel, one after the other.
+pub trait FrameSource {
+    ghost use Rattle.std.specs.Prelude.{ℕ, ◌≡◌, ◌<◌, ◌≤◌, ◌⊎◌, ◌↔◌, Option, None, Some, IfSome, IfErr, IsSome, Ok, Err};
+    ghost use Rattle.eth_frame.specs.declared.source.SourceEnding.{SourceEnding};
+    ghost use Rattle.eth_frame.specs.declared.source.SourceEnding.TheVariants.{End, Fault};
+    ghost use Rattle.eth_frame.specs.declared.source.SourceFault.TheVariants.{Device};
+    ghost use Rattle.eth_frame.specs.Source.{Left, only, answer, ending_of, GivesFirst, GivesEnding, Fails};
+
+    // The frames that are left and the ending after them, where the source tells its frames.
+    ghost left: { Self → Option Left };
+
+    // How often the source's device has failed.
+    ghost failures: { Self → ℕ };
+
+    // How the source has ended, once it has.
+    ghost over: { Self → Option SourceEnding };
+
+    /// Puts the next frame into the buffer, or answers how the source has ended. From then on
+    /// each call answers the same. Where no frame is answered, the buffer holds none.
+    fn next(&mut self, buffer: &mut FrameBuf) -> Result<Next, SourceFault>
+        // Of every source.
+        ensures repeats { IfSome (over self.old) (λ ending. result ≡ answer ending) }
+        ensures ended { over self.new ≡ ending_of result }
+        ensures held { IsSome buffer.new ↔ (result ≡ Ok Next.Frame) }
+        ensures failures { failures self.old ≤ failures self.new }
+        ensures device { result ≡ Err SourceFault.Device → 0 < failures self.new }
+
+        // Of a source that tells its frames.
+        ensures frame { result ≡ Ok Next.Frame
+            → GivesFirst (left self.old) buffer.new (left self.new) }
+        ensures end { result ≡ Ok Next.End → GivesEnding (left self.old) End (left self.new) }
+        ensures fault { IfErr result (λ fault. (fault ≡ Device)
+            ⊎ GivesEnding (left self.old) (Fault fault) (left self.new)) }
+        ensures failed { result ≡ Err SourceFault.Device
+            → GivesEnding (left self.old) (Fault Device) (left self.new)
+            ⊎ Fails (left self.old) (over self.old) (failures self.old)
+            (left self.new) (failures self.new) };
+
+    // Where a source has ended, nothing is left but its ending.
+    ghost nothing_left: { (s : Self) (ending : SourceEnding) →
+        over s ≡ Some ending → IfSome (left s) (λ l. l ≡ only ending) };
+
+    // Where the ending is the device's failure, the device has failed.
+    ghost device_failed: { (s : Self) →
+        IfSome (left s) (λ l. l.ending ≡ Fault Device → 0 < failures s) };
+}
