@@ -3,9 +3,13 @@ RT ?= rt
 
 .PHONY: demo test build clean
 
-# What the program does, on the sample in examples/.
+# A short tour, on the samples in examples/.
 demo: build
 	bin/bpfrec < examples/arp_frame.txt
+	bin/bpfrec verify examples/arp.txt
+	bin/bpfrec run examples/arp.txt ffffffffffff0200000000010806
+	bin/bpfrec run examples/arp.txt ffffffffffff0200000000010800
+	-bin/bpfrec verify examples/jump_out.txt
 
 # The gate: every proof from nothing, every edit that must fail, every test, every stored run.
 test:

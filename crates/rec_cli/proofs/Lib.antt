@@ -1,2 +1,3 @@
 pub mod Returns
 pub mod Answered
+pub mod Matches

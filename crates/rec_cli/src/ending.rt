@@ -4,7 +4,7 @@ use super::view::ViewFault;
 use bpf_insn::ListingFault;
 use bpf_verify::Refused;
 use std::io;
-use std::io::Write;
+use std::io::{ErrorKind, Write};
 use thiserror::Error;
 
 /// The command did what was asked.
@@ -12,30 +12,44 @@ pub(crate) const ANSWERED: u8 = 0;
 /// A text, a listing, a program or a view was refused.
 const REFUSED: u8 = 1;
 /// The words of the command line were no command.
-pub(crate) const WORDS: u8 = 2;
-/// A file couldn't be read or written.
+const WORDS: u8 = 2;
+/// A file or a stream couldn't be read or written.
 const FILE: u8 = 3;
 /// There was no memory.
 const MEMORY: u8 = 4;
 
-/// Why a command ends with another status than [`ANSWERED`]. Its text is the line that is printed.
+/// The name of standard input and standard output among files.
+pub(crate) const STREAM: &str = "-";
+
+/// Why a command ends with another status than [`ANSWERED`]. Its text is what is printed.
 #[derive(Debug, Drop, Error)]
-pub(crate) enum Ending {
-    /// Standard input couldn't be read or is no UTF-8, or standard output couldn't be written.
-    #[error("file -")]
-    Stream,
-    #[error("{0}")]
+pub(crate) enum Ending<'a> {
+    /// A file couldn't be read, is no UTF-8 where text is wanted, or couldn't be written.
+    #[error("file {0}\n")]
+    File(&'a str),
+    #[error("{0}\n")]
     Listing(#[from] ListingFault),
-    #[error("{0}")]
+    #[error("{0}\n")]
     Refused(#[from] Refused),
-    #[error("{0}")]
+    #[error("{0}\n")]
     View(#[from] ViewFault),
-    #[error("memory")]
+    /// The words are no command; the text is clap's, with its line feeds.
+    #[error("{0}")]
+    Words(String),
+    #[error("memory\n")]
     Memory,
 }
 
-impl Ending {
-    /// Prints the line and gives the exit status. A verifier's refusal is an answer and goes to
+impl<'a> Ending<'a> {
+    /// What a failed read of a file comes to.
+    pub(crate) fn of_read(path: &'a str, error: &io::Error) -> Ending<'a> {
+        match error.kind() {
+            ErrorKind::OutOfMemory => Ending::Memory,
+            _ => Ending::File(path),
+        }
+    }
+
+    /// Prints the text and gives the exit status. A verifier's refusal is an answer and goes to
     /// `output`; all else goes to `errors`, where a failed write is passed over.
     pub(crate) fn report<O: Write, E: Write>(self, output: &mut O, errors: &mut E) -> u8
         ensures nonzero { 0 < result }
@@ -43,19 +57,20 @@ impl Ending {
         if let Ending::Refused(refused) = &self {
             return match print_line(output, refused) {
                 Ok(()) => REFUSED,
-                Err(_) => Ending::Stream.tell(errors),
+                Err(_) => Ending::File(STREAM).tell(errors),
             };
         }
         self.tell(errors)
     }
 
-    /// Prints the line of a fault, and gives its exit status.
+    /// Prints the text of a fault, and gives its exit status.
     pub(crate) fn tell<E: Write>(&self, errors: &mut E) -> u8
         ensures nonzero { 0 < result }
     {
-        let _ = writeln!(errors, "{self}");
+        let _ = write!(errors, "{self}");
         match self {
-            Ending::Stream => FILE,
+            Ending::Words(_) => WORDS,
+            Ending::File(_) => FILE,
             Ending::Listing(ListingFault::Memory) | Ending::View(ViewFault::Memory) => MEMORY,
             Ending::Memory => MEMORY,
             Ending::Listing(_) | Ending::Refused(_) | Ending::View(_) => REFUSED,

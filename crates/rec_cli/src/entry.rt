@@ -1,17 +1,20 @@
 ghost use Rattle.std.specs.Prelude.{◌≡◌, ◌<◌, IfSome, length};
 ghost use Rattle.rec_cli.specs.Lines.{AnswersLines};
 
-use super::ending::{ANSWERED, Ending, WORDS};
+use super::ending::{ANSWERED, Ending, STREAM};
 use super::one_frame::answer_lines;
+use super::programs::{run_file, verify_file};
+use super::words::{Words, WordsFault, words_of};
 use std::io;
 use std::io::{ErrorKind, Read, Write};
+use std::rt::Files;
 
 /// Runs the program on these words, without the program's name, and gives its exit status:
 /// 0 answered, 1 refused, 2 words, 3 a file's fault, 4 no memory.
 ///
 /// Without words it reads a listing and a view in hexadecimal, a line each, from `input`, and
 /// prints `<value> <steps>`: what the program returns on the view, and after how many instructions.
-pub fn program<R: AllocGlobal, I: Read, O: Write, E: Write>(
+pub fn program<R: AllocGlobal + Files, I: Read, O: Write, E: Write>(
     rt: &R,
     words: &[String],
     mut input: I,
@@ -23,22 +26,57 @@ where
     E: Drop,
     ensures lines { length words.now ≡ 0 → result ≡ 0 → IfSome (I.remaining input) (λ bytes. AnswersLines bytes (O.contents output.old) (O.contents output.new)) }
 {
-    if !words.is_empty() {
-        let _ = writeln!(
-            errors,
-            "bpfrec takes no words: it reads a listing and a view from standard input"
-        );
-        return WORDS;
-    }
-    match answer_lines(rt.alloc(), &mut input, output) {
+    let answer = if words.is_empty() {
+        answer_lines(rt.alloc(), &mut input, output)
+    } else {
+        obey(rt, words, output)
+    };
+    match answer {
         Ok(()) => ANSWERED,
         Err(ending) => ending.report(output, &mut errors),
     }
 }
 
+/// Does what the words ask for.
+fn obey<'a, R: AllocGlobal + Files, O: Write>(
+    rt: &R,
+    words: &'a [String],
+    output: &mut O,
+) -> Result<(), Ending<'a>> {
+    match words_of(rt.alloc(), words) {
+        Ok(command) => answer(rt, command, output),
+        Err(WordsFault::Help(text)) => print_help(output, text),
+        Err(WordsFault::Words(text)) => Err(Ending::Words(text)),
+        Err(WordsFault::Memory) => Err(Ending::Memory),
+    }
+}
+
+/// Does one command.
+fn answer<'a, R: AllocGlobal + Files, O: Write>(
+    rt: &R,
+    command: Words<'a>,
+    output: &mut O,
+) -> Result<(), Ending<'a>> {
+    match command {
+        Words::Verify { file } => verify_file(rt, file, output),
+        Words::Run { file, view } => run_file(rt, file, view, output),
+        Words::NoCommand => Err(Ending::Words(String::new(rt.alloc()))),
+    }
+}
+
+fn print_help<O: Write>(output: &mut O, text: String) -> Result<(), Ending<'static>> {
+    match output
+        .write_all(text.as_bytes())
+        .and_then(|()| output.flush())
+    {
+        Ok(()) => Ok(()),
+        Err(_) => Err(Ending::File(STREAM)),
+    }
+}
+
 /// Tells why the words of the command line couldn't be had, and gives the exit status:
 /// 4 for want of memory, else 2, as for words that are no text.
-pub fn words_unread<E: Write>(error: io::Error, mut errors: E) -> u8
+pub fn words_unread<E: Write>(error: &io::Error, mut errors: E) -> u8
 where
     E: Drop,
     ensures nonzero { 0 < result }
@@ -46,6 +84,6 @@ where
     if error.kind() == ErrorKind::OutOfMemory {
         return Ending::Memory.tell(&mut errors);
     }
-    let _ = writeln!(errors, "the words can't be read: {error}");
-    WORDS
+    let _ = writeln!(errors, "error: the words can't be read: {error}");
+    2
 }

@@ -4,21 +4,21 @@ ghost use Rattle.std.specs.Fmt.{decimal};
 ghost use Rattle.std.specs.Io.KnownBytes.{Appends};
 ghost use Rattle.rec_cli.specs.Lines.{AnswersLines, RunsOn, without_return};
 
-use super::ending::Ending;
+use super::ending::{Ending, STREAM};
 use super::view::view_of;
 use bpf_insn::parse_listing;
 use bpf_machine::{Outcome, run};
 use bpf_verify::verify;
 use std::alloc::Global;
 use std::io;
-use std::io::{ErrorKind, Read, Write};
+use std::io::{Read, Write};
 
 /// Reads a listing and a view in hexadecimal, a line each, and prints `<value> <steps>`.
 pub(crate) fn answer_lines<I: Read, O: Write>(
     alloc: Global,
     input: &mut I,
     output: &mut O,
-) -> Result<(), Ending>
+) -> Result<(), Ending<'static>>
     ensures { OnOk result (IfSome (I.remaining input.old) (λ bytes. AnswersLines bytes (O.contents output.old) (O.contents output.new))) }
 {
     let text = whole_text(alloc, input)?;
@@ -27,12 +27,16 @@ pub(crate) fn answer_lines<I: Read, O: Write>(
     let outcome = outcome_of(alloc, listing, view)?;
     match print_outcome(output, outcome) {
         Ok(()) => Ok(()),
-        Err(_) => Err(Ending::Stream),
+        Err(_) => Err(Ending::File(STREAM)),
     }
 }
 
 /// What the listed program returns on the view.
-fn outcome_of(alloc: Global, listing: &str, view: &str) -> Result<Outcome, Ending>
+pub(crate) fn outcome_of<'a>(
+    alloc: Global,
+    listing: &str,
+    view: &str,
+) -> Result<Outcome, Ending<'a>>
     ensures { IfOk result (λ outcome. RunsOn listing.now view.now outcome.steps outcome.value) }
 {
     let program = verify(parse_listing(alloc, listing)?)?;
@@ -40,7 +44,7 @@ fn outcome_of(alloc: Global, listing: &str, view: &str) -> Result<Outcome, Endin
     Ok(run(&program, view.as_slice()))
 }
 
-fn print_outcome<O: Write>(output: &mut O, outcome: Outcome) -> io::Result<()>
+pub(crate) fn print_outcome<O: Write>(output: &mut O, outcome: Outcome) -> io::Result<()>
     ensures { OnOk result (Appends (O.contents output.old) (O.contents output.new) (decimal outcome.value ++ (32 ∷ []) ++ decimal outcome.steps ++ (10 ∷ []))) }
 {
     let Outcome { value, steps } = outcome;
@@ -49,14 +53,13 @@ fn print_outcome<O: Write>(output: &mut O, outcome: Outcome) -> io::Result<()>
 }
 
 /// The whole input, as text.
-fn whole_text<I: Read>(alloc: Global, input: &mut I) -> Result<String, Ending>
+fn whole_text<I: Read>(alloc: Global, input: &mut I) -> Result<String, Ending<'static>>
     ensures { IfOk result (λ text. IfSome (I.remaining input.old) (λ bytes. string_bytes text ≡ bytes)) }
 {
     let mut text = String::new(alloc);
     match input.read_to_string(&mut text) {
         Ok(_) => Ok(text),
-        Err(error) if error.kind() == ErrorKind::OutOfMemory => Err(Ending::Memory),
-        Err(_) => Err(Ending::Stream),
+        Err(error) => Err(Ending::of_read(STREAM, &error)),
     }
 }
 

@@ -2,6 +2,7 @@ use super::*;
 use std::io;
 use std::io::{ErrorKind, Read, Write};
 use std::process::Abort;
+use std::rt::Files;
 use std::test::Fail;
 
 /// The ARP filter, and the part of an ARP frame that a program sees.
@@ -10,7 +11,13 @@ const ARP: &str = "4,40 0 0 12,21 0 1 2054,6 0 0 4294967295,6 0 0 0,";
 const VIEW: &str = "ffffffffffff0200000000010806";
 
 /// Runs the program without words, and compares its status, output and errors.
-fn check<R: AllocGlobal + Abort>(rt: &R, input: &[u8], status: u8, output: &str, errors: &str) {
+fn check<R: AllocGlobal + Files + Abort>(
+    rt: &R,
+    input: &[u8],
+    status: u8,
+    output: &str,
+    errors: &str,
+) {
     let mut out = Vec::new(rt.alloc());
     let mut err = Vec::new(rt.alloc());
     let told = program(rt, &[], input, &mut out, &mut err);
@@ -114,16 +121,6 @@ fn a_view_has_at_most_16379_bytes(rt: HostRuntime) -> Result<(), Fail> {
     check(&rt, longest.as_bytes(), 0, "16379 2\n", "");
     longest.push_str("00")?;
     check(&rt, longest.as_bytes(), 1, "", "view\n");
-    Ok(())
-}
-
-#[test]
-fn any_word_is_a_fault(rt: HostRuntime) -> Result<(), Fail> {
-    let words = vec![in rt.alloc(); String::from_str(rt.alloc(), "verify")?]?;
-    let mut out = Vec::new(rt.alloc());
-    let status = program(&rt, words.as_slice(), ARP.as_bytes(), &mut out, io::sink());
-    assert_eq!(rt; status, 2);
-    assert_eq!(rt; out.len(), 0);
     Ok(())
 }
 

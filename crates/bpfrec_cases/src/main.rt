@@ -1,0 +1,103 @@
+//! Drives the recorder's program through a table of cases and prints, for each, its words, its
+//! output, its errors (a line of them begins with `! `) and its status. The files that the cases
+//! name lie in `data/`; the stored output is the record of all that the program prints.
+#![tactic(auto)]
+
+mod cases;
+
+use cases::{CASES, HELP};
+use std::alloc::AllocError;
+use std::io;
+use std::io::{ErrorKind, Write};
+use std::rt::Files;
+
+fn main(rt: HostRuntime) -> io::Result<()> {
+    'cases: for words in CASES {
+        show(&rt, words)?;
+    }
+    'help: for words in HELP {
+        show_help(&rt, words)?;
+    }
+    show_closed_output(&rt)
+}
+
+/// One case.
+fn show<R: AllocGlobal + Files + Print>(rt: &R, words: &[&str]) -> io::Result<()> {
+    let owned = words_of(rt, words)?;
+    let mut output = Vec::new(rt.alloc());
+    let mut errors = Vec::new(rt.alloc());
+    let status = rec_cli::program(rt, owned.as_slice(), io::empty(), &mut output, &mut errors);
+    title(rt, words)?;
+    print!(rt; "{}", text(&output))?;
+    'errors: for line in text(&errors).lines() {
+        println!(rt; "! {line}")?;
+    }
+    println!(rt; "= {status}")
+}
+
+/// Help is told by its stream, its status and the commands that it names, not by its text.
+fn show_help<R: AllocGlobal + Files + Print>(rt: &R, words: &[&str]) -> io::Result<()> {
+    let owned = words_of(rt, words)?;
+    let mut output = Vec::new(rt.alloc());
+    let mut errors = Vec::new(rt.alloc());
+    let status = rec_cli::program(rt, owned.as_slice(), io::empty(), &mut output, &mut errors);
+    title(rt, words)?;
+    'names: for name in ["verify", "run", "FILE", "HEX", "Usage"] {
+        if text(&output).contains(name) {
+            println!(rt; "names {name}")?;
+        }
+    }
+    println!(rt; "= {status}, {} bytes of errors", errors.len())
+}
+
+/// A standard output that can't be written.
+#[derive(Clone, Copy)]
+struct Closed;
+
+impl Write for Closed {
+    fn write(&mut self, _buf: &[u8]) -> io::Result<usize> {
+        Err(io::Error::from(ErrorKind::BrokenPipe))
+    }
+
+    fn flush(&mut self) -> io::Result<()> {
+        Err(io::Error::from(ErrorKind::BrokenPipe))
+    }
+}
+
+fn show_closed_output<R: AllocGlobal + Files + Print>(rt: &R) -> io::Result<()> {
+    let mut closed = Closed;
+    'commands: for words in [
+        ["verify", "arp"].as_slice(),
+        &["verify", "no_return"],
+        &["run", "arp", ""],
+        &["--help"],
+    ] {
+        let owned = words_of(rt, words)?;
+        let mut errors = Vec::new(rt.alloc());
+        let status = rec_cli::program(rt, owned.as_slice(), io::empty(), &mut closed, &mut errors);
+        title(rt, words)?;
+        print!(rt; "! {}", text(&errors))?;
+        println!(rt; "= {status}, with a closed output")?;
+    }
+    Ok(())
+}
+
+fn title<R: Print>(rt: &R, words: &[&str]) -> io::Result<()> {
+    print!(rt; "$ bpfrec")?;
+    'words: for word in words {
+        print!(rt; " {}", if word.is_empty() { "''" } else { *word })?;
+    }
+    println!(rt)
+}
+
+fn words_of<R: AllocGlobal>(rt: &R, words: &[&str]) -> Result<Vec<String>, AllocError> {
+    let mut owned = Vec::new(rt.alloc());
+    'words: for word in words {
+        owned.push(String::from_str(rt.alloc(), word)?)?;
+    }
+    Ok(owned)
+}
+
+fn text(bytes: &Vec<u8>) -> &str {
+    str::from_utf8(bytes.as_slice()).unwrap_or("not UTF-8")
+}

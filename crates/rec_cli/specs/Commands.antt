@@ -1,0 +1,36 @@
+-- The command line: what the crate clap makes of the words, for the commands of this program.
+use Rattle.std.specs.Prelude.{◌≡◌, ◌≢◌, List, [], Option, Some, true, unwrap_or, codes}
+use Rattle.clap.specs.Words.{App, Row, Rule, Text, first_of, new_app, new_rule, with_rule, with_subcommand}
+use Rattle.clap.specs.declared.builder.ArgAction.TheVariants.{Set}
+use Rattle.rec_cli.specs.declared.words.Words.{Words}
+use Rattle.rec_cli.specs.declared.words.Words.TheVariants.{NoCommand, Verify, Run}
+
+-- a word that must be given
+abbrev pub operand : Text → Rule
+operand name = record (new_rule name) { required = true; action = Some Set }
+
+abbrev pub verify_app : App
+verify_app = with_rule (new_app (codes "verify")) (operand (codes "FILE"))
+
+abbrev pub run_app : App
+run_app = with_rule (with_rule (new_app (codes "run")) (operand (codes "FILE"))) (operand (codes "HEX"))
+
+-- the program without its commands: its words are those after its name, and a command must stand among them
+abbrev pub top_app : App
+top_app =
+    let named = new_app (codes "bpfrec") in
+    record named { top = record named.top { no_binary_name = true; subcommand_required = true } }
+
+-- the program
+abbrev pub bpfrec_app : App
+bpfrec_app = with_subcommand (with_subcommand top_app verify_app.top) run_app.top
+
+-- the word given for a name
+abbrev pub word_for : Text → List Row → Text
+word_for name rows = unwrap_or (first_of name rows) []
+
+-- the command and the words of a subcommand with its matches
+abbrev pub AsksFor : Option (Text × List Row) → Words → Type 0
+AsksFor asked NoCommand = (rows : List Row) → (asked ≢ Some (codes "verify", rows)) × (asked ≢ Some (codes "run", rows))
+AsksFor asked (Verify file) = (rows : List Row) × (asked ≡ Some (codes "verify", rows)) × (file.now ≡ word_for (codes "FILE") rows)
+AsksFor asked (Run file view) = (rows : List Row) × (asked ≡ Some (codes "run", rows)) × (file.now ≡ word_for (codes "FILE") rows) × (view.now ≡ word_for (codes "HEX") rows)

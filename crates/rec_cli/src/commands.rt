@@ -1,0 +1,106 @@
+ghost use Rattle.std.specs.Prelude.{◌≡◌, IfOk, codes, false};
+ghost use Rattle.clap.specs.Words.{app_of, rule_of};
+ghost use Rattle.clap.specs.declared.builder.Command.TheViews.{out-Command as fields_of};
+ghost use Rattle.rec_cli.specs.Commands.{bpfrec_app, operand, run_app, top_app, verify_app};
+
+use clap::{Arg, ArgAction, Command};
+use std::alloc::{AllocError, Global};
+
+const ABOUT: &str =
+    "Checks and runs the filters of the bpfrec recorder, which are classic BPF programs.";
+
+const STATUSES: &str = "\
+Without words, bpfrec reads a listing and a view in hexadecimal, a line each, from standard
+input, and prints what run prints.
+
+Exit status: 0 answered; 1 a listing, a program or a view was refused; 2 the words are no
+command; 3 a file could not be read, or standard output not written; 4 no memory.";
+
+const VERIFY: &str = "\
+Reads a program's listing, as bpf_asm and tcpdump -ddd print it. Prints on standard output
+  valid <n>                        a program of n instructions, which may be installed
+  refused <number> <Name> [<i>]    the first condition that it breaks, at instruction i
+A fault of the listing (listing ..) or of the file (file <path>) is told on standard error.
+
+Exit status: 0 valid; 1 refused, or no listing; 2 words; 3 the file; 4 no memory.
+
+Example:
+  bpfrec verify arp.txt";
+
+const RUN: &str = "\
+Reads a program's listing, and runs the program on a view: the bytes of a frame without its
+check sequence, in hexadecimal (the empty word is the empty view). Prints on standard output
+  <value> <steps>                  what the program returns, and how many instructions ran
+A value of 0 means that the frame is dropped. A program that verify refuses is refused here
+too; a view that is odd, not hexadecimal or over 16,379 bytes is told as view.
+
+Exit status: 0 answered; 1 refused; 2 words; 3 the file; 4 no memory.
+
+Example:
+  bpfrec run arp.txt ffffffffffff0200000000010806";
+
+/// The command line of the program. Each command has a function of its own here.
+pub(crate) fn bpfrec<'a>(alloc: Global) -> Result<Command<'a>, AllocError>
+    ensures app { IfOk result (λ c. app_of c ≡ bpfrec_app) }
+    ensures local { IfOk result (λ c. (fields_of c).has_globals ≡ false) }
+{
+    top(alloc)?
+        .subcommand(verify(alloc)?)?
+        .subcommand(run(alloc)?)
+}
+
+/// The program without its commands.
+fn top<'a>(alloc: Global) -> Result<Command<'a>, AllocError>
+    ensures app { IfOk result (λ c. app_of c ≡ top_app) }
+    ensures local { IfOk result (λ c. (fields_of c).has_globals ≡ false) }
+{
+    Ok(
+        Command::new(alloc, "bpfrec")
+            .bin_name("bpfrec")?
+            .about(ABOUT)
+            .after_help(STATUSES)
+            .no_binary_name(true)
+            .subcommand_required(true),
+    )
+}
+
+fn verify<'a>(alloc: Global) -> Result<Command<'a>, AllocError>
+    ensures app { IfOk result (λ c. app_of c ≡ verify_app) }
+    ensures local { IfOk result (λ c. (fields_of c).has_globals ≡ false) }
+{
+    Command::new(alloc, "verify")
+        .bin_name("bpfrec verify")?
+        .about("Says whether a program may be installed")
+        .after_help(VERIFY)
+        .arg(file(alloc))
+}
+
+fn run<'a>(alloc: Global) -> Result<Command<'a>, AllocError>
+    ensures app { IfOk result (λ c. app_of c ≡ run_app) }
+    ensures local { IfOk result (λ c. (fields_of c).has_globals ≡ false) }
+{
+    Command::new(alloc, "run")
+        .bin_name("bpfrec run")?
+        .about("Runs a program on a view")
+        .after_help(RUN)
+        .arg(file(alloc))?
+        .arg(operand(alloc, "HEX").help("The view in hexadecimal"))
+}
+
+/// A file with a listing.
+fn file<'a>(alloc: Global) -> Arg<'a>
+    ensures rule { rule_of result ≡ operand (codes "FILE") }
+    ensures local { result.global ≡ false }
+{
+    operand(alloc, "FILE").help(
+        "A program's listing: the count, then code jt jf k of each instruction",
+    )
+}
+
+/// A word that must be given.
+fn operand<'a>(alloc: Global, name: &'a str) -> Arg<'a>
+    ensures rule { rule_of result ≡ operand name.entry.now }
+    ensures local { result.global ≡ false }
+{
+    Arg::new(alloc, name).required(true).action(ArgAction::Set)
+}

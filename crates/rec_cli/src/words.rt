@@ -1,0 +1,80 @@
+ghost use Rattle.std.specs.Prelude.{◌≡◌, ◌⊎◌, true, map, string_bytes, IfOk, IfErr};
+ghost use Rattle.clap.specs.Words.{HasKind, Kinds, fault_of, kind_of, subcommand_of, subcommand_rows_of, takes};
+ghost use Rattle.rec_cli.specs.Commands.{AsksFor, bpfrec_app};
+ghost use Rattle.rec_cli.specs.WordsFaults.{IsFaultOf};
+
+use super::commands::bpfrec;
+use clap::error::ErrorKind;
+use clap::{ArgMatches, Error};
+use std::alloc::Global;
+
+/// What a command line asks for.
+#[derive(Debug, Drop)]
+pub enum Words<'a> {
+    /// No command: clap takes no words without one.
+    NoCommand,
+    /// `verify FILE`
+    Verify { file: &'a str },
+    /// `run FILE HEX`
+    Run { file: &'a str, view: &'a str },
+}
+
+/// Why the words ask for nothing. The texts are those of `clap`, with their line feeds.
+#[derive(Debug, Drop)]
+pub enum WordsFault {
+    /// Help was asked for.
+    Help(String),
+    /// The words are no command.
+    Words(String),
+    /// There is no memory for them.
+    Memory,
+}
+
+/// The command that the words ask for, by `clap`; the program's name is not among the words.
+pub fn words_of<'a>(alloc: Global, words: &'a [String]) -> Result<Words<'a>, WordsFault>
+    ensures asked { IfOk result (AsksFor (subcommand_of bpfrec_app (map string_bytes words.entry.now))) }
+    ensures takes { IfErr result (λ fault. takes bpfrec_app (map string_bytes words.entry.now) ≡ true → fault ≡ WordsFault.Memory) }
+    ensures kinds { IfErr result (IsFaultOf (fault_of bpfrec_app (map string_bytes words.entry.now))) }
+{
+    let Ok(command) = bpfrec(alloc) else {
+        return Err(WordsFault::Memory);
+    };
+    match command.try_get_matches_from(words) {
+        Ok(matches) => Ok(asked(&matches)),
+        Err(error) => Err(fault_from(alloc, error)),
+    }
+}
+
+/// The command that was met, with its words.
+fn asked<'a>(matches: &ArgMatches<'a>) -> Words<'a>
+    ensures { AsksFor (subcommand_rows_of matches.now) result }
+{
+    let Some((name, inner)) = matches.subcommand() else {
+        return Words::NoCommand;
+    };
+    let file = inner.get_str("FILE").unwrap_or("");
+    if name == "verify" {
+        return Words::Verify { file };
+    }
+    if name == "run" {
+        let view = inner.get_str("HEX").unwrap_or("");
+        return Words::Run { file, view };
+    }
+    Words::NoCommand
+}
+
+/// What an error of clap comes to.
+fn fault_from(alloc: Global, error: Error) -> WordsFault
+    ensures kinds { (kinds : Kinds) → HasKind kinds error → IsFaultOf kinds result }
+    ensures memory { kind_of error ≡ ErrorKind.OutOfMemory → result ≡ WordsFault.Memory }
+{
+    let kind = error.kind();
+    let Ok(text) = error.to_string(alloc) else {
+        return WordsFault::Memory;
+    };
+    match kind {
+        ErrorKind::OutOfMemory => WordsFault::Memory,
+        ErrorKind::DisplayHelp => WordsFault::Help(text),
+        _ => WordsFault::Words(text),
+    }
+}
