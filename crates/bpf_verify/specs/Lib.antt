@@ -2,3 +2,4 @@ pub mod ControlFlow
 pub mod Validity
 pub mod Refusals
 pub mod ByForm
+pub mod Masks

@@ -1,11 +1,16 @@
-//! The verifier of filter programs: which programs may be installed.
+//! The verifier of filter programs: which programs may be installed, and a path as the proof of
+//! an unset scratch word.
 #![tactic(auto)]
 
 mod fault;
+mod flow;
+mod masks;
+mod path;
 mod verified;
 mod verifier;
 
 pub use fault::{Refused, VerifyFault};
+pub use path::check_path;
 pub use verified::Verified;
 pub use verifier::verify;
 

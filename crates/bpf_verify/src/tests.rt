@@ -8,19 +8,15 @@ fn refusals_name_the_first_fault(rt: HostRuntime) -> Result<(), Fail> {
     let table = [
         ("0,", "refused 1 Empty"),
         ("1,14 0 0 0,", "refused 3 BadOpcode 0"),
-        ("2,2 0 0 16,6 0 0 0,", "refused 3 BadOpcode 0"),
-        ("2,2 0 0 3,6 0 0 1,", "refused 3 BadOpcode 0"),
-        ("2,3 0 0 3,6 0 0 1,", "refused 3 BadOpcode 0"),
-        ("2,96 0 0 3,6 0 0 1,", "refused 3 BadOpcode 0"),
-        ("2,97 0 0 3,6 0 0 1,", "refused 3 BadOpcode 0"),
+        ("2,2 0 0 16,6 0 0 0,", "refused 4 BadScratch 0"),
         (
             "4,1 0 0 0,0 0 0 8,52 0 0 0,6 0 0 1,",
             "refused 5 ZeroDivisor 2",
         ),
         ("3,5 0 0 1,52 0 0 0,6 0 0 1,", "refused 5 ZeroDivisor 1"),
         ("2,5 0 0 4294967295,6 0 0 0,", "refused 6 JumpOut 0"),
-        ("2,21 0 1 0,6 0 0 0,", "refused 6 JumpOut 0"),
         ("2,6 0 0 0,7 0 0 0,", "refused 7 NoReturn"),
+        (UNSET_ON_ONE_BRANCH, "refused 8 Unset 3 0 0 1 3"),
     ];
     for (text, told) in table {
         let refused = verify(parse_listing(rt.alloc(), text)?).err().ok_or(text)?;
@@ -35,17 +31,34 @@ fn refusals_name_the_first_fault(rt: HostRuntime) -> Result<(), Fail> {
 
 #[test]
 fn valid_programs_are_taken(rt: HostRuntime) -> Result<(), Fail> {
-    let program = parse_listing(rt.alloc(), "3,5 0 0 1,4 0 0 1,6 0 0 0,")?;
-    let taken = verify(program)?;
-    assert_eq!(rt; taken.len(), 3);
-    assert_eq!(rt; taken.insns().len(), 3);
+    let table = [
+        ("4,1 0 0 7,3 0 0 15,96 0 0 15,22 0 0 0,", 4),
+        ("3,5 0 0 1,96 0 0 3,6 0 0 1,", 3),
+        ("3,5 0 0 1,4 0 0 1,6 0 0 0,", 3),
+    ];
+    for (text, count) in table {
+        let taken = verify(parse_listing(rt.alloc(), text)?)?;
+        assert_eq!(rt; taken.len(), count, "{text}");
+        assert_eq!(rt; taken.insns().len(), count, "{text}");
+    }
+    Ok(())
+}
+
+#[test]
+fn a_path_is_checked(rt: HostRuntime) -> Result<(), Fail> {
+    let program = parse_listing(rt.alloc(), UNSET_ON_ONE_BRANCH)?;
+    assert!(rt; check_path(&program, &[0, 1, 3], 0));
+    assert!(rt; !check_path(&program, &[0, 1, 2, 3], 0));
     Ok(())
 }
 
 #[test]
 fn a_program_has_at_most_512_instructions(rt: HostRuntime) -> Result<(), Fail> {
-    assert_eq!(rt; verify(returns(&rt, 512)?)?.len(), 512);
-    let refused = verify(returns(&rt, 513)?)
+    assert_eq!(rt;
+        verify(vec![in rt.alloc(); insn(6, 0, 0); 512]?)?.len(),
+        512
+    );
+    let refused = verify(vec![in rt.alloc(); insn(6, 0, 0); 513]?)
         .err()
         .ok_or("513 instructions are taken")?;
     assert_eq!(rt; refused.fault, VerifyFault::TooLong);
@@ -53,12 +66,38 @@ fn a_program_has_at_most_512_instructions(rt: HostRuntime) -> Result<(), Fail> {
     Ok(())
 }
 
-fn returns(rt: &HostRuntime, count: usize) -> Result<Vec<Insn>, AllocError> {
-    let insn = Insn {
-        code: 6,
-        jt: 0,
-        jf: 0,
-        k: 0,
+#[test]
+fn many_branches_write_scratch_words(rt: HostRuntime) -> Result<(), Fail> {
+    assert_eq!(rt; verify(branches(&rt, 16)?)?.len(), 512);
+    let Refused { program, fault } = verify(branches(&rt, 7)?).err().ok_or("word 7 is unset")?;
+    let VerifyFault::Unset { at, word, path } = fault else {
+        return Err("word 7 is unset".into());
     };
-    vec![in rt.alloc(); insn; count]
+    assert_eq!(rt; (at, word), (39, 7));
+    assert!(rt; check_path(&program, &path, word));
+    Ok(())
+}
+
+/// Word 0 is written where the test holds, and read in both cases.
+const UNSET_ON_ONE_BRANCH: &str = "5,40 0 0 12,21 0 1 2054,2 0 0 0,96 0 0 0,22 0 0 0,";
+
+/// 102 times a test whose branches each write a scratch word, which is read where they meet, and
+/// two returns: 512 instructions. The word that is to be left out is written on one branch only.
+fn branches(rt: &HostRuntime, left_out: u32) -> Result<Vec<Insn>, AllocError> {
+    let mut program = Vec::new(rt.alloc());
+    'blocks: for block in 0..102u32 {
+        let word = block % 16;
+        program.push(insn(21, 2, block))?;
+        program.push(insn(2, 0, word))?;
+        program.push(insn(5, 0, 1))?;
+        program.push(insn(if word == left_out { 7 } else { 3 }, 0, word))?;
+        program.push(insn(96, 0, word))?;
+    }
+    program.push(insn(6, 0, 0))?;
+    program.push(insn(6, 0, 0))?;
+    Ok(program)
+}
+
+fn insn(code: u16, jf: u8, k: u32) -> Insn {
+    Insn { code, jt: 0, jf, k }
 }

@@ -1,19 +1,28 @@
-ghost use Rattle.std.specs.Prelude.{ℕ, ◌≡◌, ◌+◌, ◌<◌, ◌≤◌, ◌⊎◌, ◌↔◌, length, Some, slice_get, MatchOption, IfNone, IfOk, IfErr, IsTrue};
+ghost use Rattle.std.specs.Prelude.{ℕ, ◌≡◌, ◌+◌, ◌<◌, ◌≤◌, ◌⊎◌, ◌↔◌, length, Some, slice_get, MatchOption, IsOk, IfOk, IfErr, IsTrue};
 ghost use Rattle.bpf_insn.specs.Forms.{form};
 ghost use Rattle.bpf_verify.specs.Validity.{Valid, FormDividesByZero, EndsWithReturn};
-ghost use Rattle.bpf_verify.specs.ByForm.{FormUsesScratch, FormJumpsOut};
-ghost use Rattle.bpf_verify.specs.Refusals.{Refuses, HasLength, NoneBreaksBelow, UsesScratch};
+ghost use Rattle.bpf_verify.specs.ByForm.{FormUsesWordPastScratch, FormJumpsOut};
+ghost use Rattle.bpf_verify.specs.Refusals.{Refuses, HasLength, NoneBreaksBelow, IsWellFormed, NoUnsetReadBelow};
 
 use super::fault::{Refused, VerifyFault};
+use super::flow::{loads_scratch, stores_scratch};
+use super::masks::{first_unset, written_masks};
+use super::path::path_to;
 use super::verified::Verified;
 use bpf_insn::{Form, Insn, MAX_INSNS, Op, Src, form_of};
 
+/// How many scratch words there are, BPF_MEMWORDS of bpf(4).
+const SCRATCH_WORDS: u32 = 16;
+
 /// Takes a valid program, and refuses any other with its first fault: its length, then the least
-/// place at which an instruction breaks a condition, then the missing return at its end.
+/// place at which an instruction breaks a condition, then the missing return at its end, then the
+/// least place at which an instruction reads a scratch word that some path leaves unset.
+///
+/// The program comes back either way, and no memory is taken.
 pub fn verify(program: Vec<Insn>) -> Result<Verified, Refused>
+    ensures decides { IsOk result ↔ Valid program.items }
     ensures accepted { IfOk result (λ v. v ≡ program.items) }
     ensures valid { IfOk result (λ v. Valid v) }
-    ensures no_scratch { IfOk result (λ v. (at : ℕ) → UsesScratch v at → ⊥) }
     ensures back { IfErr result (λ r. r.program ≡ program) }
     ensures refused { IfErr result (λ r. Refuses program.items r.fault) }
 {
@@ -25,8 +34,7 @@ pub fn verify(program: Vec<Insn>) -> Result<Verified, Refused>
 
 /// The first fault of a program.
 fn fault_of(insns: &[Insn]) -> Option<VerifyFault>
-    ensures fault { MatchOption result (Valid insns.now) (λ fault. Refuses insns.now fault) }
-    ensures no_scratch { IfNone result ((at : ℕ) → UsesScratch insns.now at → ⊥) }
+    ensures { MatchOption result (Valid insns.now) (λ fault. Refuses insns.now fault) }
 {
     if insns.is_empty() {
         return Some(VerifyFault::Empty);
@@ -40,7 +48,7 @@ fn fault_of(insns: &[Insn]) -> Option<VerifyFault>
     if !ends_with_return(insns) {
         return Some(VerifyFault::NoReturn);
     }
-    None
+    unset_read(insns)
 }
 
 /// The first instruction that breaks a condition of its own.
@@ -68,8 +76,8 @@ fn break_at(insns: &[Insn], at: usize, insn: Insn) -> Option<VerifyFault>
     let Some(form) = form_of(insn) else {
         return Some(VerifyFault::BadOpcode(place));
     };
-    if uses_scratch(form) {
-        Some(VerifyFault::BadOpcode(place))
+    if uses_word_past_scratch(form, insn) {
+        Some(VerifyFault::BadScratch(place))
     } else if divides_by_zero(form, insn) {
         Some(VerifyFault::ZeroDivisor(place))
     } else if jumps_out(form, insn, at, insns.len()) {
@@ -79,11 +87,11 @@ fn break_at(insns: &[Insn], at: usize, insn: Insn) -> Option<VerifyFault>
     }
 }
 
-/// Whether an instruction of this form reads or writes a scratch word.
-fn uses_scratch(form: Form) -> bool
-    ensures { IsTrue result ↔ FormUsesScratch form }
+/// Whether an instruction reads or writes a scratch word past the sixteen.
+fn uses_word_past_scratch(form: Form, insn: Insn) -> bool
+    ensures { IsTrue result ↔ FormUsesWordPastScratch form insn }
 {
-    matches!(form, Form::LdMem | Form::LdxMem | Form::St | Form::Stx)
+    (loads_scratch(form) || stores_scratch(form)) && insn.k >= SCRATCH_WORDS
 }
 
 /// Whether an instruction divides by the constant 0.
@@ -113,4 +121,16 @@ fn ends_with_return(insns: &[Insn]) -> bool
 {
     let last = insns[insns.len() - 1];
     matches!(form_of(last), Some(Form::RetK | Form::RetA))
+}
+
+/// The first read of a scratch word that some path leaves unset.
+fn unset_read(insns: &[Insn]) -> Option<VerifyFault>
+    requires { IsWellFormed insns.now }
+    ensures { MatchOption result (NoUnsetReadBelow insns.now (length insns.now))
+        (λ fault. Refuses insns.now fault) }
+{
+    let masks = written_masks(insns);
+    let (at, word) = first_unset(insns, &masks)?;
+    let path = path_to(insns, &masks, at, word);
+    Some(VerifyFault::Unset { at, word, path })
 }

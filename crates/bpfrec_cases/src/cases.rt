@@ -4,7 +4,7 @@ const ARP: &str = "ffffffffffff0200000000010806";
 const IPV4: &str = "ffffffffffff020000000001080045";
 
 /// The words of each run.
-pub(crate) static CASES: [&[&str]; 46] = [
+pub(crate) static CASES: [&[&str]; 53] = [
     // programs that may be installed, and what they return
     &["verify", "arp"],
     &["verify", "arp_lines"],
@@ -20,6 +20,10 @@ pub(crate) static CASES: [&[&str]; 46] = [
     &["run", "below_zero", ""],
     &["run", "header_length", IPV4],
     &["run", "view_length", ARP],
+    &["verify", "scratch"],
+    &["run", "scratch", ""],
+    &["verify", "dead_scratch"],
+    &["run", "dead_scratch", ""],
     &["verify", "jump_over"],
     &["verify", "unused_field"],
     &["verify", "returns_512"],
@@ -27,10 +31,13 @@ pub(crate) static CASES: [&[&str]; 46] = [
     &["verify", "no_instruction"],
     &["verify", "returns_513"],
     &["verify", "return_of_x"],
+    &["verify", "scratch_16"],
     &["verify", "division_by_zero"],
     &["verify", "division_never_reached"],
     &["verify", "jump_out"],
     &["verify", "no_return"],
+    &["verify", "unset_scratch"],
+    &["run", "unset_scratch", ARP],
     &["run", "no_return", ARP],
     // the faults of run in their order: the file, the listing, the program, the view
     &["run", "nowhere", "f"],

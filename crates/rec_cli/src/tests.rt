@@ -42,6 +42,9 @@ fn a_listing_and_a_view_give_value_and_steps(rt: HostRuntime) -> Result<(), Fail
         ("3,0 0 0 1,100 0 0 32,22 0 0 0,", "", "0 3"),
         ("3,0 0 0 1,100 0 0 31,22 0 0 0,", "", "2147483648 3"),
         ("3,0 0 0 0,20 0 0 1,22 0 0 0,", "", "4294967295 3"),
+        // a scratch word, and one that is read where no path leads
+        ("4,1 0 0 7,3 0 0 15,96 0 0 15,22 0 0 0,", "", "7 4"),
+        ("3,5 0 0 1,96 0 0 3,6 0 0 1,", "", "1 2"),
         // the length of an IPv4 header, and that of the view
         (
             "3,177 0 0 14,135 0 0 0,22 0 0 0,",
@@ -85,7 +88,7 @@ fn faults_have_their_line_stream_and_status(rt: HostRuntime) {
         ("65535,", "", "listing 2 Count 65535 0\n", 1),
         ("1,6 0 0 4294967296,", "", "listing 3 Range 8\n", 1),
         ("0,", "refused 1 Empty\n", "", 1),
-        ("2,2 0 0 16,6 0 0 0,", "refused 3 BadOpcode 0\n", "", 1),
+        ("2,2 0 0 16,6 0 0 0,", "refused 4 BadScratch 0\n", "", 1),
         (
             "4,1 0 0 0,0 0 0 8,52 0 0 0,6 0 0 1,",
             "refused 5 ZeroDivisor 2\n",
@@ -99,6 +102,12 @@ fn faults_have_their_line_stream_and_status(rt: HostRuntime) {
             1,
         ),
         ("2,6 0 0 0,7 0 0 0,", "refused 7 NoReturn\n", "", 1),
+        (
+            "5,40 0 0 12,21 0 1 2054,2 0 0 0,96 0 0 0,22 0 0 0,",
+            "refused 8 Unset 3 0 0 1 3\n",
+            "",
+            1,
+        ),
         // the view is judged after the program
         ("2,6 0 0 0,7 0 0 0,\nxy", "refused 7 NoReturn\n", "", 1),
         ("1,6 0 0 0,\nf", "", "view\n", 1),
