@@ -1,7 +1,7 @@
 # The commands of the README. `rt` is the toolchain's command; RT names another one.
 RT ?= rt
 
-.PHONY: demo test build clean
+.PHONY: demo test build bench clean
 
 # A short tour, on the samples in examples/.
 demo: build
@@ -23,3 +23,13 @@ build:
 
 clean:
 	rm -rf bin crates/*/out
+
+# Times the filter machine beside libpcap's bpf_filter, and checks that both give the same values.
+bench: bin/bench/pcap_filter
+	cd crates/bpf_bench && $(RT) run > /dev/null 2>&1
+	python3 bench/run.py crates/bpf_bench/out/bpf_bench bin/bench/pcap_filter bin/bench/work
+
+bin/bench/pcap_filter: bench/pcap_filter.c
+	@mkdir -p bin/bench
+	@test -f /usr/include/pcap/bpf.h || { apt-get update -qq && apt-get install -y -qq libpcap-dev; } > bin/bench/apt.log 2>&1 || { echo "libpcap's header is missing: install Debian's libpcap-dev, as root"; exit 1; }
+	$(CC) -O2 -o $@ bench/pcap_filter.c -lpcap

@@ -1,14 +1,15 @@
 //! Times the filter machine. Without words it prints the sum of the values that a built-in
-//! program returns; with the words LISTING LENGTH RUNS it runs the listed program so often on a
-//! view of that length, and prints the steps of a run and its nanoseconds.
+//! program returns. `time LISTING FRAMES LENGTH TURNS` cuts the file FRAMES into frames of that
+//! length, runs the listed program on each of them so many times over, and prints the steps and
+//! the picoseconds of a frame. `values LISTING FRAMES LENGTH` prints the value for each frame.
 #![tactic(auto)]
 
-ghost use Rattle.std.specs.Prelude.{◌≤◌, length};
+ghost use Rattle.std.specs.Prelude.{◌<◌};
 
 use bpf_insn::parse_listing;
-use bpf_machine::{MAX_VIEW, run};
+use bpf_machine::{MAX_VIEW, Outcome, run};
 use bpf_verify::{Verified, verify};
-use std::io::{Error, ErrorKind};
+use std::io::{BufWriter, Error, ErrorKind, Write};
 use std::time::Instant;
 use std::{env, fs, io};
 
@@ -18,39 +19,93 @@ const BUILT_IN: &str =
 
 fn main(rt: HostRuntime) -> io::Result<()> {
     let mut words = env::args(&rt)?.skip(1);
-    let (Some(listing), Some(length), Some(runs)) = (words.next(), words.next(), words.next())
-    else {
-        let program = program_of(&rt, BUILT_IN)?;
-        let (sum, _) = total(&program, &[7; 64], 1000);
+    let Some(command) = words.next() else {
+        let (sum, _) = total(&program_of(&rt, BUILT_IN)?, &[7; 6400], 64, 10);
         return println!(rt; "{sum}");
     };
+    let (Some(listing), Some(frames), Some(length)) = (words.next(), words.next(), words.next())
+    else {
+        return Err(Error::from(ErrorKind::InvalidInput));
+    };
     let program = program_of(&rt, fs::read_to_string(&rt, listing.as_str())?.as_str())?;
-    let length = number(length.as_str())?.min(MAX_VIEW as u64) as usize;
-    let runs = number(runs.as_str())?.max(1);
-    let view = vec![in rt.alloc(); 7u8; length]?;
-    let begin = Instant::now(&rt)?;
-    let (sum, steps) = total(&program, view.as_slice(), runs);
-    let spent = begin.elapsed(&rt)?.as_nanos();
-    let runs = u128::from(runs);
+    let frames = fs::read(&rt, frames.as_str())?;
+    let length = (number(length.as_str())? as usize).max(1);
+    match words.next() {
+        Some(turns) if command.as_str() == "time" => {
+            time(
+                &rt,
+                &program,
+                frames.as_slice(),
+                length,
+                number(turns.as_str())?,
+            )
+        }
+        _ => print_values(&rt, &program, frames.as_slice(), length),
+    }
+}
+
+/// Prints the steps and the picoseconds of a frame, and the sum of the values.
+fn time(
+    rt: &HostRuntime,
+    program: &Verified,
+    frames: &[u8],
+    length: usize,
+    turns: u64,
+) -> io::Result<()>
+    requires { 0 < length }
+{
+    let count = ((frames.len() / length) as u64)
+        .saturating_mul(turns)
+        .max(1);
+    let begin = Instant::now(rt)?;
+    let (sum, steps) = total(program, frames, length, turns);
+    let spent = begin.elapsed(rt)?.as_nanos();
     println!(rt;
-        "steps {} picoseconds a run {} sum {sum}",
-        u128::from(steps) / runs,
-        spent.saturating_mul(1000) / runs
+        "{} {} {sum}",
+        steps / count,
+        spent.saturating_mul(1000) / u128::from(count)
     )
 }
 
-/// The sum of the values of so many runs, and that of their steps, modulo 2^64.
-fn total(program: &Verified, view: &[u8], runs: u64) -> (u64, u64)
-    requires { length view.now ≤ MAX_VIEW }
+fn print_values(
+    rt: &HostRuntime,
+    program: &Verified,
+    frames: &[u8],
+    length: usize,
+) -> io::Result<()>
+    requires { 0 < length }
+{
+    let mut out = BufWriter::new(rt.alloc(), io::writer(rt))?;
+    'frames: for frame in frames.chunks(length) {
+        if let Some(outcome) = outcome_of(program, frame) {
+            writeln!(out, "{}", outcome.value)?;
+        }
+    }
+    out.flush()
+}
+
+/// The sum of the values over all frames and turns, and that of the steps, modulo 2^64.
+fn total(program: &Verified, frames: &[u8], length: usize, turns: u64) -> (u64, u64)
+    requires { 0 < length }
 {
     let mut values = 0u64;
     let mut steps = 0u64;
-    'runs: for _ in 0..runs {
-        let outcome = run(program, view);
-        values = values.wrapping_add(u64::from(outcome.value));
-        steps = steps.wrapping_add(u64::from(outcome.steps));
+    'turns: for _ in 0..turns {
+        'frames: for frame in frames.chunks(length) {
+            if let Some(outcome) = outcome_of(program, frame) {
+                values = values.wrapping_add(u64::from(outcome.value));
+                steps = steps.wrapping_add(u64::from(outcome.steps));
+            }
+        }
     }
     (values, steps)
+}
+
+fn outcome_of(program: &Verified, frame: &[u8]) -> Option<Outcome> {
+    if frame.len() > MAX_VIEW {
+        return None;
+    }
+    Some(run(program, frame))
 }
 
 /// A listing's program, which must be valid.
