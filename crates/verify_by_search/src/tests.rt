@@ -78,12 +78,7 @@ fn paths_agree(rt: HostRuntime) -> Result<(), Fail> {
 #[test]
 fn a_store_on_one_side(rt: HostRuntime) -> Result<(), Fail> {
     let alloc = rt.alloc();
-    let program = [
-        insn(0x15, 0, 1, 7),
-        insn(0x02, 0, 0, 3),
-        insn(0x60, 0, 0, 3),
-        insn(0x16, 0, 0, 0),
-    ];
+    let program = store_on_one_side();
     let program = program.as_slice();
     let paths = all_paths(alloc, program)?;
     let walked: [&[u16]; 6] = [
@@ -100,6 +95,14 @@ fn a_store_on_one_side(rt: HostRuntime) -> Result<(), Fail> {
     }
     let verdict = compare_verdicts(&rt, alloc, program)?;
     assert_eq!(rt; verdict, Verdict::of_place(Kind::Unset, 2));
+    Ok(())
+}
+
+/// The one path of that program's unset read, and lists of places that are none.
+#[test]
+fn the_path_past_the_store(rt: HostRuntime) {
+    let program = store_on_one_side();
+    let program = program.as_slice();
     assert!(rt; check_path(program, &[0, 2], 3));
     let refused: [&[u16]; 11] = [
         &[],
@@ -117,7 +120,16 @@ fn a_store_on_one_side(rt: HostRuntime) -> Result<(), Fail> {
     'refused: for list in refused {
         assert!(rt; !check_path(program, list, 3), "{list:?}");
     }
-    Ok(())
+}
+
+/// `jeq #7, store, load`, then the store, the load and a return.
+fn store_on_one_side() -> [Insn; 4] {
+    [
+        insn(0x15, 0, 1, 7),
+        insn(0x02, 0, 0, 3),
+        insn(0x60, 0, 0, 3),
+        insn(0x16, 0, 0, 0),
+    ]
 }
 
 /// An instruction by its four fields.
