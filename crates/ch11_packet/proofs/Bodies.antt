@@ -1,0 +1,196 @@
+-- What the fields of a body and of its builder hold, and how a frame is added.
+use Rattle.std.proofs.Common.{◌≡◌, ℕ, zero, suc, ◌+◌, ◌*◌, ◌/◌, ◌%◌, ◌^◌, ◌<◌, ◌≤◌, List, [], ◌∷◌, ◌++◌, length, drop, Some, refl, sym, ap, subst, ◌∙◌, append_assoc, arith}
+use Rattle.std.specs.Prelude.{All, IsTrue, nat_le, slice_get, slice_set}
+use Rattle.std.specs.Int.{w32, to_le_bytes}
+use Rattle.std.specs.List.{sum_by, flat_map}
+use Rattle.std.specs.Option.{option_map}
+use Rattle.std.proofs.lemmas.Bool.{leb-true, le-leb}
+use Rattle.std.proofs.lemmas.List.{length-append, append-nil}
+use Rattle.std.proofs.lemmas.List.Concat.{flat_map-append}
+use Rattle.std.proofs.lemmas.List.Sums.{sum_by-cons, sum_by_push}
+use Rattle.std.proofs.lemmas.List.Elements.{All-nil, All-head, All-tail, All-push}
+use Rattle.eth_frame.specs.Frame.{FrameData, IsFrame}
+use Rattle.ch11_packet.specs.declared.limits.TheConstants.{MAX_SPEED, BODY_WORD_LEN, HEADER_LEN, MAX_ETHERNET_PACKET_LEN, MIN_LIMIT}
+use Rattle.ch11_packet.specs.EthernetData.{frame_bytes, frame_len, data_bytes, data_len}
+use Rattle.ch11_packet.specs.BodyFrames.{front_frames}
+use Rattle.ch11_packet.specs.Building.{open_of, Fits, first_counter, frames_in, Holds, IsOpen, IsSealed}
+use Rattle.ch11_packet.proofs.Frames.{length-frame_bytes, front_frames-flat_map, length-front_frames}
+
+-- ---- sizes
+
+length-frames : (net speed : ℕ) (frames : List FrameData) → length (flat_map (frame_bytes net speed) frames) ≡ sum_by (λ frame. frame_len (length frame.bytes)) frames
+length-frames net speed [] = refl
+length-frames net speed (f ∷ fs) =
+    omega (arith, length-append (frame_bytes net speed f) (flat_map (frame_bytes net speed) fs), length-frame_bytes net speed f, length-frames net speed fs, sum_by-cons (λ (frame : FrameData). frame_len (length frame.bytes)) f fs)
+
+-- the bytes are as many as the body's
+pub length-Holds : (word : ℕ) (frames : List FrameData) (net speed counter : ℕ) (bytes : List ℕ) → Holds word frames net speed counter bytes → length bytes ≡ data_len frames
+length-Holds word frames net speed counter bytes holds =
+    omega (arith, ap length holds.bytes_are, length-frames net speed frames)
+
+-- each frame takes 30 bytes at least
+pub few_frames : (frames : List FrameData) → All IsFrame frames → BODY_WORD_LEN + 30 * length frames ≤ data_len frames
+few_frames [] each = omega arith
+few_frames (f ∷ fs) each =
+    let is = All-head IsFrame f fs each in
+    let more = few_frames fs (All-tail IsFrame f fs each) in
+    omega (arith, sum_by-cons (λ (frame : FrameData). frame_len (length frame.bytes)) f fs)
+
+-- ---- the frames that are held
+
+-- the frames that are found in the bytes are those that they hold
+pub frames_in-Holds : (word count : ℕ) (frames : List FrameData) (net speed counter : ℕ) (bytes : List ℕ) → Holds word frames net speed counter bytes → count ≡ length frames → frames_in count bytes ≡ frames
+frames_in-Holds word count frames net speed counter bytes holds many =
+    ap (λ n. frames_in n bytes) many
+    ∙ ap (λ l. front_frames (length frames) (drop BODY_WORD_LEN l)) holds.bytes_are
+    ∙ front_frames-flat_map net speed frames (record { net_fits = holds.net_fits; speed_fits = holds.speed_fits }) holds.in_range
+
+pub length-frames_in : (count : ℕ) (bytes : List ℕ) → length (frames_in count bytes) ≡ count
+length-frames_in count bytes = length-front_frames count (drop BODY_WORD_LEN bytes)
+
+-- ---- an open body
+
+pub length-IsOpen : (count net speed counter limit room : ℕ) (bytes : List ℕ) → IsOpen count net speed counter limit room bytes → length bytes ≡ data_len (frames_in count bytes)
+length-IsOpen count net speed counter limit room bytes is = length-Holds 0 (frames_in count bytes) net speed counter bytes is.holds
+
+-- a body of no frames
+pub IsOpen-none : (net speed limit room : ℕ) (bytes : List ℕ) → bytes ≡ to_le_bytes w32 0 → net < 2 ^ 8 → speed ≤ MAX_SPEED → MIN_LIMIT ≤ limit → limit ≤ MAX_ETHERNET_PACKET_LEN → limit ≤ HEADER_LEN + room
+    → IsOpen 0 net speed 0 limit room bytes
+unfolding front_frames
+IsOpen-none net speed limit room bytes e n s least most fits = record {
+  holds = record { bytes_are = e; in_range = All-nil IsFrame; net_fits = n; speed_fits = s; first = refl };
+  fits = rw e (omega arith);
+  bounded = most;
+  room_left = fits;
+}
+
+pub frames_in-none : (bytes : List ℕ) → frames_in 0 bytes ≡ []
+unfolding front_frames
+frames_in-none bytes = refl
+
+-- a body of one frame more
+pub record Adds (count net speed counter limit room : ℕ) (old new : List ℕ) (frame : FrameData) : Type 0 where
+  pub is_open : IsOpen (count + 1) net speed counter limit room new
+  pub frames : frames_in (count + 1) new ≡ frames_in count old ++ frame ∷ []
+
+pub first_counter-push_first : (frames : List FrameData) (frame : FrameData) → length frames ≡ 0 → first_counter (frames ++ frame ∷ []) ≡ frame.counter
+first_counter-push_first [] frame e = refl
+first_counter-push_first (f ∷ fs) frame e = absurd (omega arith)
+
+pub first_counter-push_next : (frames : List FrameData) (frame : FrameData) → (length frames ≡ 0 → ⊥) → first_counter (frames ++ frame ∷ []) ≡ first_counter frames
+first_counter-push_next [] frame ne = absurd (ne refl)
+first_counter-push_next (f ∷ fs) frame ne = refl
+
+Holds-push : (frames : List FrameData) (frame : FrameData) (net speed counter first : ℕ) (old new : List ℕ) → Holds 0 frames net speed counter old → IsFrame frame
+    → new ≡ old ++ frame_bytes net speed frame → first ≡ first_counter (frames ++ frame ∷ []) → Holds 0 (frames ++ frame ∷ []) net speed first new
+Holds-push frames frame net speed counter first old new holds is added first_is = record {
+  bytes_are = added ∙ ap (λ l. l ++ frame_bytes net speed frame) holds.bytes_are
+      ∙ append_assoc (to_le_bytes w32 0) (flat_map (frame_bytes net speed) frames) (frame_bytes net speed frame)
+      ∙ ap (λ l. to_le_bytes w32 0 ++ l) (ap (λ l. flat_map (frame_bytes net speed) frames ++ l) (sym (append-nil (frame_bytes net speed frame))) ∙ sym (flat_map-append (frame_bytes net speed) frames (frame ∷ [])));
+  in_range = All-push IsFrame frames frame holds.in_range is;
+  net_fits = holds.net_fits;
+  speed_fits = holds.speed_fits;
+  first = first_is;
+}
+
+data_len-push : (frames : List FrameData) (frame : FrameData) → data_len (frames ++ frame ∷ []) ≡ data_len frames + frame_len (length frame.bytes)
+data_len-push frames frame = omega (arith, sum_by_push (λ (f : FrameData). frame_len (length f.bytes)) frames frame)
+
+pub IsOpen-push : (count net speed counter first limit room more : ℕ) (old new : List ℕ) (frame : FrameData) → IsOpen count net speed counter limit room old → IsFrame frame
+    → Fits (open_of (frames_in count old) net speed limit) (length frame.bytes) → new ≡ old ++ frame_bytes net speed frame → room ≤ more
+    → first ≡ first_counter (frames_in count old ++ frame ∷ []) → Adds count net speed first limit more old new frame
+IsOpen-push count net speed counter first limit room more old new frame is in_range fits added roomy first_is =
+    let fs = frames_in count old in
+    let held = Holds-push fs frame net speed counter first old new is.holds in_range added first_is in
+    let many : count + 1 ≡ length (fs ++ frame ∷ []) = omega (arith, length-append fs (frame ∷ []), length-frames_in count old) in
+    let found = frames_in-Holds 0 (count + 1) (fs ++ frame ∷ []) net speed first new held many in
+    let size : length new ≡ data_len fs + frame_len (length frame.bytes) = length-Holds 0 (fs ++ frame ∷ []) net speed first new held ∙ data_len-push fs frame in
+    record {
+      is_open = record {
+        holds = subst (λ (l : List FrameData). Holds 0 l net speed first new) (sym found) held;
+        fits = rw size fits;
+        bounded = is.bounded;
+        room_left = omega (arith, is.room_left);
+      };
+      frames = found;
+    }
+
+-- there is room for a frame that fits
+pub room_for : (count net speed counter limit room : ℕ) (bytes : List ℕ) (len : ℕ) → IsOpen count net speed counter limit room bytes
+    → Fits (open_of (frames_in count bytes) net speed limit) len → length bytes + frame_len len ≤ room
+room_for count net speed counter limit room bytes len is fits =
+    let size = length-IsOpen count net speed counter limit room bytes is in
+    let left = is.room_left in
+    omega arith
+
+-- there are fewer frames than a body's word can say
+pub count_fits : (count net speed counter limit room : ℕ) (bytes : List ℕ) → IsOpen count net speed counter limit room bytes → count + 1 < 2 ^ 16
+count_fits count net speed counter limit room bytes is =
+    let size = length-IsOpen count net speed counter limit room bytes is in
+    let few = few_frames (frames_in count bytes) is.holds.in_range in
+    let many = length-frames_in count bytes in
+    let fits = is.fits in
+    let most = is.bounded in
+    omega arith
+
+-- ---- a sealed body
+
+-- the body with its number of frames written into the first two bytes
+pub record Seals (count net speed counter : ℕ) (old new : List ℕ) : Type 0 where
+  pub is_sealed : IsSealed count net speed counter new
+  pub frames : frames_in count new ≡ frames_in count old
+
+pub some_frames : (count : ℕ) (bytes : List ℕ) → (frames_in count bytes ≡ [] → ⊥) → 0 < count
+some_frames zero bytes ne = absurd (ne (frames_in-none bytes))
+some_frames (suc count) bytes ne = omega arith
+
+word_of : (count : ℕ) (rest : List ℕ) → count < 2 ^ 16 → count % 256 ∷ count / 256 % 256 ∷ 0 ∷ 0 ∷ rest ≡ to_le_bytes w32 count ++ rest
+word_of count rest lt =
+    let a : 0 ≡ count / 65536 % 256 = omega arith in
+    let b : 0 ≡ count / 16777216 % 256 = omega arith in
+    ap (λ n. count % 256 ∷ count / 256 % 256 ∷ n ∷ 0 ∷ rest) a ∙ ap (λ n. count % 256 ∷ count / 256 % 256 ∷ count / 65536 % 256 ∷ n ∷ rest) b
+
+pub IsSealed-IsOpen : (count net speed counter limit room : ℕ) (old new : List ℕ) → IsOpen count net speed counter limit room old → 0 < count
+    → new ≡ slice_set (slice_set old 0 (count % 256)) 1 (count / 256 % 256) → Seals count net speed counter old new
+IsSealed-IsOpen count net speed counter limit room old new is some written =
+    let fs = frames_in count old in
+    let rest = flat_map (frame_bytes net speed) fs in
+    let few = count_fits count net speed counter limit room old is in
+    let whole : new ≡ to_le_bytes w32 count ++ rest =
+    written ∙ ap (λ l. slice_set (slice_set l 0 (count % 256)) 1 (count / 256 % 256)) is.holds.bytes_are ∙ word_of count rest (omega arith) in
+    let held : Holds count fs net speed counter new = record {
+      bytes_are = whole;
+      in_range = is.holds.in_range;
+      net_fits = is.holds.net_fits;
+      speed_fits = is.holds.speed_fits;
+      first = is.holds.first;
+    } in
+    let found = frames_in-Holds count count fs net speed counter new held (sym (length-frames_in count old)) in
+    let size : length new ≡ length old = length-Holds count fs net speed counter new held ∙ sym (length-IsOpen count net speed counter limit room old is) in
+    record {
+      is_sealed = record {
+        holds = subst (λ (l : List FrameData). Holds count l net speed counter new) (sym found) held;
+        some = some;
+        fits = rw size (omega (arith, is.fits, is.bounded));
+      };
+      frames = found;
+    }
+
+-- what a sealed body's bytes are
+pub bytes-IsSealed : (count net speed counter : ℕ) (bytes : List ℕ) → IsSealed count net speed counter bytes → bytes ≡ data_bytes net speed (frames_in count bytes)
+unfolding data_bytes
+bytes-IsSealed count net speed counter bytes is =
+    is.holds.bytes_are ∙ ap (λ n. to_le_bytes w32 n ++ flat_map (frame_bytes net speed) (frames_in count bytes)) (sym (length-frames_in count bytes))
+
+-- the first frame's counter
+pub first-frame : (frames : List FrameData) → 0 < length frames → option_map (λ (f : FrameData). f.counter) (slice_get frames 0) ≡ Some (first_counter frames)
+first-frame [] lt = absurd (omega arith)
+first-frame (f ∷ fs) lt = refl
+
+-- a test that two numbers are in order
+pub tested : (a b n m : ℕ) → a ≡ n → b ≡ m → (IsTrue (nat_le a b) → n ≤ m) × (n ≤ m → IsTrue (nat_le a b))
+tested a b n m ea eb = (λ t. omega (arith, leb-true a b t), λ h. le-leb a b (omega arith))
+
+pub first_counter-fits : (frames : List FrameData) → All IsFrame frames → first_counter frames < 2 ^ 48
+first_counter-fits [] each = omega arith
+first_counter-fits (f ∷ fs) each = (All-head IsFrame f fs each).counter

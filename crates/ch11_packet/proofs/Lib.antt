@@ -1,0 +1,4 @@
+pub mod Headers
+pub mod Frames
+pub mod Bodies
+pub mod Records

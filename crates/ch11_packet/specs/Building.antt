@@ -1,0 +1,67 @@
+-- Bodies of Ethernet data, and those that frames are still added to.
+use Rattle.std.specs.Prelude.{ℕ, ◌≡◌, ◌+◌, ◌^◌, ◌<◌, ◌≤◌, List, [], ◌∷◌, ◌++◌, length, drop, All}
+use Rattle.std.specs.Int.{w32, to_le_bytes}
+use Rattle.std.specs.List.{flat_map}
+use Rattle.ch11_packet.specs.declared.limits.TheConstants.{BODY_WORD_LEN, HEADER_LEN, MAX_SPEED, MAX_ETHERNET_PACKET_LEN}
+use Rattle.ch11_packet.specs.PacketLen.{packet_len}
+use Rattle.ch11_packet.specs.EthernetData.{frame_bytes, frame_len, data_len}
+use Rattle.ch11_packet.specs.BodyFrames.{front_frames}
+use Rattle.eth_frame.specs.Frame.{FrameData, IsFrame}
+
+-- ---- what contracts see
+
+-- the body of a packet: its frames, their network identifier and their speed
+pub record EthernetBody : Type 0 where
+  pub frames : List FrameData
+  pub net : ℕ
+  pub speed : ℕ
+
+abbrev pub body_of : (frames : List FrameData) (net speed : ℕ) → EthernetBody
+body_of frames net speed = record { frames = frames; net = net; speed = speed }
+
+-- a body that frames are added to, as far as its packet isn't longer than the limit
+pub record OpenBody : Type 0 where
+  pub frames : List FrameData
+  pub net : ℕ
+  pub speed : ℕ
+  pub limit : ℕ
+
+abbrev pub open_of : (frames : List FrameData) (net speed limit : ℕ) → OpenBody
+open_of frames net speed limit =
+    record { frames = frames; net = net; speed = speed; limit = limit }
+
+-- with a further frame of so many bytes the packet isn't longer than the limit
+abbrev pub Fits : OpenBody → ℕ → Type 0
+Fits body len = packet_len (data_len body.frames + frame_len len) ≤ body.limit
+
+-- ---- what their fields hold
+
+-- the first frame's counter, or 0
+abbrev pub first_counter : List FrameData → ℕ
+first_counter [] = 0
+first_counter (frame ∷ frames) = frame.counter
+
+-- the frames in the bytes of a body behind its word
+abbrev pub frames_in : (count : ℕ) (bytes : List ℕ) → List FrameData
+frames_in count bytes = front_frames count (drop BODY_WORD_LEN bytes)
+
+-- the bytes are a word of this number and these frames, and this is their first counter
+pub record Holds (word : ℕ) (frames : List FrameData) (net speed counter : ℕ) (bytes : List ℕ) : Type 0 where
+  pub bytes_are : bytes ≡ to_le_bytes w32 word ++ flat_map (frame_bytes net speed) frames
+  pub in_range : All IsFrame frames
+  pub net_fits : net < 2 ^ 8
+  pub speed_fits : speed ≤ MAX_SPEED
+  pub first : counter ≡ first_counter frames
+
+-- the bytes hold so many frames below the limit, with a word of 0, and there is room up to the limit
+pub record IsOpen (count net speed counter limit room : ℕ) (bytes : List ℕ) : Type 0 where
+  pub holds : Holds 0 (frames_in count bytes) net speed counter bytes
+  pub fits : packet_len (length bytes) ≤ limit
+  pub bounded : limit ≤ MAX_ETHERNET_PACKET_LEN
+  pub room_left : limit ≤ HEADER_LEN + room
+
+-- the bytes are the body of so many frames, one at least
+pub record IsSealed (count net speed counter : ℕ) (bytes : List ℕ) : Type 0 where
+  pub holds : Holds count (frames_in count bytes) net speed counter bytes
+  pub some : 0 < count
+  pub fits : packet_len (length bytes) ≤ MAX_ETHERNET_PACKET_LEN

@@ -1,0 +1,9 @@
+pub mod Bytes
+pub mod Checksum
+pub mod Header
+pub mod HeaderView
+pub mod PacketLen
+pub mod EthernetData
+pub mod BodyFrames
+pub mod Building
+pub mod RecordBody

@@ -1,0 +1,150 @@
+ghost use Rattle.std.specs.Prelude.{◌↔◌, IsTrue};
+ghost use Rattle.ch11_packet.specs.Header.{IsHeader, LengthsFit, header_of};
+
+use crate::checksum::header_checksum;
+use crate::limits::{
+    CHECKED_LEN, ETHERNET_DATA, HEADER_LEN, MAX_ETHERNET_PACKET_LEN, SYNC_PATTERN,
+};
+use eth_frame::COUNTER_BITS;
+use thiserror::Error;
+
+/// A packet header (IRIG 106-17 Chapter 11). Its sync pattern and its checksum aren't fields, since
+/// they are determined.
+#[derive(Clone, Copy, Debug, PartialEq, Eq)]
+pub struct Header {
+    /// The channel ID.
+    pub channel: u16,
+    /// The packet length: of the whole packet with this header and its filler, in bytes. A
+    /// multiple of 4; for Ethernet data at most [`MAX_ETHERNET_PACKET_LEN`].
+    pub packet_len: u32,
+    /// The data length: of the packet's body without its trailing filler, in bytes. At most the
+    /// packet length without the header.
+    pub data_len: u32,
+    /// The data type version.
+    pub version: u8,
+    /// The sequence number: how many packets of the channel came before, modulo 256.
+    pub sequence: u8,
+    /// The packet flags.
+    pub flags: u8,
+    /// The data type, as [`ETHERNET_DATA`].
+    pub kind: u8,
+    /// The relative time counter, below 2^48.
+    pub counter: u64,
+    pub ghost in_range: { IsHeader (header_of channel packet_len data_len version sequence flags kind counter) },
+}
+
+/// Why 24 bytes are no packet header, in the order in which it is judged.
+#[derive(Clone, Copy, Debug, PartialEq, Eq, Error)]
+pub enum HeaderFault {
+    /// The bytes don't begin with the sync pattern.
+    #[error("the packet header doesn't begin with the sync pattern")]
+    Sync,
+    /// The last two bytes aren't the sum of the eleven words before them.
+    #[error("the packet header's checksum is wrong")]
+    Checksum,
+    /// The packet length is below the header's, is no multiple of 4 or too great for the data
+    /// type, or the data length is over what the packet holds.
+    #[error("the packet header's lengths don't fit")]
+    Length,
+}
+
+impl Header {
+    ghost use Rattle.std.specs.Prelude.{◌≡◌, ◌↔◌, IsSome, IfSome, IfOk, IsOkAnd, Err};
+    ghost use Rattle.ch11_packet.specs.declared.header.HeaderFault.{HeaderFault};
+    ghost use Rattle.ch11_packet.specs.Header.{HeaderData, IsHeader, header_of, header_bytes};
+    ghost use Rattle.ch11_packet.specs.HeaderView.{header_data, HasFault};
+
+    /// A header of these fields: `None` where the packet length is below the header's, is no
+    /// multiple of 4 or too great for the data type, where the data length is over what the packet
+    /// holds, or where the counter has more than 48 bits.
+    #[allow(clippy::too_many_arguments)]
+    pub fn new(
+        channel: u16,
+        packet_len: u32,
+        data_len: u32,
+        version: u8,
+        sequence: u8,
+        flags: u8,
+        kind: u8,
+        counter: u64,
+    ) -> Option<Header>
+        ensures in_range { IsSome result
+            ↔ IsHeader (header_of channel packet_len data_len version sequence flags kind counter) }
+        ensures fields { IfSome result (λ header. header_data header
+            ≡ header_of channel packet_len data_len version sequence flags kind counter) }
+    {
+        if !lengths_fit(kind, packet_len, data_len) || counter >> COUNTER_BITS != 0 {
+            return None;
+        }
+        Some(Header {
+            channel,
+            packet_len,
+            data_len,
+            version,
+            sequence,
+            flags,
+            kind,
+            counter,
+        })
+    }
+
+    /// The 24 bytes of the header, each number with its lowest byte first.
+    #[tactic(auto, unfolding(crate::specs::Header::header_bytes))]
+    pub fn encode(&self) -> [u8; HEADER_LEN]
+        ensures bytes { result ≡ header_bytes (header_data self.now) }
+    {
+        let [s0, s1] = SYNC_PATTERN.to_le_bytes();
+        let [c0, c1] = self.channel.to_le_bytes();
+        let [p0, p1, p2, p3] = self.packet_len.to_le_bytes();
+        let [d0, d1, d2, d3] = self.data_len.to_le_bytes();
+        let [t0, t1, t2, t3, t4, t5, _, _] = self.counter.to_le_bytes();
+        let [v0, n0, f0, k0] = [self.version, self.sequence, self.flags, self.kind];
+        let mut bytes = [
+            s0, s1, c0, c1, p0, p1, p2, p3, d0, d1, d2, d3, v0, n0, f0, k0, t0, t1, t2, t3, t4, t5,
+            0, 0,
+        ];
+        let [low, high] = header_checksum(&bytes).to_le_bytes();
+        bytes[CHECKED_LEN] = low;
+        bytes[CHECKED_LEN + 1] = high;
+        bytes
+    }
+
+    /// The header that these bytes spell, or the first fault: the sync pattern, then the checksum,
+    /// then the lengths.
+    pub fn decode(bytes: &[u8; HEADER_LEN]) -> Result<Header, HeaderFault>
+        ensures spelled { IfOk result (λ header. bytes.now ≡ header_bytes (header_data header)) }
+        ensures read_back { (header : HeaderData) → IsHeader header → bytes.now ≡ header_bytes header
+            → IsOkAnd result (λ read. header_data read ≡ header) }
+        ensures fault { (fault : HeaderFault) → (result ≡ Err fault) ↔ HasFault bytes.now fault }
+    {
+        if u16::from_le_bytes([bytes[0], bytes[1]]) != SYNC_PATTERN {
+            return Err(HeaderFault::Sync);
+        }
+        let checksum = u16::from_le_bytes([bytes[CHECKED_LEN], bytes[CHECKED_LEN + 1]]);
+        if checksum != header_checksum(bytes) {
+            return Err(HeaderFault::Checksum);
+        }
+        let channel = u16::from_le_bytes([bytes[2], bytes[3]]);
+        let packet_len = u32::from_le_bytes([bytes[4], bytes[5], bytes[6], bytes[7]]);
+        let data_len = u32::from_le_bytes([bytes[8], bytes[9], bytes[10], bytes[11]]);
+        let counter = u64::from_le_bytes([
+            bytes[16], bytes[17], bytes[18], bytes[19], bytes[20], bytes[21], 0, 0,
+        ]);
+        let [version, sequence, flags, kind] = [bytes[12], bytes[13], bytes[14], bytes[15]];
+        let header = Header::new(
+            channel, packet_len, data_len, version, sequence, flags, kind, counter,
+        );
+        header.ok_or(HeaderFault::Length)
+    }
+}
+
+/// Whether a packet of this data type and length is well formed and holds so many bytes of data.
+fn lengths_fit(kind: u8, packet_len: u32, data_len: u32) -> bool
+    ensures fit { IsTrue result ↔ LengthsFit kind packet_len data_len }
+{
+    let Some(room) = packet_len.checked_sub(HEADER_LEN as u32) else {
+        return false;
+    };
+    let short = kind != ETHERNET_DATA || packet_len <= MAX_ETHERNET_PACKET_LEN;
+    data_len <= room && packet_len % 4 == 0 && short
+}
