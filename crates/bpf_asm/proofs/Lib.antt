@@ -1,0 +1,10 @@
+pub mod Numerals
+pub mod Lexemes
+pub mod Faults
+pub mod LineEnds
+pub mod Programs
+pub mod Shapes
+pub mod Readings
+pub mod BlankedTexts
+pub mod Lexings
+pub mod Arp

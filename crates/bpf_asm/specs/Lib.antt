@@ -1,0 +1,12 @@
+pub mod Blanked
+pub mod Comments
+pub mod Numbers
+pub mod Tokens
+pub mod Lexing
+pub mod Operands
+pub mod Templates
+pub mod Lines
+pub mod Grammar
+pub mod Denotes
+pub mod Examples
+pub mod Views

@@ -1,0 +1,26 @@
+//! The assembler of filter programs: reads the text of the Linux kernel's `bpf_asm` (Linux
+//! networking documentation, "Linux Socket Filtering"), line by line.
+#![tactic(auto)]
+
+mod blank;
+mod fault;
+mod laws;
+mod line;
+mod mnemonic;
+mod number;
+mod operand;
+mod template;
+mod token;
+
+pub use blank::Text;
+pub use fault::LineFault;
+pub use laws::{
+    a_text_denotes_at_most_one_program, comments_are_blanked, lines_are_cut_into_tokens,
+    lines_are_read_by_the_grammar, operands_are_read_by_the_grammar,
+    the_arp_text_denotes_the_arp_filter,
+};
+pub use line::{Labels, Reading, next_label, next_line, read_line};
+pub use template::{Jump, Template};
+
+#[cfg(test)]
+mod tests;
