@@ -95,10 +95,13 @@ impl DataBuilder {
         ensures added { self.new
             ≡ record self.old { frames = self.old.frames ++ frame_data frame.now ∷ [] } }
     {
+        let first_counter = if self.count == 0 {
+            frame.counter
+        } else {
+            self.first_counter
+        };
         append_frame(&mut self.bytes, frame, self.net, self.speed);
-        if self.count == 0 {
-            self.first_counter = frame.counter;
-        }
+        self.first_counter = first_counter;
         self.count += 1;
     }
 
