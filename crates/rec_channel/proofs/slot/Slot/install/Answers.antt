@@ -1,0 +1,39 @@
+use Rattle.std.proofs.Common.{sym, ◌∙◌, ap, arith, length, subst, refl}
+use Rattle.rec_channel.specs.Slots.{SlotState}
+use Rattle.rec_channel.proofs.Versions.{count_of, count_back, grown, lengths_grown}
+use Rattle.rec_channel.proofs.Histories.{one_version_more}
+use Rattle.rec_channel.specs.History.{IsHistory}
+use Rattle.rec_channel.proofs.slot.Slot.install.Goals as goal
+
+pub returns-then-version-eq-MAX_VERSIONS-clause-full : goal.returns-then-version-eq-MAX_VERSIONS-clause-full
+returns-then-version-eq-MAX_VERSIONS-clause-full c = rw (← c.self.view_is) (let e = count_of c.self.inside.programs _ c.self.invariant.paired in omega (arith, e, c.len-version.ensures, c.if-version-eq-MAX_VERSIONS.true))
+
+pub returns-clause-room : goal.returns-clause-room
+returns-clause-room c = rw (← c.self.view_is) (
+    let e = count_of c.self.inside.programs _ c.self.invariant.paired in
+    let n = count_back _ _ c.self.invariant.paired in
+    let few = c.self.invariant.few in
+    omega (arith, e, n, few, c.len-version.ensures, c.if-version-eq-MAX_VERSIONS.false))
+
+pub returns-clause-place : goal.returns-clause-place
+returns-clause-place c = (c.len-version.ensures ∙ sym (ap (λ (s : SlotState). length s.history) (sym c.self.view_is) ∙ count_of c.self.inside.programs _ c.self.invariant.paired), ap (λ (s : SlotState). s.offered) c.self.view_is)
+
+pub returns-clause-added : goal.returns-clause-added
+returns-clause-added c = rw (← c.self.view_is) (ap (λ h. record { history = h; offered = c.self.inside.offered; max = c.self.inside.max }) (grown c.self.inside.programs c.self.inside.marks c.self.inside.offered c.args.program c.push_reserved.new.self c.push_reserved-2.new.self c.self.invariant.paired c.push_reserved.ensures.items c.push_reserved-2.ensures.items))
+
+pub invariant_of-self : goal.invariant_of-self
+invariant_of-self c =
+    let same = c.self.invariant.paired in
+    let counted = count_back _ _ same in
+    let count = count_of c.self.inside.programs _ same in
+    let few = c.self.invariant.few in
+    let grows = grown c.self.inside.programs c.self.inside.marks c.self.inside.offered c.args.program c.push_reserved.new.self c.push_reserved-2.new.self same c.push_reserved.ensures.items c.push_reserved-2.ensures.items in
+    let lengths = lengths_grown c.self.inside.programs c.self.inside.marks c.self.inside.offered c.args.program c.push_reserved.new.self c.push_reserved-2.new.self c.push_reserved.ensures.items c.push_reserved-2.ensures.items in
+    record {
+      paired = omega (arith, same, lengths.0, lengths.1);
+      history = subst (IsHistory c.self.inside.offered) (sym grows) (one_version_more _ _ _ c.self.invariant.history c.is_valid.ensures.valid refl);
+      within = c.self.invariant.within;
+      few = omega (arith, counted, count, few, lengths.0, c.len-version.ensures, c.if-version-eq-MAX_VERSIONS.false);
+      programs_fit = let e = c.self.invariant.programs_fit in omega (arith, e, c.push_reserved.ensures.capacity);
+      marks_fit = let e = c.self.invariant.marks_fit in omega (arith, e, c.push_reserved-2.ensures.capacity);
+    }

@@ -1,0 +1,20 @@
+ghost use Rattle.std.specs.Prelude.{◌≡◌};
+ghost use Rattle.std.specs.Arc.{arc_value};
+
+use bpf_verify::Verified;
+use std::alloc::Global;
+use std::sync::Arc;
+
+/// A frame's number on its channel, and the version of the filter that is in force there.
+#[derive(Debug, Drop)]
+pub struct Drawn {
+    /// The frame's number, from 0 on in the order in which the channel's frames were drawn.
+    pub number: u64,
+    /// The version in force: the place of its program in the channel's history, from 0 on.
+    pub version: u32,
+    /// The program of that version.
+    pub program: Arc<Verified, Global>,
+    /// A further share of the same program, for whoever keeps one.
+    pub share: Arc<Verified, Global>,
+    ghost equal: { arc_value program ≡ arc_value share },
+}

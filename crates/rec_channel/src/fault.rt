@@ -1,0 +1,41 @@
+use crate::front::Front;
+use bpf_verify::Verified;
+use std::alloc::Global;
+use std::sync::Arc;
+use thiserror::Error;
+
+/// Why no frame was drawn. The slot is as it was.
+#[derive(Clone, Copy, Debug, Drop, PartialEq, Eq, Error)]
+pub enum DrawFault {
+    /// As many frames were drawn as the channel may have.
+    #[error("1 CountFull")]
+    CountFull,
+    /// The slot has less than the caller has seen of it.
+    #[error("2 Stale")]
+    Stale {
+        /// What the slot has.
+        seen: Front,
+    },
+    /// There are too many shares of the program for two more.
+    #[error("3 Memory")]
+    Memory,
+}
+
+/// Why a program was not installed, with the program that was handed in. The slot is as it was.
+#[derive(Debug, Drop, Error)]
+pub enum InstallFault {
+    /// The channel's history has [`MAX_VERSIONS`](crate::MAX_VERSIONS) versions.
+    #[error("1 VersionsFull")]
+    VersionsFull {
+        /// The program handed in.
+        program: Arc<Verified, Global>,
+    },
+    /// The slot has less than the caller has seen of it.
+    #[error("2 Stale")]
+    Stale {
+        /// The program handed in.
+        program: Arc<Verified, Global>,
+        /// What the slot has.
+        seen: Front,
+    },
+}

@@ -1,0 +1,9 @@
+/// Where a program that was installed stands in its channel's history.
+#[derive(Clone, Copy, Debug, PartialEq, Eq)]
+pub struct Installed {
+    /// Its version: its place in the history, from 0 on.
+    pub version: u32,
+    /// Its mark: the number of the first frame that it may meet, which is the count of the frames
+    /// drawn before it was installed.
+    pub mark: u64,
+}

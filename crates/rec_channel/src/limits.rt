@@ -1,0 +1,2 @@
+/// How many versions a channel's history may have.
+pub const MAX_VERSIONS: usize = 1024;

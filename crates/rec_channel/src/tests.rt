@@ -1,0 +1,129 @@
+use super::*;
+use bpf_insn::parse_listing;
+use bpf_verify::{Verified, verify};
+use std::alloc::Global;
+use std::sync::{Arc, Wait};
+use std::test::Fail;
+use std::thread;
+use std::thread::Threads;
+
+const ACCEPT: &str = "1,6 0 0 1,";
+
+const REJECT: &str = "1,6 0 0 0,";
+
+/// The constant that a program of one instruction returns.
+fn returned(program: &Verified) -> Option<u32> {
+    Some(program.insns().first()?.k)
+}
+
+fn program(alloc: Global, listing: &str) -> Result<Arc<Verified, Global>, Fail> {
+    Ok(Arc::new(alloc, verify(parse_listing(alloc, listing)?)?)?)
+}
+
+#[test]
+fn a_frame_meets_the_last_version(rt: HostRuntime) -> Result<(), Fail> {
+    let mut slot = Slot::new(rt.alloc(), program(rt.alloc(), REJECT)?, 3)?;
+    let first = slot.draw()?;
+    assert_eq!(rt; (first.number, first.version), (0, 0));
+    assert_eq!(rt; returned(&first.program), Some(0));
+    let installed = slot.install(program(rt.alloc(), ACCEPT)?)?;
+    assert_eq!(rt; (installed.version, installed.mark), (1, 1));
+    let second = slot.draw()?;
+    assert_eq!(rt; (second.number, second.version), (1, 1));
+    assert_eq!(rt;
+        (returned(&second.program), returned(&second.share)),
+        (Some(1), Some(1))
+    );
+    slot.draw()?;
+    assert_eq!(rt; slot.draw().err(), Some(DrawFault::CountFull));
+    assert_eq!(rt; slot.offered(), 3);
+    assert_eq!(rt; slot.marks(), [0, 1].as_slice());
+    assert_eq!(rt; slot.versions().len(), 2);
+    let parts = slot.into_parts();
+    assert_eq!(rt; parts.marks.as_slice(), [0, 1].as_slice());
+    assert_eq!(rt; (parts.versions.len(), parts.offered), (2, 3));
+    Ok(())
+}
+
+#[test]
+fn equal_programs_are_versions_of_their_own(rt: HostRuntime) -> Result<(), Fail> {
+    let accept = program(rt.alloc(), ACCEPT)?;
+    let mut slot = Slot::new(rt.alloc(), Arc::try_clone(&accept)?, 1)?;
+    for version in 1..1024 {
+        let installed = slot.install(Arc::try_clone(&accept)?)?;
+        assert_eq!(rt; installed.version, version);
+    }
+    let Err(InstallFault::VersionsFull { program }) = slot.install(accept) else {
+        return Err(Fail::from("a 1025th version"));
+    };
+    assert_eq!(rt; returned(&program), Some(1));
+    assert_eq!(rt; slot.versions().len(), 1024);
+    Ok(())
+}
+
+#[test]
+fn a_shared_slot_moves_its_callers_on(rt: HostRuntime) -> Result<(), Fail> {
+    let slot = SharedSlot::new(Slot::new(rt.alloc(), program(rt.alloc(), ACCEPT)?, 2)?);
+    let (installed, front) = slot.install(&rt, program(rt.alloc(), REJECT)?, &Front::START)?;
+    assert_eq!(rt; (installed.version, installed.mark), (1, 0));
+    assert_eq!(rt; (front.versions, front.offered), (2, 0));
+    let (drawn, front) = slot.draw(&rt, &front)?;
+    assert_eq!(rt; (drawn.number, drawn.version), (0, 1));
+    assert_eq!(rt; returned(&drawn.program), Some(0));
+    assert_eq!(rt; (front.versions, front.offered), (2, 1));
+    let ahead = Front {
+        versions: 3,
+        offered: 0,
+    };
+    let seen = front;
+    assert_eq!(rt;
+        slot.draw(&rt, &ahead).err(),
+        Some(DrawFault::Stale { seen })
+    );
+    let Err(InstallFault::Stale { program, seen }) = slot.install(
+        &rt,
+        program(rt.alloc(), ACCEPT)?,
+        &ahead,
+    ) else {
+        return Err(Fail::from("a front that is ahead"));
+    };
+    assert_eq!(rt; (returned(&program), seen), (Some(1), front));
+    let parts = slot.into_slot().into_parts();
+    assert_eq!(rt; (parts.versions.len(), parts.offered), (2, 1));
+    Ok(())
+}
+
+/// How many frames each of the two callers draws.
+const DRAWS: u64 = 1000;
+
+/// The numbers of a caller's draws.
+fn numbers<R: Wait>(rt: &R, alloc: Global, slot: &SharedSlot) -> Option<Vec<u64>> {
+    let mut numbers = Vec::new(alloc);
+    let mut front = Front::START;
+    for _ in 0..DRAWS {
+        let (drawn, after) = slot.draw(rt, &front).ok()?;
+        numbers.push(drawn.number).ok()?;
+        front = after;
+    }
+    Some(numbers)
+}
+
+#[test]
+fn two_callers_share_the_numbers(rt: HostRuntime) -> Result<(), Fail> {
+    let slot = SharedSlot::new(Slot::new(rt.alloc(), program(rt.alloc(), ACCEPT)?, 2 * DRAWS)?);
+    let drawn = thread::map_indices(&rt, rt.alloc(), 2, &|_| numbers(&rt, rt.alloc(), &slot))?;
+    let mut all = Vec::new(rt.alloc());
+    for numbers in &drawn {
+        all.extend_from_slice(numbers.as_ref().ok_or("all frames are drawn")?)?;
+    }
+    all.sort_unstable();
+    for (place, number) in all.iter().enumerate() {
+        assert_eq!(rt; *number, place as u64);
+    }
+    assert_eq!(rt; all.len(), 2000);
+    assert_eq!(rt;
+        slot.draw(&rt, &Front::START).err(),
+        Some(DrawFault::CountFull)
+    );
+    Ok(())
+}
