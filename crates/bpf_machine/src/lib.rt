@@ -3,8 +3,10 @@
 
 mod laws;
 mod machine;
+mod operations;
 mod progress;
-mod state;
+mod registers;
+mod scratch;
 
 pub use laws::runs_once;
 pub use machine::{MAX_VIEW, Outcome, run};
