@@ -3,3 +3,4 @@ pub mod Words
 pub mod Listings
 pub mod Digits
 pub mod Pieces
+pub mod PrintedListings

@@ -3,3 +3,4 @@ pub mod Bytes
 pub mod Text
 pub mod Listing
 pub mod Stretches
+pub mod Printed

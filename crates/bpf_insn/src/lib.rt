@@ -5,11 +5,13 @@
 mod form;
 mod insn;
 mod listing;
+mod printed;
 mod text;
 
 pub use form::{Cond, Form, Op, Size, Src, form_of};
 pub use insn::{Insn, MAX_INSNS};
 pub use listing::{ListingFault, parse_listing};
+pub use printed::{a_printed_listing_reads_as_its_program, print_listing};
 
 #[cfg(test)]
 mod tests;

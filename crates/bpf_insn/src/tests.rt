@@ -62,3 +62,14 @@ fn the_first_fault_is_told(rt: HostRuntime) {
         );
     }
 }
+
+#[test]
+fn programs_are_printed(rt: HostRuntime) -> Result<(), Fail> {
+    for text in ["0,", "4,40 0 0 12,21 0 1 2054,6 0 0 4294967295,6 0 0 0,"] {
+        let program = parse_listing(rt.alloc(), text)?;
+        assert!(rt; program.len() <= 65_535);
+        let printed = print_listing(rt.alloc(), program.as_slice())?;
+        assert_eq!(rt; printed.as_str(), text);
+    }
+    Ok(())
+}
