@@ -8,3 +8,9 @@ pub mod Readings
 pub mod BlankedTexts
 pub mod Lexings
 pub mod Arp
+pub mod ShapeLists
+pub mod JumpFaults
+pub mod Drafting
+pub mod FirstFaults
+pub mod Tables
+pub mod Assembling

@@ -11,7 +11,7 @@ use Rattle.bpf_asm.proofs.Readings.{one_shape}
 use Rattle.bpf_asm.specs.Denotes.{HaveShapes, Label, labels_from, templates_of, Leads, Branches, HasFields, AreInsns, DenotesBy, Denotes}
 
 -- lines have one list of shapes
-one_shapes : (lines : List (List ℕ)) (ss ts : List Shape) → HaveShapes lines ss → HaveShapes lines ts → ss ≡ ts
+pub one_shapes : (lines : List (List ℕ)) (ss ts : List Shape) → HaveShapes lines ss → HaveShapes lines ts → ss ≡ ts
 one_shapes [] [] [] h k = refl
 one_shapes [] [] (t ∷ ts) h k = absurd k
 one_shapes [] (s ∷ ss) ts h k = absurd h

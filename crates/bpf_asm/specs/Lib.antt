@@ -8,5 +8,7 @@ pub mod Templates
 pub mod Lines
 pub mod Grammar
 pub mod Denotes
+pub mod FirstFault
+pub mod Drafts
 pub mod Examples
 pub mod Views

@@ -1,4 +1,4 @@
-ghost use Rattle.std.specs.Prelude.{◌≡◌, ◌↔◌, ℕ, List, Some, Ok};
+ghost use Rattle.std.specs.Prelude.{◌≡◌, ◌↔◌, ◌⊎◌, ℕ, List, Some, Ok};
 ghost use Rattle.bpf_insn.specs.declared.insn.Insn.{Insn};
 ghost use Rattle.bpf_asm.specs.Blanked.{blanked};
 ghost use Rattle.bpf_asm.specs.Comments.{Blanks};
@@ -8,6 +8,8 @@ ghost use Rattle.bpf_asm.specs.Operands.{Operand, operand_of};
 ghost use Rattle.bpf_asm.specs.Lines.{reading_of};
 ghost use Rattle.bpf_asm.specs.Grammar.{IsOperand, Shape, HasShape, shape_reading};
 ghost use Rattle.bpf_asm.specs.Denotes.{Denotes};
+ghost use Rattle.bpf_asm.specs.FirstFault.{FirstFault};
+ghost use Rattle.bpf_asm.specs.declared.fault.AsmFault.{AsmFault};
 ghost use Rattle.bpf_asm.specs.Examples.{arp_text, arp_program};
 
 /// Law: a text is blanked as its comments and the bytes between them say, and in no other way.
@@ -39,4 +41,11 @@ pub fn a_text_denotes_at_most_one_program()
 /// Worked example: the text of the ARP filter denotes the ARP filter.
 pub fn the_arp_text_denotes_the_arp_filter()
     ensures { Denotes arp_text arp_program }
+{}
+
+/// Law: a text denotes a program or has a first fault, never both, and no two first faults.
+pub fn a_text_denotes_a_program_or_has_one_first_fault()
+    ensures either { (text : List ℕ) → ((program : List Insn) × Denotes text program) ⊎ ((fault : AsmFault) × FirstFault text fault) }
+    ensures never_both { (text : List ℕ) (program : List Insn) (fault : AsmFault) → Denotes text program → FirstFault text fault → ⊥ }
+    ensures once { (text : List ℕ) (first second : AsmFault) → FirstFault text first → FirstFault text second → first ≡ second }
 {}
