@@ -5,6 +5,9 @@ RT ?= rt
 
 # A short tour, on the samples in examples/.
 demo: build
+	bin/bpfrec asm crates/bpfrec_cases/data/filters/udp_port.bpf > bin/udp_port.txt
+	bin/bpfrec verify bin/udp_port.txt
+	bin/bpfrec dis bin/udp_port.txt
 	bin/bpfrec < examples/arp_frame.txt
 	bin/bpfrec verify examples/arp.txt
 	bin/bpfrec run examples/arp.txt ffffffffffff0200000000010806

@@ -1,10 +1,10 @@
 /// The view of an ARP frame, a broadcast.
-const ARP: &str = "ffffffffffff0200000000010806";
+pub(crate) const ARP: &str = "ffffffffffff0200000000010806";
 /// The view of an IPv4 frame whose header has 20 bytes.
-const IPV4: &str = "ffffffffffff020000000001080045";
+pub(crate) const IPV4: &str = "ffffffffffff020000000001080045";
 
 /// The words of each run.
-pub(crate) static CASES: [&[&str]; 53] = [
+pub(crate) static CASES: [&[&str]; 77] = [
     // programs that may be installed, and what they return
     &["verify", "arp"],
     &["verify", "arp_lines"],
@@ -50,27 +50,55 @@ pub(crate) static CASES: [&[&str]; 53] = [
     &["verify", "empty"],
     &["verify", "wrong_count"],
     &["verify", "wide_constant"],
+    // texts that are no program
+    &["asm", "texts/backward.bpf"],
+    &["asm", "texts/jump_over_256.bpf"],
+    &["asm", "texts/extension.bpf"],
+    &["asm", "texts/no_octal_digit.bpf"],
+    &["asm", "texts/label_twice.bpf"],
+    &["asm", "texts/label_missing.bpf"],
+    &["asm", "texts/label_at_the_end.bpf"],
+    &["asm", "texts/open_comment.bpf"],
+    &["asm", "texts/unknown_mnemonic.bpf"],
+    &["asm", "texts/returns_513.bpf"],
+    &["asm", "empty"],
+    // programs as texts
+    &["dis", "arp"],
+    &["dis", "no_instruction"],
+    &["dis", "unused_field"],
+    &["verify", "unused_constant"],
+    &["dis", "unused_constant"],
+    &["dis", "return_of_x"],
+    &["dis", "jump_out"],
+    &["dis", "wrong_count"],
     // files that can't be read, or are no text
     &["verify", "nowhere"],
     &["verify", "."],
     &["verify", "not_utf8"],
     &["verify", ""],
     &["verify", "-"],
+    &["asm", "nowhere"],
+    &["asm", "not_utf8"],
+    &["dis", "nowhere"],
     // words that are no command
     &["verify"],
     &["verify", "arp", "arp"],
     &["run", "arp"],
     &["run"],
+    &["asm"],
+    &["dis", "arp", "arp"],
     &["assemble", "arp"],
     &["--quiet"],
     &["verify", "--", "--arp"],
 ];
 
 /// Words that ask for help.
-pub(crate) static HELP: [&[&str]; 5] = [
+pub(crate) static HELP: [&[&str]; 7] = [
     &["--help"],
     &["-h"],
     &["help"],
     &["verify", "--help"],
     &["help", "run"],
+    &["asm", "--help"],
+    &["help", "dis"],
 ];

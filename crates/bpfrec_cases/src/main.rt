@@ -1,19 +1,27 @@
 //! Drives the recorder's program through a table of cases and prints, for each, its words, its
 //! output, its errors (a line of them begins with `! `) and its status. The files that the cases
-//! name lie in `data/`; the stored output is the record of all that the program prints.
+//! name lie in `data/`; the listings of texts go from one command to the next. The stored output is the record of all that the program prints.
 #![tactic(auto)]
 
 mod cases;
+mod texts;
 
 use cases::{CASES, HELP};
 use std::alloc::AllocError;
-use std::io;
 use std::io::{ErrorKind, Write};
 use std::rt::Files;
+use std::{fs, io};
+use texts::{FILTERS, TEXTS, TextCase};
 
 fn main(rt: HostRuntime) -> io::Result<()> {
     'cases: for words in CASES {
         show(&rt, words)?;
+    }
+    'texts: for text in &TEXTS {
+        show_text(&rt, text)?;
+    }
+    'filters: for filter in &FILTERS {
+        show_text(&rt, filter)?;
     }
     'help: for words in HELP {
         show_help(&rt, words)?;
@@ -23,6 +31,23 @@ fn main(rt: HostRuntime) -> io::Result<()> {
 
 /// One case.
 fn show<R: AllocGlobal + Files + Print>(rt: &R, words: &[&str]) -> io::Result<()> {
+    answered(rt, words)?;
+    Ok(())
+}
+
+/// A text: its listing is stored as the file `listing`, and then checked and run on each view.
+fn show_text<R: AllocGlobal + Files + Print>(rt: &R, text: &TextCase) -> io::Result<()> {
+    let listing = answered(rt, &["asm", text.file])?;
+    fs::write(rt, "listing", listing.as_slice())?;
+    show(rt, &["verify", "listing"])?;
+    'views: for view in text.views {
+        show(rt, &["run", "listing", view])?;
+    }
+    Ok(())
+}
+
+/// Runs the program on these words, and shows and gives its output.
+fn answered<R: AllocGlobal + Files + Print>(rt: &R, words: &[&str]) -> io::Result<Vec<u8>> {
     let owned = words_of(rt, words)?;
     let mut output = Vec::new(rt.alloc());
     let mut errors = Vec::new(rt.alloc());
@@ -32,7 +57,8 @@ fn show<R: AllocGlobal + Files + Print>(rt: &R, words: &[&str]) -> io::Result<()
     'errors: for line in text(&errors).lines() {
         println!(rt; "! {line}")?;
     }
-    println!(rt; "= {status}")
+    println!(rt; "= {status}")?;
+    Ok(output)
 }
 
 /// Help is told by its stream, its status and the commands that it names, not by its text.
@@ -42,7 +68,7 @@ fn show_help<R: AllocGlobal + Files + Print>(rt: &R, words: &[&str]) -> io::Resu
     let mut errors = Vec::new(rt.alloc());
     let status = rec_cli::program(rt, owned.as_slice(), io::empty(), &mut output, &mut errors);
     title(rt, words)?;
-    'names: for name in ["verify", "run", "FILE", "HEX", "Usage"] {
+    'names: for name in ["asm", "dis", "verify", "run", "FILE", "HEX", "Usage"] {
         if text(&output).contains(name) {
             println!(rt; "names {name}")?;
         }

@@ -3,11 +3,17 @@ use Rattle.std.specs.Prelude.{◌≡◌, ◌≢◌, List, [], Option, Some, true
 use Rattle.clap.specs.Words.{App, Row, Rule, Text, first_of, new_app, new_rule, with_rule, with_subcommand}
 use Rattle.clap.specs.declared.builder.ArgAction.TheVariants.{Set}
 use Rattle.rec_cli.specs.declared.words.Words.{Words}
-use Rattle.rec_cli.specs.declared.words.Words.TheVariants.{NoCommand, Verify, Run}
+use Rattle.rec_cli.specs.declared.words.Words.TheVariants.{NoCommand, Asm, Dis, Verify, Run}
 
 -- a word that must be given
 abbrev pub operand : Text → Rule
 operand name = record (new_rule name) { required = true; action = Some Set }
+
+abbrev pub asm_app : App
+asm_app = with_rule (new_app (codes "asm")) (operand (codes "FILE"))
+
+abbrev pub dis_app : App
+dis_app = with_rule (new_app (codes "dis")) (operand (codes "FILE"))
 
 abbrev pub verify_app : App
 verify_app = with_rule (new_app (codes "verify")) (operand (codes "FILE"))
@@ -23,7 +29,7 @@ top_app =
 
 -- the program
 abbrev pub bpfrec_app : App
-bpfrec_app = with_subcommand (with_subcommand top_app verify_app.top) run_app.top
+bpfrec_app = with_subcommand (with_subcommand (with_subcommand (with_subcommand top_app asm_app.top) dis_app.top) verify_app.top) run_app.top
 
 -- the word given for a name
 abbrev pub word_for : Text → List Row → Text
@@ -31,6 +37,9 @@ word_for name rows = unwrap_or (first_of name rows) []
 
 -- the command and the words of a subcommand with its matches
 abbrev pub AsksFor : Option (Text × List Row) → Words → Type 0
-AsksFor asked NoCommand = (rows : List Row) → (asked ≢ Some (codes "verify", rows)) × (asked ≢ Some (codes "run", rows))
+AsksFor asked NoCommand =
+    (rows : List Row) → (asked ≢ Some (codes "asm", rows)) × (asked ≢ Some (codes "dis", rows)) × (asked ≢ Some (codes "verify", rows)) × (asked ≢ Some (codes "run", rows))
+AsksFor asked (Asm file) = (rows : List Row) × (asked ≡ Some (codes "asm", rows)) × (file.now ≡ word_for (codes "FILE") rows)
+AsksFor asked (Dis file) = (rows : List Row) × (asked ≡ Some (codes "dis", rows)) × (file.now ≡ word_for (codes "FILE") rows)
 AsksFor asked (Verify file) = (rows : List Row) × (asked ≡ Some (codes "verify", rows)) × (file.now ≡ word_for (codes "FILE") rows)
 AsksFor asked (Run file view) = (rows : List Row) × (asked ≡ Some (codes "run", rows)) × (file.now ≡ word_for (codes "FILE") rows) × (view.now ≡ word_for (codes "HEX") rows)

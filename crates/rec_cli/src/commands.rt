@@ -1,20 +1,47 @@
 ghost use Rattle.std.specs.Prelude.{◌≡◌, IfOk, codes, false};
 ghost use Rattle.clap.specs.Words.{app_of, rule_of};
 ghost use Rattle.clap.specs.declared.builder.Command.TheViews.{out-Command as fields_of};
-ghost use Rattle.rec_cli.specs.Commands.{bpfrec_app, operand, run_app, top_app, verify_app};
+ghost use Rattle.rec_cli.specs.Commands.{asm_app, bpfrec_app, dis_app, operand, run_app, top_app, verify_app};
 
 use clap::{Arg, ArgAction, Command};
 use std::alloc::{AllocError, Global};
 
 const ABOUT: &str =
-    "Checks and runs the filters of the bpfrec recorder, which are classic BPF programs.";
+    "Assembles, checks and runs the filters of the bpfrec recorder, which are classic BPF programs.";
 
 const STATUSES: &str = "\
 Without words, bpfrec reads a listing and a view in hexadecimal, a line each, from standard
 input, and prints what run prints.
 
-Exit status: 0 answered; 1 a listing, a program or a view was refused; 2 the words are no
+Exit status: 0 answered; 1 a text, listing, program or view was refused; 2 the words are no
 command; 3 a file could not be read, or standard output not written; 4 no memory.";
+
+const ASM: &str = "\
+Reads a filter in the text of the Linux kernel's bpf_asm, and prints its listing on standard
+output, on one line, for verify, run and dis. The first fault of the text is told on standard
+error, with its line, counted from 1:
+  asm <number> <Name> line <n>     Syntax, Number, UnknownMnemonic, OperandNotAllowed,
+                                   LabelMissing, LabelTwice, Backward or TooFar
+  asm 9 TooLong                    more than 512 instructions
+
+Exit status: 0 answered; 1 no program; 2 words; 3 the file; 4 no memory.
+
+Example:
+  bpfrec asm arp.bpf";
+
+const DIS: &str = "\
+Reads a program's listing, and prints the program in the text of the Linux kernel's bpf_asm on
+standard output, a line for each instruction, with labels where jumps lead. asm reads a text of
+at most 512 instructions as the same program. What has no text is told on standard error:
+  dis 1 NoForm <i>                 instruction i has no legal code, or a number in a field that
+                                   it doesn't use, as tcpdump leaves them (7 0 0 5); verify and
+                                   run pass over such a number, the text could not say it
+  dis 2 JumpOut <i>                a jump of instruction i leads past the last instruction
+
+Exit status: 0 answered; 1 no listing, or no text; 2 words; 3 the file; 4 no memory.
+
+Example:
+  bpfrec dis arp.txt";
 
 const VERIFY: &str = "\
 Reads a program's listing, as bpf_asm and tcpdump -ddd print it. Prints on standard output
@@ -45,6 +72,8 @@ pub(crate) fn bpfrec<'a>(alloc: Global) -> Result<Command<'a>, AllocError>
     ensures local { IfOk result (λ c. (fields_of c).has_globals ≡ false) }
 {
     top(alloc)?
+        .subcommand(asm(alloc)?)?
+        .subcommand(dis(alloc)?)?
         .subcommand(verify(alloc)?)?
         .subcommand(run(alloc)?)
 }
@@ -62,6 +91,28 @@ fn top<'a>(alloc: Global) -> Result<Command<'a>, AllocError>
             .no_binary_name(true)
             .subcommand_required(true),
     )
+}
+
+fn asm<'a>(alloc: Global) -> Result<Command<'a>, AllocError>
+    ensures app { IfOk result (λ c. app_of c ≡ asm_app) }
+    ensures local { IfOk result (λ c. (fields_of c).has_globals ≡ false) }
+{
+    Command::new(alloc, "asm")
+        .bin_name("bpfrec asm")?
+        .about("Prints the listing of a filter's text")
+        .after_help(ASM)
+        .arg(operand(alloc, "FILE").help("A filter in the text of the Linux kernel's bpf_asm"))
+}
+
+fn dis<'a>(alloc: Global) -> Result<Command<'a>, AllocError>
+    ensures app { IfOk result (λ c. app_of c ≡ dis_app) }
+    ensures local { IfOk result (λ c. (fields_of c).has_globals ≡ false) }
+{
+    Command::new(alloc, "dis")
+        .bin_name("bpfrec dis")?
+        .about("Prints the text of a program's listing")
+        .after_help(DIS)
+        .arg(file(alloc))
 }
 
 fn verify<'a>(alloc: Global) -> Result<Command<'a>, AllocError>

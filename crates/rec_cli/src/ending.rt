@@ -1,6 +1,8 @@
 ghost use Rattle.std.specs.Prelude.{◌<◌};
 
 use super::view::ViewFault;
+use bpf_asm::AsmFault;
+use bpf_dis::DisFault;
 use bpf_insn::ListingFault;
 use bpf_verify::Refused;
 use std::io;
@@ -27,6 +29,10 @@ pub(crate) enum Ending<'a> {
     /// A file couldn't be read, is no UTF-8 where text is wanted, or couldn't be written.
     #[error("file {0}\n")]
     File(&'a str),
+    #[error("{0}\n")]
+    Assembler(#[from] AsmFault),
+    #[error("{0}\n")]
+    Disassembler(#[from] DisFault),
     #[error("{0}\n")]
     Listing(#[from] ListingFault),
     #[error("{0}\n")]
@@ -72,7 +78,9 @@ impl<'a> Ending<'a> {
             Ending::Words(_) => WORDS,
             Ending::File(_) => FILE,
             Ending::Listing(ListingFault::Memory) | Ending::View(ViewFault::Memory) => MEMORY,
+            Ending::Assembler(AsmFault::Memory) | Ending::Disassembler(DisFault::Memory) => MEMORY,
             Ending::Memory => MEMORY,
+            Ending::Assembler(_) | Ending::Disassembler(_) => REFUSED,
             Ending::Listing(_) | Ending::Refused(_) | Ending::View(_) => REFUSED,
         }
     }

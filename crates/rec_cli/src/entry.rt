@@ -1,9 +1,9 @@
 ghost use Rattle.std.specs.Prelude.{◌≡◌, ◌<◌, IfSome, length};
 ghost use Rattle.rec_cli.specs.Lines.{AnswersLines};
 
-use super::ending::{ANSWERED, Ending, STREAM};
+use super::ending::{ANSWERED, Ending};
 use super::one_frame::answer_lines;
-use super::programs::{run_file, verify_file};
+use super::programs::{assemble_file, disassemble_file, print_text, run_file, verify_file};
 use super::words::{Words, WordsFault, words_of};
 use std::io;
 use std::io::{ErrorKind, Read, Write};
@@ -58,6 +58,8 @@ fn answer<'a, R: AllocGlobal + Files, O: Write>(
     output: &mut O,
 ) -> Result<(), Ending<'a>> {
     match command {
+        Words::Asm { file } => assemble_file(rt, file, output),
+        Words::Dis { file } => disassemble_file(rt, file, output),
         Words::Verify { file } => verify_file(rt, file, output),
         Words::Run { file, view } => run_file(rt, file, view, output),
         Words::NoCommand => Err(Ending::Words(String::new(rt.alloc()))),
@@ -65,13 +67,7 @@ fn answer<'a, R: AllocGlobal + Files, O: Write>(
 }
 
 fn print_help<O: Write>(output: &mut O, text: String) -> Result<(), Ending<'static>> {
-    match output
-        .write_all(text.as_bytes())
-        .and_then(|()| output.flush())
-    {
-        Ok(()) => Ok(()),
-        Err(_) => Err(Ending::File(STREAM)),
-    }
+    print_text(output, text.as_str())
 }
 
 /// Tells why the words of the command line couldn't be had, and gives the exit status:

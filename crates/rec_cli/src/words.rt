@@ -13,6 +13,10 @@ use std::alloc::Global;
 pub enum Words<'a> {
     /// No command: clap takes no words without one.
     NoCommand,
+    /// `asm FILE`
+    Asm { file: &'a str },
+    /// `dis FILE`
+    Dis { file: &'a str },
     /// `verify FILE`
     Verify { file: &'a str },
     /// `run FILE HEX`
@@ -53,6 +57,12 @@ fn asked<'a>(matches: &ArgMatches<'a>) -> Words<'a>
         return Words::NoCommand;
     };
     let file = inner.get_str("FILE").unwrap_or("");
+    if name == "asm" {
+        return Words::Asm { file };
+    }
+    if name == "dis" {
+        return Words::Dis { file };
+    }
     if name == "verify" {
         return Words::Verify { file };
     }
