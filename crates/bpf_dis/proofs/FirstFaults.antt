@@ -1,0 +1,93 @@
+-- The first fault of a program is that of its first instruction with one.
+use Rattle.std.proofs.Common.{ℕ, ◌+◌, ◌<◌, ◌≡◌, ◌⊎◌, inl, inr, List, length, slice_get, Option, Some, refl, sym, ap, subst, All, below_more}
+use Rattle.std.proofs.lemmas.Bool.{cases_order}
+use Rattle.std.proofs.lemmas.Option.{get_or_from_slice_get}
+use Rattle.bpf_insn.specs.declared.insn.Insn.{Insn}
+use Rattle.bpf_insn.specs.declared.form.Form.{Form}
+use Rattle.bpf_insn.specs.Bytes.{InRange}
+use Rattle.bpf_insn.specs.Forms.{form}
+use Rattle.bpf_dis.specs.declared.fault.DisFault.{DisFault}
+use Rattle.bpf_dis.specs.declared.fault.DisFault.TheVariants.{NoForm, JumpOut, Memory}
+use Rattle.bpf_dis.specs.Faults.{UnusedAreZero, FormIsSaid, IsSaid, StaysInside, AreSaidBefore, HasText, IsFaultOf, FormStaysInside, FormHasFault}
+use Rattle.bpf_dis.proofs.Spellings.{same_insn}
+
+-- an instruction that can be said and jumps out
+pub jumps_out : (len at : ℕ) (insn : Insn) (f : Form) (o : Option Form) → Some f ≡ o → UnusedAreZero f insn → (FormStaysInside len (Some f) at insn → ⊥) → FormHasFault len o at insn (JumpOut at)
+jumps_out len at insn f o formed unused out =
+    let P : Option Form → Type 0 = λ o. FormHasFault len o at insn (JumpOut at) in
+    subst P formed (refl, unused, out)
+
+-- what is said of whatever instruction stands at a place is said of this one
+here_said : (program : List Insn) (at : ℕ) (insn : Insn) → slice_get program at ≡ Some insn → IsSaid program at → FormIsSaid (form insn.code) insn
+here_said program at insn stands said =
+    let P : Insn → Type 0 = λ i. FormIsSaid (form i.code) i in
+    subst P (same_insn program at said.0 insn said.1 stands) said.2
+
+here_inside : (program : List Insn) (at : ℕ) (insn : Insn) → slice_get program at ≡ Some insn → StaysInside program at → FormStaysInside (length program) (form insn.code) at insn
+here_inside program at insn stands inside =
+    let P : Insn → Type 0 = λ i. FormStaysInside (length program) (form i.code) at i in
+    subst P (same_insn program at inside.0 insn inside.1 stands) inside.2
+
+-- the fault of an instruction before which there is none is the program's
+pub fault_is : (program : List Insn) (at : ℕ) (insn : Insn) (fault : DisFault) → slice_get program at ≡ Some insn → at < length program → AreSaidBefore program at → FormHasFault (length program) (form insn.code) at insn fault
+    → IsFaultOf program fault
+fault_is program at insn (NoForm place) stands below before has =
+    let P : ℕ → Type 0 = λ p. IsFaultOf program (NoForm p) in
+    subst P (sym has.0) (below, before, λ said. has.1 (here_said program at insn stands said))
+fault_is program at insn (JumpOut place) stands below before has =
+    let P : ℕ → Type 0 = λ p. IsFaultOf program (JumpOut p) in
+    subst P (sym has.0) (below, before, (insn, stands, has.1), λ inside. has.2 (here_inside program at insn stands inside))
+fault_is program at insn Memory stands below before has = absurd has
+
+-- one more instruction without a fault
+pub said_more : (program : List Insn) (at : ℕ) (insn : Insn) → slice_get program at ≡ Some insn → AreSaidBefore program at → FormIsSaid (form insn.code) insn × FormStaysInside (length program) (form insn.code) at insn
+    → AreSaidBefore program (at + 1)
+said_more program at insn stands before well = below_more _ _ before ((insn, stands, well.0), (insn, stands, well.1))
+
+-- the jumps of an instruction of a program that has a text
+pub inside_at : (program : List Insn) (at : ℕ) (insn : Insn) (f : Form) → AreSaidBefore program (length program) → at < length program → slice_get program at ≡ Some insn → Some f ≡ form insn.code
+    → FormStaysInside (length program) (Some f) at insn
+inside_at program at insn f text below stands formed =
+    let P : Option Form → Type 0 = λ o. FormStaysInside (length program) o at insn in
+    subst P (sym formed) (here_inside program at insn stands (text at below).1)
+
+-- each instruction before this place is in range
+abbrev pub AreInRangeBefore : List Insn → ℕ → Type 0
+AreInRangeBefore program bound = (at : ℕ) → at < bound → (insn : Insn) × (slice_get program at ≡ Some insn) × InRange insn
+
+pub all_in_range : (program : List Insn) → AreInRangeBefore program (length program) → All InRange program
+all_in_range program before =
+    λ k d below.
+    let here = before k below in
+    let P : Insn → Type 0 = λ i. InRange i in
+    subst P (sym (get_or_from_slice_get program k here.0 d here.1)) here.2
+
+-- a program that has a text has no fault
+pub no_fault : (program : List Insn) (fault : DisFault) → HasText program → IsFaultOf program fault → ⊥
+no_fault program (NoForm at) text h = h.2 (text at h.0).0
+no_fault program (JumpOut at) text h = h.3 (text at h.0).1
+no_fault program Memory text h = h
+
+-- the instruction at the place of a fault has it
+abbrev FaultHere : List Insn → ℕ → Type 0
+FaultHere program at = IsSaid program at × StaysInside program at → ⊥
+
+one_place : (program : List Insn) (at place : ℕ) → AreSaidBefore program at → FaultHere program at → AreSaidBefore program place → FaultHere program place → (at ≡ place) ⊎ ((at < place) ⊎ (place < at)) → at ≡ place
+one_place program at place before here earlier there (inl same) = same
+one_place program at place before here earlier there (inr (inl below)) = absurd (here (earlier at below))
+one_place program at place before here earlier there (inr (inr above)) = absurd (there (before place above))
+
+-- a program has one fault at most
+pub one_fault : (program : List Insn) (f g : DisFault) → IsFaultOf program f → IsFaultOf program g → f ≡ g
+one_fault program (NoForm at) (NoForm place) h k = ap NoForm (one_place program at place h.1 (λ both. h.2 both.0) k.1 (λ both. k.2 both.0) (cases_order at place))
+one_fault program (NoForm at) (JumpOut place) h k =
+    let same = one_place program at place h.1 (λ both. h.2 both.0) k.1 (λ both. k.3 both.1) (cases_order at place) in
+    let P : ℕ → Type 0 = λ p. IsSaid program p in
+    absurd (h.2 (subst P (sym same) k.2))
+one_fault program (JumpOut at) (NoForm place) h k =
+    let same = one_place program at place h.1 (λ both. h.3 both.1) k.1 (λ both. k.2 both.0) (cases_order at place) in
+    let P : ℕ → Type 0 = λ p. IsSaid program p in
+    absurd (k.2 (subst P same h.2))
+one_fault program (JumpOut at) (JumpOut place) h k = ap JumpOut (one_place program at place h.1 (λ both. h.3 both.1) k.1 (λ both. k.3 both.1) (cases_order at place))
+one_fault program f Memory h k = absurd k
+one_fault program Memory g h k = absurd h

@@ -1,0 +1,11 @@
+pub mod Words
+pub mod Numbers
+pub mod Pieces
+pub mod Codes
+pub mod Statements
+pub mod Lines
+pub mod Rows
+pub mod Spellings
+pub mod FirstFaults
+pub mod Marks
+pub mod Targets

@@ -1,0 +1,4 @@
+pub mod Targets
+pub mod Uses
+pub mod Spelled
+pub mod Faults

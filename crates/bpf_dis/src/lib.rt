@@ -1,0 +1,20 @@
+//! The disassembler of filter programs: writes a program in the text of the Linux kernel's
+//! `bpf_asm` (Linux networking documentation, "Linux Socket Filtering").
+#![tactic(auto)]
+
+mod check;
+mod fault;
+mod fields;
+mod jumps;
+mod labels;
+mod laws;
+mod line;
+mod mnemonics;
+mod text;
+
+pub use fault::DisFault;
+pub use laws::{labels_stand_where_jumps_lead, text_denotes_program};
+pub use text::text_of;
+
+#[cfg(test)]
+mod tests;
