@@ -1,4 +1,5 @@
 use super::*;
+use bpf_asm::assemble;
 use bpf_insn::parse_listing;
 use std::test::Fail;
 
@@ -9,6 +10,12 @@ fn printed(rt: &HostRuntime, listing: &str) -> Result<String, Fail> {
         Ok(text) => Ok(text),
         Err(fault) => Ok(fault.to_string(rt.alloc())?),
     }
+}
+
+/// Whether the text is assembled to the listed program.
+fn is_read_again(rt: &HostRuntime, text: &str, listing: &str) -> Result<bool, Fail> {
+    let program = parse_listing(rt.alloc(), listing)?;
+    Ok(assemble(rt.alloc(), text)?.as_slice() == program.as_slice())
 }
 
 #[test]
@@ -28,55 +35,61 @@ fn worked_examples(rt: HostRuntime) -> Result<(), Fail> {
     Ok(())
 }
 
+/// Each instruction that is no jump, and its line.
+const LINES: [(&str, &str); 40] = [
+    ("0 0 0 7", "ld #7"),
+    ("32 0 0 12", "ld [12]"),
+    ("40 0 0 12", "ldh [12]"),
+    ("48 0 0 4294967295", "ldb [4294967295]"),
+    ("64 0 0 3", "ld [x + 3]"),
+    ("72 0 0 3", "ldh [x + 3]"),
+    ("80 0 0 0", "ldb [x + 0]"),
+    ("96 0 0 15", "ld M[15]"),
+    ("128 0 0 0", "ld len"),
+    ("1 0 0 7", "ldx #7"),
+    ("97 0 0 3", "ldx M[3]"),
+    ("129 0 0 0", "ldx len"),
+    ("177 0 0 14", "ldxb 4*([14]&0xf)"),
+    ("2 0 0 3", "st M[3]"),
+    ("3 0 0 3", "stx M[3]"),
+    ("4 0 0 1", "add #1"),
+    ("12 0 0 0", "add x"),
+    ("20 0 0 1", "sub #1"),
+    ("28 0 0 0", "sub x"),
+    ("36 0 0 1", "mul #1"),
+    ("44 0 0 0", "mul x"),
+    ("52 0 0 1", "div #1"),
+    ("60 0 0 0", "div x"),
+    ("68 0 0 1", "or #1"),
+    ("76 0 0 0", "or x"),
+    ("84 0 0 1", "and #1"),
+    ("92 0 0 0", "and x"),
+    ("100 0 0 1", "lsh #1"),
+    ("108 0 0 0", "lsh x"),
+    ("116 0 0 1", "rsh #1"),
+    ("124 0 0 0", "rsh x"),
+    ("132 0 0 0", "neg"),
+    ("148 0 0 1", "mod #1"),
+    ("156 0 0 0", "mod x"),
+    ("164 0 0 1", "xor #1"),
+    ("172 0 0 0", "xor x"),
+    ("6 0 0 1", "ret #1"),
+    ("22 0 0 0", "ret a"),
+    ("7 0 0 0", "tax"),
+    ("135 0 0 0", "txa"),
+];
+
 #[test]
 fn every_form_that_is_no_jump(rt: HostRuntime) -> Result<(), Fail> {
-    let table = [
-        ("0 0 0 7", "ld #7"),
-        ("32 0 0 12", "ld [12]"),
-        ("40 0 0 12", "ldh [12]"),
-        ("48 0 0 4294967295", "ldb [4294967295]"),
-        ("64 0 0 3", "ld [x + 3]"),
-        ("72 0 0 3", "ldh [x + 3]"),
-        ("80 0 0 0", "ldb [x + 0]"),
-        ("96 0 0 15", "ld M[15]"),
-        ("128 0 0 0", "ld len"),
-        ("1 0 0 7", "ldx #7"),
-        ("97 0 0 3", "ldx M[3]"),
-        ("129 0 0 0", "ldx len"),
-        ("177 0 0 14", "ldxb 4*([14]&0xf)"),
-        ("2 0 0 3", "st M[3]"),
-        ("3 0 0 3", "stx M[3]"),
-        ("4 0 0 1", "add #1"),
-        ("12 0 0 0", "add x"),
-        ("20 0 0 1", "sub #1"),
-        ("28 0 0 0", "sub x"),
-        ("36 0 0 1", "mul #1"),
-        ("44 0 0 0", "mul x"),
-        ("52 0 0 1", "div #1"),
-        ("60 0 0 0", "div x"),
-        ("68 0 0 1", "or #1"),
-        ("76 0 0 0", "or x"),
-        ("84 0 0 1", "and #1"),
-        ("92 0 0 0", "and x"),
-        ("100 0 0 1", "lsh #1"),
-        ("108 0 0 0", "lsh x"),
-        ("116 0 0 1", "rsh #1"),
-        ("124 0 0 0", "rsh x"),
-        ("132 0 0 0", "neg"),
-        ("148 0 0 1", "mod #1"),
-        ("156 0 0 0", "mod x"),
-        ("164 0 0 1", "xor #1"),
-        ("172 0 0 0", "xor x"),
-        ("6 0 0 1", "ret #1"),
-        ("22 0 0 0", "ret a"),
-        ("7 0 0 0", "tax"),
-        ("135 0 0 0", "txa"),
-    ];
-    for (insn, line) in table {
+    for (insn, line) in LINES {
         let listing = format!(in rt.alloc(); "1,{insn},")?;
         let text = format!(in rt.alloc(); "{line}\n")?;
         let answer = printed(&rt, listing.as_str())?;
         assert_eq!(rt; answer.as_str(), text.as_str(), "{insn}");
+        assert!(rt;
+            is_read_again(&rt, text.as_str(), listing.as_str())?,
+            "{insn}"
+        );
     }
     Ok(())
 }
@@ -98,6 +111,7 @@ fn every_jump(rt: HostRuntime) -> Result<(), Fail> {
         let listing = format!(in rt.alloc(); "3,{insn},6 0 0 0,22 0 0 0,")?;
         let answer = printed(&rt, listing.as_str())?;
         assert_eq!(rt; answer.as_str(), text, "{insn}");
+        assert!(rt; is_read_again(&rt, text, listing.as_str())?, "{insn}");
     }
     Ok(())
 }
