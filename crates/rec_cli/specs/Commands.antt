@@ -27,9 +27,13 @@ top_app =
     let named = new_app (codes "bpfrec") in
     record named { top = record named.top { no_binary_name = true; subcommand_required = true } }
 
+-- the program with the commands on texts
+abbrev pub texts_app : App
+texts_app = with_subcommand (with_subcommand top_app asm_app.top) dis_app.top
+
 -- the program
 abbrev pub bpfrec_app : App
-bpfrec_app = with_subcommand (with_subcommand (with_subcommand (with_subcommand top_app asm_app.top) dis_app.top) verify_app.top) run_app.top
+bpfrec_app = with_subcommand (with_subcommand texts_app verify_app.top) run_app.top
 
 -- the word given for a name
 abbrev pub word_for : Text → List Row → Text

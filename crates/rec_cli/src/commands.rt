@@ -1,7 +1,7 @@
 ghost use Rattle.std.specs.Prelude.{◌≡◌, IfOk, codes, false};
 ghost use Rattle.clap.specs.Words.{app_of, rule_of};
 ghost use Rattle.clap.specs.declared.builder.Command.TheViews.{out-Command as fields_of};
-ghost use Rattle.rec_cli.specs.Commands.{asm_app, bpfrec_app, dis_app, operand, run_app, top_app, verify_app};
+ghost use Rattle.rec_cli.specs.Commands.{asm_app, bpfrec_app, dis_app, operand, run_app, texts_app, top_app, verify_app};
 
 use clap::{Arg, ArgAction, Command};
 use std::alloc::{AllocError, Global};
@@ -71,11 +71,17 @@ pub(crate) fn bpfrec<'a>(alloc: Global) -> Result<Command<'a>, AllocError>
     ensures app { IfOk result (λ c. app_of c ≡ bpfrec_app) }
     ensures local { IfOk result (λ c. (fields_of c).has_globals ≡ false) }
 {
-    top(alloc)?
-        .subcommand(asm(alloc)?)?
-        .subcommand(dis(alloc)?)?
+    with_texts(alloc)?
         .subcommand(verify(alloc)?)?
         .subcommand(run(alloc)?)
+}
+
+/// The program with the commands on texts alone.
+fn with_texts<'a>(alloc: Global) -> Result<Command<'a>, AllocError>
+    ensures app { IfOk result (λ c. app_of c ≡ texts_app) }
+    ensures local { IfOk result (λ c. (fields_of c).has_globals ≡ false) }
+{
+    top(alloc)?.subcommand(asm(alloc)?)?.subcommand(dis(alloc)?)
 }
 
 /// The program without its commands.
