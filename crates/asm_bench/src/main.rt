@@ -1,5 +1,5 @@
-//! Times the assembler on a text of as many instructions as a program may have, each but the last
-//! two a test of two labels and each with a label of its own. Without words it prints how many
+//! Times the assembler on a text of as many instructions as a program may have, each with a label of
+//! its own and each but the last two a test that leads to a label. Without words it prints how many
 //! instructions the text has; with the word TURNS it assembles it so many times, and prints how
 //! long that took.
 #![tactic(auto)]
@@ -11,7 +11,7 @@ use std::alloc::{AllocError, Global};
 use std::env;
 use std::time::Instant;
 
-/// How far ahead of a test its second label stands.
+/// How far ahead of a test its label stands.
 const AHEAD: usize = 200;
 
 fn main(rt: HostRuntime) -> Result<()> {
@@ -38,19 +38,14 @@ fn main(rt: HostRuntime) -> Result<()> {
     Ok(())
 }
 
-/// Tests that lead to the next line and to one far ahead, and two returns.
+/// Tests that lead to a line far ahead, or go on with the next one, and two returns.
 fn text_of_tests(alloc: Global) -> Result<String, AllocError> {
     let mut text = String::new(alloc);
     let last = MAX_INSNS - 1;
     for at in 0..MAX_INSNS - 2 {
-        let next = at + 1;
         let far = (at + AHEAD).min(last);
-        write!(text, "label_{at}: jeq #{at}, label_{next}, label_{far}\n")?;
+        write!(text, "L{at}: jeq #{at}, L{far}\n")?;
     }
-    write!(
-        text,
-        "label_{}: ret #1\nlabel_{last}: ret #0\n",
-        MAX_INSNS - 2
-    )?;
+    write!(text, "L{}: ret #1\nL{last}: ret #0\n", MAX_INSNS - 2)?;
     Ok(text)
 }
