@@ -7,7 +7,7 @@
 ghost use Rattle.std.specs.Prelude.{◌<◌};
 
 use bpf_insn::parse_listing;
-use bpf_machine::{MAX_VIEW, Outcome, run};
+use bpf_machine::{MAX_VIEW, run};
 use bpf_verify::{Verified, verify};
 use std::io::{BufWriter, Error, ErrorKind, Write};
 use std::time::Instant;
@@ -77,8 +77,8 @@ fn print_values(
 {
     let mut out = BufWriter::new(rt.alloc(), io::writer(rt))?;
     'frames: for frame in frames.chunks(length) {
-        if let Some(outcome) = outcome_of(program, frame) {
-            writeln!(out, "{}", outcome.value)?;
+        if frame.len() <= MAX_VIEW {
+            writeln!(out, "{}", run(program, frame).value)?;
         }
     }
     out.flush()
@@ -92,20 +92,14 @@ fn total(program: &Verified, frames: &[u8], length: usize, turns: u64) -> (u64, 
     let mut steps = 0u64;
     'turns: for _ in 0..turns {
         'frames: for frame in frames.chunks(length) {
-            if let Some(outcome) = outcome_of(program, frame) {
+            if frame.len() <= MAX_VIEW {
+                let outcome = run(program, frame);
                 values = values.wrapping_add(u64::from(outcome.value));
                 steps = steps.wrapping_add(u64::from(outcome.steps));
             }
         }
     }
     (values, steps)
-}
-
-fn outcome_of(program: &Verified, frame: &[u8]) -> Option<Outcome> {
-    if frame.len() > MAX_VIEW {
-        return None;
-    }
-    Some(run(program, frame))
 }
 
 /// A listing's program, which must be valid.
