@@ -1,11 +1,12 @@
 -- What the assembler's values stand for between its two passes.
-use Rattle.std.specs.Prelude.{ℕ, ◌+◌, ◌≡◌, ◌≤◌, ◌↔◌, List, [], ◌∷◌, ◌++◌, map, length, Option, None, Some, Contains, vec_len}
+use Rattle.std.specs.Prelude.{ℕ, ◌+◌, ◌≡◌, ◌≤◌, ◌⊎◌, ◌↔◌, List, [], ◌∷◌, ◌++◌, map, length, Option, None, Some, Contains, vec_len}
 use Rattle.std.specs.BTreeMap.{get_by}
 use Rattle.std.specs.Cmp.Lexicographic.{slice_cmp}
 use Rattle.std.specs.Ordering.{nat_cmp}
 use Rattle.bpf_insn.specs.declared.insn.Insn.{Insn}
 use Rattle.bpf_insn.specs.declared.insn.TheConstants.{MAX_INSNS}
 use Rattle.bpf_asm.specs.declared.fault.AsmFault.{AsmFault}
+use Rattle.bpf_asm.specs.declared.fault.AsmFault.TheVariants.{LabelTwice, TooLong, Memory}
 use Rattle.bpf_asm.specs.declared.labels.LabelTable.{LabelTable}
 use Rattle.bpf_asm.specs.declared.draft.Draft.{Draft}
 use Rattle.bpf_asm.specs.declared.draft.Unlinked.{Unlinked}
@@ -66,3 +67,11 @@ pub record IsDraftOf (shapes : List Shape) (draft : Draft) : Type 0 where
   pub unfollowed : Ends shapes draft.unfollowed
   pub once : Once (names_of shapes)
   pub size : length (templates_of shapes) ≤ MAX_INSNS
+
+-- no memory, or one of these names is a label for the second time after lines with these shapes
+abbrev pub TwiceOrMemory : List Shape → List (List ℕ) → ℕ → AsmFault → Type 0
+TwiceOrMemory shapes names line fault = (fault ≡ Memory) ⊎ ((fault ≡ LabelTwice line) × (Once (names_of shapes ++ names) → ⊥))
+
+-- no memory, or as many instructions as a program may have
+abbrev pub FullOrMemory : List Shape → AsmFault → Type 0
+FullOrMemory shapes fault = (fault ≡ Memory) ⊎ ((fault ≡ TooLong) × (length (templates_of shapes) ≡ MAX_INSNS))

@@ -37,7 +37,7 @@ pub record AreWell (lines : List (List ℕ)) (shapes : List Shape) : Type 0 wher
   pub once : Once (names_of shapes)
   pub size : length (templates_of shapes) ≤ MAX_INSNS
 
--- the labels up to the end of a line, which stands after lines with these shapes: no name stands twice among them
+-- no name stands twice among the labels up to the end of a line, which stands after lines with these shapes
 abbrev pub LabelsOnce : List Shape → Reading → Type 0
 LabelsOnce shapes reading = Once (names_of shapes ++ reading.labels)
 
@@ -98,7 +98,7 @@ pub data LabelBreaks (labels : List Label) (at : ℕ) (number : ℕ) (name : Lis
   -- the instruction itself has it, or one before it
   Back : (place : ℕ) → Contains labels (record { name = name; place = place }) → place ≤ at → LabelBreaks labels at number name (Backward number)
 
--- the label of a test leads past the greatest offset
+-- the label of a test leads past the greatest offset, that of a byte
 abbrev pub LeadsTooFar : List Label → ℕ → List ℕ → Type 0
 LeadsTooFar labels at name = (offset : ℕ) × Leads labels at name offset × (255 < offset)
 

@@ -1,10 +1,9 @@
 ghost use Rattle.std.specs.Prelude.{◌≡◌, ◌≢◌, ◌+◌, ◌≤◌, ◌⊎◌, ℕ, List, [], ◌∷◌, ◌++◌, length, vec_len, Some, IfErr, MatchResult};
 ghost use Rattle.bpf_insn.specs.declared.insn.TheConstants.{MAX_INSNS as most};
-ghost use Rattle.bpf_asm.specs.Denotes.{templates_of};
-ghost use Rattle.bpf_asm.specs.FirstFault.{names_of, Once, LineBreaks, HasContent};
+ghost use Rattle.bpf_asm.specs.FirstFault.{LineBreaks, HasContent};
 ghost use Rattle.bpf_asm.specs.Grammar.{Shape, HasShape};
 ghost use Rattle.bpf_asm.specs.Views.{line_in, labels_in, template_seen};
-ghost use Rattle.bpf_asm.specs.Drafts.{IsDraftOf, labelled};
+ghost use Rattle.bpf_asm.specs.Drafts.{IsDraftOf, labelled, TwiceOrMemory, FullOrMemory};
 
 use super::blank::Text;
 use super::fault::AsmFault;
@@ -66,7 +65,7 @@ impl<'a> Draft<'a> {
     /// Adds the labels of a line.
     fn add_labels(&mut self, labels: Labels<'a>, line: usize) -> Result<(), AsmFault>
         requires { vec_len self.old.insns ≤ most }
-        ensures added { (shapes : List Shape) → length shapes + 1 ≡ line → IsDraftOf shapes self.old → MatchResult result (λ _. IsDraftOf (shapes ++ labelled (labels_in labels.entry) ∷ []) self.new) (λ fault. (fault ≡ AsmFault.Memory) ⊎ ((fault ≡ AsmFault.LabelTwice line) × (Once (names_of shapes ++ labels_in labels.entry) → ⊥))) }
+        ensures added { (shapes : List Shape) → length shapes + 1 ≡ line → IsDraftOf shapes self.old → MatchResult result (λ _. IsDraftOf (shapes ++ labelled (labels_in labels.entry) ∷ []) self.new) (TwiceOrMemory shapes (labels_in labels.entry) line) }
         ensures memory { IfErr result (λ fault. fault ≡ AsmFault.Memory → labels_in labels.entry ≢ []) }
     {
         let mut rest = labels;
@@ -80,22 +79,22 @@ impl<'a> Draft<'a> {
     /// Adds a label of a line, after others of the line.
     fn add_label(&mut self, name: &'a [u8], line: usize) -> Result<(), AsmFault>
         requires { vec_len self.old.insns ≤ most }
-        ensures added { (shapes : List Shape) (names : List (List ℕ)) → length shapes + 1 ≡ line → IsDraftOf (shapes ++ labelled names ∷ []) self.old → MatchResult result (λ _. IsDraftOf (shapes ++ labelled (names ++ name.now ∷ []) ∷ []) self.new) (λ fault. (fault ≡ AsmFault.Memory) ⊎ ((fault ≡ AsmFault.LabelTwice line) × (Once (names_of shapes ++ (names ++ name.now ∷ [])) → ⊥))) }
+        ensures added { (shapes : List Shape) (names : List (List ℕ)) → length shapes + 1 ≡ line → IsDraftOf (shapes ++ labelled names ∷ []) self.old → MatchResult result (λ _. IsDraftOf (shapes ++ labelled (names ++ name.now ∷ []) ∷ []) self.new) (TwiceOrMemory shapes (names ++ name.now ∷ []) line) }
         ensures insns { vec_len self.new.insns ≡ vec_len self.old.insns }
     {
-        if self.labels.place(name).is_some() {
-            return Err(AsmFault::LabelTwice { line });
-        }
-        let Ok(()) = self.labels.define(name, self.insns.len() as u32) else {
+        let Ok(earlier) = self.labels.define(name, self.insns.len() as u32) else {
             return Err(AsmFault::Memory);
         };
+        if earlier.is_some() {
+            return Err(AsmFault::LabelTwice { line });
+        }
         self.unfollowed = Some(line);
         Ok(())
     }
 
     /// Adds the instruction of a line, after its labels.
     fn add_insn(&mut self, template: Template<'a>, line: usize) -> Result<(), AsmFault>
-        ensures added { (shapes : List Shape) (names : List (List ℕ)) → length shapes + 1 ≡ line → IsDraftOf (shapes ++ labelled names ∷ []) self.old → MatchResult result (λ _. IsDraftOf (shapes ++ record { labels = names; insn = Some (template_seen template.entry) } ∷ []) self.new) (λ fault. (fault ≡ AsmFault.Memory) ⊎ ((fault ≡ AsmFault.TooLong) × (length (templates_of shapes) ≡ most))) }
+        ensures added { (shapes : List Shape) (names : List (List ℕ)) → length shapes + 1 ≡ line → IsDraftOf (shapes ++ labelled names ∷ []) self.old → MatchResult result (λ _. IsDraftOf (shapes ++ record { labels = names; insn = Some (template_seen template.entry) } ∷ []) self.new) (FullOrMemory shapes) }
     {
         if self.insns.len() == MAX_INSNS {
             return Err(AsmFault::TooLong);

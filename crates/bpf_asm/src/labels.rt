@@ -1,4 +1,4 @@
-ghost use Rattle.std.specs.Prelude.{◌≡◌, ℕ, List, None, Some, OnOk, if◌then◌else◌, bytes_eq};
+ghost use Rattle.std.specs.Prelude.{◌≡◌, ℕ, List, None, Some, IfOk, OnOk, if◌then◌else◌, bytes_eq};
 ghost use Rattle.bpf_asm.specs.Drafts.{place_in};
 
 use std::alloc::{AllocError, Global};
@@ -29,12 +29,12 @@ impl<'a> LabelTable<'a> {
         self.places.get(name).copied()
     }
 
-    /// Gives this name this place.
+    /// Gives this name this place; the place that it had.
     #[tactic(auto, unfolding(crate::specs::Drafts::place_in))]
-    pub(crate) fn define(&mut self, name: &'a [u8], place: u32) -> Result<(), AllocError>
-        ensures { OnOk result ((other : List ℕ) → place_in self.new other ≡ if bytes_eq name.now other then Some place else place_in self.old other) }
+    pub(crate) fn define(&mut self, name: &'a [u8], place: u32) -> Result<Option<u32>, AllocError>
+        ensures earlier { IfOk result (λ earlier. earlier ≡ place_in self.old name.now) }
+        ensures set { OnOk result ((other : List ℕ) → place_in self.new other ≡ if bytes_eq name.now other then Some place else place_in self.old other) }
     {
-        self.places.insert(name, place)?;
-        Ok(())
+        Ok(self.places.insert(name, place)?)
     }
 }

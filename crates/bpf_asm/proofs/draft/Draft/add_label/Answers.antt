@@ -5,10 +5,10 @@ use Rattle.bpf_asm.proofs.draft.Draft.add_label.Goals as goal
 
 pub returns-then-is_some-clause-added : goal.returns-then-is_some-clause-added
 returns-then-is_some-clause-added c = λ shapes names at h.
-    let found = is_there c.place.result (sym c.is_some.ensures ∙ c.if-is_some.true) in
-    inr (refl, draft_twice shapes names c.args.name.now found.0 c.args.self.now h (sym c.place.ensures ∙ found.1))
+    let found = is_there c.in-Ok.earlier (sym c.is_some.ensures ∙ c.if-is_some.true) in
+    inr (refl, draft_twice shapes names c.args.name.now found.0 c.args.self.now h (sym c.in-Ok.ensures.earlier ∙ found.1))
 
 pub returns-clause-added : goal.returns-clause-added
 returns-clause-added c = λ shapes names at h.
-    let none : place_in c.args.self.now.labels c.args.name.now ≡ None = sym c.place.ensures ∙ is_absent c.place.result (sym c.is_some.ensures ∙ c.if-is_some.false) in
-    draft_label shapes names c.args.name.now c.args.line c.len.result c.args.self.now c.define.new.self at c.len.ensures h none c.in-Ok.ensures
+    let none : place_in c.args.self.now.labels c.args.name.now ≡ None = sym c.in-Ok.ensures.earlier ∙ is_absent c.in-Ok.earlier (sym c.is_some.ensures ∙ c.if-is_some.false) in
+    draft_label shapes names c.args.name.now c.args.line c.len.result c.args.self.now c.define.new.self at c.len.ensures h none c.in-Ok.ensures.set

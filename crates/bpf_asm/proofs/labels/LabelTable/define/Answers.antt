@@ -3,6 +3,6 @@ use Rattle.std.proofs.lemmas.Map.Text.{btree_map_updates_str}
 use Rattle.bpf_asm.specs.Drafts.{place_in}
 use Rattle.bpf_asm.proofs.labels.LabelTable.define.Goals as goal
 
-pub returns : goal.returns
+pub returns-clause-set : goal.returns-clause-set
 unfolding place_in
-returns c = btree_map_updates_str c.args.name.now c.args.self.now.places c.insert.new.self (Some c.args.place) c.in_ok-insert.ensures.updates
+returns-clause-set c = btree_map_updates_str c.args.name.now c.args.self.now.places c.insert.new.self (Some c.args.place) c.in_ok-insert.ensures.updates
