@@ -1,20 +1,22 @@
 -- What the fields of a body and of its builder hold, and how a frame is added.
-use Rattle.std.proofs.Common.{◌≡◌, ℕ, zero, suc, ◌+◌, ◌*◌, ◌/◌, ◌%◌, ◌^◌, ◌<◌, ◌≤◌, List, [], ◌∷◌, ◌++◌, length, drop, Some, refl, sym, ap, subst, ◌∙◌, append_assoc, arith}
+use Rattle.std.proofs.Common.{◌≡◌, ℕ, zero, suc, ◌+◌, ◌*◌, ◌/◌, ◌%◌, ◌^◌, ◌<◌, ◌≤◌, List, [], ◌∷◌, ◌++◌, length, map, drop, Some, refl, sym, ap, subst, ◌∙◌, append_assoc, arith}
 use Rattle.std.specs.Prelude.{All, IsTrue, nat_le, slice_get, slice_set}
 use Rattle.std.specs.Int.{w32, to_le_bytes}
 use Rattle.std.specs.List.{sum_by, flat_map}
 use Rattle.std.specs.Option.{option_map}
 use Rattle.std.proofs.lemmas.Bool.{leb-true, le-leb}
-use Rattle.std.proofs.lemmas.List.{length-append, append-nil}
+use Rattle.std.proofs.lemmas.List.{length-append, length-map, append-nil}
 use Rattle.std.proofs.lemmas.List.Concat.{flat_map-append}
 use Rattle.std.proofs.lemmas.List.Sums.{sum_by-cons, sum_by_push}
 use Rattle.std.proofs.lemmas.List.Elements.{All-nil, All-head, All-tail, All-push}
 use Rattle.eth_frame.specs.Frame.{FrameData, IsFrame}
 use Rattle.ch11_packet.specs.declared.limits.TheConstants.{MAX_SPEED, BODY_WORD_LEN, HEADER_LEN, MAX_ETHERNET_PACKET_LEN, MIN_LIMIT}
 use Rattle.ch11_packet.specs.EthernetData.{frame_bytes, frame_len, data_bytes, data_len}
-use Rattle.ch11_packet.specs.BodyFrames.{front_frames}
-use Rattle.ch11_packet.specs.Building.{open_of, Fits, first_counter, frames_in, Holds, IsOpen, IsSealed}
-use Rattle.ch11_packet.proofs.Frames.{length-frame_bytes, front_frames-flat_map, length-front_frames}
+use Rattle.ch11_packet.specs.BodyFrames.{written, frame_in, first_reads}
+use Rattle.ch11_packet.specs.ReadBody.{SpellsBody}
+use Rattle.ch11_packet.specs.Building.{EthernetBody, IsEthernetBody, body_of, open_of, Fits, first_counter, frames_in, Holds, IsOpen, IsSealed}
+use Rattle.ch11_packet.proofs.FrameBytes.{length-frame_bytes, Begins-written, first_reads-flat_map}
+use Rattle.ch11_packet.proofs.FirstFrames.{length-first_reads}
 
 -- ---- sizes
 
@@ -42,11 +44,12 @@ few_frames (f ∷ fs) each =
 pub frames_in-Holds : (word count : ℕ) (frames : List FrameData) (net speed counter : ℕ) (bytes : List ℕ) → Holds word frames net speed counter bytes → count ≡ length frames → frames_in count bytes ≡ frames
 frames_in-Holds word count frames net speed counter bytes holds many =
     ap (λ n. frames_in n bytes) many
-    ∙ ap (λ l. front_frames (length frames) (drop BODY_WORD_LEN l)) holds.bytes_are
-    ∙ front_frames-flat_map net speed frames (record { net_fits = holds.net_fits; speed_fits = holds.speed_fits }) holds.in_range
+    ∙ ap (λ l. map frame_in (first_reads (length frames) (drop BODY_WORD_LEN l))) holds.bytes_are
+    ∙ first_reads-flat_map net speed frames (record { net_fits = holds.net_fits; speed_fits = holds.speed_fits }) holds.in_range
 
 pub length-frames_in : (count : ℕ) (bytes : List ℕ) → length (frames_in count bytes) ≡ count
-length-frames_in count bytes = length-front_frames count (drop BODY_WORD_LEN bytes)
+length-frames_in count bytes =
+    length-map (first_reads count (drop BODY_WORD_LEN bytes)) frame_in ∙ length-first_reads count (drop BODY_WORD_LEN bytes)
 
 -- ---- an open body
 
@@ -56,7 +59,7 @@ length-IsOpen count net speed counter limit room bytes is = length-Holds 0 (fram
 -- a body of no frames
 pub IsOpen-none : (net speed limit room : ℕ) (bytes : List ℕ) → bytes ≡ to_le_bytes w32 0 → net < 2 ^ 8 → speed ≤ MAX_SPEED → MIN_LIMIT ≤ limit → limit ≤ MAX_ETHERNET_PACKET_LEN → limit ≤ HEADER_LEN + room
     → IsOpen 0 net speed 0 limit room bytes
-unfolding front_frames
+unfolding first_reads
 IsOpen-none net speed limit room bytes e n s least most fits = record {
   holds = record { bytes_are = e; in_range = All-nil IsFrame; net_fits = n; speed_fits = s; first = refl };
   fits = rw e (omega arith);
@@ -65,7 +68,7 @@ IsOpen-none net speed limit room bytes e n s least most fits = record {
 }
 
 pub frames_in-none : (bytes : List ℕ) → frames_in 0 bytes ≡ []
-unfolding front_frames
+unfolding first_reads
 frames_in-none bytes = refl
 
 -- a body of one frame more
@@ -176,6 +179,22 @@ IsSealed-IsOpen count net speed counter limit room old new is some written =
       frames = found;
     }
 
+-- a sealed body is in range
+pub IsEthernetBody-IsSealed : (count net speed counter : ℕ) (bytes : List ℕ) → IsSealed count net speed counter bytes → IsEthernetBody (body_of (frames_in count bytes) net speed)
+IsEthernetBody-IsSealed count net speed counter bytes is =
+    let many = length-frames_in count bytes in
+    let size = length-Holds count (frames_in count bytes) net speed counter bytes is.holds in
+    let few = few_frames (frames_in count bytes) is.holds.in_range in
+    let fits = is.fits in
+    record {
+      in_range = is.holds.in_range;
+      net_fits = is.holds.net_fits;
+      speed_fits = is.holds.speed_fits;
+      some = omega (arith, many, is.some);
+      few = omega arith;
+      fits = rw size at fits;
+    }
+
 -- what a sealed body's bytes are
 pub bytes-IsSealed : (count net speed counter : ℕ) (bytes : List ℕ) → IsSealed count net speed counter bytes → bytes ≡ data_bytes net speed (frames_in count bytes)
 unfolding data_bytes
@@ -194,3 +213,19 @@ tested a b n m ea eb = (λ t. omega (arith, leb-true a b t), λ h. le-leb a b (o
 pub first_counter-fits : (frames : List FrameData) → All IsFrame frames → first_counter frames < 2 ^ 48
 first_counter-fits [] each = omega arith
 first_counter-fits (f ∷ fs) each = (All-head IsFrame f fs each).counter
+
+-- a body that is written is a body of its frames
+pub SpellsBody-written : (body : EthernetBody) → IsEthernetBody body → SpellsBody (map (written body.net body.speed) body.frames) (data_bytes body.net body.speed body.frames)
+unfolding data_bytes
+SpellsBody-written body is =
+    let many = length-map body.frames (written body.net body.speed) in
+    let rest = flat_map (frame_bytes body.net body.speed) body.frames in
+    let word : length body.frames ≡ length (map (written body.net body.speed) body.frames) + 0 * 2 ^ 16 = omega (arith, many) in
+    record {
+      few = omega (arith, many, is.few);
+      spare = 0;
+      spare_fits = omega arith;
+      rest = rest;
+      whole = ap (λ w. to_le_bytes w32 w ++ rest) word;
+      held = Begins-written body.net body.speed body.frames (record { net_fits = is.net_fits; speed_fits = is.speed_fits }) is.in_range;
+    }

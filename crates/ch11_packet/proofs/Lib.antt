@@ -1,4 +1,10 @@
 pub mod Headers
-pub mod Frames
+pub mod FrameBytes
 pub mod Bodies
 pub mod Records
+pub mod FirstFrames
+pub mod SplitFrame
+pub mod ReadBodies
+pub mod StoredInsns
+pub mod ReadRecords
+pub mod Unjudged

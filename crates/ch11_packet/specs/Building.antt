@@ -1,11 +1,11 @@
 -- Bodies of Ethernet data, and those that frames are still added to.
-use Rattle.std.specs.Prelude.{ℕ, ◌≡◌, ◌+◌, ◌^◌, ◌<◌, ◌≤◌, List, [], ◌∷◌, ◌++◌, length, drop, All}
+use Rattle.std.specs.Prelude.{ℕ, ◌≡◌, ◌+◌, ◌^◌, ◌<◌, ◌≤◌, List, [], ◌∷◌, ◌++◌, length, map, drop, All}
 use Rattle.std.specs.Int.{w32, to_le_bytes}
 use Rattle.std.specs.List.{flat_map}
 use Rattle.ch11_packet.specs.declared.limits.TheConstants.{BODY_WORD_LEN, HEADER_LEN, MAX_SPEED, MAX_ETHERNET_PACKET_LEN}
 use Rattle.ch11_packet.specs.PacketLen.{packet_len}
 use Rattle.ch11_packet.specs.EthernetData.{frame_bytes, frame_len, data_len}
-use Rattle.ch11_packet.specs.BodyFrames.{front_frames}
+use Rattle.ch11_packet.specs.BodyFrames.{frame_in, first_reads}
 use Rattle.eth_frame.specs.Frame.{FrameData, IsFrame}
 
 -- ---- what contracts see
@@ -18,6 +18,16 @@ pub record EthernetBody : Type 0 where
 
 abbrev pub body_of : (frames : List FrameData) (net speed : ℕ) → EthernetBody
 body_of frames net speed = record { frames = frames; net = net; speed = speed }
+
+-- its frames, its network identifier and its speed are in range, it has a frame, and its packet isn't
+-- over the greatest length
+pub record IsEthernetBody (body : EthernetBody) : Type 0 where
+  pub in_range : All IsFrame body.frames
+  pub net_fits : body.net < 2 ^ 8
+  pub speed_fits : body.speed ≤ MAX_SPEED
+  pub some : 0 < length body.frames
+  pub few : length body.frames < 2 ^ 16
+  pub fits : packet_len (data_len body.frames) ≤ MAX_ETHERNET_PACKET_LEN
 
 -- a body that frames are added to, as far as its packet isn't longer than the limit
 pub record OpenBody : Type 0 where
@@ -43,7 +53,7 @@ first_counter (frame ∷ frames) = frame.counter
 
 -- the frames in the bytes of a body behind its word
 abbrev pub frames_in : (count : ℕ) (bytes : List ℕ) → List FrameData
-frames_in count bytes = front_frames count (drop BODY_WORD_LEN bytes)
+frames_in count bytes = map frame_in (first_reads count (drop BODY_WORD_LEN bytes))
 
 -- the bytes are a word of this number and these frames, and this is their first counter
 pub record Holds (word : ℕ) (frames : List FrameData) (net speed counter : ℕ) (bytes : List ℕ) : Type 0 where

@@ -22,3 +22,11 @@ u48_at bytes at =
     from_le_bytes w64 (slice_index bytes at ∷ slice_index bytes (at + 1)
     ∷ slice_index bytes (at + 2) ∷ slice_index bytes (at + 3)
     ∷ slice_index bytes (at + 4) ∷ slice_index bytes (at + 5) ∷ 0 ∷ 0 ∷ [])
+
+-- the number of the eight bytes at a place
+abbrev pub u64_at : List ℕ → ℕ → ℕ
+u64_at bytes at =
+    from_le_bytes w64 (slice_index bytes at ∷ slice_index bytes (at + 1)
+    ∷ slice_index bytes (at + 2) ∷ slice_index bytes (at + 3)
+    ∷ slice_index bytes (at + 4) ∷ slice_index bytes (at + 5)
+    ∷ slice_index bytes (at + 6) ∷ slice_index bytes (at + 7) ∷ [])

@@ -6,4 +6,10 @@ pub mod PacketLen
 pub mod EthernetData
 pub mod BodyFrames
 pub mod Building
+pub mod ReadFrames
+pub mod ReadView
+pub mod ReadBody
 pub mod RecordBody
+pub mod StoredInsns
+pub mod ReadRecord
+pub mod RecordView

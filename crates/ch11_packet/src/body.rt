@@ -1,4 +1,3 @@
-use crate::limits::MAX_ETHERNET_PACKET_LEN;
 use std::marker::Model;
 
 /// The body of a packet of Ethernet data, with one frame at least.
@@ -22,12 +21,10 @@ impl Model for DataBody {
 }
 
 impl DataBody {
-    ghost use Rattle.std.specs.Prelude.{◌≡◌, ◌^◌, ◌<◌, ◌≤◌, Some, length, slice_get, All};
+    ghost use Rattle.std.specs.Prelude.{◌≡◌, ◌^◌, ◌<◌, Some, length, slice_get};
     ghost use Rattle.std.specs.Option.{option_map};
-    ghost use Rattle.ch11_packet.specs.PacketLen.{packet_len};
     ghost use Rattle.ch11_packet.specs.EthernetData.{data_bytes, data_len};
-    ghost use Rattle.ch11_packet.specs.Building.{EthernetBody, body_of, frames_in, IsSealed};
-    ghost use Rattle.eth_frame.specs.Frame.{IsFrame};
+    ghost use Rattle.ch11_packet.specs.Building.{IsEthernetBody, body_of, frames_in, IsSealed};
 
     /// The body that these bytes are.
     pub(crate) fn new(
@@ -53,8 +50,7 @@ impl DataBody {
     pub fn bytes(&self) -> &[u8]
         ensures bytes { result.now ≡ data_bytes self.now.net self.now.speed self.now.frames }
         ensures len { length result.now ≡ data_len self.now.frames }
-        ensures in_range { All IsFrame self.now.frames }
-        ensures fits { packet_len (length result.now) ≤ MAX_ETHERNET_PACKET_LEN }
+        ensures valid { IsEthernetBody self.now }
     {
         self.bytes.as_slice()
     }

@@ -5,17 +5,13 @@ ghost use Rattle.eth_frame.specs.Lent.{frame_data};
 
 use crate::body::DataBody;
 use crate::limit::Limit;
-use crate::limits::{BODY_WORD_LEN, FRAME_HEADER_LEN, HEADER_LEN, MAX_SPEED};
+use crate::limits::{
+    BODY_WORD_LEN, CRC_ERROR, FRAME_ERROR, FRAME_HEADER_LEN, HEADER_LEN, MAX_SPEED,
+};
 use crate::sizes;
 use eth_frame::Frame;
 use std::alloc::{AllocError, Global};
 use std::marker::Model;
-
-/// The bit of a frame's highest byte that says a wrong check sequence.
-const CRC_ERROR: u8 = 0x80;
-
-/// The bit of a frame's highest byte that says another fault.
-const FRAME_ERROR: u8 = 0x40;
 
 /// A body of Ethernet data that frames are added to, as long as its packet isn't longer than a
 /// limit. It takes its memory when it is made, and none later.

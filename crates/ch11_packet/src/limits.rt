@@ -27,8 +27,32 @@ pub const MAX_SPEED: u8 = 15;
 /// The number of bytes of the word that a body of Ethernet data begins with.
 pub(crate) const BODY_WORD_LEN: usize = 4;
 
+/// The number of bits of the number of frames, the lowest of that word.
+pub(crate) const COUNT_BITS: u32 = 16;
+
+/// The place of the lowest bit of the format, the highest of that word.
+pub(crate) const FORMAT_PLACE: u32 = 28;
+
 /// The number of bytes of a body before a frame's bytes.
 pub(crate) const FRAME_HEADER_LEN: usize = 12;
+
+/// The number of bits of a frame's length in its word.
+pub(crate) const LENGTH_BITS: u32 = 14;
+
+/// The number of bits of the speed, from the lowest of the word's highest byte on.
+pub(crate) const SPEED_BITS: u32 = 4;
+
+/// The number of bits of the content, which follow those of the speed.
+pub(crate) const CONTENT_BITS: u32 = 2;
+
+/// The bit of the word's highest byte that says a wrong check sequence.
+pub(crate) const CRC_ERROR: u8 = 0x80;
+
+/// The bit of the word's highest byte that says another fault.
+pub(crate) const FRAME_ERROR: u8 = 0x40;
+
+/// The number of bytes that each of the recording's own records begins with, the channel last.
+pub(crate) const RECORD_HEAD_LEN: usize = 12;
 
 /// The number of bytes of a program's record before its instructions.
 pub(crate) const PROGRAM_HEAD_LEN: usize = 28;

@@ -5,7 +5,7 @@ use eth_frame::Frame;
 use std::test::Fail;
 
 /// A broadcast ARP frame without a payload, with its check sequence, and one byte more.
-const ARP: [u8; 19] = [
+pub(crate) const ARP: [u8; 19] = [
     0xff, 0xff, 0xff, 0xff, 0xff, 0xff, 2, 0, 0, 0, 0, 1, 8, 6, 0xa1, 0xb2, 0xc3, 0xd4, 0xe5,
 ];
 
@@ -19,99 +19,100 @@ const HEADER: [u8; HEADER_LEN] = [
 /// at version 8, and its 24 bytes.
 type Row = (u16, u32, u32, u8, u8, u8, u64, [u8; HEADER_LEN]);
 
+const HEADERS: [Row; 8] = [
+    (1, 60, 34, 0, 0, ETHERNET_DATA, 16, HEADER),
+    (
+        1,
+        60,
+        34,
+        0,
+        0x80,
+        ETHERNET_DATA,
+        16,
+        [
+            0x25, 0xeb, 1, 0, 60, 0, 0, 0, 34, 0, 0, 0, 8, 0, 0x80, 0x68, 16, 0, 0, 0, 0, 0, 0x1c,
+            0x54,
+        ],
+    ),
+    (
+        1,
+        60,
+        34,
+        0,
+        0,
+        ETHERNET_DATA,
+        32,
+        [
+            0x25, 0xeb, 1, 0, 60, 0, 0, 0, 34, 0, 0, 0, 8, 0, 0, 0x68, 32, 0, 0, 0, 0, 0, 0xac,
+            0x53,
+        ],
+    ),
+    (
+        1,
+        88,
+        64,
+        0,
+        0,
+        ETHERNET_DATA,
+        16,
+        [
+            0x25, 0xeb, 1, 0, 88, 0, 0, 0, 64, 0, 0, 0, 8, 0, 0, 0x68, 16, 0, 0, 0, 0, 0, 0xd6,
+            0x53,
+        ],
+    ),
+    (
+        0,
+        60,
+        36,
+        0,
+        0,
+        COMPUTER_GENERATED_DATA,
+        16,
+        [
+            0x25, 0xeb, 0, 0, 60, 0, 0, 0, 36, 0, 0, 0, 8, 0, 0, 0, 16, 0, 0, 0, 0, 0, 0x9d, 0xeb,
+        ],
+    ),
+    (
+        0,
+        60,
+        36,
+        1,
+        0,
+        COMPUTER_GENERATED_DATA,
+        32,
+        [
+            0x25, 0xeb, 0, 0, 60, 0, 0, 0, 36, 0, 0, 0, 8, 1, 0, 0, 32, 0, 0, 0, 0, 0, 0xad, 0xec,
+        ],
+    ),
+    (
+        0,
+        52,
+        28,
+        2,
+        0,
+        COMPUTER_GENERATED_DATA,
+        32,
+        [
+            0x25, 0xeb, 0, 0, 52, 0, 0, 0, 28, 0, 0, 0, 8, 2, 0, 0, 32, 0, 0, 0, 0, 0, 0x9d, 0xed,
+        ],
+    ),
+    (
+        0,
+        28,
+        4,
+        0,
+        0,
+        1,
+        0,
+        [
+            0x25, 0xeb, 0, 0, 28, 0, 0, 0, 4, 0, 0, 0, 8, 0, 0, 1, 0, 0, 0, 0, 0, 0, 0x4d, 0xec,
+        ],
+    ),
+];
+
 #[test]
 fn headers_both_ways(rt: HostRuntime) -> Result<(), Fail> {
-    let table: [Row; 8] = [
-        (1, 60, 34, 0, 0, ETHERNET_DATA, 16, HEADER),
-        (
-            1,
-            60,
-            34,
-            0,
-            0x80,
-            ETHERNET_DATA,
-            16,
-            with_end(HEADER, [0x80, 0x68], [0x1c, 0x54]),
-        ),
-        (
-            1,
-            60,
-            34,
-            0,
-            0,
-            ETHERNET_DATA,
-            32,
-            [
-                0x25, 0xeb, 1, 0, 60, 0, 0, 0, 34, 0, 0, 0, 8, 0, 0, 0x68, 32, 0, 0, 0, 0, 0, 0xac,
-                0x53,
-            ],
-        ),
-        (
-            1,
-            88,
-            64,
-            0,
-            0,
-            ETHERNET_DATA,
-            16,
-            [
-                0x25, 0xeb, 1, 0, 88, 0, 0, 0, 64, 0, 0, 0, 8, 0, 0, 0x68, 16, 0, 0, 0, 0, 0, 0xd6,
-                0x53,
-            ],
-        ),
-        (
-            0,
-            60,
-            36,
-            0,
-            0,
-            COMPUTER_GENERATED_DATA,
-            16,
-            [
-                0x25, 0xeb, 0, 0, 60, 0, 0, 0, 36, 0, 0, 0, 8, 0, 0, 0, 16, 0, 0, 0, 0, 0, 0x9d,
-                0xeb,
-            ],
-        ),
-        (
-            0,
-            60,
-            36,
-            1,
-            0,
-            COMPUTER_GENERATED_DATA,
-            32,
-            [
-                0x25, 0xeb, 0, 0, 60, 0, 0, 0, 36, 0, 0, 0, 8, 1, 0, 0, 32, 0, 0, 0, 0, 0, 0xad,
-                0xec,
-            ],
-        ),
-        (
-            0,
-            52,
-            28,
-            2,
-            0,
-            COMPUTER_GENERATED_DATA,
-            32,
-            [
-                0x25, 0xeb, 0, 0, 52, 0, 0, 0, 28, 0, 0, 0, 8, 2, 0, 0, 32, 0, 0, 0, 0, 0, 0x9d,
-                0xed,
-            ],
-        ),
-        (
-            0,
-            28,
-            4,
-            0,
-            0,
-            1,
-            0,
-            [
-                0x25, 0xeb, 0, 0, 28, 0, 0, 0, 4, 0, 0, 0, 8, 0, 0, 1, 0, 0, 0, 0, 0, 0, 0x4d, 0xec,
-            ],
-        ),
-    ];
-    for (channel, packet_len, data_len, sequence, flags, kind, counter, bytes) in table {
+    for (channel, packet_len, data_len, sequence, flags, kind, counter, bytes) in HEADERS {
         let header = Header::new(
             channel, packet_len, data_len, 8, sequence, flags, kind, counter,
         )
@@ -120,18 +121,6 @@ fn headers_both_ways(rt: HostRuntime) -> Result<(), Fail> {
         assert_eq!(rt; Header::decode(&bytes), Ok(header));
     }
     Ok(())
-}
-
-fn with_end(
-    mut header: [u8; HEADER_LEN],
-    [flags, kind]: [u8; 2],
-    [low, high]: [u8; 2],
-) -> [u8; HEADER_LEN] {
-    header[14] = flags;
-    header[15] = kind;
-    header[22] = low;
-    header[23] = high;
-    header
 }
 
 #[test]

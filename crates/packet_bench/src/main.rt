@@ -1,11 +1,12 @@
-//! Times the building of bodies, and headers. Without words it prints the length of a body of small
-//! frames; with the word GIGABYTES it builds bodies of that many in all at each length of a frame,
-//! encodes and decodes a million headers, and prints how fast that went.
+//! Times the building and the reading of bodies, and headers. Without words it prints the length of a
+//! body of small frames; with the word GIGABYTES it builds bodies of that many in all at each length
+//! of a frame, encodes and decodes a million headers, reads bodies of the shortest frames, of that many
+//! bytes in all at each length of a body, and prints how fast that went.
 #![tactic(auto)]
 
 use anyhow::{Context, Result, bail};
-use ch11_packet::{DataBuilder, ETHERNET_DATA, Header, Limit, MIN_LIMIT};
-use eth_frame::{Frame, MAX_FRAME_LEN};
+use ch11_packet::{DataBody, DataBuilder, ETHERNET_DATA, Header, Limit, MIN_LIMIT, decode_frames};
+use eth_frame::{Frame, MAX_FRAME_LEN, MIN_FRAME_LEN};
 use std::env;
 use std::time::Instant;
 
@@ -77,6 +78,55 @@ fn headers(rt: &HostRuntime) -> Result<()> {
     Ok(())
 }
 
+/// The body of a packet of at most so many bytes, full of the shortest frames.
+fn small_frames(rt: &HostRuntime, limit: u32) -> Result<DataBody> {
+    let bytes = [0x5a; MIN_FRAME_LEN];
+    let frame = Frame::new(16, false, false, &bytes).context("a frame")?;
+    let limit = Limit::new(limit).context("a limit")?;
+    let mut builder = DataBuilder::with_limit(rt.alloc(), limit, 0, 3)?;
+    for _ in 0..limit.get() {
+        if builder.fits(frame.bytes.len()) {
+            builder.push(&frame);
+        }
+    }
+    if builder.is_empty() {
+        bail!("no frame fits");
+    }
+    Ok(builder.seal())
+}
+
+/// Decodes a body and walks over its frames; their counters and lengths, each bit modulo 2.
+fn read(body: &[u8]) -> Result<u64> {
+    let mut sum = 0;
+    for frame in decode_frames(body)?.walk() {
+        sum ^= frame.counter ^ frame.bytes.len() as u64;
+    }
+    Ok(sum)
+}
+
+/// Times the reading of a body of the shortest frames, again and again up to `total` bytes.
+fn measure_reading(rt: &HostRuntime, limit: u32, total: u64) -> Result<()> {
+    let body = small_frames(rt, limit)?;
+    let turns = total / (body.bytes().len() as u64).max(1);
+    let start = Instant::now(rt)?;
+    let mut sum = 0;
+    for _ in 0..turns {
+        sum ^= read(body.bytes())?;
+    }
+    let nanos = start.elapsed(rt)?.as_nanos();
+    if nanos == 0 || turns == 0 {
+        bail!("nothing was measured");
+    }
+    println!(rt;
+        "a body of {} bytes with {} frames is read in {} ns, {} MB/s ({sum})",
+        body.bytes().len(),
+        body.count(),
+        nanos / turns as u128,
+        u128::from(total) * 1_000 / nanos
+    )?;
+    Ok(())
+}
+
 fn main(rt: HostRuntime) -> Result<()> {
     let bytes = [0x5a; MAX_FRAME_LEN];
     let mut words = env::args(&rt)?.skip(1);
@@ -94,5 +144,9 @@ fn main(rt: HostRuntime) -> Result<()> {
             measure(&rt, limit, total, bytes.get(..len).context("a length")?)?;
         }
     }
-    headers(&rt)
+    headers(&rt)?;
+    for limit in [262_144, 524_288] {
+        measure_reading(&rt, limit, total)?;
+    }
+    Ok(())
 }

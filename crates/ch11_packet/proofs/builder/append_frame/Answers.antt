@@ -1,6 +1,6 @@
 use Rattle.std.proofs.Common.{arith}
 use Rattle.eth_frame.specs.Lent.{frame_data}
-use Rattle.ch11_packet.proofs.Frames.{added_odd, added_even}
+use Rattle.ch11_packet.proofs.FrameBytes.{added_odd, added_even}
 use Rattle.ch11_packet.proofs.builder.append_frame.Goals as goal
 
 pub returns-then-frame-eq1-clause-items : goal.returns-then-frame-eq1-clause-items

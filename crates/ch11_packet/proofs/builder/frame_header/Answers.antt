@@ -1,6 +1,6 @@
 use Rattle.std.proofs.Common.{◌≡◌, ◌∷◌, ◌++◌, length, cond, sym, ap, arith}
 use Rattle.std.specs.Int.{bytes_low_first}
-use Rattle.ch11_packet.proofs.Frames.{word_bytes}
+use Rattle.ch11_packet.proofs.FrameBytes.{word_bytes}
 use Rattle.ch11_packet.proofs.builder.frame_header.Goals as goal
 use Rattle.ch11_packet.proofs.builder.frame_header.Goals.{then-frame, else-frame, then-frame-2, else-frame-2}
 

@@ -1,5 +1,6 @@
-use Rattle.std.proofs.Common.{length, ap, ◌∙◌}
-use Rattle.ch11_packet.proofs.Bodies.{bytes-IsSealed, length-Holds}
+use Rattle.std.proofs.Common.{length, ap, subst, ◌∙◌}
+use Rattle.ch11_packet.specs.Building.{IsEthernetBody}
+use Rattle.ch11_packet.proofs.Bodies.{bytes-IsSealed, IsEthernetBody-IsSealed, length-Holds}
 use Rattle.ch11_packet.proofs.body.DataBody.bytes.Goals as goal
 
 pub returns-clause-bytes : goal.returns-clause-bytes
@@ -11,3 +12,8 @@ pub returns-clause-len : goal.returns-clause-len
 returns-clause-len c =
     let b = c.self.inside in
     rw (← c.self.view_is) (ap length c.as_slice.ensures.value ∙ length-Holds b.count _ b.net b.speed b.first_counter b.bytes.items c.self.invariant.holds)
+
+pub returns-clause-valid : goal.returns-clause-valid
+returns-clause-valid c =
+    let b = c.self.inside in
+    subst IsEthernetBody c.self.view_is (IsEthernetBody-IsSealed b.count b.net b.speed b.first_counter b.bytes.items c.self.invariant)
