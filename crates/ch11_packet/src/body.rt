@@ -1,3 +1,4 @@
+use crate::limits::MAX_ETHERNET_PACKET_LEN;
 use std::marker::Model;
 
 /// The body of a packet of Ethernet data, with one frame at least.
@@ -21,8 +22,9 @@ impl Model for DataBody {
 }
 
 impl DataBody {
-    ghost use Rattle.std.specs.Prelude.{◌≡◌, ◌^◌, ◌<◌, Some, length, slice_get};
+    ghost use Rattle.std.specs.Prelude.{◌≡◌, ◌^◌, ◌<◌, ◌≤◌, Some, length, slice_get};
     ghost use Rattle.std.specs.Option.{option_map};
+    ghost use Rattle.ch11_packet.specs.PacketLen.{packet_len};
     ghost use Rattle.ch11_packet.specs.EthernetData.{data_bytes, data_len};
     ghost use Rattle.ch11_packet.specs.Building.{IsEthernetBody, body_of, frames_in, IsSealed};
 
@@ -51,6 +53,7 @@ impl DataBody {
         ensures bytes { result.now ≡ data_bytes self.now.net self.now.speed self.now.frames }
         ensures len { length result.now ≡ data_len self.now.frames }
         ensures valid { IsEthernetBody self.now }
+        ensures fits { packet_len (length result.now) ≤ MAX_ETHERNET_PACKET_LEN }
     {
         self.bytes.as_slice()
     }

@@ -17,7 +17,8 @@ pub struct Frames<'a> {
     bytes: &'a [u8],
 }
 
-/// Why bytes are no body of Ethernet data in Format 0, in the order in which it is judged.
+/// Why bytes are no body of Ethernet data in Format 0. Whether there are 4 bytes is judged first, then
+/// the format, then frame by frame whether they are there, and last whether more follows.
 #[derive(Clone, Copy, Debug, PartialEq, Eq, Error)]
 pub enum BodyFault {
     /// The body's word says another format than 0.
