@@ -8,7 +8,6 @@ use Rattle.std.specs.declared.vec.Vec.{Vec}
 use Rattle.std.proofs.lemmas.List.{length-map, map-append, length-append}
 use Rattle.bpf_verify.specs.declared.verified.Verified.{Verified}
 use Rattle.bpf_insn.specs.declared.insn.Insn.{Insn}
-use Rattle.rec_channel.specs.History.{Version}
 use Rattle.rec_channel.specs.Slots.{versions_of, programs_in, marks_in}
 
 pub count_back : (programs : List (List Insn)) (marks : List ℕ) → length programs ≡ length marks → length (versions_of programs marks) ≡ length programs

@@ -1,10 +1,10 @@
 -- When a slot has less than a caller has seen of it, and what each fault says then.
-use Rattle.std.specs.Prelude.{ℕ, ◌≡◌, ◌<◌, ◌⊎◌, List}
+use Rattle.std.specs.Prelude.{◌≡◌, ◌<◌, ◌⊎◌, List}
 use Rattle.std.specs.Arc.{arc_value}
 use Rattle.bpf_insn.specs.declared.insn.Insn.{Insn}
 use Rattle.rec_channel.specs.declared.front.Front.{Front}
 use Rattle.rec_channel.specs.declared.fault.DrawFault.{DrawFault}
-use Rattle.rec_channel.specs.declared.fault.DrawFault.TheVariants.{CountFull, Stale, Memory}
+use Rattle.rec_channel.specs.declared.fault.DrawFault.TheVariants.{Stale}
 use Rattle.rec_channel.specs.declared.fault.InstallFault.{InstallFault}
 use Rattle.rec_channel.specs.declared.fault.InstallFault.TheVariants.{VersionsFull, Stale as StaleInstall}
 

@@ -1,5 +1,5 @@
 -- The programs of one channel, from which frame on each was in force, and which one is in force at a frame. Frames are numbered from 0 in the order in which they were offered.
-use Rattle.std.specs.Prelude.{ℕ, ◌≡◌, ◌<◌, ◌≤◌, List, length, Option, Some, slice_get, All, AllPairs}
+use Rattle.std.specs.Prelude.{ℕ, ◌≡◌, ◌<◌, ◌≤◌, List, length, Some, slice_get, All, AllPairs}
 use Rattle.bpf_insn.specs.declared.insn.Insn.{Insn}
 use Rattle.bpf_verify.specs.Validity.{Valid}
 

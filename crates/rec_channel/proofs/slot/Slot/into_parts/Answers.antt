@@ -1,4 +1,4 @@
-use Rattle.std.proofs.Common.{sym, ap}
+use Rattle.std.proofs.Common.{sym}
 use Rattle.rec_channel.proofs.Versions.{programs_back, marks_back}
 use Rattle.rec_channel.proofs.slot.Slot.into_parts.Goals as goal
 
