@@ -2,7 +2,7 @@
 use Rattle.std.proofs.Common.{ℕ, suc, ◌+◌, ◌≡◌, ◌⊎◌, inl, inr, Bool, true, false, List, [], ◌∷◌, take, drop, refl, sym, ◌∙◌, ap, arith, add-zero}
 use Rattle.std.proofs.lemmas.Bool.{cases_Bool}
 use Rattle.std.specs.List.{prefix_len, position_or_len}
-use Rattle.bpf_insn.specs.Text.{Part, cut, filled, is_empty}
+use Rattle.bpf_insn.specs.Parts.{Part, cut, non_empty, is_empty}
 
 pub take_more : (n b : ℕ) (bs : List ℕ) → take (1 + n) (b ∷ bs) ≡ b ∷ take n bs
 take_more n b bs = let e : 1 + n ≡ suc n = omega arith in rw e refl
@@ -77,7 +77,7 @@ no_front p [] = tt
 no_front p (b ∷ bs) = no_front_cons p b bs (no_front p bs) (cases_Bool (p b))
 
 -- a part with a byte counts
-pub filled_some : (part : Part) (ps : List Part) → is_empty part.bytes ≡ false → filled (part ∷ ps) ≡ part ∷ filled ps
+pub filled_some : (part : Part) (ps : List Part) → is_empty part.bytes ≡ false → non_empty (part ∷ ps) ≡ part ∷ non_empty ps
 filled_some part ps e = rw e refl
 
 -- what stands before the first cut has a byte where no cut stands in front
@@ -86,3 +86,25 @@ front_some p b bs e = rw e (rw take_more refl)
 
 pub part_same : (p q : Part) → p.at ≡ q.at → p.bytes ≡ q.bytes → p ≡ q
 part_same p q at bytes = ap (λ a. record { at = a; bytes = p.bytes }) at ∙ ap (λ b. record { at = q.at; bytes = b }) bytes
+
+-- the first part of a text by what the code knows of it: its front is passed over, and it ends
+-- before the next cut
+pub first_part : (F : ℕ → List ℕ → List Part) (trim : List ℕ → List ℕ) (front cuts : ℕ → Bool)
+    (at n m : ℕ) (bs : List ℕ) (rest part after : Part)
+    → n ≡ prefix_len front bs → rest.at ≡ at + n → rest.bytes ≡ drop n bs
+    → m ≡ position_or_len cuts rest.bytes → part.at ≡ rest.at → part.bytes ≡ trim (take m rest.bytes)
+    → after.at ≡ rest.at + m → after.bytes ≡ drop m rest.bytes
+    → F at bs ≡ record { at = at + prefix_len front bs; bytes = trim (take (position_or_len cuts (drop (prefix_len front bs) bs)) (drop (prefix_len front bs) bs)) }
+    ∷ F (at + prefix_len front bs + position_or_len cuts (drop (prefix_len front bs) bs)) (drop (position_or_len cuts (drop (prefix_len front bs) bs)) (drop (prefix_len front bs) bs))
+    → F at bs ≡ part ∷ F after.at after.bytes
+first_part F trim front cuts at n m bs rest part after n_is rest_at rest_is m_is part_at part_bytes after_at after_bytes whole =
+    let passed = prefix_len front bs in
+    let left : List ℕ = drop passed bs in
+    let left_is : rest.bytes ≡ left = rest_is ∙ ap (λ k. drop k bs) n_is in
+    let left_at : rest.at ≡ at + passed = rest_at ∙ ap (λ k. at + k) n_is in
+    let long : m ≡ position_or_len cuts left = m_is ∙ ap (λ xs. position_or_len cuts xs) left_is in
+    let bytes_are : part.bytes ≡ trim (take (position_or_len cuts left) left) = part_bytes ∙ ap trim (ap (λ xs. take m xs) left_is ∙ ap (λ k. take k left) long) in
+    let same : part ≡ record { at = at + passed; bytes = trim (take (position_or_len cuts left) left) } = part_same _ _ (part_at ∙ left_at) bytes_are in
+    let end_at : after.at ≡ at + passed + position_or_len cuts left = after_at ∙ (ap (λ a. a + m) left_at ∙ ap (λ k. at + passed + k) long) in
+    let end_is : after.bytes ≡ drop (position_or_len cuts left) left = after_bytes ∙ (ap (λ xs. drop m xs) left_is ∙ ap (λ k. drop k left) long) in
+    rw (same, end_at, end_is) whole

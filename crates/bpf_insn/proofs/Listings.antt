@@ -1,18 +1,14 @@
 -- Instructions read piece by piece.
 use Rattle.std.proofs.Common.{ℕ, ◌≡◌, ◌<◌, length, List, [], ◌∷◌, ◌++◌, Result, Ok, Err, refl, sym, ◌∙◌, ap, append_assoc}
 use Rattle.bpf_insn.specs.declared.insn.Insn.{Insn}
-use Rattle.bpf_insn.specs.declared.listing.ListingFault.{ListingFault}
+use Rattle.bpf_insn.specs.declared.parse.ListingFault.{ListingFault}
 use Rattle.bpf_insn.specs.Listing.{count_of, insn_of, insns_of, ReadsAnInsn, ◌>>=◌}
-use Rattle.bpf_insn.specs.Text.{Part}
+use Rattle.bpf_insn.specs.Parts.{Part}
 
 -- instructions, with those before them
 abbrev pub after : List Insn → Result (List Insn) ListingFault → Result (List Insn) ListingFault
 after before (Ok insns) = Ok (before ++ insns)
 after before (Err fault) = Err fault
-
-pub after_none : (r : Result (List Insn) ListingFault) → after [] r ≡ r
-after_none (Ok insns) = refl
-after_none (Err fault) = refl
 
 one_more : (before : List Insn) (insn : Insn) (r : Result (List Insn) ListingFault) → after (before ++ insn ∷ []) r ≡ after before (r >>= λ insns. Ok (insn ∷ insns))
 one_more before insn (Ok insns) = ap Ok (append_assoc before (insn ∷ []) insns)
@@ -22,10 +18,6 @@ one_more before insn (Err fault) = refl
 pub after_piece : (before : List Insn) (piece : Part) (pieces : List Part) (insn : Insn) → insn_of piece ≡ Ok insn
     → after (before ++ insn ∷ []) (insns_of pieces) ≡ after before (insns_of (piece ∷ pieces))
 after_piece before piece pieces insn e = one_more before insn (insns_of pieces) ∙ sym (ap (λ r. after before (r >>= λ insn. (insns_of pieces >>= λ insns. Ok (insn ∷ insns)))) e)
-
--- a piece that doesn't
-pub piece_fault : (before : List Insn) (piece : Part) (pieces : List Part) (fault : ListingFault) → insn_of piece ≡ Err fault → after before (insns_of (piece ∷ pieces)) ≡ Err fault
-piece_fault before piece pieces fault e = ap (λ r. after before (r >>= λ insn. (insns_of pieces >>= λ insns. Ok (insn ∷ insns)))) e
 
 parts : (r : Result Insn ListingFault) (rs : Result (List Insn) ListingFault) (insns : List Insn) → (r >>= λ insn. (rs >>= λ insns. Ok (insn ∷ insns))) ≡ Ok insns
     → (insn : Insn) × (rest : List Insn) × (r ≡ Ok insn) × (rs ≡ Ok rest) × (insn ∷ rest ≡ insns)

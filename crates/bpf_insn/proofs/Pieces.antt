@@ -5,20 +5,20 @@ use Rattle.std.proofs.lemmas.List.{reverse-append, length-reverse}
 use Rattle.std.proofs.lemmas.List.Folds.{prefix_len-append}
 use Rattle.std.proofs.lemmas.List.Sums.{prefix_len-le-length}
 use Rattle.std.specs.List.{prefix_len, position_or_len, suffix_len}
-use Rattle.bpf_insn.specs.Text.{Part, cut, with_byte, filled, trimmed, end_trimmed, is_empty}
+use Rattle.bpf_insn.specs.Parts.{Part, cut, with_byte, non_empty, without_ends, without_end, is_empty}
 use Rattle.bpf_insn.specs.Listing.{pieces_from, is_separator, is_padding}
-use Rattle.bpf_insn.proofs.Cuts.{after_cut, after_is, cut_is, NoFront, no_front, filled_some, part_same, drop_more, take_more, place_more}
+use Rattle.bpf_insn.proofs.Cuts.{first_part, after_cut, after_is, cut_is, NoFront, no_front, filled_some, drop_more, take_more, place_more}
 
 abbrev pub in_gap : ℕ → Bool
 in_gap b = is_separator b || is_padding b
 
 abbrev pieces_of : List Part → List Part
-pieces_of parts = filled (map (trimmed is_padding) parts)
+pieces_of parts = non_empty (map (without_ends is_padding) parts)
 
 none : (at : ℕ) (ps : List Part) → pieces_of (record { at = at; bytes = [] } ∷ ps) ≡ pieces_of ps
 none at ps = refl
 
-trimmed_more : (at b : ℕ) (bs : List ℕ) → is_padding b ≡ true → trimmed is_padding (record { at = at; bytes = b ∷ bs }) ≡ trimmed is_padding (record { at = at + 1; bytes = bs })
+trimmed_more : (at b : ℕ) (bs : List ℕ) → is_padding b ≡ true → without_ends is_padding (record { at = at; bytes = b ∷ bs }) ≡ without_ends is_padding (record { at = at + 1; bytes = bs })
 trimmed_more at b bs e = rw e (rw (drop_more, place_more) refl)
 
 -- a padding byte in front of the first part makes no difference
@@ -27,7 +27,7 @@ pad_front at b bs e =
     let n = position_or_len is_separator bs in
     let rest = after_cut is_separator (at + 1 + n) (drop n bs) in
     let whole = cut_is is_separator (at + 1) bs in
-    ap (λ ps. pieces_of (with_byte at b ps)) whole ∙ (ap (λ t. filled (t ∷ map (trimmed is_padding) rest)) (trimmed_more at b (take n bs) e) ∙ ap pieces_of (sym whole))
+    ap (λ ps. pieces_of (with_byte at b ps)) whole ∙ (ap (λ t. non_empty (t ∷ map (without_ends is_padding) rest)) (trimmed_more at b (take n bs) e) ∙ ap pieces_of (sym whole))
 
 one_gap : (at b : ℕ) (bs : List ℕ) → in_gap b ≡ true → (is_separator b ≡ true) ⊎ (is_separator b ≡ false) → pieces_from at (b ∷ bs) ≡ pieces_from (at + 1) bs
 one_gap at b bs e (inl separator) = rw separator refl
@@ -57,8 +57,8 @@ suffix_short p b bs e =
     let front = prefix_len-le-length p (reverse bs) in
     rw (whole, split) (least (eqb (prefix_len p (reverse bs)) (length (reverse bs))) (length (reverse bs) + prefix_len p (b ∷ [])) (prefix_len p (reverse bs)) (length bs) (omega (arith, long, last)) (omega (arith, long, front)))
 
--- a piece that begins with a byte that isn't padding stays when its end is trimmed
-piece_some : (b : ℕ) (bs : List ℕ) → is_padding b ≡ false → is_empty (end_trimmed is_padding (b ∷ bs)) ≡ false
+-- a piece that begins with a byte that isn't padding stays when its end is without_ends
+piece_some : (b : ℕ) (bs : List ℕ) → is_padding b ≡ false → is_empty (without_end is_padding (b ∷ bs)) ≡ false
 piece_some b bs e =
     let short = suffix_short is_padding b bs e in
     let left : ℕ = length bs - suffix_len is_padding (b ∷ bs) in
@@ -71,42 +71,37 @@ or_false true false e = cc
 or_false false true e = cc
 or_false false false e = (refl, refl)
 
-piece_trimmed : (at b : ℕ) (bs : List ℕ) → is_padding b ≡ false → trimmed is_padding (record { at = at; bytes = b ∷ bs }) ≡ record { at = at; bytes = end_trimmed is_padding (b ∷ bs) }
+piece_trimmed : (at b : ℕ) (bs : List ℕ) → is_padding b ≡ false → without_ends is_padding (record { at = at; bytes = b ∷ bs }) ≡ record { at = at; bytes = without_end is_padding (b ∷ bs) }
 piece_trimmed at b bs e = rw e (rw add-zero refl)
 
 first_piece_cons : (at b : ℕ) (bs : List ℕ) → in_gap b ≡ false
-    → pieces_from at (b ∷ bs) ≡ record { at = at; bytes = end_trimmed is_padding (take (position_or_len is_separator (b ∷ bs)) (b ∷ bs)) } ∷ pieces_from (at + position_or_len is_separator (b ∷ bs)) (drop (position_or_len is_separator (b ∷ bs)) (b ∷ bs))
+    → pieces_from at (b ∷ bs) ≡ record { at = at; bytes = without_end is_padding (take (position_or_len is_separator (b ∷ bs)) (b ∷ bs)) } ∷ pieces_from (at + position_or_len is_separator (b ∷ bs)) (drop (position_or_len is_separator (b ∷ bs)) (b ∷ bs))
 first_piece_cons at b bs e =
     let both = or_false (is_separator b) (is_padding b) e in
     let n = position_or_len is_separator (b ∷ bs) in
     let rest = after_cut is_separator (at + n) (drop n (b ∷ bs)) in
     let long : n ≡ 1 + position_or_len is_separator bs = rw both.0 refl in
     let front : take n (b ∷ bs) ≡ b ∷ take (position_or_len is_separator bs) bs = rw long (take_more _ _ _) in
-    let piece : Part = record { at = at; bytes = end_trimmed is_padding (take n (b ∷ bs)) } in
-    let same : trimmed is_padding (record { at = at; bytes = take n (b ∷ bs) }) ≡ piece = rw front (piece_trimmed at b _ both.1) in
+    let piece : Part = record { at = at; bytes = without_end is_padding (take n (b ∷ bs)) } in
+    let same : without_ends is_padding (record { at = at; bytes = take n (b ∷ bs) }) ≡ piece = rw front (piece_trimmed at b _ both.1) in
     let some : is_empty piece.bytes ≡ false = rw front (piece_some b _ both.1) in
-    ap pieces_of (cut_is is_separator at (b ∷ bs)) ∙ (ap (λ t. filled (t ∷ map (trimmed is_padding) rest)) same ∙ (filled_some piece (map (trimmed is_padding) rest) some ∙ ap (λ ps. piece ∷ ps) (after_is pieces_of none is_separator at (b ∷ bs))))
+    ap pieces_of (cut_is is_separator at (b ∷ bs)) ∙ (ap (λ t. non_empty (t ∷ map (without_ends is_padding) rest)) same ∙ (filled_some piece (map (without_ends is_padding) rest) some ∙ ap (λ ps. piece ∷ ps) (after_is pieces_of none is_separator at (b ∷ bs))))
 
 first_piece : (at : ℕ) (bs : List ℕ) → NoFront in_gap bs → (length bs ≡ 0 → ⊥)
-    → pieces_from at bs ≡ record { at = at; bytes = end_trimmed is_padding (take (position_or_len is_separator bs) bs) } ∷ pieces_from (at + position_or_len is_separator bs) (drop (position_or_len is_separator bs) bs)
+    → pieces_from at bs ≡ record { at = at; bytes = without_end is_padding (take (position_or_len is_separator bs) bs) } ∷ pieces_from (at + position_or_len is_separator bs) (drop (position_or_len is_separator bs) bs)
 first_piece at [] front some = absurd (some refl)
 first_piece at (b ∷ bs) front some = first_piece_cons at b bs front
 
 -- what stands before the next separator, without padding at its end, is the first piece
 pub next_piece_is : (at n m : ℕ) (bs : List ℕ) (rest piece after : Part)
     → n ≡ prefix_len in_gap bs → rest.at ≡ at + n → rest.bytes ≡ drop n bs → (length rest.bytes ≡ 0 → ⊥)
-    → m ≡ position_or_len is_separator rest.bytes → piece.at ≡ rest.at → piece.bytes ≡ end_trimmed is_padding (take m rest.bytes) → after.at ≡ rest.at + m → after.bytes ≡ drop m rest.bytes
+    → m ≡ position_or_len is_separator rest.bytes → piece.at ≡ rest.at → piece.bytes ≡ without_end is_padding (take m rest.bytes) → after.at ≡ rest.at + m → after.bytes ≡ drop m rest.bytes
     → pieces_from at bs ≡ piece ∷ pieces_from after.at after.bytes
 next_piece_is at n m bs rest piece after n_is rest_at rest_is some m_is piece_at piece_bytes after_at after_bytes =
     let gap = prefix_len in_gap bs in
-    let left : List ℕ = drop gap bs in
-    let left_is : rest.bytes ≡ left = rest_is ∙ ap (λ k. drop k bs) n_is in
-    let left_at : rest.at ≡ at + gap = rest_at ∙ ap (λ k. at + k) n_is in
-    let long : m ≡ position_or_len is_separator left = m_is ∙ ap (λ xs. position_or_len is_separator xs) left_is in
-    let same : piece ≡ record { at = at + gap; bytes = end_trimmed is_padding (take (position_or_len is_separator left) left) } = part_same _ _ (piece_at ∙ left_at) (piece_bytes ∙ (ap (λ xs. end_trimmed is_padding (take m xs)) left_is ∙ ap (λ k. end_trimmed is_padding (take k left)) long)) in
-    let end_at : after.at ≡ at + gap + position_or_len is_separator left = after_at ∙ (ap (λ a. a + m) left_at ∙ ap (λ k. at + gap + k) long) in
-    let end_is : after.bytes ≡ drop (position_or_len is_separator left) left = after_bytes ∙ (ap (λ xs. drop m xs) left_is ∙ ap (λ k. drop k left) long) in
-    rw (same, end_at, end_is) (skip_gap at bs ∙ first_piece (at + gap) left (no_front in_gap bs) (λ e. some (ap length left_is ∙ e)))
+    let some_left : length (drop gap bs) ≡ 0 → ⊥ = λ e. some (ap length (rest_is ∙ ap (λ k. drop k bs) n_is) ∙ e) in
+    first_part pieces_from (without_end is_padding) in_gap is_separator at n m bs rest piece after n_is rest_at rest_is m_is piece_at piece_bytes after_at after_bytes
+    (skip_gap at bs ∙ first_piece (at + gap) (drop gap bs) (no_front in_gap bs) some_left)
 
 -- a piece takes a byte of the text at least
 pub piece_long : (bs : List ℕ) (m : ℕ) → NoFront in_gap bs → (length bs ≡ 0 → ⊥) → m ≡ position_or_len is_separator bs → 0 < m

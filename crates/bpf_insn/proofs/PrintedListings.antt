@@ -1,6 +1,6 @@
 -- A printed listing reads as the program that was printed: each piece stands alone between commas, and each number between spaces.
-use Rattle.std.proofs.Common.{ℕ, suc, zero, ◌+◌, ◌-◌, ◌<◌, ◌≤◌, ◌^◌, ◌≡◌, Bool, true, false, ◌||◌, eqb, leb, not, List, [], ◌∷◌, ◌++◌, map, length, take, get_or, decimal, flat_map, Some, Ok, Result, All, subst, refl, sym, ◌∙◌, ap, arith, add-zero}
-use Rattle.std.specs.List.{list_all, prefix_len, suffix_len}
+use Rattle.std.proofs.Common.{ℕ, suc, ◌+◌, ◌-◌, ◌<◌, ◌≤◌, ◌^◌, ◌≡◌, Bool, true, false, ◌||◌, eqb, List, [], ◌∷◌, ◌++◌, map, length, get_or, decimal, flat_map, Some, Ok, All, subst, refl, sym, ◌∙◌, ap, arith, add-zero}
+use Rattle.std.specs.List.{list_all, suffix_len}
 use Rattle.std.specs.Char.{is_ascii_digit}
 use Rattle.std.specs.Str.Parse.{AllDigits, digits_value}
 use Rattle.std.proofs.lemmas.Bool.{and_from, le-leb, ne_eqb, eq-eqb}
@@ -10,8 +10,8 @@ use Rattle.std.proofs.Math.Seq.{take-length}
 use Rattle.std.proofs.lemmas.List.Sums.{suffix_len_is}
 use Rattle.std.proofs.lemmas.Str.Parse.{digit_from_value}
 use Rattle.bpf_insn.specs.declared.insn.Insn.{Insn}
-use Rattle.bpf_insn.specs.Text.{Part, cut, filled, trimmed, end_trimmed, is_empty, with_byte}
-use Rattle.bpf_insn.specs.Listing.{listing, listing_of, pieces_from, words_from, is_separator, is_padding, is_blank, is_numeral, numerals_of, insns_of, insn_of, count_of, count_from, insn_from, field_of}
+use Rattle.bpf_insn.specs.Parts.{Part, cut, non_empty, without_ends, is_empty, with_byte}
+use Rattle.bpf_insn.specs.Listing.{listing, listing_of, pieces_from, words_from, is_separator, is_padding, is_blank, numerals_of, insns_of, insn_of, count_of, count_from, insn_from, field_of}
 use Rattle.bpf_insn.specs.Printed.{insn_numbers, listing_text}
 use Rattle.bpf_insn.specs.Bytes.{InRange}
 use Rattle.bpf_insn.proofs.Cuts.{filled_some}
@@ -125,7 +125,7 @@ numbers_nested i =
     append_assoc (decimal i.code ++ 32 ∷ decimal i.jt) (32 ∷ decimal i.jf) (32 ∷ decimal i.k)
     ∙ append_assoc (decimal i.code) (32 ∷ decimal i.jt) (32 ∷ decimal i.jf ++ 32 ∷ decimal i.k)
 
-filled_four : (w x y z : Part) → is_empty w.bytes ≡ false → is_empty x.bytes ≡ false → is_empty y.bytes ≡ false → is_empty z.bytes ≡ false → filled (w ∷ x ∷ y ∷ z ∷ []) ≡ w ∷ x ∷ y ∷ z ∷ []
+filled_four : (w x y z : Part) → is_empty w.bytes ≡ false → is_empty x.bytes ≡ false → is_empty y.bytes ≡ false → is_empty z.bytes ≡ false → non_empty (w ∷ x ∷ y ∷ z ∷ []) ≡ w ∷ x ∷ y ∷ z ∷ []
 filled_four w x y z hw hx hy hz = rw (hw, hx, hy, hz) refl
 
 -- the four words of an instruction
@@ -141,7 +141,7 @@ words_nested at a b c d j k l m ha hb hc hd =
     let three = cut_front is_blank third 32 c d hc.blanks refl ∙ ap (λ ps. record { at = third; bytes = c } ∷ ps) last in
     let two = cut_front is_blank second 32 b (c ++ 32 ∷ d) hb.blanks refl ∙ ap (λ ps. record { at = second; bytes = b } ∷ ps) three in
     let all = cut_front is_blank at 32 a (b ++ 32 ∷ (c ++ 32 ∷ d)) ha.blanks refl ∙ ap (λ ps. record { at = at; bytes = a } ∷ ps) two in
-    ap filled all ∙ filled_four (record { at = at; bytes = a }) (record { at = second; bytes = b }) (record { at = third; bytes = c }) (record { at = fourth; bytes = d }) ha.some hb.some hc.some hd.some
+    ap non_empty all ∙ filled_four (record { at = at; bytes = a }) (record { at = second; bytes = b }) (record { at = third; bytes = c }) (record { at = fourth; bytes = d }) ha.some hb.some hc.some hd.some
 
 numerals_four : (w x y z : Part) → list_all is_ascii_digit w.bytes ≡ true → list_all is_ascii_digit x.bytes ≡ true → list_all is_ascii_digit y.bytes ≡ true → list_all is_ascii_digit z.bytes ≡ true
     → numerals_of (w ∷ x ∷ y ∷ z ∷ []) ≡ Some (w ∷ x ∷ y ∷ z ∷ [])
@@ -175,12 +175,12 @@ count_said : (at n : ℕ) → n ≤ 65535 → count_of (record { at = at; bytes 
 count_said at n few =
     let d = decimal_is n (omega (arith, few)) in
     let word : Part = record { at = at; bytes = decimal n } in
-    let words : words_from at (decimal n) ≡ word ∷ [] = ap filled (cut_whole is_blank at (decimal n) d.blanks) ∙ filled_some word [] d.some in
+    let words : words_from at (decimal n) ≡ word ∷ [] = ap non_empty (cut_whole is_blank at (decimal n) d.blanks) ∙ filled_some word [] d.some in
     let numerals : numerals_of (word ∷ []) ≡ Some (word ∷ []) = rw d.digits refl in
     ap (λ ws. count_from at (numerals_of ws)) words ∙ (ap (λ ws. count_from at ws) numerals ∙ field_is 65535 n word d.value few)
 
 -- a piece with no padding at its ends stays as it is
-kept : (at : ℕ) (b : ℕ) (bs : List ℕ) → is_padding b ≡ false → NoBack is_padding (b ∷ bs) → trimmed is_padding (record { at = at; bytes = b ∷ bs }) ≡ record { at = at; bytes = b ∷ bs }
+kept : (at : ℕ) (b : ℕ) (bs : List ℕ) → is_padding b ≡ false → NoBack is_padding (b ∷ bs) → without_ends is_padding (record { at = at; bytes = b ∷ bs }) ≡ record { at = at; bytes = b ∷ bs }
 kept at b bs front back = let all : length (b ∷ bs) - 0 ≡ length (b ∷ bs) = omega arith in rw front (rw (add-zero, no_suffix is_padding (b ∷ bs) back) (rw all (ap (λ xs. record { at = at; bytes = xs }) (take-length (b ∷ bs)))))
 
 -- bytes between commas that no comma parts: a piece
@@ -195,12 +195,12 @@ record IsPiece (bytes : List ℕ) : Type 0 where
 piece_first : (at : ℕ) (bytes rest : List ℕ) → IsPiece bytes → pieces_from at (bytes ++ 44 ∷ rest) ≡ record { at = at; bytes = bytes } ∷ pieces_from (at + length bytes + 1) rest
 piece_first at bytes rest piece =
     let part : Part = record { at = at; bytes = bytes } in
-    let same : trimmed is_padding part ≡ part =
-    subst (λ bs. NoBack is_padding bs → trimmed is_padding (record { at = at; bytes = bs }) ≡ record { at = at; bytes = bs }) (sym piece.is) (kept at piece.first piece.others piece.front) piece.back in
+    let same : without_ends is_padding part ≡ part =
+    subst (λ bs. NoBack is_padding bs → without_ends is_padding (record { at = at; bytes = bs }) ≡ record { at = at; bytes = bs }) (sym piece.is) (kept at piece.first piece.others piece.front) piece.back in
     let some : is_empty bytes ≡ false = ap is_empty piece.is in
-    ap (λ ps. filled (map (trimmed is_padding) ps)) (cut_front is_separator at 44 bytes rest piece.whole refl)
-    ∙ (ap (λ p. filled (p ∷ map (trimmed is_padding) (cut is_separator (at + length bytes + 1) rest))) same
-    ∙ filled_some part (map (trimmed is_padding) (cut is_separator (at + length bytes + 1) rest)) some)
+    ap (λ ps. non_empty (map (without_ends is_padding) ps)) (cut_front is_separator at 44 bytes rest piece.whole refl)
+    ∙ (ap (λ p. non_empty (p ∷ map (without_ends is_padding) (cut is_separator (at + length bytes + 1) rest))) same
+    ∙ filled_some part (map (without_ends is_padding) (cut is_separator (at + length bytes + 1) rest)) some)
 
 decimal_first : (n : ℕ) (ds rest : List ℕ) → IsDecimal n ds → (first : ℕ) × ((others : List ℕ) × ((ds ++ rest ≡ first ∷ others) × (is_padding first ≡ false)))
 decimal_first n [] rest d = absurd (let e = d.some in cc)

@@ -1,18 +1,18 @@
 -- The first word of a piece.
 use Rattle.std.proofs.Common.{ℕ, ◌+◌, ◌≡◌, false, List, [], ◌∷◌, length, take, drop, refl, ◌∙◌, ap}
 use Rattle.std.specs.List.{prefix_len, position_or_len}
-use Rattle.bpf_insn.specs.Text.{Part, filled}
+use Rattle.bpf_insn.specs.Parts.{Part, non_empty}
 use Rattle.bpf_insn.specs.Listing.{words_from, is_blank}
-use Rattle.bpf_insn.proofs.Cuts.{after_cut, after_is, cut_is, NoFront, no_front, skip_cuts, filled_some, front_some, part_same}
+use Rattle.bpf_insn.proofs.Cuts.{first_part, after_cut, after_is, cut_is, NoFront, no_front, skip_cuts, filled_some, front_some}
 
-none : (at : ℕ) (ps : List Part) → filled (record { at = at; bytes = [] } ∷ ps) ≡ filled ps
+none : (at : ℕ) (ps : List Part) → non_empty (record { at = at; bytes = [] } ∷ ps) ≡ non_empty ps
 none at ps = refl
 
 first_word_cons : (at b : ℕ) (bs : List ℕ) → is_blank b ≡ false
     → words_from at (b ∷ bs) ≡ record { at = at; bytes = take (position_or_len is_blank (b ∷ bs)) (b ∷ bs) } ∷ words_from (at + position_or_len is_blank (b ∷ bs)) (drop (position_or_len is_blank (b ∷ bs)) (b ∷ bs))
 first_word_cons at b bs e =
     let part : Part = record { at = at; bytes = take (position_or_len is_blank (b ∷ bs)) (b ∷ bs) } in
-    ap filled (cut_is is_blank at (b ∷ bs)) ∙ (filled_some part (after_cut is_blank (at + position_or_len is_blank (b ∷ bs)) (drop (position_or_len is_blank (b ∷ bs)) (b ∷ bs))) (front_some is_blank b bs e) ∙ ap (λ ps. part ∷ ps) (after_is filled none is_blank at (b ∷ bs)))
+    ap non_empty (cut_is is_blank at (b ∷ bs)) ∙ (filled_some part (after_cut is_blank (at + position_or_len is_blank (b ∷ bs)) (drop (position_or_len is_blank (b ∷ bs)) (b ∷ bs))) (front_some is_blank b bs e) ∙ ap (λ ps. part ∷ ps) (after_is non_empty none is_blank at (b ∷ bs)))
 
 first_word : (at : ℕ) (bs : List ℕ) → NoFront is_blank bs → (bs ≡ [] → ⊥)
     → words_from at bs ≡ record { at = at; bytes = take (position_or_len is_blank bs) bs } ∷ words_from (at + position_or_len is_blank bs) (drop (position_or_len is_blank bs) bs)
@@ -21,7 +21,7 @@ first_word at (b ∷ bs) front some = first_word_cons at b bs front
 
 -- the words of a piece are those that are left once its first blanks are passed over
 pub skip_blanks : (at : ℕ) (bs : List ℕ) → words_from at bs ≡ words_from (at + prefix_len is_blank bs) (drop (prefix_len is_blank bs) bs)
-skip_blanks at bs = skip_cuts filled none is_blank at bs
+skip_blanks at bs = skip_cuts non_empty none is_blank at bs
 
 word_is : (at : ℕ) (bs : List ℕ) → (length (drop (prefix_len is_blank bs) bs) ≡ 0 → ⊥)
     → words_from at bs ≡ record { at = at + prefix_len is_blank bs; bytes = take (position_or_len is_blank (drop (prefix_len is_blank bs) bs)) (drop (prefix_len is_blank bs) bs) } ∷ words_from (at + prefix_len is_blank bs + position_or_len is_blank (drop (prefix_len is_blank bs) bs)) (drop (position_or_len is_blank (drop (prefix_len is_blank bs) bs)) (drop (prefix_len is_blank bs) bs))
@@ -33,12 +33,6 @@ pub next_word_is : (at n m : ℕ) (bs : List ℕ) (rest word after : Part)
     → m ≡ position_or_len is_blank rest.bytes → word.at ≡ rest.at → word.bytes ≡ take m rest.bytes → after.at ≡ rest.at + m → after.bytes ≡ drop m rest.bytes
     → words_from at bs ≡ word ∷ words_from after.at after.bytes
 next_word_is at n m bs rest word after n_is rest_at rest_is some m_is word_at word_bytes after_at after_bytes =
-    let blanks = prefix_len is_blank bs in
-    let left : List ℕ = drop blanks bs in
-    let left_is : rest.bytes ≡ left = rest_is ∙ ap (λ k. drop k bs) n_is in
-    let left_at : rest.at ≡ at + blanks = rest_at ∙ ap (λ k. at + k) n_is in
-    let long : m ≡ position_or_len is_blank left = m_is ∙ ap (λ xs. position_or_len is_blank xs) left_is in
-    let same : word ≡ record { at = at + blanks; bytes = take (position_or_len is_blank left) left } = part_same _ _ (word_at ∙ left_at) (word_bytes ∙ (ap (λ xs. take m xs) left_is ∙ ap (λ k. take k left) long)) in
-    let end_at : after.at ≡ at + blanks + position_or_len is_blank left = after_at ∙ (ap (λ a. a + m) left_at ∙ ap (λ k. at + blanks + k) long) in
-    let end_is : after.bytes ≡ drop (position_or_len is_blank left) left = after_bytes ∙ (ap (λ xs. drop m xs) left_is ∙ ap (λ k. drop k left) long) in
-    rw (same, end_at, end_is) (word_is at bs (λ e. some (ap length left_is ∙ e)))
+    let some_left : length (drop (prefix_len is_blank bs) bs) ≡ 0 → ⊥ = λ e. some (ap length (rest_is ∙ ap (λ k. drop k bs) n_is) ∙ e) in
+    first_part words_from (λ bytes. bytes) is_blank is_blank at n m bs rest word after n_is rest_at rest_is m_is word_at word_bytes after_at after_bytes
+    (word_is at bs some_left)

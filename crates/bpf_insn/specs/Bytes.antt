@@ -5,11 +5,11 @@ use Rattle.bpf_insn.specs.declared.insn.Insn.{Insn}
 
 -- the 8 bytes: code, jt, jf and k, the lowest byte first
 abbrev pub insn_bytes : Insn → List ℕ
-insn_bytes i = to_le_bytes w16 i.code ++ (i.jt ∷ i.jf ∷ to_le_bytes w32 i.k)
+insn_bytes insn = to_le_bytes w16 insn.code ++ (insn.jt ∷ insn.jf ∷ to_le_bytes w32 insn.k)
 
 -- each field is a number of its type
-pub record InRange (i : Insn) : Type 0 where
-  pub code : i.code < 2 ^ 16
-  pub jt : i.jt < 2 ^ 8
-  pub jf : i.jf < 2 ^ 8
-  pub k : i.k < 2 ^ 32
+pub record InRange (insn : Insn) : Type 0 where
+  pub code : insn.code < 2 ^ 16
+  pub jt : insn.jt < 2 ^ 8
+  pub jf : insn.jf < 2 ^ 8
+  pub k : insn.k < 2 ^ 32

@@ -1,6 +1,9 @@
 pub mod Forms
+pub mod Flow
+pub mod Uses
+pub mod Mnemonics
 pub mod Bytes
-pub mod Text
+pub mod Parts
 pub mod Listing
-pub mod Stretches
 pub mod Printed
+pub mod Views

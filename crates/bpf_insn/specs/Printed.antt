@@ -5,8 +5,10 @@ use Rattle.bpf_insn.specs.declared.insn.Insn.{Insn}
 
 -- the four numbers of an instruction in decimal, with a space between them
 abbrev pub insn_numbers : Insn → List ℕ
-insn_numbers i = decimal i.code ++ 32 ∷ decimal i.jt ++ 32 ∷ decimal i.jf ++ 32 ∷ decimal i.k
+insn_numbers insn =
+    decimal insn.code ++ 32 ∷ decimal insn.jt ++ 32 ∷ decimal insn.jf ++ 32 ∷ decimal insn.k
 
 -- the count of the instructions and a comma, and the numbers of each instruction and a comma
 abbrev pub listing_text : List Insn → List ℕ
-listing_text p = (decimal (length p) ++ 44 ∷ []) ++ flat_map (λ i. insn_numbers i ++ 44 ∷ []) p
+listing_text program =
+    (decimal (length program) ++ 44 ∷ []) ++ flat_map (λ insn. insn_numbers insn ++ 44 ∷ []) program

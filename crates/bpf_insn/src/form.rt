@@ -1,7 +1,8 @@
+//! Instruction forms: what an instruction does, by its code, in one table both ways.
 ghost use Rattle.std.specs.Prelude.{◌≡◌};
-ghost use Rattle.bpf_insn.specs.Forms.{form};
+ghost use Rattle.bpf_insn.specs.Forms.{form, code_of};
 
-use super::insn::Insn;
+use crate::insn::Insn;
 
 /// How many bytes a load takes from the view.
 #[derive(Clone, Copy, Debug, PartialEq, Eq)]
@@ -95,7 +96,7 @@ pub enum Form {
     Txa,
 }
 
-/// The form of an instruction, by its code alone; None where the code is not legal.
+/// The form of an instruction, by its code alone; `None` if the code is not legal.
 #[inline(always)]
 pub fn form_of(insn: Insn) -> Option<Form>
     ensures table { result ≡ form insn.code }
@@ -153,4 +154,61 @@ pub fn form_of(insn: Insn) -> Option<Form>
         _ => return None,
     };
     Some(form)
+}
+
+/// The code of a form: the one code that has it.
+pub fn code_of(form: Form) -> u16
+    ensures table { result ≡ code_of form }
+{
+    match form {
+        Form::LdImm => 0x00,
+        Form::LdAbs(Size::W) => 0x20,
+        Form::LdAbs(Size::H) => 0x28,
+        Form::LdAbs(Size::B) => 0x30,
+        Form::LdInd(Size::W) => 0x40,
+        Form::LdInd(Size::H) => 0x48,
+        Form::LdInd(Size::B) => 0x50,
+        Form::LdMem => 0x60,
+        Form::LdLen => 0x80,
+        Form::LdxImm => 0x01,
+        Form::LdxMem => 0x61,
+        Form::LdxLen => 0x81,
+        Form::LdxMsh => 0xb1,
+        Form::St => 0x02,
+        Form::Stx => 0x03,
+        Form::Alu(Op::Add, Src::K) => 0x04,
+        Form::Alu(Op::Add, Src::X) => 0x0c,
+        Form::Alu(Op::Sub, Src::K) => 0x14,
+        Form::Alu(Op::Sub, Src::X) => 0x1c,
+        Form::Alu(Op::Mul, Src::K) => 0x24,
+        Form::Alu(Op::Mul, Src::X) => 0x2c,
+        Form::Alu(Op::Div, Src::K) => 0x34,
+        Form::Alu(Op::Div, Src::X) => 0x3c,
+        Form::Alu(Op::Or, Src::K) => 0x44,
+        Form::Alu(Op::Or, Src::X) => 0x4c,
+        Form::Alu(Op::And, Src::K) => 0x54,
+        Form::Alu(Op::And, Src::X) => 0x5c,
+        Form::Alu(Op::Lsh, Src::K) => 0x64,
+        Form::Alu(Op::Lsh, Src::X) => 0x6c,
+        Form::Alu(Op::Rsh, Src::K) => 0x74,
+        Form::Alu(Op::Rsh, Src::X) => 0x7c,
+        Form::Neg => 0x84,
+        Form::Alu(Op::Mod, Src::K) => 0x94,
+        Form::Alu(Op::Mod, Src::X) => 0x9c,
+        Form::Alu(Op::Xor, Src::K) => 0xa4,
+        Form::Alu(Op::Xor, Src::X) => 0xac,
+        Form::Ja => 0x05,
+        Form::Test(Cond::Eq, Src::K) => 0x15,
+        Form::Test(Cond::Eq, Src::X) => 0x1d,
+        Form::Test(Cond::Gt, Src::K) => 0x25,
+        Form::Test(Cond::Gt, Src::X) => 0x2d,
+        Form::Test(Cond::Ge, Src::K) => 0x35,
+        Form::Test(Cond::Ge, Src::X) => 0x3d,
+        Form::Test(Cond::Set, Src::K) => 0x45,
+        Form::Test(Cond::Set, Src::X) => 0x4d,
+        Form::RetK => 0x06,
+        Form::RetA => 0x16,
+        Form::Tax => 0x07,
+        Form::Txa => 0x87,
+    }
 }

@@ -1,7 +1,11 @@
+//! An instruction: its fields, its stored form, and how many of it a program may have.
 ghost use Rattle.std.specs.Prelude.{◌≡◌};
 
 /// The greatest number of instructions that a program may have.
 pub const MAX_INSNS: usize = 512;
+
+/// The number of scratch words, `BPF_MEMWORDS` of bpf(4).
+pub const SCRATCH_WORDS: usize = 16;
 
 /// One instruction of a filter program, as `struct bpf_insn` of bpf(4).
 #[derive(Clone, Copy, Debug, PartialEq, Eq)]

@@ -1,3 +1,4 @@
+//! Instructions as they are stored, read and printed.
 use super::*;
 use std::test::Fail;
 
@@ -5,7 +6,7 @@ use std::test::Fail;
 const ARP: &str = "4,40 0 0 12,21 0 1 2054,6 0 0 4294967295,6 0 0 0,";
 
 #[test]
-fn arp_filter_reads_and_is_stored(rt: HostRuntime) -> Result<(), Fail> {
+fn the_arp_filter_is_read_and_stored(rt: HostRuntime) -> Result<(), Fail> {
     let program = parse_listing(rt.alloc(), ARP)?;
     assert_eq!(rt; program.len(), 4);
     assert_eq!(rt; form_of(program[0]), Some(Form::LdAbs(Size::H)));
@@ -17,7 +18,7 @@ fn arp_filter_reads_and_is_stored(rt: HostRuntime) -> Result<(), Fail> {
 }
 
 #[test]
-fn one_instruction_a_line(rt: HostRuntime) -> Result<(), Fail> {
+fn an_instruction_may_stand_on_a_line(rt: HostRuntime) -> Result<(), Fail> {
     let program = parse_listing(rt.alloc(), "1 ,\r\n 6 0\t0 01 \r\n")?;
     let ret = Insn {
         code: 6,
@@ -30,29 +31,23 @@ fn one_instruction_a_line(rt: HostRuntime) -> Result<(), Fail> {
 }
 
 #[test]
-fn the_first_fault_is_told(rt: HostRuntime) {
+fn a_listing_is_refused_with_its_first_fault(rt: HostRuntime) {
     let table = [
         ("", ListingFault::Syntax { at: 0 }),
         (" ,\n", ListingFault::Syntax { at: 3 }),
-        (
-            "65535,",
-            ListingFault::Count {
-                said: 65535,
-                found: 0,
-            },
-        ),
-        ("0,6 0 0 0,", ListingFault::Count { said: 0, found: 1 }),
-        ("65536,", ListingFault::Range { at: 0 }),
         ("1 1,6 0 0 0,", ListingFault::Syntax { at: 0 }),
         ("1,6 0 0,", ListingFault::Syntax { at: 2 }),
         ("1,6 0 0 0 0,", ListingFault::Syntax { at: 2 }),
-        ("1, 6 0 256 4294967296,", ListingFault::Range { at: 7 }),
-        ("1,6 0 0 4294967296,", ListingFault::Range { at: 8 }),
+        ("1,6 0 256 +0,", ListingFault::Syntax { at: 2 }),
+        ("1,6 0\r 0 0,", ListingFault::Syntax { at: 2 }),
+        ("65536,", ListingFault::Range { at: 0 }),
         ("1,65536 0 0 0,", ListingFault::Range { at: 2 }),
         ("1,6 256 0 0,", ListingFault::Range { at: 4 }),
-        ("1,6 0 256 +0,", ListingFault::Syntax { at: 2 }),
+        ("1, 6 0 256 4294967296,", ListingFault::Range { at: 7 }),
+        ("1,6 0 0 4294967296,", ListingFault::Range { at: 8 }),
         ("2,6 0 256 0,x", ListingFault::Range { at: 6 }),
-        ("1,6 0\r 0 0,", ListingFault::Syntax { at: 2 }),
+        ("65535,", count(65_535, 0)),
+        ("0,6 0 0 0,", count(0, 1)),
     ];
     for (text, fault) in table {
         assert_eq!(rt;
@@ -63,13 +58,44 @@ fn the_first_fault_is_told(rt: HostRuntime) {
     }
 }
 
+fn count(said: u16, found: usize) -> ListingFault {
+    ListingFault::Count { said, found }
+}
+
 #[test]
-fn programs_are_printed(rt: HostRuntime) -> Result<(), Fail> {
-    for text in ["0,", "4,40 0 0 12,21 0 1 2054,6 0 0 4294967295,6 0 0 0,"] {
+fn a_program_is_printed_as_its_listing(rt: HostRuntime) -> Result<(), Fail> {
+    for text in ["0,", ARP] {
         let program = parse_listing(rt.alloc(), text)?;
         assert!(rt; program.len() <= 65_535);
         let printed = print_listing(rt.alloc(), program.as_slice())?;
         assert_eq!(rt; printed.as_str(), text);
     }
     Ok(())
+}
+
+#[test]
+fn jumps_lead_where_their_distances_say(rt: HostRuntime) -> Result<(), Fail> {
+    let program = parse_listing(rt.alloc(), ARP)?;
+    let test = Form::Test(Cond::Eq, Src::K);
+    assert_eq!(rt; jump_targets(test, program[1], 1), Targets::Two(2, 3));
+    assert_eq!(rt;
+        successors(Form::LdAbs(Size::H), program[0], 0),
+        Targets::One(1)
+    );
+    assert_eq!(rt; successors(Form::RetK, program[2], 2), Targets::Nowhere);
+    assert!(rt; jumps_out(test, program[1], 1, 3));
+    assert!(rt; !jumps_out(test, program[1], 1, 4));
+    Ok(())
+}
+
+#[test]
+fn a_form_tells_its_code_its_name_and_its_fields(rt: HostRuntime) {
+    assert_eq!(rt; code_of(Form::Test(Cond::Set, Src::X)), 0x4d);
+    assert_eq!(rt; op_mnemonic(Op::Lsh), "lsh");
+    assert_eq!(rt; cond_mnemonic(Cond::Ge), "jge");
+    assert_eq!(rt; load_mnemonic(Size::B), "ldb");
+    assert!(rt; uses_k(Form::RetK) && !uses_k(Form::RetA));
+    assert!(rt; uses_distances(Form::Test(Cond::Eq, Src::X)) && !uses_distances(Form::Ja));
+    assert!(rt; reads_scratch(Form::LdxMem) && !reads_scratch(Form::Stx));
+    assert!(rt; writes_scratch(Form::Stx) && !writes_scratch(Form::LdxMem));
 }

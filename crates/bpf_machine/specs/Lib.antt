@@ -1,3 +1,3 @@
 pub mod Flags
 pub mod Machine
-pub mod Steps
+pub mod Views

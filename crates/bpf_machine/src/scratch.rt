@@ -1,12 +1,15 @@
-ghost use Rattle.std.specs.Prelude.{◌≡◌, ◌<◌, ℕ, Some, None, slice_get, slice_set, replicate};
+//! The scratch words, each set or not.
+ghost use Rattle.std.specs.Prelude.{◌≡◌, ◌<◌, Some, None, slice_get, slice_set, replicate};
+ghost use Rattle.bpf_machine.specs.Machine.{IsSet};
 
+use bpf_insn::SCRATCH_WORDS;
 use std::marker::Model;
 
 /// The scratch words: a total row, and flags that say which of them are set.
 #[derive(Drop)]
 pub(crate) struct Scratch {
-    words: [u32; 16],
-    set: [bool; 16],
+    words: [u32; SCRATCH_WORDS],
+    set: [bool; SCRATCH_WORDS],
 }
 
 impl Model for Scratch {
@@ -22,20 +25,19 @@ impl Model for Scratch {
 impl Scratch {
     /// None is set.
     pub(crate) fn new() -> Scratch
-        ensures { result ≡ replicate 16 None }
+        ensures { result ≡ replicate SCRATCH_WORDS None }
     {
         Scratch {
-            words: [0; 16],
-            set: [false; 16],
+            words: [0; SCRATCH_WORDS],
+            set: [false; SCRATCH_WORDS],
         }
     }
 
     /// A word that is set.
     #[inline(always)]
     pub(crate) fn recall(&self, at: usize) -> u32
-        requires room { at < 16 }
-        requires set { (word : ℕ) × (slice_get self.now at ≡ Some (Some word)) }
-        ensures within { at < 16 }
+        requires room { at < SCRATCH_WORDS }
+        requires set { IsSet self.now at }
         ensures word { slice_get self.now at ≡ Some (Some result) }
     {
         self.words[at]
@@ -44,8 +46,7 @@ impl Scratch {
     /// Sets a word.
     #[inline(always)]
     pub(crate) fn store(&mut self, at: usize, word: u32)
-        requires room { at < 16 }
-        ensures within { at < 16 }
+        requires room { at < SCRATCH_WORDS }
         ensures set { self.new ≡ slice_set self.old at (Some word) }
     {
         self.words[at] = word;

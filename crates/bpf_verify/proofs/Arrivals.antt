@@ -5,11 +5,14 @@ use Rattle.std.specs.Int.{bit_at}
 use Rattle.std.proofs.lemmas.Option.{slice_get_within}
 use Rattle.std.proofs.lemmas.List.{get_or-set_same, get_or-set_other, length-set, length-replicate, get_or-replicate}
 use Rattle.std.proofs.lemmas.Nat.Bits.{bit_at_ones, bit_at-zero}
+use Rattle.bpf_insn.specs.declared.insn.TheConstants.{SCRATCH_WORDS}
 use Rattle.bpf_insn.specs.declared.insn.Insn.{Insn}
 use Rattle.bpf_insn.specs.declared.form.Form.{Form}
 use Rattle.bpf_insn.specs.declared.form.Form.TheVariants.{Ja, Test, RetK, RetA}
-use Rattle.bpf_insn.specs.Forms.{form, FormWritesWord}
-use Rattle.bpf_verify.specs.ControlFlow.{FormLeads, Edge, GoesByEdges, IsPath, WritesWord, NoneWrites}
+use Rattle.bpf_insn.specs.Forms.{form}
+use Rattle.bpf_insn.specs.Uses.{FormWritesWord}
+use Rattle.bpf_insn.specs.Flow.{FormLeads}
+use Rattle.bpf_verify.specs.ControlFlow.{Edge, GoesByEdges, IsPath, WritesWord, NoneWrites}
 use Rattle.bpf_verify.specs.ByForm.{IsAt}
 use Rattle.bpf_verify.specs.Masks.{ArrivesUnset, IsClear}
 use Rattle.bpf_verify.proofs.Places.{here, there}
@@ -164,7 +167,7 @@ arrives_after p at to word f i before after mask handed stands inside told here_
 pub first_arrives_alone : (p : List Insn) (word mask : ℕ) → mask ≡ 0 → IsClear mask word ↔ ArrivesFromBelow p 0 0 word
 first_arrives_alone p word mask e = (λ clear. inl refl, λ arrives. subst (λ m. IsClear m word) (sym e) (bit_at-zero word))
 
-pub others_not_reached : (p : List Insn) (to word mask : ℕ) → (to ≡ 0 → ⊥) → word < 16 → mask ≡ 65535 → IsClear mask word ↔ ArrivesFromBelow p 0 to word
+pub others_not_reached : (p : List Insn) (to word mask : ℕ) → (to ≡ 0 → ⊥) → word < SCRATCH_WORDS → mask ≡ 65535 → IsClear mask word ↔ ArrivesFromBelow p 0 to word
 others_not_reached p to word mask ne below e =
     let one : bit_at mask word ≡ 1 = subst (λ m. bit_at m word ≡ 1) (sym e) (bit_at_ones 16 word below) in (
       λ clear. let bad : 1 ≡ 0 = sym one ∙ clear in absurd (omega (arith, bad)),
@@ -172,7 +175,7 @@ others_not_reached p to word mask ne below e =
     )
 
 -- the masks before the first instruction: none of its bits is set at the first place, all are at the others
-pub first_masks_arrive : (p : List Insn) (n to word : ℕ) → to < n → word < 16 → IsClear (slice_index (slice_set (replicate n 65535) 0 0) to) word ↔ ArrivesFromBelow p 0 to word
+pub first_masks_arrive : (p : List Insn) (n to word : ℕ) → to < n → word < SCRATCH_WORDS → IsClear (slice_index (slice_set (replicate n 65535) 0 0) to) word ↔ ArrivesFromBelow p 0 to word
 first_masks_arrive p n zero word inside below =
     first_arrives_alone p word _ (get_or-set_same (replicate n 65535) 0 0 0 (rw length-replicate inside))
 first_masks_arrive p n (suc to) word inside below =

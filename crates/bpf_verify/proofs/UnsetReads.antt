@@ -4,12 +4,12 @@ use Rattle.std.specs.Prelude.{slice_index, MatchOption}
 use Rattle.std.proofs.lemmas.Option.{slice_get_within}
 use Rattle.bpf_insn.specs.declared.insn.Insn.{Insn}
 use Rattle.bpf_insn.specs.declared.form.Form.{Form}
-use Rattle.bpf_insn.specs.Forms.{FormReadsWord}
+use Rattle.bpf_insn.specs.Uses.{FormReadsWord}
 use Rattle.bpf_verify.specs.declared.fault.VerifyFault.{VerifyFault}
 use Rattle.bpf_verify.specs.ControlFlow.{ReadsWord, UnsetReadAt}
 use Rattle.bpf_verify.specs.Validity.{Valid}
 use Rattle.bpf_verify.specs.ByForm.{IsAt}
-use Rattle.bpf_verify.specs.Masks.{IsClear, TellsUnset}
+use Rattle.bpf_verify.specs.Masks.{IsClear, ShowsUnset}
 use Rattle.bpf_verify.specs.Refusals.{IsWellFormed, NoUnsetReadBelow, Refuses}
 use Rattle.bpf_verify.proofs.Places.{here, there}
 use Rattle.bpf_verify.proofs.Breaks.{read_is_k}
@@ -21,7 +21,7 @@ use Rattle.bpf_verify.proofs.Arrivals.{below_or_at}
 pub reads_at : (p : List Insn) (at : ℕ) (f : Form) (i : Insn) → IsAt p at f i → FormReadsWord (Some f) i i.k → ReadsWord p at i.k
 reads_at p at f i stands reads = (i, stands.0, there (λ o j. FormReadsWord o j i.k) i f stands.1 reads)
 
-none_here : (p : List Insn) (at : ℕ) (f : Form) (i : Insn) (masks : List ℕ) → IsWellFormed p → TellsUnset p masks → IsAt p at f i
+none_here : (p : List Insn) (at : ℕ) (f : Form) (i : Insn) (masks : List ℕ) → IsWellFormed p → ShowsUnset p masks → IsAt p at f i
     → (FormReadsWord (Some f) i i.k → IsClear (slice_index masks at) i.k → ⊥) → (path : List ℕ) (word : ℕ) → UnsetReadAt p at path word → ⊥
 none_here p at f i masks formed told stands none path word unset =
     let reads : ReadsWord p at word = unset.3 in
@@ -32,7 +32,7 @@ none_here p at f i masks formed told stands none path word unset =
     none (subst (λ w. FormReadsWord (Some f) i w) (sym is_k) by_form) (subst (λ w. IsClear (slice_index masks at) w) (sym is_k) clear)
 
 -- one more place at which no unset read ends
-pub none_more : (p : List Insn) (at : ℕ) (f : Form) (i : Insn) (masks : List ℕ) → IsWellFormed p → TellsUnset p masks → IsAt p at f i
+pub none_more : (p : List Insn) (at : ℕ) (f : Form) (i : Insn) (masks : List ℕ) → IsWellFormed p → ShowsUnset p masks → IsAt p at f i
     → NoUnsetReadBelow p at → (FormReadsWord (Some f) i i.k → IsClear (slice_index masks at) i.k → ⊥) → NoUnsetReadBelow p (at + 1)
 none_more p at f i masks formed told stands below none place path word inside unset = elim (below_or_at place at inside) as (λ _. ⊥) [
   | inl e ↦ none_here p at f i masks formed told stands none path word (subst (λ x. UnsetReadAt p x path word) e unset)

@@ -13,7 +13,7 @@ inside p at (inl (inl lacks)) = slice_get_within p at lacks.0 lacks.1
 inside p at (inl (inr (word, inl reads, past))) = slice_get_within p at reads.0 reads.1
 inside p at (inl (inr (word, inr writes, past))) = slice_get_within p at writes.0 writes.1
 inside p at (inr (inl zero)) = slice_get_within p at zero.0 zero.1
-inside p at (inr (inr out)) = slice_get_within p at out.0 out.2
+inside p at (inr (inr out)) = slice_get_within p at out.0 out.1
 
 -- no instruction of a well-formed program breaks a condition of its own
 pub unbroken : (p : List Insn) → IsWellFormed p → (at : ℕ) → BreaksAt p at → ⊥

@@ -1,5 +1,5 @@
 -- An unset read, walked from its first place to its last, and built from its last place to its first.
-use Rattle.std.proofs.Common.{ℕ, ◌≡◌, ◌↔◌, List, [], ◌∷◌, ◌++◌, length, refl, sym, ap, subst}
+use Rattle.std.proofs.Common.{ℕ, ◌≡◌, ◌↔◌, List, [], ◌∷◌, ◌++◌, refl, sym, ap, subst}
 use Rattle.std.proofs.lemmas.Option.{slice_get_within}
 use Rattle.bpf_insn.specs.declared.insn.Insn.{Insn}
 use Rattle.bpf_verify.specs.ControlFlow.{Edge, GoesByEdges, IsPath, ReadsWord, WritesWord, NoneWrites, UnsetRead}
@@ -29,11 +29,6 @@ ends_walk p at (next ∷ rest) word last (x ∷ xs) e goes reads none =
     let same : x ≡ at = cc in
     let tail : next ∷ rest ≡ xs ++ last ∷ [] = cc in
     ((goes.0, subst (λ y. WritesWord p y word → ⊥) same none.0), ends_walk p next rest word last xs tail goes.1 reads none.1)
-
--- no list without places is an unset read
-pub nowhere : (p : List Insn) (path : List ℕ) (word : ℕ) → length path ≡ 0 → UnsetRead p path word → ⊥
-nowhere p [] word none unset = unset.1.2
-nowhere p (x ∷ xs) word none unset = cc
 
 -- an unset read begins with the first instruction and walks on from there
 pub unset_walks : (p : List Insn) (path : List ℕ) (first : ℕ) (rest : List ℕ) (word : ℕ) → path ≡ first ∷ rest → UnsetRead p path word ↔ ((first ≡ 0) × WalksUnset p first rest word)

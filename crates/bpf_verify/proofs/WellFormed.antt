@@ -1,12 +1,15 @@
--- What a well-formed program's instructions may do: each has a form, uses the sixteen scratch words alone, and leads to a place of the program.
+-- What a well-formed program's instructions may do: each has a form, uses scratch words that are there, and leads to an index of the program.
 use Rattle.std.proofs.Common.{ℕ, ◌+◌, ◌-◌, ◌<◌, ◌≤◌, ◌≡◌, ◌⊎◌, inl, inr, List, length, None, Some, subst, slice_get, arith}
 use Rattle.std.proofs.lemmas.Option.{slice_get_within}
 use Rattle.bpf_insn.specs.declared.insn.Insn.{Insn}
+use Rattle.bpf_insn.specs.declared.insn.TheConstants.{SCRATCH_WORDS}
 use Rattle.bpf_insn.specs.declared.form.Form.{Form}
 use Rattle.bpf_insn.specs.declared.form.Form.TheVariants.{Ja, Test, RetK, RetA}
 use Rattle.bpf_insn.specs.Forms.{form}
-use Rattle.bpf_verify.specs.ControlFlow.{FormLeads, ReadsWord, WritesWord}
-use Rattle.bpf_verify.specs.Validity.{FormReturns, FormJumps}
+use Rattle.bpf_insn.specs.Flow.{FormLeads}
+use Rattle.bpf_verify.specs.ControlFlow.{ReadsWord, WritesWord}
+use Rattle.bpf_insn.specs.Flow.{FormJumps}
+use Rattle.bpf_verify.specs.Validity.{FormReturns}
 use Rattle.bpf_verify.specs.ByForm.{IsAt}
 use Rattle.bpf_verify.specs.Refusals.{IsWellFormed}
 use Rattle.bpf_verify.proofs.Places.{here, there}
@@ -18,11 +21,11 @@ below_or_past a b = grind arith
 pub has_form : (p : List Insn) (at : ℕ) (i : Insn) → IsWellFormed p → slice_get p at ≡ Some i → form i.code ≡ None → ⊥
 has_form p at i formed is none = unbroken p formed at (inl (inl (i, is, none)))
 
-pub read_below : (p : List Insn) (at word : ℕ) → IsWellFormed p → ReadsWord p at word → word < 16
-read_below p at word formed reads = elim (below_or_past word 16) as (λ _. word < 16) [ inl below ↦ below | inr past ↦ absurd (unbroken p formed at (inl (inr (word, inl reads, past)))) ]
+pub read_below : (p : List Insn) (at word : ℕ) → IsWellFormed p → ReadsWord p at word → word < SCRATCH_WORDS
+read_below p at word formed reads = elim (below_or_past word SCRATCH_WORDS) as (λ _. word < SCRATCH_WORDS) [ inl below ↦ below | inr past ↦ absurd (unbroken p formed at (inl (inr (word, inl reads, past)))) ]
 
-pub write_below : (p : List Insn) (at word : ℕ) → IsWellFormed p → WritesWord p at word → word < 16
-write_below p at word formed writes = elim (below_or_past word 16) as (λ _. word < 16) [ inl below ↦ below | inr past ↦ absurd (unbroken p formed at (inl (inr (word, inr writes, past)))) ]
+pub write_below : (p : List Insn) (at word : ℕ) → IsWellFormed p → WritesWord p at word → word < SCRATCH_WORDS
+write_below p at word formed writes = elim (below_or_past word SCRATCH_WORDS) as (λ _. word < SCRATCH_WORDS) [ inl below ↦ below | inr past ↦ absurd (unbroken p formed at (inl (inr (word, inr writes, past)))) ]
 
 -- an instruction leads by a jump, or to the next place without a return
 jumps_or_next : (f : Form) (i : Insn) (from to : ℕ) → FormLeads (Some f) i from to → FormJumps (Some f) i from to ⊎ ((to ≡ from + 1) × (FormReturns (Some f) → ⊥))
@@ -47,7 +50,7 @@ pub leads_within : (p : List Insn) (from to : ℕ) (f : Form) (i : Insn) → IsW
 leads_within p from to f i formed stands leads = elim (below_or_past to (length p)) as (λ _. to < length p) [
   | inl below ↦ below
   | inr past ↦ elim (jumps_or_next f i from to leads) as (λ _. to < length p) [
-    | inl jumps ↦ absurd (unbroken p formed from (inr (inr (i, to, stands.0, there (λ o j. FormJumps o j from to) i f stands.1 jumps, past))))
+    | inl jumps ↦ absurd (unbroken p formed from (inr (inr (i, stands.0, (to, there (λ o j. FormJumps o j from to) i f stands.1 jumps, past)))))
     | inr next ↦ absurd (not_past p from f i formed stands next.1 (subst (λ n. length p ≤ n) next.0 past))
   ]
 ]

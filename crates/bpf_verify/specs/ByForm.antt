@@ -2,17 +2,15 @@
 use Rattle.std.specs.Prelude.{ℕ, ◌≤◌, ◌≡◌, ◌⊎◌, List, Some, slice_get}
 use Rattle.bpf_insn.specs.declared.insn.Insn.{Insn}
 use Rattle.bpf_insn.specs.declared.form.Form.{Form}
-use Rattle.bpf_insn.specs.Forms.{form, FormReadsWord, FormWritesWord}
-use Rattle.bpf_verify.specs.Validity.{FormJumps}
+use Rattle.bpf_insn.specs.declared.insn.TheConstants.{SCRATCH_WORDS}
+use Rattle.bpf_insn.specs.Forms.{form}
+use Rattle.bpf_insn.specs.Uses.{FormReadsWord, FormWritesWord}
 
--- this instruction, of this form, stands at the place
+-- this instruction, of this form, stands at the index
 abbrev pub IsAt : List Insn → ℕ → Form → Insn → Type 0
-IsAt p at f i = (slice_get p at ≡ Some i) × (form i.code ≡ Some f)
+IsAt program at f insn = (slice_get program at ≡ Some insn) × (form insn.code ≡ Some f)
 
--- an instruction of this form reads or writes a scratch word past the sixteen
+-- an instruction of this form reads or writes a scratch word past the last
 abbrev pub FormUsesWordPastScratch : Form → Insn → Type 0
-FormUsesWordPastScratch f i = (word : ℕ) × (FormReadsWord (Some f) i word ⊎ FormWritesWord (Some f) i word) × (16 ≤ word)
-
--- an instruction of this form at this place has a target at or past this end
-abbrev pub FormJumpsOut : Form → Insn → ℕ → ℕ → Type 0
-FormJumpsOut form i at end = (to : ℕ) × FormJumps (Some form) i at to × (end ≤ to)
+FormUsesWordPastScratch f insn =
+    (word : ℕ) × (FormReadsWord (Some f) insn word ⊎ FormWritesWord (Some f) insn word) × (SCRATCH_WORDS ≤ word)

@@ -1,41 +1,53 @@
--- When a refusal of the verifier is true of a program: the first condition of a valid program that is broken, by the least place where there is one.
+-- When a refusal of the verifier is true of a program: the first condition of a valid program that is
+-- broken, at the least index where there is one.
 use Rattle.std.specs.Prelude.{ℕ, ◌<◌, ◌≤◌, ◌≡◌, ◌⊎◌, List, length}
 use Rattle.bpf_insn.specs.declared.insn.TheConstants.{MAX_INSNS}
 use Rattle.bpf_insn.specs.declared.insn.Insn.{Insn}
 use Rattle.bpf_verify.specs.declared.fault.VerifyFault.{VerifyFault}
 use Rattle.bpf_verify.specs.declared.fault.VerifyFault.TheVariants.{Empty, TooLong, BadOpcode, BadScratch, ZeroDivisor, JumpOut, NoReturn, Unset}
 use Rattle.bpf_verify.specs.ControlFlow.{UnsetReadAt}
-use Rattle.bpf_verify.specs.Validity.{LacksForm, UsesWordPastScratch, DividesByZero, JumpsOut, EndsWithReturn}
+use Rattle.bpf_insn.specs.Flow.{JumpsOut}
+use Rattle.bpf_verify.specs.Validity.{LacksForm, UsesWordPastScratch, DividesByZero, EndsWithReturn}
 
 -- the program has 1 to MAX_INSNS instructions
 abbrev pub HasLength : List Insn → Type 0
-HasLength p = (0 < length p) × (length p ≤ MAX_INSNS)
+HasLength program = (0 < length program) × (length program ≤ MAX_INSNS)
 
--- the instruction at this place breaks a condition of its own
+-- the instruction at this index breaks one of the four conditions on single instructions
 abbrev pub BreaksAt : List Insn → ℕ → Type 0
-BreaksAt p at = (LacksForm p at ⊎ UsesWordPastScratch p at) ⊎ (DividesByZero p at ⊎ JumpsOut p at)
+BreaksAt program at = (LacksForm program at ⊎ UsesWordPastScratch program at) ⊎ (DividesByZero program at ⊎ JumpsOut program at)
 
--- no instruction before this place breaks one
+-- the fault names the condition that the instruction at this index breaks
+abbrev pub BreaksAs : List Insn → ℕ → VerifyFault → Type 0
+BreaksAs program at (BadOpcode place) = (place ≡ at) × LacksForm program at
+BreaksAs program at (BadScratch place) = (place ≡ at) × UsesWordPastScratch program at
+BreaksAs program at (ZeroDivisor place) = (place ≡ at) × DividesByZero program at
+BreaksAs program at (JumpOut place) = (place ≡ at) × JumpsOut program at
+BreaksAs program at _ = ⊥
+
+-- no instruction before this index breaks one
 abbrev pub NoneBreaksBelow : List Insn → ℕ → Type 0
-NoneBreaksBelow p bound = (at : ℕ) → at < bound → BreaksAt p at → ⊥
+NoneBreaksBelow program bound = (at : ℕ) → at < bound → ¬ BreaksAt program at
 
 -- every condition of a valid program holds but that it has no unset read, which is not judged
-pub record IsWellFormed (p : List Insn) : Type 0 where
-  pub sized : HasLength p
-  pub unbroken : NoneBreaksBelow p (length p)
-  pub ends : EndsWithReturn p
+pub record IsWellFormed (program : List Insn) : Type 0 where
+  pub sized : HasLength program
+  pub unbroken : NoneBreaksBelow program (length program)
+  pub ends : EndsWithReturn program
 
--- no unset read of any word ends before this place
+-- no unset read of any word ends before this index
 abbrev pub NoUnsetReadBelow : List Insn → ℕ → Type 0
-NoUnsetReadBelow p bound = (at : ℕ) (path : List ℕ) (word : ℕ) → at < bound → UnsetReadAt p at path word → ⊥
+NoUnsetReadBelow program bound = (at : ℕ) (path : List ℕ) (word : ℕ) → at < bound
+    → ¬ UnsetReadAt program at path word
 
 -- the refusal is true of the program
 abbrev pub Refuses : List Insn → VerifyFault → Type 0
-Refuses p Empty = length p ≡ 0
-Refuses p TooLong = MAX_INSNS < length p
-Refuses p (BadOpcode at) = HasLength p × NoneBreaksBelow p at × LacksForm p at
-Refuses p (BadScratch at) = HasLength p × NoneBreaksBelow p at × UsesWordPastScratch p at
-Refuses p (ZeroDivisor at) = HasLength p × NoneBreaksBelow p at × DividesByZero p at
-Refuses p (JumpOut at) = HasLength p × NoneBreaksBelow p at × JumpsOut p at
-Refuses p NoReturn = HasLength p × NoneBreaksBelow p (length p) × (EndsWithReturn p → ⊥)
-Refuses p (Unset at word path) = IsWellFormed p × NoUnsetReadBelow p at × UnsetReadAt p at path.items word
+Refuses program Empty = length program ≡ 0
+Refuses program TooLong = MAX_INSNS < length program
+Refuses program (BadOpcode at) = HasLength program × NoneBreaksBelow program at × LacksForm program at
+Refuses program (BadScratch at) = HasLength program × NoneBreaksBelow program at × UsesWordPastScratch program at
+Refuses program (ZeroDivisor at) = HasLength program × NoneBreaksBelow program at × DividesByZero program at
+Refuses program (JumpOut at) = HasLength program × NoneBreaksBelow program at × JumpsOut program at
+Refuses program NoReturn = HasLength program × NoneBreaksBelow program (length program) × (¬ EndsWithReturn program)
+Refuses program (Unset at word path) =
+    IsWellFormed program × NoUnsetReadBelow program at × UnsetReadAt program at path.items word

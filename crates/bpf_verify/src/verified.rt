@@ -1,10 +1,11 @@
+//! A valid program, by its type.
 ghost use Rattle.std.specs.Prelude.{◌≡◌, ◌<◌, ◌≤◌, length};
 ghost use Rattle.bpf_verify.specs.Validity.{Valid};
 
 use bpf_insn::{Insn, MAX_INSNS};
 use std::marker::Model;
 
-/// A valid program: whoever holds one may run it on every frame.
+/// A valid program: it may run on every frame.
 #[derive(Debug, Drop)]
 pub struct Verified {
     insns: Vec<Insn>,
@@ -39,7 +40,7 @@ impl Verified {
         self.insns.as_slice()
     }
 
-    /// How many instructions the program has: from 1 to [`bpf_insn::MAX_INSNS`].
+    /// The number of the program's instructions: 1 to [`bpf_insn::MAX_INSNS`].
     #[allow(clippy::len_without_is_empty)]
     pub fn len(&self) -> usize
         ensures length { result ≡ length self.now }

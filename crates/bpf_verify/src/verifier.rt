@@ -1,24 +1,24 @@
+//! The verifier: the conditions of a valid program, one after the other.
 ghost use Rattle.std.specs.Prelude.{ℕ, ◌≡◌, ◌+◌, ◌<◌, ◌≤◌, ◌⊎◌, ◌↔◌, length, Some, slice_get, MatchOption, IsOk, IfOk, IfErr, IsTrue};
 ghost use Rattle.bpf_insn.specs.Forms.{form};
 ghost use Rattle.bpf_verify.specs.Validity.{Valid, FormDividesByZero, EndsWithReturn};
-ghost use Rattle.bpf_verify.specs.ByForm.{FormUsesWordPastScratch, FormJumpsOut};
-ghost use Rattle.bpf_verify.specs.Refusals.{Refuses, HasLength, NoneBreaksBelow, IsWellFormed, NoUnsetReadBelow};
+ghost use Rattle.bpf_verify.specs.ByForm.{FormUsesWordPastScratch};
+ghost use Rattle.bpf_verify.specs.Refusals.{Refuses, HasLength, BreaksAt, BreaksAs, NoneBreaksBelow, IsWellFormed, NoUnsetReadBelow};
 
-use super::fault::{Refused, VerifyFault};
-use super::flow::{loads_scratch, stores_scratch};
-use super::masks::{first_unset, written_masks};
-use super::path::path_to;
-use super::verified::Verified;
-use bpf_insn::{Form, Insn, MAX_INSNS, Op, Src, form_of};
-
-/// How many scratch words there are, BPF_MEMWORDS of bpf(4).
-const SCRATCH_WORDS: u32 = 16;
+use crate::fault::{Refused, VerifyFault};
+use crate::masks::{first_unset, written_masks};
+use crate::path::path_to;
+use crate::verified::Verified;
+use bpf_insn::{
+    Form, Insn, MAX_INSNS, Op, SCRATCH_WORDS, Src, form_of, jumps_out, reads_scratch,
+    writes_scratch,
+};
 
 /// Takes a valid program, and refuses any other with its first fault: its length, then the least
-/// place at which an instruction breaks a condition, then the missing return at its end, then the
-/// least place at which an instruction reads a scratch word that some path leaves unset.
+/// index at which an instruction breaks a condition, then the missing return at its end, then the
+/// least index at which an instruction reads a scratch word that some path leaves unset.
 ///
-/// The program comes back either way, and no memory is taken.
+/// The program is given back either way, and no memory is taken.
 pub fn verify(program: Vec<Insn>) -> Result<Verified, Refused>
     ensures decides { IsOk result ↔ Valid program.items }
     ensures accepted { IfOk result (λ v. v ≡ program.items) }
@@ -51,10 +51,12 @@ fn fault_of(insns: &[Insn]) -> Option<VerifyFault>
     unset_read(insns)
 }
 
-/// The first instruction that breaks a condition of its own.
+/// The first instruction that breaks one of the four conditions on single instructions.
 fn first_break(insns: &[Insn]) -> Option<VerifyFault>
     requires { HasLength insns.now }
-    ensures { MatchOption result (NoneBreaksBelow insns.now (length insns.now)) (λ fault. Refuses insns.now fault) }
+    ensures { MatchOption result
+        (NoneBreaksBelow insns.now (length insns.now))
+        (λ fault. Refuses insns.now fault) }
 {
     'places: for at in 0..insns.len() {
         if let Some(fault) = break_at(insns, at, insns[at]) {
@@ -64,13 +66,12 @@ fn first_break(insns: &[Insn]) -> Option<VerifyFault>
     None
 }
 
-/// The condition of its own that the instruction at a place breaks.
+/// The one of the four conditions on single instructions that instruction `at` breaks.
 fn break_at(insns: &[Insn], at: usize, insn: Insn) -> Option<VerifyFault>
     requires length { HasLength insns.now }
     requires insn { slice_get insns.now at ≡ Some insn }
     requires place { at < length insns.now }
-    requires below { NoneBreaksBelow insns.now at }
-    ensures { MatchOption result (NoneBreaksBelow insns.now (at + 1)) (λ fault. Refuses insns.now fault) }
+    ensures { MatchOption result (¬ BreaksAt insns.now at) (λ fault. BreaksAs insns.now at fault) }
 {
     let place = at as u16;
     let Some(form) = form_of(insn) else {
@@ -87,11 +88,11 @@ fn break_at(insns: &[Insn], at: usize, insn: Insn) -> Option<VerifyFault>
     }
 }
 
-/// Whether an instruction reads or writes a scratch word past the sixteen.
+/// Whether an instruction reads or writes a scratch word past the last.
 fn uses_word_past_scratch(form: Form, insn: Insn) -> bool
     ensures { IsTrue result ↔ FormUsesWordPastScratch form insn }
 {
-    (loads_scratch(form) || stores_scratch(form)) && insn.k >= SCRATCH_WORDS
+    (reads_scratch(form) || writes_scratch(form)) && insn.k as usize >= SCRATCH_WORDS
 }
 
 /// Whether an instruction divides by the constant 0.
@@ -99,19 +100,6 @@ fn divides_by_zero(form: Form, insn: Insn) -> bool
     ensures { IsTrue result ↔ FormDividesByZero (Some form) insn }
 {
     matches!(form, Form::Alu(Op::Div | Op::Mod, Src::K)) && insn.k == 0
-}
-
-/// Whether an instruction at this place has a target at or past a program's end.
-fn jumps_out(form: Form, insn: Insn, at: usize, len: usize) -> bool
-    requires { at < len }
-    ensures { IsTrue result ↔ FormJumpsOut form insn at len }
-{
-    let room = len - at - 1;
-    match form {
-        Form::Ja => insn.k as usize >= room,
-        Form::Test(_, _) => usize::from(insn.jt) >= room || usize::from(insn.jf) >= room,
-        _ => false,
-    }
 }
 
 /// Whether the last instruction returns.

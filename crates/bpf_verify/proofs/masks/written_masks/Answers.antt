@@ -1,7 +1,7 @@
 use Rattle.std.proofs.Common.{◌∙◌, ◌↔◌, length, ap, sym, subst, arith}
 use Rattle.std.specs.Prelude.{slice_index}
 use Rattle.bpf_insn.specs.declared.insn.TheConstants.{MAX_INSNS}
-use Rattle.bpf_insn.specs.Forms.{FormWritesWord}
+use Rattle.bpf_insn.specs.Uses.{FormWritesWord}
 use Rattle.bpf_verify.proofs.Places.{there}
 use Rattle.bpf_verify.specs.Masks.{IsClear}
 use Rattle.bpf_verify.proofs.Arrivals.{ArrivesFromBelow, arrives_after, arrives_from_below, first_masks_arrive, first_masks_long}
@@ -25,8 +25,8 @@ mask_after-mask-requires c =
     let f = c.fetch-form.result.0 in
     λ word writes. write_below c.args.insns.now c.places.at word c.requires (i, c.fetch-form.ensures.0, there (λ o j. FormWritesWord o j word) i f c.fetch-form.ensures.1 writes)
 
-pub hand_on-requires-clause-within : goal.hand_on-requires-clause-within
-hand_on-requires-clause-within c = λ to leads.
+pub pass_mask-requires-clause-within : goal.pass_mask-requires-clause-within
+pass_mask-requires-clause-within c = λ to leads.
     let inside = leads_within c.args.insns.now c.places.at to c.fetch-form.result.0 c.fetch-form.result.1 c.requires c.fetch-form.ensures leads in
     omega (arith, inside, c.requires.sized.1)
 
@@ -34,12 +34,12 @@ pub places-preserved : goal.places-preserved
 places-preserved c =
     let masks = c.places.invariant.masks in
     record {
-      long = c.hand_on.array_long;
+      long = c.pass_mask.array_long;
       masks = λ to word inside below. arrives_after c.args.insns.now c.places.at to word c.fetch-form.result.0 c.fetch-form.result.1 _ _ _ _ c.fetch-form.ensures c.places-test.true
           (masks to word inside below)
           (masks c.places.at word c.places-test.true below)
           (c.mask_after-mask.ensures word below)
-          (c.hand_on.ensures to word);
+          (c.pass_mask.ensures to word);
     }
 
 pub returns : goal.returns
