@@ -1,10 +1,11 @@
+//! Programs that are valid and programs that are not, each with its first fault.
 use super::*;
-use bpf_insn::{Insn, parse_listing};
+use bpf_insn::{Insn, SCRATCH_WORDS, parse_listing};
 use std::alloc::AllocError;
 use std::test::Fail;
 
 #[test]
-fn refusals_name_the_first_fault(rt: HostRuntime) -> Result<(), Fail> {
+fn a_program_is_refused_with_its_first_fault(rt: HostRuntime) -> Result<(), Fail> {
     let table = [
         ("0,", "refused 1 Empty"),
         ("1,14 0 0 0,", "refused 3 BadOpcode 0"),
@@ -18,11 +19,11 @@ fn refusals_name_the_first_fault(rt: HostRuntime) -> Result<(), Fail> {
         ("2,6 0 0 0,7 0 0 0,", "refused 7 NoReturn"),
         (UNSET_ON_ONE_BRANCH, "refused 8 Unset 3 0 0 1 3"),
     ];
-    for (text, told) in table {
+    for (text, printed) in table {
         let refused = verify(parse_listing(rt.alloc(), text)?).err().ok_or(text)?;
         assert_eq!(rt;
             format!(in rt.alloc(); "{refused}")?.as_str(),
-            told,
+            printed,
             "{text}"
         );
     }
@@ -30,7 +31,7 @@ fn refusals_name_the_first_fault(rt: HostRuntime) -> Result<(), Fail> {
 }
 
 #[test]
-fn valid_programs_are_taken(rt: HostRuntime) -> Result<(), Fail> {
+fn a_valid_program_is_taken(rt: HostRuntime) -> Result<(), Fail> {
     let table = [
         ("4,1 0 0 7,3 0 0 15,96 0 0 15,22 0 0 0,", 4),
         ("3,5 0 0 1,96 0 0 3,6 0 0 1,", 3),
@@ -45,7 +46,7 @@ fn valid_programs_are_taken(rt: HostRuntime) -> Result<(), Fail> {
 }
 
 #[test]
-fn a_path_is_checked(rt: HostRuntime) -> Result<(), Fail> {
+fn a_path_shows_an_unset_read_or_not(rt: HostRuntime) -> Result<(), Fail> {
     let program = parse_listing(rt.alloc(), UNSET_ON_ONE_BRANCH)?;
     assert!(rt; check_path(&program, &[0, 1, 3], 0));
     assert!(rt; !check_path(&program, &[0, 1, 2, 3], 0));
@@ -67,8 +68,8 @@ fn a_program_has_at_most_512_instructions(rt: HostRuntime) -> Result<(), Fail> {
 }
 
 #[test]
-fn many_branches_write_scratch_words(rt: HostRuntime) -> Result<(), Fail> {
-    assert_eq!(rt; verify(branches(&rt, 16)?)?.len(), 512);
+fn each_branch_counts_where_branches_meet(rt: HostRuntime) -> Result<(), Fail> {
+    assert_eq!(rt; verify(branches(&rt, SCRATCH_WORDS as u32)?)?.len(), 512);
     let Refused { program, fault } = verify(branches(&rt, 7)?).err().ok_or("word 7 is unset")?;
     let VerifyFault::Unset { at, word, path } = fault else {
         return Err("word 7 is unset".into());
@@ -85,8 +86,8 @@ const UNSET_ON_ONE_BRANCH: &str = "5,40 0 0 12,21 0 1 2054,2 0 0 0,96 0 0 0,22 0
 /// two returns: 512 instructions. The word that is to be left out is written on one branch only.
 fn branches(rt: &HostRuntime, left_out: u32) -> Result<Vec<Insn>, AllocError> {
     let mut program = Vec::new(rt.alloc());
-    'blocks: for block in 0..102u32 {
-        let word = block % 16;
+    for block in 0..102u32 {
+        let word = block % SCRATCH_WORDS as u32;
         program.push(insn(21, 2, block))?;
         program.push(insn(2, 0, word))?;
         program.push(insn(5, 0, 1))?;
