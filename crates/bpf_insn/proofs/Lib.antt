@@ -5,3 +5,5 @@ pub mod Listings
 pub mod Digits
 pub mod Pieces
 pub mod PrintedListings
+pub mod Ranges
+pub mod Equal

@@ -1,5 +1,5 @@
 -- The stored form of an instruction, and the ranges of its fields.
-use Rattle.std.specs.Prelude.{ℕ, ◌^◌, ◌<◌, List, ◌∷◌, ◌++◌}
+use Rattle.std.specs.Prelude.{ℕ, ◌^◌, ◌<◌, List, ◌∷◌, ◌++◌, All}
 use Rattle.std.specs.Int.{to_le_bytes, w16, w32}
 use Rattle.bpf_insn.specs.declared.insn.Insn.{Insn}
 
@@ -13,3 +13,7 @@ pub record InRange (insn : Insn) : Type 0 where
   pub jt : insn.jt < 2 ^ 8
   pub jf : insn.jf < 2 ^ 8
   pub k : insn.k < 2 ^ 32
+
+-- the fields of each instruction are numbers of their types
+abbrev pub AreInRange : List Insn → Type 0
+AreInRange program = All InRange program

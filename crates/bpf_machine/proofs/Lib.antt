@@ -3,3 +3,4 @@ pub mod Effects
 pub mod Paths
 pub mod Reached
 pub mod Once
+pub mod Returning

@@ -1,7 +1,10 @@
 //! Laws of the machine, with nothing to run.
-ghost use Rattle.std.specs.Prelude.{◌≡◌, ℕ, List};
+ghost use Rattle.std.specs.Prelude.{◌≡◌, ◌≤◌, ℕ, List, length};
 ghost use Rattle.bpf_insn.specs.declared.insn.Insn.{Insn};
+ghost use Rattle.bpf_verify.specs.Validity.{Valid};
 ghost use Rattle.bpf_machine.specs.Machine.{State, Successor, Step, Runs, IsReached, IsStuck};
+
+use crate::machine::MAX_VIEW;
 
 /// Law: a state has at most one step. So a program on a view returns at most one value, in one
 /// count of steps; and where it returns, no state that it reaches is stuck.
@@ -13,4 +16,16 @@ pub fn runs_once()
         → (steps ≡ count) × (value ≡ other) }
     ensures never_stuck { (program : List Insn) (view : List ℕ) (steps value : ℕ) (s : State)
         → Runs program view steps value → IsReached program view s → ¬ IsStuck program view s }
+{}
+
+/// Law: a valid program returns a value on every view, within as many steps as it has
+/// instructions.
+pub fn a_valid_program_returns()
+    ensures { (program : List Insn) (view : List ℕ) → Valid program
+        → (steps : ℕ) × (value : ℕ) × Runs program view steps value × (steps ≤ length program) }
+{}
+
+/// Law: the longest view has 16,379 bytes.
+pub fn the_longest_view()
+    ensures { MAX_VIEW ≡ 16379 }
 {}

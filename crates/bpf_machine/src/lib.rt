@@ -8,7 +8,7 @@ mod progress;
 mod registers;
 mod scratch;
 
-pub use laws::runs_once;
+pub use laws::{a_valid_program_returns, runs_once, the_longest_view};
 pub use machine::{MAX_VIEW, Outcome, run};
 
 #[cfg(test)]

@@ -1,5 +1,6 @@
 //! A valid program, by its type.
-ghost use Rattle.std.specs.Prelude.{◌≡◌, ◌<◌, ◌≤◌, length};
+ghost use Rattle.std.specs.Prelude.{◌≡◌, ◌<◌, ◌≤◌, ◌↔◌, length, IsTrue};
+ghost use Rattle.bpf_insn.specs.Bytes.{AreInRange};
 ghost use Rattle.bpf_verify.specs.Validity.{Valid};
 
 use bpf_insn::{Insn, MAX_INSNS};
@@ -14,19 +15,21 @@ pub struct Verified {
 impl Model for Verified {
     ghost use Rattle.std.specs.Prelude.{List};
     ghost use Rattle.bpf_insn.specs.declared.insn.Insn.{Insn};
+    ghost use Rattle.bpf_insn.specs.Bytes.{AreInRange};
     ghost use Rattle.bpf_verify.specs.Validity.{Valid};
 
     ghost Value = { List Insn };
 
     ghost view = { λ v. v.insns.items };
 
-    ghost invariant = { λ v. Valid v.insns.items };
+    ghost invariant = { λ v. Valid v.insns.items × AreInRange v.insns.items };
 }
 
 impl Verified {
     /// A program that was found valid.
     pub(crate) fn new(insns: Vec<Insn>) -> Verified
-        requires { Valid insns.items }
+        requires valid { Valid insns.items }
+        requires in_range { AreInRange insns.items }
         ensures program { result ≡ insns.items }
     {
         Verified { insns }
@@ -36,6 +39,7 @@ impl Verified {
     pub fn insns(&self) -> &[Insn]
         ensures program { result.now ≡ self.now }
         ensures valid { Valid self.now }
+        ensures in_range { AreInRange self.now }
     {
         self.insns.as_slice()
     }
@@ -48,5 +52,12 @@ impl Verified {
         ensures fits { result ≤ MAX_INSNS }
     {
         self.insns.len()
+    }
+
+    /// Whether both are the same program.
+    pub fn same(&self, other: &Verified) -> bool
+        ensures decides { IsTrue result ↔ (self.now ≡ other.now) }
+    {
+        self.insns.as_slice() == other.insns.as_slice()
     }
 }

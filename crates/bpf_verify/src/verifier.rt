@@ -1,5 +1,6 @@
 //! The verifier: the conditions of a valid program, one after the other.
-ghost use Rattle.std.specs.Prelude.{ℕ, ◌≡◌, ◌+◌, ◌<◌, ◌≤◌, ◌⊎◌, ◌↔◌, length, Some, slice_get, MatchOption, IsOk, IfOk, IfErr, IsTrue};
+ghost use Rattle.std.specs.Prelude.{ℕ, ◌≡◌, ◌+◌, ◌<◌, ◌≤◌, ◌⊎◌, ◌↔◌, length, Some, slice_get, MatchOption, IsOk, IfOk, IfErr, IfNone, IsTrue};
+ghost use Rattle.bpf_insn.specs.Bytes.{InRange, AreInRange};
 ghost use Rattle.bpf_insn.specs.Forms.{form};
 ghost use Rattle.bpf_verify.specs.Validity.{Valid, FormDividesByZero, EndsWithReturn};
 ghost use Rattle.bpf_verify.specs.ByForm.{FormUsesWordPastScratch};
@@ -23,6 +24,7 @@ pub fn verify(program: Vec<Insn>) -> Result<Verified, Refused>
     ensures decides { IsOk result ↔ Valid program.items }
     ensures accepted { IfOk result (λ v. v ≡ program.items) }
     ensures valid { IfOk result (λ v. Valid v) }
+    ensures in_range { IfOk result (λ v. AreInRange v) }
     ensures back { IfErr result (λ r. r.program ≡ program) }
     ensures refused { IfErr result (λ r. Refuses program.items r.fault) }
 {
@@ -34,7 +36,8 @@ pub fn verify(program: Vec<Insn>) -> Result<Verified, Refused>
 
 /// The first fault of a program.
 fn fault_of(insns: &[Insn]) -> Option<VerifyFault>
-    ensures { MatchOption result (Valid insns.now) (λ fault. Refuses insns.now fault) }
+    ensures fault { MatchOption result (Valid insns.now) (λ fault. Refuses insns.now fault) }
+    ensures in_range { IfNone result (AreInRange insns.now) }
 {
     if insns.is_empty() {
         return Some(VerifyFault::Empty);
@@ -54,9 +57,10 @@ fn fault_of(insns: &[Insn]) -> Option<VerifyFault>
 /// The first instruction that breaks one of the four conditions on single instructions.
 fn first_break(insns: &[Insn]) -> Option<VerifyFault>
     requires { HasLength insns.now }
-    ensures { MatchOption result
+    ensures fault { MatchOption result
         (NoneBreaksBelow insns.now (length insns.now))
         (λ fault. Refuses insns.now fault) }
+    ensures in_range { IfNone result (AreInRange insns.now) }
 {
     'places: for at in 0..insns.len() {
         if let Some(fault) = break_at(insns, at, insns[at]) {
@@ -71,7 +75,10 @@ fn break_at(insns: &[Insn], at: usize, insn: Insn) -> Option<VerifyFault>
     requires length { HasLength insns.now }
     requires insn { slice_get insns.now at ≡ Some insn }
     requires place { at < length insns.now }
-    ensures { MatchOption result (¬ BreaksAt insns.now at) (λ fault. BreaksAs insns.now at fault) }
+    ensures fault { MatchOption result
+        (¬ BreaksAt insns.now at)
+        (λ fault. BreaksAs insns.now at fault) }
+    ensures in_range { InRange insn }
 {
     let place = at as u16;
     let Some(form) = form_of(insn) else {

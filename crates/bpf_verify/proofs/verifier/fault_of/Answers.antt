@@ -8,17 +8,17 @@ unset_read-requires c =
     let some : 0 < length c.args.insns.now = let ne = eqb-false _ _ (sym c.is_empty.ensures ∙ c.if-is_empty.false) in omega (arith, ne) in
     record {
       sized = (some, c.if-insns-gt-MAX_INSNS.false);
-      unbroken = c.in_default.ensures;
+      unbroken = c.in_default.ensures.fault;
       ends = c.ends_with_return.ensures.0 c.if-not-ends_with_return.false;
     }
 
-pub returns : goal.returns
-returns c =
+pub returns-clause-fault : goal.returns-clause-fault
+returns-clause-fault c =
     let some : 0 < length c.args.insns.now = let ne = eqb-false _ _ (sym c.is_empty.ensures ∙ c.if-is_empty.false) in omega (arith, ne) in
     valid_or_unset c.args.insns.now c.unset_read.result
     (record {
       sized = (some, c.if-insns-gt-MAX_INSNS.false);
-      unbroken = c.in_default.ensures;
+      unbroken = c.in_default.ensures.fault;
       ends = c.ends_with_return.ensures.0 c.if-not-ends_with_return.false;
     })
     c.unset_read.ensures

@@ -1,5 +1,9 @@
+use Rattle.bpf_insn.proofs.Ranges.{AreInRangeBefore}
 use Rattle.bpf_verify.specs.Refusals.{NoneBreaksBelow}
 use Rattle.bpf_verify.proofs.verifier.first_break.Given as goal
 
 abbrev pub invariant-places : goal.invariant-places
-invariant-places l = NoneBreaksBelow l.insns l.at
+invariant-places l = record {
+  unbroken : NoneBreaksBelow l.insns l.at;
+  ranged : AreInRangeBefore l.insns l.at;
+}

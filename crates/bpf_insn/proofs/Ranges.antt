@@ -1,0 +1,15 @@
+-- Instructions in range, one index after the other.
+use Rattle.std.proofs.Common.{ℕ, ◌<◌, ◌≡◌, List, length, Some, sym, subst, slice_get}
+use Rattle.std.proofs.lemmas.Option.{get_or_from_slice_get}
+use Rattle.bpf_insn.specs.declared.insn.Insn.{Insn}
+use Rattle.bpf_insn.specs.Bytes.{InRange, AreInRange}
+
+-- each instruction before this index is in range
+abbrev pub AreInRangeBefore : List Insn → ℕ → Type 0
+AreInRangeBefore program bound = (at : ℕ) → at < bound → (insn : Insn) × (slice_get program at ≡ Some insn) × InRange insn
+
+pub all_in_range : (program : List Insn) → AreInRangeBefore program (length program) → AreInRange program
+all_in_range program before =
+    λ k d below.
+    let here = before k below in
+    subst InRange (sym (get_or_from_slice_get program k here.0 d here.1)) here.2
