@@ -1,3 +1,5 @@
+//! What a draw gives: a frame's number, and the version in force at it.
+
 ghost use Rattle.std.specs.Prelude.{◌≡◌};
 ghost use Rattle.std.specs.Arc.{arc_value};
 
@@ -10,7 +12,7 @@ use std::sync::Arc;
 pub struct Drawn {
     /// The frame's number, from 0 on in the order in which the channel's frames were drawn.
     pub number: u64,
-    /// The version in force: the place of its program in the channel's history, from 0 on.
+    /// The version in force: the index of its program in the channel's history.
     pub version: u32,
     /// The program of that version.
     pub program: Arc<Verified, Global>,

@@ -1,3 +1,5 @@
+//! What a caller of a shared slot knows of it.
+
 ghost use Rattle.std.specs.Prelude.{◌↔◌, IsTrue};
 
 /// What a caller of a [`SharedSlot`](crate::SharedSlot) knows of it: both counts only ever grow, so

@@ -1,15 +1,33 @@
-ghost use Rattle.std.specs.Prelude.{ℕ, ◌≡◌, ◌<◌, ◌++◌, ◌∷◌, [], List};
-ghost use Rattle.rec_channel.specs.History.{Version, IsHistory, InForce};
+//! Laws of histories: one version is in force at each frame, and later ones leave it in force.
 
-/// A law of histories, with nothing to run: at each frame exactly one version is in force.
+ghost use Rattle.std.specs.Prelude.{ℕ, ◌≡◌, ◌<◌, ◌++◌, List, All};
+ghost use Rattle.rec_channel.specs.History.{Version, IsHistory, InForce, version_at};
+
+use crate::limits::MAX_VERSIONS;
+
+/// Law: at each frame exactly one version is in force, and `version_at` is that one.
 pub fn one_version_is_in_force()
-    ensures some { (offered : ℕ) (history : List Version) (number : ℕ) → IsHistory offered history → (version : ℕ) × InForce history number version }
-    ensures one { (history : List Version) (number version other : ℕ) → InForce history number version → InForce history number other → version ≡ other }
+    ensures some { (offered : ℕ) (history : List Version) (number : ℕ) →
+        IsHistory offered history → InForce history number (version_at history number) }
+    ensures one { (history : List Version) (number version other : ℕ) →
+        InForce history number version → InForce history number other → version ≡ other }
 {}
 
-/// A law of histories, with nothing to run: a version that is added with a mark over a frame's
-/// number leaves the version that is in force at that frame as it was.
-pub fn a_later_version_leaves_the_past()
-    ensures kept { (history : List Version) (added : Version) (number version : ℕ) → number < added.mark → InForce history number version → InForce (history ++ added ∷ []) number version }
-    ensures nothing_else { (history : List Version) (added : Version) (number version : ℕ) → number < added.mark → InForce (history ++ added ∷ []) number version → InForce history number version }
+/// Law: versions that are added with marks over a frame's number leave the version that is in
+/// force at that frame as it was.
+pub fn later_versions_leave_the_past()
+    ensures kept { (history more : List Version) (number version : ℕ) →
+        All (λ (v : Version). number < v.mark) more →
+        InForce history number version → InForce (history ++ more) number version }
+    ensures nothing_else { (history more : List Version) (number version : ℕ) →
+        All (λ (v : Version). number < v.mark) more →
+        InForce (history ++ more) number version → InForce history number version }
+    ensures same { (history more : List Version) (number : ℕ) →
+        All (λ (v : Version). number < v.mark) more →
+        version_at (history ++ more) number ≡ version_at history number }
+{}
+
+/// Law: a channel has at most 1,024 versions.
+pub fn the_most_versions()
+    ensures { MAX_VERSIONS ≡ 1024 }
 {}

@@ -10,6 +10,7 @@ mod front;
 mod installed;
 mod laws;
 mod limits;
+mod parts;
 mod shared;
 mod slot;
 
@@ -17,10 +18,11 @@ pub use drawn::Drawn;
 pub use fault::{DrawFault, InstallFault};
 pub use front::Front;
 pub use installed::Installed;
-pub use laws::{a_later_version_leaves_the_past, one_version_is_in_force};
+pub use laws::{later_versions_leave_the_past, one_version_is_in_force, the_most_versions};
 pub use limits::MAX_VERSIONS;
+pub use parts::Parts;
 pub use shared::SharedSlot;
-pub use slot::{Parts, Slot};
+pub use slot::Slot;
 
 #[cfg(test)]
 mod tests;

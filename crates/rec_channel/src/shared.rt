@@ -1,7 +1,11 @@
-ghost use Rattle.std.specs.Prelude.{◌≡◌, ◌+◌, ◌-◌, ◌^◌, ◌<◌, ◌≤◌, IfOk, IfErr};
+//! A slot behind a lock, for a worker that draws while programs are installed.
+
+ghost use Rattle.std.specs.Prelude.{◌≡◌, ◌+◌, ◌-◌, ◌^◌, ◌<◌, ◌≤◌, length, Some, slice_get, IfOk, IfErr, OnErr};
 ghost use Rattle.rec_channel.specs.declared.limits.TheConstants.{MAX_VERSIONS};
 ghost use Rattle.std.specs.Arc.{arc_value};
-ghost use Rattle.rec_channel.specs.Fronts.{StaleOnlyBelow, InstallStaleOnlyBelow, HandsBack};
+ghost use Rattle.rec_channel.specs.Fronts.{IsBelow, StaleOnlyBelow, InstallStaleOnlyBelow, GivesBack, front_of, DrawIsRefused, InstallIsRefused};
+ghost use Rattle.rec_channel.specs.History.{InForce};
+ghost use Rattle.rec_channel.specs.Slots.{programs_in, one_frame_later, with_version};
 
 use crate::drawn::Drawn;
 use crate::fault::{DrawFault, InstallFault};
@@ -15,9 +19,9 @@ use std::sync::{Arc, Mutex, Wait};
 /// A slot behind a lock. Each call takes the lock once and does nothing under it but the slot's own
 /// call; it waits as long as others hold the lock, and no contract says that it ever gets it.
 ///
-/// Callers hand in what they know of the slot, and get what it has after the call: so the numbers
-/// of a caller's draws never repeat, and it never sees a version older than one that it, or whoever
-/// gave it its front, has seen.
+/// Callers pass what they know of the slot, and get what it has after the call: so the numbers of a
+/// caller's draws never repeat, and it never sees a version older than one that it, or whoever gave
+/// it its front, has seen.
 #[derive(Debug, Drop)]
 pub struct SharedSlot {
     slot: Mutex<Slot>,
@@ -45,18 +49,16 @@ impl SharedSlot {
     /// [`DrawFault::Stale`] exactly where the slot has less than the caller's front says; else
     /// those of [`Slot::draw`].
     pub fn draw<R: Wait>(&self, rt: &R, known: &Front) -> Result<(Drawn, Front), DrawFault>
-        ensures newer { IfOk result (λ r. (known.now.offered ≤ r.0.number) × (known.now.versions ≤ r.0.version + 1)) }
-        ensures front { IfOk result (λ r. r.1 ≡ record { versions = r.0.version + 1; offered = r.0.number + 1 }) }
+        // The frame drawn, beside what the caller knew, and what the slot has after it.
+        ensures newer { IfOk result (λ r.
+            (known.now.offered ≤ r.0.number) × (known.now.versions ≤ r.0.version + 1)) }
+        ensures front { IfOk result (λ r.
+            r.1 ≡ record { versions = r.0.version + 1; offered = r.0.number + 1 }) }
         ensures few { IfOk result (λ r. (r.0.number < 2 ^ 64 - 1) × (r.0.version < MAX_VERSIONS)) }
+        // Why none was drawn.
         ensures stale { IfErr result (StaleOnlyBelow known.now) }
     {
-        let mut slot = self.slot.lock(rt);
-        let seen = slot.front();
-        if seen.is_below(known) {
-            return Err(DrawFault::Stale { seen });
-        }
-        let drawn = slot.draw()?;
-        Ok((drawn, slot.front()))
+        draw_from(&mut self.slot.lock(rt), known)
     }
 
     /// [`Slot::install`] under the lock, and what the slot has after it.
@@ -64,24 +66,75 @@ impl SharedSlot {
     /// # Errors
     ///
     /// [`InstallFault::Stale`] exactly where the slot has less than the caller's front says; else
-    /// those of [`Slot::install`]. Each hands the program back.
+    /// those of [`Slot::install`]. Each gives the program back.
     pub fn install<R: Wait>(
         &self,
         rt: &R,
         program: Arc<Verified, Global>,
         known: &Front,
     ) -> Result<(Installed, Front), InstallFault>
-        ensures newer { IfOk result (λ r. (known.now.offered ≤ r.0.mark) × (known.now.versions ≤ r.0.version)) }
-        ensures front { IfOk result (λ r. r.1 ≡ record { versions = r.0.version + 1; offered = r.0.mark }) }
+        // The version installed, beside what the caller knew, and what the slot has after it.
+        ensures newer { IfOk result (λ r.
+            (known.now.offered ≤ r.0.mark) × (known.now.versions ≤ r.0.version)) }
+        ensures front { IfOk result (λ r.
+            r.1 ≡ record { versions = r.0.version + 1; offered = r.0.mark }) }
+        // Why none was installed, with the program.
         ensures stale { IfErr result (InstallStaleOnlyBelow known.now) }
-        ensures back { IfErr result (HandsBack (arc_value program)) }
+        ensures back { IfErr result (GivesBack (arc_value program)) }
     {
-        let mut slot = self.slot.lock(rt);
-        let seen = slot.front();
-        if seen.is_below(known) {
-            return Err(InstallFault::Stale { program, seen });
-        }
-        let installed = slot.install(program)?;
-        Ok((installed, slot.front()))
+        install_from(&mut self.slot.lock(rt), program, known)
     }
+}
+
+/// What [`SharedSlot::draw`] does to the slot behind the lock.
+fn draw_from(slot: &mut Slot, known: &Front) -> Result<(Drawn, Front), DrawFault>
+    // The frame drawn: its number, the version in force at it, and the slot's front after it.
+    ensures number { IfOk result (λ r. r.0.number ≡ slot.old.offered) }
+    ensures last { IfOk result (λ r. r.0.version + 1 ≡ length slot.old.history) }
+    ensures program { IfOk result (λ r.
+        slice_get (programs_in slot.old.history) r.0.version ≡ Some (arc_value r.0.program)) }
+    ensures in_force { IfOk result (λ r. InForce slot.new.history r.0.number r.0.version) }
+    ensures front { IfOk result (λ r. r.1 ≡ front_of slot.new) }
+    ensures few { IfOk result (λ r. (r.0.number < 2 ^ 64 - 1) × (r.0.version < MAX_VERSIONS)) }
+    // The slot had no less than the caller has seen, and room; the frame is counted.
+    ensures fresh { IfOk result (λ _. ¬ IsBelow (front_of slot.old) known.now) }
+    ensures room { IfOk result (λ _. slot.old.offered < slot.old.max) }
+    ensures counted { IfOk result (λ _. slot.new ≡ one_frame_later slot.old) }
+    // Why none was drawn; the slot stays.
+    ensures fault { IfErr result (DrawIsRefused slot.old known.now) }
+    ensures refused { OnErr result (slot.new ≡ slot.old) }
+{
+    let seen = slot.front();
+    if seen.is_below(known) {
+        return Err(DrawFault::Stale { seen });
+    }
+    let drawn = slot.draw()?;
+    Ok((drawn, slot.front()))
+}
+
+/// What [`SharedSlot::install`] does to the slot behind the lock.
+fn install_from(
+    slot: &mut Slot,
+    program: Arc<Verified, Global>,
+    known: &Front,
+) -> Result<(Installed, Front), InstallFault>
+    // The version installed, and the slot's front after it.
+    ensures place { IfOk result (λ r.
+        (r.0.version ≡ length slot.old.history) × (r.0.mark ≡ slot.old.offered)) }
+    ensures front { IfOk result (λ r. r.1 ≡ front_of slot.new) }
+    // The slot had no less than the caller has seen, and room; the version is added.
+    ensures fresh { IfOk result (λ _. ¬ IsBelow (front_of slot.old) known.now) }
+    ensures room { IfOk result (λ _. length slot.old.history < MAX_VERSIONS) }
+    ensures added { IfOk result (λ _. slot.new ≡ with_version slot.old (arc_value program)) }
+    // Why none was installed, with the program; the slot stays.
+    ensures fault { IfErr result (InstallIsRefused slot.old known.now) }
+    ensures back { IfErr result (GivesBack (arc_value program)) }
+    ensures refused { OnErr result (slot.new ≡ slot.old) }
+{
+    let seen = slot.front();
+    if seen.is_below(known) {
+        return Err(InstallFault::Stale { program, seen });
+    }
+    let installed = slot.install(program)?;
+    Ok((installed, slot.front()))
 }

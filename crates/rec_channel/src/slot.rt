@@ -1,14 +1,16 @@
-ghost use Rattle.std.specs.Prelude.{◌≡◌, ◌+◌, ◌-◌, ◌^◌, ◌<◌, ◌≤◌, ◌↔◌, ◌∷◌, ◌++◌, [], length, map, Some, slice_get, IfOk, IfErr, OnErr, vec_len};
+//! A channel's slot: the history of its programs, and the count of its frames.
+
+ghost use Rattle.std.specs.Prelude.{◌≡◌, ◌+◌, ◌-◌, ◌^◌, ◌<◌, ◌≤◌, ◌↔◌, length, map, Some, slice_get, IfOk, IfErr, OnErr};
 ghost use Rattle.std.specs.Arc.{arc_value};
-ghost use Rattle.bpf_verify.specs.Validity.{Valid};
 ghost use Rattle.rec_channel.specs.History.{IsHistory, InForce};
-ghost use Rattle.rec_channel.specs.Slots.{programs_in, marks_in};
+ghost use Rattle.rec_channel.specs.Slots.{programs_in, marks_in, versions_of, opening_slot, one_frame_later, with_version};
 
 use crate::drawn::Drawn;
 use crate::fault::{DrawFault, InstallFault};
 use crate::front::Front;
 use crate::installed::Installed;
 use crate::limits::MAX_VERSIONS;
+use crate::parts::Parts;
 use bpf_verify::Verified;
 use std::alloc::{AllocError, Global};
 use std::marker::Model;
@@ -22,17 +24,6 @@ pub struct Slot {
     marks: Vec<u64>,
     offered: u64,
     max: u64,
-}
-
-/// What a slot was, taken apart.
-#[derive(Debug, Drop)]
-pub struct Parts {
-    /// The program of each version, in the order in which they were installed.
-    pub versions: Vec<Arc<Verified, Global>>,
-    /// The mark of each version: the number of the first frame that it may have met.
-    pub marks: Vec<u64>,
-    /// How many frames were drawn.
-    pub offered: u64,
 }
 
 impl Model for Slot {
@@ -51,14 +42,15 @@ impl Model for Slot {
 }
 
 impl Slot {
-    ghost use Rattle.rec_channel.specs.Fronts.{IsNotStale, InstallIsNotStale, HandsBack};
+    ghost use Rattle.rec_channel.specs.Fronts.{IsNotStale, InstallIsNotStale, GivesBack};
 
-    /// A channel whose first version is this program, and which may have `max` frames; none was
+    /// A channel whose first version is this program, and which may have `max` frames; no frame was
     /// drawn yet.
     pub fn new(alloc: Global, program: Arc<Verified, Global>, max: u64) -> Result<Slot, AllocError>
-        ensures opening { IfOk result (λ s. s ≡ record { history = record { program = arc_value program; mark = 0 } ∷ []; offered = 0; max = max }) }
+        ensures opening { IfOk result (λ s. s ≡ opening_slot (arc_value program) max) }
     {
-        is_valid(&program);
+        // a verified program is valid, as the history says of it
+        let _ = program.insns();
         let mut programs = Vec::with_capacity(alloc, MAX_VERSIONS)?;
         let mut marks = Vec::with_capacity(alloc, MAX_VERSIONS)?;
         programs.push_reserved(program);
@@ -71,22 +63,27 @@ impl Slot {
         })
     }
 
-    /// Counts a frame, and tells the version in force at it, which is the last one.
+    /// Counts a frame, and gives the version in force at it, which is the last one.
     ///
     /// # Errors
     ///
     /// [`DrawFault::CountFull`] exactly where as many frames were drawn as the channel may have;
-    /// [`DrawFault::Memory`] where there are too many shares of the program. It is never
+    /// [`DrawFault::Memory`] where the program has too many shares. It is never
     /// [`DrawFault::Stale`].
     pub fn draw(&mut self) -> Result<Drawn, DrawFault>
+        // The frame drawn: its number, and the version in force at it.
         ensures number { IfOk result (λ d. d.number ≡ self.old.offered) }
         ensures last { IfOk result (λ d. d.version + 1 ≡ length self.old.history) }
-        ensures program { IfOk result (λ d. slice_get (programs_in self.old.history) d.version ≡ Some (arc_value d.program)) }
+        ensures program { IfOk result (λ d.
+            slice_get (programs_in self.old.history) d.version ≡ Some (arc_value d.program)) }
         ensures in_force { IfOk result (λ d. InForce self.new.history d.number d.version) }
-        ensures counted { IfOk result (λ _. self.new ≡ record self.old { offered = self.old.offered + 1 }) }
         ensures few { IfOk result (λ d. (d.number < 2 ^ 64 - 1) × (d.version < MAX_VERSIONS)) }
+        // The slot after a frame: there was room for it, and it is counted.
         ensures room { IfOk result (λ _. self.old.offered < self.old.max) }
-        ensures full { IfErr result (λ e. (e ≡ DrawFault.CountFull) ↔ (self.old.offered ≡ self.old.max)) }
+        ensures counted { IfOk result (λ _. self.new ≡ one_frame_later self.old) }
+        // Why none was drawn; the slot stays.
+        ensures full { IfErr result (λ e.
+            (e ≡ DrawFault.CountFull) ↔ (self.old.offered ≡ self.old.max)) }
         ensures fault { IfErr result IsNotStale }
         ensures refused { OnErr result (self.new ≡ self.old) }
     {
@@ -94,12 +91,8 @@ impl Slot {
             return Err(DrawFault::CountFull);
         }
         let last = self.programs.len() - 1;
-        let Ok(program) = Arc::try_clone(&self.programs[last]) else {
-            return Err(DrawFault::Memory);
-        };
-        let Ok(share) = Arc::try_clone(&program) else {
-            return Err(DrawFault::Memory);
-        };
+        let program = Arc::try_clone(&self.programs[last])?;
+        let share = Arc::try_clone(&program)?;
         let number = self.offered;
         self.offered += 1;
         Ok(Drawn {
@@ -117,19 +110,23 @@ impl Slot {
     /// [`InstallFault::VersionsFull`] exactly where the history has [`MAX_VERSIONS`] versions. It
     /// is never [`InstallFault::Stale`].
     pub fn install(&mut self, program: Arc<Verified, Global>) -> Result<Installed, InstallFault>
-        ensures place { IfOk result (λ i. (i.version ≡ length self.old.history) × (i.mark ≡ self.old.offered)) }
-        ensures added { IfOk result (λ i. self.new ≡ record self.old { history = self.old.history ++ record { program = arc_value program; mark = self.old.offered } ∷ [] }) }
+        // The version installed, and the slot after it: there was room for it, and it is added.
+        ensures place { IfOk result (λ i.
+            (i.version ≡ length self.old.history) × (i.mark ≡ self.old.offered)) }
         ensures room { IfOk result (λ _. length self.old.history < MAX_VERSIONS) }
+        ensures added { IfOk result (λ _. self.new ≡ with_version self.old (arc_value program)) }
+        // Why none was installed, with the program; the slot stays.
         ensures full { OnErr result (length self.old.history ≡ MAX_VERSIONS) }
         ensures fault { IfErr result InstallIsNotStale }
-        ensures back { IfErr result (HandsBack (arc_value program)) }
+        ensures back { IfErr result (GivesBack (arc_value program)) }
         ensures refused { OnErr result (self.new ≡ self.old) }
     {
         let version = self.programs.len();
         if version == MAX_VERSIONS {
             return Err(InstallFault::VersionsFull { program });
         }
-        is_valid(&program);
+        // a verified program is valid, as the history says of it
+        let _ = program.insns();
         let mark = self.offered;
         self.programs.push_reserved(program);
         self.marks.push_reserved(mark);
@@ -157,16 +154,24 @@ impl Slot {
     pub fn offered(&self) -> u64
         ensures offered { result ≡ self.now.offered }
         ensures history { IsHistory self.now.offered self.now.history }
+        ensures few { length self.now.history ≤ MAX_VERSIONS }
+        ensures within { self.now.offered ≤ self.now.max }
     {
         self.offered
     }
 
     /// The history and the count of frames.
     pub fn into_parts(self) -> Parts
+        // The parts are the history, as rows and as one list.
         ensures versions { map arc_value result.versions.items ≡ programs_in self.history }
         ensures marks { result.marks.items ≡ marks_in self.history }
+        ensures same { versions_of (map arc_value result.versions.items) result.marks.items
+            ≡ self.history }
         ensures offered { result.offered ≡ self.offered }
+        // It is a history within its bounds.
         ensures history { IsHistory self.offered self.history }
+        ensures few { length self.history ≤ MAX_VERSIONS }
+        ensures within { self.offered ≤ self.max }
     {
         let Slot {
             programs,
@@ -185,17 +190,11 @@ impl Slot {
     pub(crate) fn front(&self) -> Front
         ensures versions { result.versions ≡ length self.now.history }
         ensures offered { result.offered ≡ self.now.offered }
+        ensures within { self.now.offered ≤ self.now.max }
     {
         Front {
             versions: self.programs.len() as u32,
             offered: self.offered,
         }
     }
-}
-
-/// Nothing to run: whoever holds a verified program may know that it is valid.
-fn is_valid(program: &Arc<Verified, Global>)
-    ensures valid { Valid (arc_value program.now) }
-{
-    program.insns();
 }

@@ -117,8 +117,8 @@ fn two_callers_share_the_numbers(rt: HostRuntime) -> Result<(), Fail> {
         all.extend_from_slice(numbers.as_ref().ok_or("all frames are drawn")?)?;
     }
     all.sort_unstable();
-    for (place, number) in all.iter().enumerate() {
-        assert_eq!(rt; *number, place as u64);
+    for (at, number) in all.iter().enumerate() {
+        assert_eq!(rt; *number, at as u64);
     }
     assert_eq!(rt; all.len(), 2000);
     assert_eq!(rt;

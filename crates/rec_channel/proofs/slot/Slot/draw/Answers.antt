@@ -26,7 +26,7 @@ returns-clause-program c =
     ap (λ ps. slice_get ps last) (programs_back (map arc_value programs.items) c.self.inside.marks.items c.self.invariant.paired)
     ∙ (slice_get-map arc_value programs.items last
     ∙ (ap (λ o. option_map arc_value o) found
-    ∙ ap (λ p. Some p) (sym c.in-Ok.ensures))))
+    ∙ ap (λ p. Some p) (sym c.in_ok-program.ensures))))
 
 pub returns-clause-in_force : goal.returns-clause-in_force
 returns-clause-in_force c =

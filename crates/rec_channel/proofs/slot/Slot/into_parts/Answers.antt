@@ -1,5 +1,5 @@
-use Rattle.std.proofs.Common.{sym}
-use Rattle.rec_channel.proofs.Versions.{programs_back, marks_back}
+use Rattle.std.proofs.Common.{sym, arith}
+use Rattle.rec_channel.proofs.Versions.{count_back, programs_back, marks_back}
 use Rattle.rec_channel.proofs.slot.Slot.into_parts.Goals as goal
 
 pub returns-clause-versions : goal.returns-clause-versions
@@ -7,3 +7,9 @@ returns-clause-versions c = rw (← c.self.view_is) (sym (programs_back _ _ c.se
 
 pub returns-clause-marks : goal.returns-clause-marks
 returns-clause-marks c = rw (← c.self.view_is) (sym (marks_back _ _ c.self.invariant.paired))
+
+pub returns-clause-few : goal.returns-clause-few
+returns-clause-few c = rw (← c.self.view_is) (
+    let count = count_back _ _ c.self.invariant.paired in
+    let few = c.self.invariant.few in
+    omega (arith, count, few))
