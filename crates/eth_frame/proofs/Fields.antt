@@ -1,22 +1,17 @@
 -- The fields of a record's head, both ways.
-use Rattle.std.proofs.Common.{◌≡◌, ℕ, zero, suc, ◌^◌, ◌<◌, ◌≤◌, Bool, true, false, ltb, [], ◌∷◌, ◌++◌, length, None, refl, ◌∙◌, arith, lit≤}
-use Rattle.std.specs.Int.{w64, to_le_bytes, from_le_bytes, bytes_low_first, byte_at}
-use Rattle.std.proofs.lemmas.Nat.{from_le_bytes-to_le_bytes_2, from_le_bytes-to_le_bytes_8}
+use Rattle.std.proofs.Common.{◌≡◌, ℕ, zero, suc, ◌^◌, ◌<◌, ◌≤◌, Bool, true, false, ltb, length, None, refl, arith, lit≤}
+use Rattle.std.proofs.lemmas.Nat.{from_le_bytes-to_le_bytes_2}
 use Rattle.std.proofs.lemmas.Bool.{le-ltb}
-use Rattle.eth_frame.specs.declared.limits.TheConstants.{MIN_FRAME_LEN, MAX_FRAME_LEN, MAX_MARKS}
+use Rattle.eth_frame.specs.declared.frame.TheConstants.{MIN_FRAME_LEN, MAX_FRAME_LEN}
+use Rattle.eth_frame.specs.declared.feed.head.TheConstants.{MAX_MARKS}
+use Rattle.eth_frame.proofs.Bytes.{six_again}
 use Rattle.eth_frame.specs.Frame.{FrameData, IsFrame}
-use Rattle.eth_frame.specs.Record.{marks_byte, head_bytes, record_head, counter_field, marks_field, length_field, has_crc_error, has_frame_error, head_fault}
+use Rattle.eth_frame.specs.FeedRecord.{marks_byte, head_bytes, record_head, counter_field, marks_field, length_field, has_crc_error, has_frame_error, head_fault}
 
 -- ---- what a head says is what was put into it
 
-high_bytes : (n : ℕ) → n < 2 ^ 48 → (byte_at 6 n ≡ 0) × (byte_at 7 n ≡ 0)
-high_bytes n lt = (omega arith, omega arith)
-
 pub counter_field-head_bytes : (counter : ℕ) (crc_error frame_error : Bool) (len : ℕ) → counter < 2 ^ 48 → counter_field (head_bytes counter crc_error frame_error len) ≡ counter
-counter_field-head_bytes counter crc_error frame_error len lt =
-    let high = high_bytes counter lt in
-    let same : from_le_bytes w64 (bytes_low_first 0 6 counter ++ (0 ∷ 0 ∷ [])) ≡ from_le_bytes w64 (to_le_bytes w64 counter) = rw (high.0, high.1) refl in
-    same ∙ from_le_bytes-to_le_bytes_8 counter (omega arith)
+counter_field-head_bytes counter crc_error frame_error len lt = six_again counter lt
 
 pub length_field-head_bytes : (counter : ℕ) (crc_error frame_error : Bool) (len : ℕ) → len < 2 ^ 16 → length_field (head_bytes counter crc_error frame_error len) ≡ len
 length_field-head_bytes counter crc_error frame_error len lt = from_le_bytes-to_le_bytes_2 len lt
@@ -47,7 +42,7 @@ head_fault-record_head frame is =
     let c : ltb MAX_MARKS (marks_field (record_head frame)) ≡ false = le-ltb _ _ (marks_byte-small frame.crc_error frame.frame_error) in
     rw (a, b, c) refl
 
--- ---- a head that is well is what is put into it
+-- ---- a valid head is what is put into it
 
 pub marks_byte-of : (marks : ℕ) → marks ≤ 3 → marks_byte (has_crc_error marks) (has_frame_error marks) ≡ marks
 marks_byte-of zero le = refl

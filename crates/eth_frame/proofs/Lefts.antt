@@ -1,6 +1,6 @@
 -- What a source over a feed has left, before and after it took a record.
 use Rattle.std.proofs.Common.{◌≡◌, ℕ, zero, suc, ◌+◌, ◌-◌, ◌<◌, ◌⊎◌, inl, inr, List, [], ◌∷◌, length, drop, Option, None, Some, Result, Ok, Err, IfSome, IfErr, refl, sym, ap, subst, ◌∙◌, arith, lit<}
-use Rattle.eth_frame.specs.declared.limits.TheConstants.{HEAD_LEN}
+use Rattle.eth_frame.specs.declared.feed.head.TheConstants.{HEAD_LEN}
 use Rattle.eth_frame.specs.declared.source.Next.{Next}
 use Rattle.eth_frame.specs.declared.source.Next.TheVariants as next
 use Rattle.eth_frame.specs.declared.source.SourceFault.{SourceFault}
@@ -8,10 +8,10 @@ use Rattle.eth_frame.specs.declared.source.SourceFault.TheVariants.{Device}
 use Rattle.eth_frame.specs.declared.source.SourceEnding.{SourceEnding}
 use Rattle.eth_frame.specs.declared.source.SourceEnding.TheVariants.{End, Fault}
 use Rattle.eth_frame.specs.Frame.{FrameData}
-use Rattle.eth_frame.specs.Source.{only, with_first, ending_of, GivesFirst, GivesEnding, Fails}
-use Rattle.eth_frame.specs.Record.{record_at}
+use Rattle.eth_frame.specs.Source.{Left, no_frames, with_first, ending_of, GivesFirst, GivesEnding, Fails}
+use Rattle.eth_frame.specs.FeedRecord.{record_at}
 use Rattle.eth_frame.specs.Feed.{left_from, left_of_feed, after_record, left_of_source, failures_before}
-use Rattle.eth_frame.specs.Taking.{TakesRecord}
+use Rattle.eth_frame.specs.FeedTaking.{TakesRecord}
 use Rattle.eth_frame.proofs.Records.{record_at-nil}
 
 -- to pass over bytes is to drop them
@@ -31,48 +31,54 @@ left_of_feed-frame (b ∷ bs) frame e =
     ap (λ (r : Result FrameData SourceEnding). after_record r (λ n. left_from (n - 1) bs)) e ∙ ap (with_first frame) (left_from-drop skipped bs ∙ ap (λ n. left_of_feed (drop n (b ∷ bs))) (sym size))
 
 -- the bytes begin with no record
-pub left_of_feed-ending : (bytes : List ℕ) (ending : SourceEnding) → record_at bytes ≡ Err ending → left_of_feed bytes ≡ only ending
+pub left_of_feed-ending : (bytes : List ℕ) (ending : SourceEnding) → record_at bytes ≡ Err ending → left_of_feed bytes ≡ no_frames ending
 unfolding left_from
-left_of_feed-ending [] ending e = let nil = record_at-nil in let same : End ≡ ending = cc in ap only same
+left_of_feed-ending [] ending e = let nil = record_at-nil in let same : End ≡ ending = cc in ap no_frames same
 left_of_feed-ending (b ∷ bs) ending e = ap (λ (r : Result FrameData SourceEnding). after_record r (λ n. left_from (n - 1) bs)) e
 
--- a frame was taken
-pub GivesFirst-taken : (ended now : Option SourceEnding) (a c : Option (List ℕ)) (result : Result Next SourceFault) (held : Option FrameData) → ended ≡ None → now ≡ ending_of result → result ≡ Ok next.Frame
-    → IfSome a (λ bytes. TakesRecord bytes result held c) → GivesFirst (left_of_source ended a) held (left_of_source now c)
-GivesFirst-taken (Some ending) now a c result held e n r took = absurd cc
-GivesFirst-taken None now None c result held e n r took = tt
-GivesFirst-taken None now (Some x) c (Err fault) held e n r took = absurd cc
-GivesFirst-taken None now (Some x) c (Ok next.End) held e n r took = absurd cc
-GivesFirst-taken None now (Some x) c (Ok next.Frame) None e n r took = absurd took
-GivesFirst-taken None (Some ending) (Some x) c (Ok next.Frame) (Some frame) e n r took = absurd cc
-GivesFirst-taken None None (Some x) None (Ok next.Frame) (Some frame) e n r took = absurd (let after = took.1 in cc)
-GivesFirst-taken None None (Some x) (Some z) (Ok next.Frame) (Some frame) e n r took =
+-- ---- what an answer gives
+
+-- the first frame, or the ending, if the device didn't fail
+abbrev pub Gives : Result Next SourceFault → Option Left → Option FrameData → Option Left → Type 0
+Gives (Ok next.Frame) old held new = GivesFirst old held new
+Gives (Ok next.End) old held new = GivesEnding old End new
+Gives (Err fault) old held new = (fault ≡ Device) ⊎ GivesEnding old (Fault fault) new
+
+pub Gives-taken : (ended now : Option SourceEnding) (a c : Option (List ℕ)) (result : Result Next SourceFault) (held : Option FrameData) → ended ≡ None → now ≡ ending_of result
+    → IfSome a (λ bytes. TakesRecord bytes result held c) → Gives result (left_of_source ended a) held (left_of_source now c)
+Gives-taken (Some ending) now a c result held e n took = absurd cc
+Gives-taken None now None c (Ok next.Frame) held e n took = tt
+Gives-taken None now (Some x) c (Ok next.Frame) None e n took = absurd took
+Gives-taken None (Some ending) (Some x) c (Ok next.Frame) (Some frame) e n took = absurd cc
+Gives-taken None None (Some x) None (Ok next.Frame) (Some frame) e n took = absurd (let after = took.1 in cc)
+Gives-taken None None (Some x) (Some z) (Ok next.Frame) (Some frame) e n took =
     let rest : z ≡ drop (HEAD_LEN + length frame.bytes) x = let after = took.1 in cc in
     left_of_feed-frame x frame took.0 ∙ ap (λ l. with_first frame (left_of_feed l)) (sym rest)
-
--- the end was met
-pub GivesEnding-end : (ended now : Option SourceEnding) (a c : Option (List ℕ)) (result : Result Next SourceFault) (held : Option FrameData) → ended ≡ None → now ≡ ending_of result → result ≡ Ok next.End
-    → IfSome a (λ bytes. TakesRecord bytes result held c) → GivesEnding (left_of_source ended a) End (left_of_source now c)
-GivesEnding-end (Some ending) now a c result held e n r took = absurd cc
-GivesEnding-end None now None c result held e n r took = tt
-GivesEnding-end None now (Some x) c (Err fault) held e n r took = absurd cc
-GivesEnding-end None now (Some x) c (Ok next.Frame) held e n r took = absurd cc
-GivesEnding-end None None (Some x) c (Ok next.End) held e n r took = absurd cc
-GivesEnding-end None (Some ending) (Some x) c (Ok next.End) held e n r took =
+Gives-taken None now None c (Ok next.End) held e n took = tt
+Gives-taken None None (Some x) c (Ok next.End) held e n took = absurd cc
+Gives-taken None (Some ending) (Some x) c (Ok next.End) held e n took =
     let same : ending ≡ End = cc in
-    (left_of_feed-ending x End took.0, ap (λ (d : SourceEnding). Some (only d)) same)
-
--- a fault was met
-pub GivesEnding-fault : (ended now : Option SourceEnding) (a c : Option (List ℕ)) (result : Result Next SourceFault) (held : Option FrameData) → ended ≡ None → now ≡ ending_of result
-    → IfSome a (λ bytes. TakesRecord bytes result held c) → IfErr result (λ fault. (fault ≡ Device) ⊎ GivesEnding (left_of_source ended a) (Fault fault) (left_of_source now c))
-GivesEnding-fault ended now a c (Ok answer) held e n took = tt
-GivesEnding-fault (Some ending) now a c (Err fault) held e n took = absurd cc
-GivesEnding-fault None None a c (Err fault) held e n took = absurd cc
-GivesEnding-fault None (Some ending) None c (Err fault) held e n took = inr tt
-GivesEnding-fault None (Some ending) (Some x) c (Err fault) held e n (inl read) =
+    (left_of_feed-ending x End took.0, ap (λ (d : SourceEnding). Some (no_frames d)) same)
+Gives-taken None None a c (Err fault) held e n took = absurd cc
+Gives-taken None (Some ending) None c (Err fault) held e n took = inr tt
+Gives-taken None (Some ending) (Some x) c (Err fault) held e n (inl read) =
     let same : ending ≡ Fault fault = cc in
-    inr (left_of_feed-ending x (Fault fault) read, ap (λ (d : SourceEnding). Some (only d)) same)
-GivesEnding-fault None (Some ending) (Some x) c (Err fault) held e n (inr device) = inl device
+    inr (left_of_feed-ending x (Fault fault) read, ap (λ (d : SourceEnding). Some (no_frames d)) same)
+Gives-taken None (Some ending) (Some x) c (Err fault) held e n (inr device) = inl device
+
+pub Gives-frame : (result : Result Next SourceFault) (old : Option Left) (held : Option FrameData) (new : Option Left) → result ≡ Ok next.Frame → Gives result old held new → GivesFirst old held new
+Gives-frame (Ok next.Frame) old held new is gives = gives
+Gives-frame (Ok next.End) old held new is gives = absurd cc
+Gives-frame (Err fault) old held new is gives = absurd cc
+
+pub Gives-end : (result : Result Next SourceFault) (old : Option Left) (held : Option FrameData) (new : Option Left) → result ≡ Ok next.End → Gives result old held new → GivesEnding old End new
+Gives-end (Ok next.Frame) old held new is gives = absurd cc
+Gives-end (Ok next.End) old held new is gives = gives
+Gives-end (Err fault) old held new is gives = absurd cc
+
+pub Gives-fault : (result : Result Next SourceFault) (old : Option Left) (held : Option FrameData) (new : Option Left) → Gives result old held new → IfErr result (λ fault. (fault ≡ Device) ⊎ GivesEnding old (Fault fault) new)
+Gives-fault (Ok answer) old held new gives = tt
+Gives-fault (Err fault) old held new gives = gives
 
 -- the device failed
 pub Fails-device : (ended now : Option SourceEnding) (a c : Option (List ℕ)) (result : Result Next SourceFault) → ended ≡ None → now ≡ ending_of result → result ≡ Err Device
@@ -83,4 +89,4 @@ Fails-device None now (Some x) c (Ok answer) e n r = absurd cc
 Fails-device None None (Some x) c (Err fault) e n r = absurd cc
 Fails-device None (Some ending) (Some x) c (Err fault) e n r =
     let same : ending ≡ Fault Device = cc in
-    (refl, subst (λ (d : SourceEnding). 0 < failures_before (Some d)) (sym same) (lit< tt), ap (λ (d : SourceEnding). Some (only d)) same)
+    (refl, subst (λ (d : SourceEnding). 0 < failures_before (Some d)) (sym same) (lit< tt), ap (λ (d : SourceEnding). Some (no_frames d)) same)

@@ -1,19 +1,21 @@
 -- Bytes are the feed of what they say, and of nothing else.
-use Rattle.std.proofs.Common.{◌≡◌, ℕ, zero, suc, ◌+◌, ◌<◌, ◌≤◌, ◌⊎◌, inl, inr, Bool, true, false, ◌||◌, cond, eqb, ltb, List, [], ◌∷◌, ◌++◌, length, get_or, take, drop, Option, None, Some, Result, Ok, Err, refl, sym, ap, subst, ◌∙◌, append_assoc, arith, lit<, le_refl}
+use Rattle.std.proofs.Common.{◌≡◌, ℕ, zero, suc, ◌+◌, ◌<◌, ◌≤◌, ◌⊎◌, inl, inr, Bool, true, false, ◌||◌, cond, eqb, ltb, List, [], ◌∷◌, ◌++◌, length, get_or, take, drop, Option, None, Some, Result, Ok, Err, refl, sym, ap, subst, ◌∙◌, append_assoc, arith, le_refl}
 use Rattle.std.specs.List.{flat_map, AllByRecursion}
 use Rattle.std.specs.Int.{w16, to_le_bytes, bytes_low_first}
-use Rattle.std.proofs.lemmas.Nat.{le_bytes_2, le_bytes_8}
 use Rattle.std.proofs.lemmas.Bool.{lt-ltb, le-ltb, ltb-true, ltb-false, eqb-true, eqb-false, or_parts, or_cases, or_right}
-use Rattle.std.proofs.lemmas.List.{length-append, length-take, length-drop, take_at, drop_at, take-append-drop, drop-drop, get_or-drop, nil_from_length}
-use Rattle.eth_frame.specs.declared.limits.TheConstants.{MIN_FRAME_LEN, MAX_FRAME_LEN, HEAD_LEN, MAX_MARKS}
+use Rattle.std.proofs.lemmas.List.{length-append, length-take, length-drop, take_at, drop_at, take-append-drop, drop-drop, nil_from_length}
+use Rattle.eth_frame.specs.declared.frame.TheConstants.{MIN_FRAME_LEN, MAX_FRAME_LEN}
+use Rattle.eth_frame.specs.declared.feed.head.TheConstants.{HEAD_LEN, MAX_MARKS}
 use Rattle.eth_frame.specs.declared.source.SourceFault.{SourceFault}
 use Rattle.eth_frame.specs.declared.source.SourceFault.TheVariants.{Truncated, Length, Marks, Device}
 use Rattle.eth_frame.specs.declared.source.SourceEnding.{SourceEnding}
 use Rattle.eth_frame.specs.declared.source.SourceEnding.TheVariants.{End, Fault}
 use Rattle.eth_frame.specs.Frame.{FrameData, IsFrame}
 use Rattle.eth_frame.specs.Source.{Left, with_first}
-use Rattle.eth_frame.specs.Record.{marks_byte, record_head, feed_record, counter_field, marks_field, length_field, has_crc_error, has_frame_error, head_fault, frame_at, body_at, record_at}
-use Rattle.eth_frame.specs.Feed.{AreBytes, IsBadLength, Ends, Feed, left_of_feed}
+use Rattle.eth_frame.specs.FeedRecord.{marks_byte, record_head, feed_record, counter_field, marks_field, length_field, has_crc_error, has_frame_error, head_fault, frame_at, body_at, record_at}
+use Rattle.eth_frame.specs.Bytes.{AreBytes}
+use Rattle.eth_frame.specs.Feed.{IsBadLength, Ends, Feed, left_of_feed}
+use Rattle.eth_frame.proofs.Bytes.{AreBytes-drop, two_bytes, six_bytes}
 use Rattle.eth_frame.proofs.Records.{record_at-nil, record_at-short, record_at-whole, record_at-split, body_after, frame_after, from_parts}
 use Rattle.eth_frame.proofs.Lefts.{left_of_feed-frame, left_of_feed-ending}
 use Rattle.eth_frame.proofs.Fields.{counter_field-head_bytes, length_field-head_bytes, marks_byte-crc_error, marks_byte-frame_error, marks_byte-of, head_fault-record_head}
@@ -75,38 +77,17 @@ one bytes frames others ending other a b =
 
 -- ---- what is said is spelled so
 
-AreBytes-drop : (n : ℕ) (bytes : List ℕ) → AreBytes bytes → AreBytes (drop n bytes)
-AreBytes-drop n bytes fit i = rw get_or-drop (fit (n + i))
-
 -- the first 9 bytes, one by one
 pub head_cells : (bytes : List ℕ) → HEAD_LEN ≤ length bytes
     → bytes ≡ (get_or bytes 0 0 ∷ get_or bytes 1 0 ∷ get_or bytes 2 0 ∷ get_or bytes 3 0 ∷ get_or bytes 4 0 ∷ get_or bytes 5 0 ∷ get_or bytes 6 0 ∷ get_or bytes 7 0 ∷ get_or bytes 8 0 ∷ []) ++ drop HEAD_LEN bytes
 head_cells (a ∷ b ∷ c ∷ d ∷ e ∷ f ∷ g ∷ h ∷ i ∷ rest) whole = refl
 head_cells short whole = absurd (omega arith)
 
-six_fit : (a b c d e f : ℕ) → a < 256 → b < 256 → c < 256 → d < 256 → e < 256 → f < 256 → (i : ℕ) → get_or (a ∷ b ∷ c ∷ d ∷ e ∷ f ∷ 0 ∷ 0 ∷ []) i 0 < 256
-six_fit a b c d e f fa fb fc fd fe ff zero = fa
-six_fit a b c d e f fa fb fc fd fe ff (suc zero) = fb
-six_fit a b c d e f fa fb fc fd fe ff (suc (suc zero)) = fc
-six_fit a b c d e f fa fb fc fd fe ff (suc (suc (suc zero))) = fd
-six_fit a b c d e f fa fb fc fd fe ff (suc (suc (suc (suc zero)))) = fe
-six_fit a b c d e f fa fb fc fd fe ff (suc (suc (suc (suc (suc zero))))) = ff
-six_fit a b c d e f fa fb fc fd fe ff (suc (suc (suc (suc (suc (suc zero)))))) = lit< tt
-six_fit a b c d e f fa fb fc fd fe ff (suc (suc (suc (suc (suc (suc (suc zero))))))) = lit< tt
-six_fit a b c d e f fa fb fc fd fe ff (suc (suc (suc (suc (suc (suc (suc (suc i)))))))) = lit< tt
-
-two_fit : (a b : ℕ) → a < 256 → b < 256 → (i : ℕ) → get_or (a ∷ b ∷ []) i 0 < 256
-two_fit a b fa fb zero = fa
-two_fit a b fa fb (suc zero) = fb
-two_fit a b fa fb (suc (suc i)) = lit< tt
-
 counter_bytes : (bytes : List ℕ) → AreBytes bytes → bytes_low_first 0 6 (counter_field bytes) ≡ get_or bytes 0 0 ∷ get_or bytes 1 0 ∷ get_or bytes 2 0 ∷ get_or bytes 3 0 ∷ get_or bytes 4 0 ∷ get_or bytes 5 0 ∷ []
-counter_bytes bytes fit =
-    ap (take 6) (le_bytes_8 (get_or bytes 0 0 ∷ get_or bytes 1 0 ∷ get_or bytes 2 0 ∷ get_or bytes 3 0 ∷ get_or bytes 4 0 ∷ get_or bytes 5 0 ∷ 0 ∷ 0 ∷ []) (counter_field bytes) refl
-    (six_fit _ _ _ _ _ _ (fit 0) (fit 1) (fit 2) (fit 3) (fit 4) (fit 5)) refl)
+counter_bytes bytes fit = six_bytes _ _ _ _ _ _ (fit 0) (fit 1) (fit 2) (fit 3) (fit 4) (fit 5)
 
 length_bytes : (bytes : List ℕ) → AreBytes bytes → to_le_bytes w16 (length_field bytes) ≡ get_or bytes 7 0 ∷ get_or bytes 8 0 ∷ []
-length_bytes bytes fit = le_bytes_2 (get_or bytes 7 0 ∷ get_or bytes 8 0 ∷ []) (length_field bytes) refl (two_fit _ _ (fit 7) (fit 8)) refl
+length_bytes bytes fit = two_bytes _ _ (fit 7) (fit 8)
 
 -- what a head's fields are where nothing is wrong with it
 pub record IsWell (bytes : List ℕ) : Type 0 where

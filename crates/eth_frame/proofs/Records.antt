@@ -3,13 +3,13 @@ use Rattle.std.proofs.Common.{◌≡◌, ℕ, ◌+◌, ◌<◌, ◌≤◌, Bool,
 use Rattle.std.proofs.lemmas.Bool.{ne_eqb, le-ltb, lt-ltb}
 use Rattle.std.proofs.lemmas.Bool.Decides.{nat_tests}
 use Rattle.std.proofs.lemmas.List.{length-append, get_or_append_left}
-use Rattle.eth_frame.specs.declared.limits.TheConstants.{HEAD_LEN}
+use Rattle.eth_frame.specs.declared.feed.head.TheConstants.{HEAD_LEN}
 use Rattle.eth_frame.specs.declared.source.SourceFault.{SourceFault}
 use Rattle.eth_frame.specs.declared.source.SourceFault.TheVariants.{Truncated}
 use Rattle.eth_frame.specs.declared.source.SourceEnding.{SourceEnding}
 use Rattle.eth_frame.specs.declared.source.SourceEnding.TheVariants.{End, Fault}
 use Rattle.eth_frame.specs.Frame.{FrameData}
-use Rattle.eth_frame.specs.Record.{counter_field, marks_field, length_field, has_crc_error, has_frame_error, head_fault, frame_at, body_at, record_at}
+use Rattle.eth_frame.specs.FeedRecord.{counter_field, marks_field, length_field, has_crc_error, has_frame_error, head_fault, frame_at, body_at, record_at}
 
 -- the head's fields, and the first bytes after it
 abbrev pub frame_after : List ℕ → List ℕ → FrameData

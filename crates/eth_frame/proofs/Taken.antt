@@ -3,16 +3,16 @@ use Rattle.std.proofs.Common.{◌≡◌, ℕ, ◌+◌, ◌<◌, ◌≤◌, ◌�
 use Rattle.std.proofs.lemmas.Bool.{lt-ltb, le-ltb}
 use Rattle.std.proofs.lemmas.List.{length-append, append-nil, take_at}
 use Rattle.std.specs.Io.KnownBytes.{Consumes, IsAtEnd}
-use Rattle.eth_frame.specs.declared.head.Head.{Head}
-use Rattle.eth_frame.specs.declared.limits.TheConstants.{HEAD_LEN}
+use Rattle.eth_frame.specs.declared.frame.FrameHead.{FrameHead}
+use Rattle.eth_frame.specs.declared.feed.head.TheConstants.{HEAD_LEN}
 use Rattle.eth_frame.specs.declared.source.Next.TheVariants as next
 use Rattle.eth_frame.specs.declared.source.SourceFault.{SourceFault}
 use Rattle.eth_frame.specs.declared.source.SourceFault.TheVariants.{Truncated, Device}
 use Rattle.eth_frame.specs.declared.source.SourceEnding.TheVariants.{Fault}
 use Rattle.eth_frame.specs.Frame.{FrameData}
-use Rattle.eth_frame.specs.Held.{IsBodyOf}
-use Rattle.eth_frame.specs.Record.{counter_field, marks_field, length_field, has_crc_error, has_frame_error, head_fault, record_at}
-use Rattle.eth_frame.specs.Taking.{TakesRecord}
+use Rattle.eth_frame.specs.Heads.{HasHead}
+use Rattle.eth_frame.specs.FeedRecord.{counter_field, marks_field, length_field, has_crc_error, has_frame_error, head_fault, record_at}
+use Rattle.eth_frame.specs.FeedTaking.{TakesRecord}
 use Rattle.eth_frame.proofs.Records.{record_at-nil, record_at-short, record_at-split, body_after, frame_after, from_parts}
 
 -- no byte was left
@@ -39,7 +39,7 @@ TakesRecord-head (Some x) None c head fault held len wrong took = absurd took
 TakesRecord-head (Some x) (Some y) c head fault held len wrong took =
     inl (ap record_at took ∙ record_at-split head y len ∙ ap (λ o. body_after o head y) (sym wrong))
 
--- a head that is well, without all of its frame's bytes
+-- a valid head, without all of its frame's bytes
 pub TakesRecord-cut : (a b c : Option (List ℕ)) (head : List ℕ) (fault : SourceFault) (held : Option FrameData) → length head ≡ HEAD_LEN → None ≡ head_fault head → Consumes a b head
     → (fault ≡ Device) ⊎ ((fault ≡ Truncated) × IfSome b (λ bytes. length bytes < length_field head)) → IfSome a (λ bytes. TakesRecord bytes (Err fault) held c)
 TakesRecord-cut None b c head fault held len well took cut = tt
@@ -74,15 +74,15 @@ TakesRecord-frame (Some x) (Some y) (Some z) head frame len well first second sa
     )
 
 -- the head that the bytes say
-pub record SaysHead (bytes : List ℕ) (h : Head) : Type 0 where
+pub record SaysHead (bytes : List ℕ) (h : FrameHead) : Type 0 where
   pub counter : h.counter ≡ counter_field bytes
   pub crc_error : h.crc_error ≡ has_crc_error (marks_field bytes)
   pub frame_error : h.frame_error ≡ has_frame_error (marks_field bytes)
   pub len : h.len ≡ length_field bytes
 
 -- a whole record, whose frame is held
-pub TakesRecord-held : (a b c : Option (List ℕ)) (bytes : List ℕ) (h : Head) (held : Option FrameData) → length bytes ≡ HEAD_LEN → None ≡ head_fault bytes → SaysHead bytes h → Consumes a b bytes
-    → IsSomeAnd held (λ frame. IsBodyOf h frame × Consumes b c frame.bytes) → IfSome a (λ all. TakesRecord all (Ok next.Frame) held c)
+pub TakesRecord-held : (a b c : Option (List ℕ)) (bytes : List ℕ) (h : FrameHead) (held : Option FrameData) → length bytes ≡ HEAD_LEN → None ≡ head_fault bytes → SaysHead bytes h → Consumes a b bytes
+    → IsSomeAnd held (λ frame. HasHead h frame × Consumes b c frame.bytes) → IfSome a (λ all. TakesRecord all (Ok next.Frame) held c)
 TakesRecord-held a b c bytes h None len well says first second = absurd second
 TakesRecord-held a b c bytes h (Some frame) len well says first second =
     let of_head : IsOfHead bytes frame = record {

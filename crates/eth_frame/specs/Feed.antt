@@ -1,26 +1,23 @@
 -- A feed: the records of frames one after the other, up to what ends it.
-use Rattle.std.specs.Prelude.{ℕ, zero, suc, ◌≡◌, ◌+◌, ◌-◌, ◌<◌, ◌≤◌, ◌⊎◌, List, [], ◌∷◌, ◌++◌, length, slice_index, Option, None, Some, Result, Ok, Err}
+use Rattle.std.specs.Prelude.{ℕ, zero, suc, ◌≡◌, ◌+◌, ◌-◌, ◌<◌, ◌≤◌, ◌⊎◌, List, [], ◌∷◌, ◌++◌, length, Option, None, Some, Result, Ok, Err}
 use Rattle.std.specs.List.{flat_map, AllByRecursion}
 use Rattle.std.specs.Option.{option_map}
-use Rattle.eth_frame.specs.declared.limits.TheConstants.{MIN_FRAME_LEN, MAX_FRAME_LEN, HEAD_LEN, MAX_MARKS}
+use Rattle.eth_frame.specs.declared.frame.TheConstants.{MIN_FRAME_LEN, MAX_FRAME_LEN}
+use Rattle.eth_frame.specs.declared.feed.head.TheConstants.{HEAD_LEN, MAX_MARKS}
 use Rattle.eth_frame.specs.declared.source.SourceFault.TheVariants.{Truncated, Length, Marks, Device}
 use Rattle.eth_frame.specs.declared.source.SourceEnding.{SourceEnding}
 use Rattle.eth_frame.specs.declared.source.SourceEnding.TheVariants.{End, Fault}
 use Rattle.eth_frame.specs.Frame.{FrameData, IsFrame}
-use Rattle.eth_frame.specs.Source.{Left, only, with_first}
-use Rattle.eth_frame.specs.Record.{feed_record, length_field, marks_field, record_at}
+use Rattle.eth_frame.specs.Source.{Left, no_frames, with_first}
+use Rattle.eth_frame.specs.FeedRecord.{feed_record, length_field, marks_field, record_at}
 
 -- ---- what a feed's bytes are
-
--- each number is a byte
-abbrev pub AreBytes : List ℕ → Type 0
-AreBytes bytes = (i : ℕ) → slice_index bytes i < 256
 
 -- a length that no frame has
 abbrev pub IsBadLength : ℕ → Type 0
 IsBadLength n = (n < MIN_FRAME_LEN) ⊎ (MAX_FRAME_LEN < n)
 
--- a part of a head, or a head that is well with a part of its frame's bytes
+-- a part of a head, or a valid head with a part of its frame's bytes
 abbrev pub IsCut : List ℕ → Type 0
 IsCut rest =
     ((0 < length rest) × (length rest < HEAD_LEN))
@@ -48,14 +45,14 @@ pub record Feed (bytes : List ℕ) (frames : List FrameData) (ending : SourceEnd
 
 -- ---- what a feed's bytes say
 
--- the frame's record was at the front, and what comes after it is left; or nothing but the ending is
+-- the frame's record is at the front, and what comes after it is left; or only the ending is
 abbrev pub after_record : Result FrameData SourceEnding → (ℕ → Left) → Left
 after_record (Ok frame) from = with_first frame (from (length frame.bytes + HEAD_LEN))
-after_record (Err ending) from = only ending
+after_record (Err ending) from = no_frames ending
 
 -- the frames and the ending that the bytes say, once the first ones are passed over
 unfoldable pub left_from : ℕ → List ℕ → Left
-left_from skipped [] = only End
+left_from skipped [] = no_frames End
 left_from zero (b ∷ bs) = after_record (record_at (b ∷ bs)) (λ n. left_from (n - 1) bs)
 left_from (suc skipped) (b ∷ bs) = left_from skipped bs
 
@@ -65,10 +62,10 @@ left_of_feed bytes = left_from 0 bytes
 
 -- ---- what a source over a feed's bytes still gives
 
--- where it has ended nothing but its ending, and before that what the reader's bytes say, where they are known
+-- only its ending once it has ended, and before that what the reader's bytes say, if they are known
 abbrev pub left_of_source : Option SourceEnding → Option (List ℕ) → Option Left
 left_of_source None known = option_map left_of_feed known
-left_of_source (Some ending) known = Some (only ending)
+left_of_source (Some ending) known = Some (no_frames ending)
 
 -- how often the device has failed of a source that ends with the first failure
 abbrev pub failures_before : Option SourceEnding → ℕ

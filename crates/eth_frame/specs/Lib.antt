@@ -1,8 +1,9 @@
 pub mod Frame
-pub mod Lent
-pub mod Held
+pub mod Views
+pub mod Heads
+pub mod Bytes
 pub mod Source
-pub mod Record
+pub mod FeedRecord
 pub mod Feed
-pub mod Taking
-pub mod SourceLaws
+pub mod FeedTaking
+pub mod FeedLaws

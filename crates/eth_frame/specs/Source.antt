@@ -13,36 +13,38 @@ pub record Left : Type 0 where
   pub frames : List FrameData
   pub ending : SourceEnding
 
--- what a source answers once it has ended so
+-- what a source with this ending answers
 abbrev pub answer : SourceEnding → Result Next SourceFault
 answer End = Ok next.End
 answer (Fault fault) = Err fault
 
--- how a source has ended that answered so: not at all, where it gave a frame
+-- the ending of a source that gave this answer: none if it gave a frame
 abbrev pub ending_of : Result Next SourceFault → Option SourceEnding
 ending_of (Ok next.Frame) = None
 ending_of (Ok next.End) = Some End
 ending_of (Err fault) = Some (Fault fault)
 
--- nothing but the ending
-abbrev pub only : SourceEnding → Left
-only ending = record { frames = []; ending = ending }
+-- no frames, and this ending
+abbrev pub no_frames : SourceEnding → Left
+no_frames ending = record { frames = []; ending = ending }
 
 -- this frame first
 abbrev pub with_first : FrameData → Left → Left
 with_first frame left = record { frames = frame ∷ left.frames; ending = left.ending }
 
--- the first frame left was handed over, and the others are left
+-- the first frame left is given, and the others are left
 abbrev pub GivesFirst : Option Left → Option FrameData → Option Left → Type 0
 GivesFirst old held new =
-    IfSome old (λ left. IsSomeAnd held (λ frame. IsSomeAnd new (λ rest. left ≡ with_first frame rest)))
+    IfSome old (λ left. IsSomeAnd held (λ frame. IsSomeAnd new (λ rest.
+    left ≡ with_first frame rest)))
 
 -- no frame was left, and this is the ending
 abbrev pub GivesEnding : Option Left → SourceEnding → Option Left → Type 0
-GivesEnding old ending new = IfSome old (λ left. (left ≡ only ending) × (new ≡ Some (only ending)))
+GivesEnding old ending new =
+    IfSome old (λ left. (left ≡ no_frames ending) × (new ≡ Some (no_frames ending)))
 
 -- the device failed before the source had ended, so that nothing is left but that ending
 abbrev pub Fails : Option Left → Option SourceEnding → ℕ → Option Left → ℕ → Type 0
 Fails old ended failures_old new failures_new =
     IfSome old (λ left.
-    (ended ≡ None) × (failures_old < failures_new) × (new ≡ Some (only (Fault Device))))
+    (ended ≡ None) × (failures_old < failures_new) × (new ≡ Some (no_frames (Fault Device))))

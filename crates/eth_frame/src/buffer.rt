@@ -1,38 +1,37 @@
-use crate::frame::Frame;
-use crate::head::Head;
-use crate::limits::MAX_FRAME_LEN;
-use crate::reading::fill;
-use crate::source::SourceFault;
-use std::fmt;
+//! Room for one frame of any length.
+ghost use Rattle.std.specs.Prelude.{◌≡◌, ◌≤◌, ◌<◌, length, take, IfOk};
+ghost use Rattle.std.specs.Io.KnownBytes.{Consumes, IsAtEnd};
+
+use crate::frame::{Frame, FrameHead, MAX_FRAME_LEN};
 use std::io::Read;
 use std::marker::Model;
+use std::{fmt, io};
 
 /// Room for one frame of any length, and the frame that it holds, if any.
 #[derive(Drop)]
 pub struct FrameBuf {
-    held: Option<Head>,
+    held: Option<FrameHead>,
     bytes: [u8; MAX_FRAME_LEN],
 }
 
 impl Model for FrameBuf {
     ghost use Rattle.std.specs.Prelude.{Option};
     ghost use Rattle.eth_frame.specs.Frame.{FrameData};
+    ghost use Rattle.eth_frame.specs.Heads.{held_frame, IsHeld};
 
     ghost Value = { Option FrameData };
 
-    ghost use Rattle.eth_frame.specs.Held.{frame_held, IsHeld};
-
-    ghost view = { λ b. frame_held b.held b.bytes };
+    ghost view = { λ b. held_frame b.held b.bytes };
 
     ghost invariant = { λ b. IsHeld b.held b.bytes };
 }
 
 impl FrameBuf {
-    ghost use Rattle.std.specs.Prelude.{◌≡◌, ◌<◌, ◌⊎◌, length, None, Some, IfSome, IsSomeAnd, OnOk, OnErr, IfErr};
+    ghost use Rattle.std.specs.Prelude.{◌≡◌, ◌<◌, length, None, Some, IfSome, IsSomeAnd, OnErr, Ok, true, false};
     ghost use Rattle.std.specs.Io.KnownBytes.{Consumes};
     ghost use Rattle.std.specs.Option.{option_map};
-    ghost use Rattle.eth_frame.specs.Lent.{frame_data};
-    ghost use Rattle.eth_frame.specs.Held.{IsBodyOf};
+    ghost use Rattle.eth_frame.specs.Heads.{HasHead};
+    ghost use Rattle.eth_frame.specs.Views.{frame_data};
 
     /// An empty buffer.
     pub fn new() -> FrameBuf
@@ -48,7 +47,7 @@ impl FrameBuf {
     pub fn put(&mut self, frame: Frame<'_>)
         ensures held { self.new ≡ Some (frame_data frame.entry) }
     {
-        let head = Head::of(&frame);
+        let head = FrameHead::of(&frame);
         self.bytes[..head.len].copy_from_slice(frame.bytes);
         self.held = Some(head);
     }
@@ -60,26 +59,26 @@ impl FrameBuf {
         self.held = None;
     }
 
-    /// Takes the frame of this head, whose bytes come next, once all of them have come.
-    pub(crate) fn take_body<R: Read>(
+    /// Reads the bytes of a frame with this head into the buffer, which is empty, and says whether
+    /// all of them came. If not, the buffer stays empty.
+    pub(crate) fn read_frame<R: Read>(
         &mut self,
-        head: Head,
+        head: FrameHead,
         reader: &mut R,
-    ) -> Result<(), SourceFault>
+    ) -> io::Result<bool>
         requires { self.old ≡ None }
-        ensures ok { OnOk result (IsSomeAnd self.new (λ frame. IsBodyOf head frame
-            × Consumes (R.remaining reader.old) (R.remaining reader.new) frame.bytes)) }
-        ensures err { OnErr result (self.new ≡ None) }
-        ensures fault { IfErr result (λ fault. (fault ≡ SourceFault.Device)
-            ⊎ ((fault ≡ SourceFault.Truncated)
-            × IfSome (R.remaining reader.old) (λ bytes. length bytes < head.len))) }
+        ensures whole { result ≡ Ok true → IsSomeAnd self.new (λ frame. HasHead head frame
+            × Consumes (R.remaining reader.old) (R.remaining reader.new) frame.bytes) }
+        ensures cut { result ≡ Ok false → (self.new ≡ None)
+            × IfSome (R.remaining reader.old) (λ bytes. length bytes < head.len) }
+        ensures failed { OnErr result (self.new ≡ None) }
     {
         let filled = fill(reader, &mut self.bytes[..head.len])?;
         if filled < head.len {
-            return Err(SourceFault::Truncated);
+            return Ok(false);
         }
         self.held = Some(head);
-        Ok(())
+        Ok(true)
     }
 
     /// The frame that the buffer holds.
@@ -87,12 +86,7 @@ impl FrameBuf {
         ensures held { option_map frame_data result ≡ self.now }
     {
         let head = self.held?;
-        Some(Frame {
-            counter: head.counter,
-            crc_error: head.crc_error,
-            frame_error: head.frame_error,
-            bytes: &self.bytes[..head.len],
-        })
+        Some(head.with_bytes(&self.bytes[..head.len]))
     }
 }
 
@@ -112,4 +106,22 @@ impl fmt::Debug for FrameBuf {
             .field("frame", &self.frame())
             .finish()
     }
+}
+
+/// Reads until all places are filled or the reader is at its end, and returns how many are filled.
+pub(crate) fn fill<R: Read>(reader: &mut R, places: &mut [u8]) -> io::Result<usize>
+    ensures count { IfOk result (λ n. n ≤ length places.new) }
+    ensures taken { IfOk result (λ n.
+        Consumes (R.remaining reader.old) (R.remaining reader.new) (take n places.new)) }
+    ensures end { IfOk result (λ n. n < length places.new → IsAtEnd (R.remaining reader.new)) }
+{
+    let mut filled = 0;
+    'pieces: while filled < places.len() {
+        match reader.read(&mut places[filled..]) {
+            Ok(0) => return Ok(filled),
+            Ok(n) => filled += n,
+            Err(error) => return Err(error),
+        }
+    }
+    Ok(filled)
 }

@@ -1,12 +1,17 @@
+//! Laws of feeds and frames, which run nothing.
 ghost use Rattle.std.specs.Prelude.{ℕ, ◌≡◌, [], ◌∷◌, ◌++◌, List};
 ghost use Rattle.eth_frame.specs.declared.source.SourceEnding.{SourceEnding};
 ghost use Rattle.eth_frame.specs.declared.source.SourceEnding.TheVariants.{End};
+ghost use Rattle.eth_frame.specs.Bytes.{AreBytes};
 ghost use Rattle.eth_frame.specs.Frame.{FrameData, IsFrame};
-ghost use Rattle.eth_frame.specs.Record.{feed_record};
-ghost use Rattle.eth_frame.specs.Feed.{AreBytes, Feed, left_of_feed};
+ghost use Rattle.eth_frame.specs.FeedRecord.{feed_record};
+ghost use Rattle.eth_frame.specs.Feed.{Feed, left_of_feed};
 
-/// A law of feeds, with nothing to run: bytes are the feed of what they say and of nothing else,
-/// so that they have one reading, and a record at the end of a whole feed adds its frame.
+use crate::counter::COUNTER_BITS;
+use crate::frame::{CHECK_SEQUENCE_LEN, MAX_FRAME_LEN, MIN_FRAME_LEN};
+
+/// Law: bytes are the feed of one list of frames with one ending at most, and those are what a
+/// source reads from them. A record at the end of a whole feed adds its frame.
 pub fn feed_has_one_reading()
     ensures said { (bytes : List ℕ) (frames : List FrameData) (ending : SourceEnding) →
         Feed bytes frames ending
@@ -20,4 +25,13 @@ pub fn feed_has_one_reading()
     ensures grows { (bytes : List ℕ) (frames : List FrameData) (frame : FrameData) →
         IsFrame frame → Feed bytes frames End
         → Feed (bytes ++ feed_record frame) (frames ++ frame ∷ []) End }
+{}
+
+/// Law: a frame has 18 to 16,383 bytes, of which the last 4 are its check sequence, and a counter
+/// of 48 bits.
+pub fn the_limits_of_a_frame()
+    ensures least { MIN_FRAME_LEN ≡ 18 }
+    ensures most { MAX_FRAME_LEN ≡ 16383 }
+    ensures check_sequence { CHECK_SEQUENCE_LEN ≡ 4 }
+    ensures counter { COUNTER_BITS ≡ 48 }
 {}

@@ -3,24 +3,20 @@
 #![tactic(auto)]
 
 mod buffer;
+mod counter;
 mod feed;
 mod frame;
-mod head;
 mod laws;
-mod limits;
 mod owned;
-mod reading;
 mod source;
-mod writing;
 
 pub use buffer::FrameBuf;
-pub use feed::FeedSource;
-pub use frame::Frame;
-pub use laws::feed_has_one_reading;
-pub use limits::{CHECK_SEQUENCE_LEN, COUNTER_BITS, MAX_FRAME_LEN, MIN_FRAME_LEN};
+pub use counter::{COUNTER_BITS, COUNTER_LEN, counter_bytes, counter_of};
+pub use feed::{FeedSource, FeedWriteFault, write_feed};
+pub use frame::{CHECK_SEQUENCE_LEN, Frame, MAX_FRAME_LEN, MIN_FRAME_LEN};
+pub use laws::{feed_has_one_reading, the_limits_of_a_frame};
 pub use owned::OwnedFrame;
 pub use source::{FrameSource, Next, SourceEnding, SourceFault};
-pub use writing::{FeedWriteFault, write_feed};
 
 #[cfg(test)]
 mod tests;

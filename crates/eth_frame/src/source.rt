@@ -1,4 +1,6 @@
+//! What a source of frames is.
 use crate::buffer::FrameBuf;
+use std::io;
 use thiserror::Error;
 
 /// What a source gave.
@@ -27,6 +29,18 @@ pub enum SourceFault {
     Device,
 }
 
+/// Each error of a reader is its device's.
+impl From<io::Error> for SourceFault {
+    ghost use Rattle.std.specs.Prelude.{◌≡◌};
+    ghost use Rattle.eth_frame.specs.declared.source.SourceFault.TheVariants.{Device};
+
+    ghost from_gives = { λ _ fault. fault ≡ Device };
+
+    fn from(_: io::Error) -> SourceFault {
+        SourceFault::Device
+    }
+}
+
 /// How a source has ended.
 #[derive(Clone, Copy, Debug, PartialEq, Eq)]
 pub enum SourceEnding {
@@ -40,7 +54,7 @@ impl SourceEnding {
     ghost use Rattle.std.specs.Prelude.{◌≡◌};
     ghost use Rattle.eth_frame.specs.Source.{answer, ending_of};
 
-    /// What a source answers once it has ended so.
+    /// What a source with this ending answers.
     pub fn answer(self) -> Result<Next, SourceFault>
         ensures answer { result ≡ answer self }
     {
@@ -50,7 +64,7 @@ impl SourceEnding {
         }
     }
 
-    /// How a source has ended that answered so: `None` where it gave a frame.
+    /// The ending of a source that gave this answer: `None` if it gave a frame.
     pub fn of(answer: Result<Next, SourceFault>) -> Option<SourceEnding>
         ensures ending { result ≡ ending_of answer }
     {
@@ -68,41 +82,42 @@ pub trait FrameSource {
     ghost use Rattle.eth_frame.specs.declared.source.SourceEnding.{SourceEnding};
     ghost use Rattle.eth_frame.specs.declared.source.SourceEnding.TheVariants.{End, Fault};
     ghost use Rattle.eth_frame.specs.declared.source.SourceFault.TheVariants.{Device};
-    ghost use Rattle.eth_frame.specs.Source.{Left, only, answer, ending_of, GivesFirst, GivesEnding, Fails};
+    ghost use Rattle.eth_frame.specs.Source.{Left, no_frames, answer, ending_of, GivesFirst, GivesEnding, Fails};
 
-    // The frames that are left and the ending after them, where the source tells its frames.
+    // The frames that are left and the ending after them: `None` if the source doesn't say.
     ghost left: { Self → Option Left };
 
     // How often the source's device has failed.
     ghost failures: { Self → ℕ };
 
     // How the source has ended, once it has.
-    ghost over: { Self → Option SourceEnding };
+    ghost ending: { Self → Option SourceEnding };
 
     /// Puts the next frame into the buffer, or answers how the source has ended. From then on
-    /// each call answers the same. Where no frame is answered, the buffer holds none.
+    /// each call answers the same. After any answer but a frame the buffer is empty.
     fn next(&mut self, buffer: &mut FrameBuf) -> Result<Next, SourceFault>
         // Of every source.
-        ensures repeats { IfSome (over self.old) (λ ending. result ≡ answer ending) }
-        ensures ended { over self.new ≡ ending_of result }
+        ensures repeats { IfSome (ending self.old) (λ last. result ≡ answer last) }
+        ensures ended { ending self.new ≡ ending_of result }
         ensures held { IsSome buffer.new ↔ (result ≡ Ok Next.Frame) }
         ensures failures { failures self.old ≤ failures self.new }
         ensures device { result ≡ Err SourceFault.Device → 0 < failures self.new }
+        ensures failed_now { result ≡ Err SourceFault.Device → ending self.old ≡ None
+            → failures self.old < failures self.new }
 
-        // Of a source that tells its frames.
+        // Of a source that says its frames.
         ensures frame { result ≡ Ok Next.Frame
             → GivesFirst (left self.old) buffer.new (left self.new) }
         ensures end { result ≡ Ok Next.End → GivesEnding (left self.old) End (left self.new) }
         ensures fault { IfErr result (λ fault. (fault ≡ Device)
             ⊎ GivesEnding (left self.old) (Fault fault) (left self.new)) }
         ensures failed { result ≡ Err SourceFault.Device
-            → GivesEnding (left self.old) (Fault Device) (left self.new)
-            ⊎ Fails (left self.old) (over self.old) (failures self.old)
-            (left self.new) (failures self.new) };
+            → GivesEnding (left self.old) (Fault Device) (left self.new) ⊎ Fails (left self.old)
+            (ending self.old) (failures self.old) (left self.new) (failures self.new) };
 
     // Where a source has ended, nothing is left but its ending.
-    ghost nothing_left: { (s : Self) (ending : SourceEnding) →
-        over s ≡ Some ending → IfSome (left s) (λ l. l ≡ only ending) };
+    ghost nothing_left: { (s : Self) (last : SourceEnding) →
+        ending s ≡ Some last → IfSome (left s) (λ l. l ≡ no_frames last) };
 
     // Where the ending is the device's failure, the device has failed.
     ghost device_failed: { (s : Self) →

@@ -1,8 +1,10 @@
 -- One record of a feed: the frame's counter in 6 bytes, its marks in 1, its length in 2, and then
 -- its bytes. A number's lowest byte comes first.
-use Rattle.std.specs.Prelude.{ℕ, ◌+◌, ◌==◌, Bool, not, ◌||◌, if◌then◌else◌, nat_lt, List, [], ◌∷◌, ◌++◌, length, take, drop, slice_index, Option, None, Some, Result, Ok, Err, bit_and}
-use Rattle.std.specs.Int.{w16, w64, to_le_bytes, from_le_bytes, bytes_low_first}
-use Rattle.eth_frame.specs.declared.limits.TheConstants.{MIN_FRAME_LEN, MAX_FRAME_LEN, HEAD_LEN, MAX_MARKS}
+use Rattle.std.specs.Prelude.{ℕ, ◌+◌, ◌==◌, Bool, not, ◌||◌, if◌then◌else◌, nat_lt, List, ◌∷◌, ◌++◌, length, take, drop, slice_index, Option, None, Some, Result, Ok, Err, bit_and}
+use Rattle.std.specs.Int.{w16, to_le_bytes, bytes_low_first}
+use Rattle.eth_frame.specs.Bytes.{u16_at, u48_at}
+use Rattle.eth_frame.specs.declared.frame.TheConstants.{MIN_FRAME_LEN, MAX_FRAME_LEN}
+use Rattle.eth_frame.specs.declared.feed.head.TheConstants.{HEAD_LEN, MAX_MARKS}
 use Rattle.eth_frame.specs.declared.source.SourceFault.{SourceFault}
 use Rattle.eth_frame.specs.declared.source.SourceFault.TheVariants.{Truncated, Length, Marks}
 use Rattle.eth_frame.specs.declared.source.SourceEnding.{SourceEnding}
@@ -33,15 +35,13 @@ feed_record frame = record_head frame ++ frame.bytes
 
 -- the counter, the marks and the length that the 9 bytes at the front say
 abbrev pub counter_field : List ℕ → ℕ
-counter_field bytes =
-    from_le_bytes w64 (slice_index bytes 0 ∷ slice_index bytes 1 ∷ slice_index bytes 2
-    ∷ slice_index bytes 3 ∷ slice_index bytes 4 ∷ slice_index bytes 5 ∷ 0 ∷ 0 ∷ [])
+counter_field bytes = u48_at bytes 0
 
 abbrev pub marks_field : List ℕ → ℕ
 marks_field bytes = slice_index bytes 6
 
 abbrev pub length_field : List ℕ → ℕ
-length_field bytes = from_le_bytes w16 (slice_index bytes 7 ∷ slice_index bytes 8 ∷ [])
+length_field bytes = u16_at bytes 7
 
 -- whether bit 0 of the marks is set, and bit 1
 abbrev pub has_crc_error : ℕ → Bool
@@ -65,7 +65,7 @@ frame_at bytes =
     frame_of (counter_field bytes) (has_crc_error marks) (has_frame_error marks)
     (take (length_field bytes) (drop HEAD_LEN bytes))
 
--- the frame after a head that is well, where all its bytes are there
+-- the frame after a valid head, if all its bytes are there
 abbrev pub body_at : Option SourceFault → List ℕ → Result FrameData SourceEnding
 body_at (Some fault) bytes = Err (Fault fault)
 body_at None bytes =

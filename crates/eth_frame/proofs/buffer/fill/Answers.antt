@@ -2,7 +2,7 @@ use Rattle.std.proofs.Common.{◌-◌, length, rules, subst, sym}
 use Rattle.std.specs.Io.KnownBytes.{Consumes}
 use Rattle.std.proofs.KnownBytes.{Consumes-trans}
 use Rattle.eth_frame.proofs.Filled.{take-put_mid-more}
-use Rattle.eth_frame.proofs.reading.fill.Goals as goal
+use Rattle.eth_frame.proofs.buffer.fill.Goals as goal
 
 pub pieces-preserved : goal.pieces-preserved
 pieces-preserved g c =

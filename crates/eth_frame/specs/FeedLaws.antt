@@ -3,20 +3,21 @@
 use Rattle.std.specs.Prelude.{ℕ, zero, suc, ◌≡◌, ◌<◌, ◌+◌, ◌-◌, ◌==◌, ◌||◌, nat_lt, Bool, true, false, List, [], ◌∷◌, length, Option, None, Some, Result, Ok, Err, IfSome, refl}
 use Rattle.std.proofs.Common.{cond, sym, ap, subst, ◌∙◌, lit<}
 use Rattle.std.proofs.lemmas.Bool.{cond_both, false≢true}
-use Rattle.eth_frame.specs.declared.limits.TheConstants.{MIN_FRAME_LEN, MAX_FRAME_LEN, HEAD_LEN, MAX_MARKS}
+use Rattle.eth_frame.specs.declared.frame.TheConstants.{MIN_FRAME_LEN, MAX_FRAME_LEN}
+use Rattle.eth_frame.specs.declared.feed.head.TheConstants.{HEAD_LEN, MAX_MARKS}
 use Rattle.eth_frame.specs.declared.source.SourceFault.{SourceFault}
 use Rattle.eth_frame.specs.declared.source.SourceFault.TheVariants.{Truncated, Length, Marks, Device}
 use Rattle.eth_frame.specs.declared.source.SourceEnding.{SourceEnding}
 use Rattle.eth_frame.specs.declared.source.SourceEnding.TheVariants.{End, Fault}
 use Rattle.eth_frame.specs.Frame.{FrameData}
-use Rattle.eth_frame.specs.Source.{Left, only}
-use Rattle.eth_frame.specs.Record.{record_at, head_fault, body_at, length_field, marks_field, frame_at}
+use Rattle.eth_frame.specs.Source.{Left, no_frames}
+use Rattle.eth_frame.specs.FeedRecord.{record_at, head_fault, body_at, length_field, marks_field, frame_at}
 use Rattle.eth_frame.specs.Feed.{left_from, after_record, left_of_source, failures_before}
 
 pub left_once_ended : (ended : Option SourceEnding) (known : Option (List ℕ)) (ending : SourceEnding)
-    → ended ≡ Some ending → IfSome (left_of_source ended known) (λ l. l ≡ only ending)
+    → ended ≡ Some ending → IfSome (left_of_source ended known) (λ l. l ≡ no_frames ending)
 left_once_ended ended known ending e =
-    subst (λ (o : Option SourceEnding). IfSome (left_of_source o known) (λ l. l ≡ only ending)) (sym e) refl
+    subst (λ (o : Option SourceEnding). IfSome (left_of_source o known) (λ l. l ≡ no_frames ending)) (sym e) refl
 
 -- ---- no bytes say that the device failed
 

@@ -1,9 +1,9 @@
 use Rattle.std.proofs.Common.{◌≡◌, ◌<◌, length, None, arith, take_all, subst}
 use Rattle.std.proofs.lemmas.Result.{err_from_is_err_and}
 use Rattle.std.specs.Io.KnownBytes.{Consumes}
-use Rattle.eth_frame.specs.declared.limits.TheConstants.{HEAD_LEN}
+use Rattle.eth_frame.specs.declared.feed.head.TheConstants.{HEAD_LEN}
 use Rattle.eth_frame.proofs.Taken.{TakesRecord-end, TakesRecord-short, TakesRecord-head, TakesRecord-cut, TakesRecord-held}
-use Rattle.eth_frame.proofs.feed.take_record.Goals as goal
+use Rattle.eth_frame.proofs.feed.source.take_record.Goals as goal
 
 pub returns-then-filled-eq0-clause-record : goal.returns-then-filled-eq0-clause-record
 returns-then-filled-eq0-clause-record g c =
@@ -40,5 +40,5 @@ returns-clause-record g c =
     let len : length c.fill.new.places ≡ HEAD_LEN = omega (arith, c.fill.auto.places) in
     let whole = take_all c.in_ok-filled.filled c.fill.new.places (omega arith) in
     let head = c.in_ok-head.ensures in
-    TakesRecord-held (g.R.Read.remaining c.args.reader.now) (g.R.Read.remaining c.fill.new.reader) (g.R.Read.remaining c.take_body.new.reader) c.fill.new.places c.in_ok-head.head c.take_body.new.self
+    TakesRecord-held (g.R.Read.remaining c.args.reader.now) (g.R.Read.remaining c.fill.new.reader) (g.R.Read.remaining c.take_body.new.reader) c.fill.new.places c.in_ok-head.head c.take_body.new.buffer
     len head.fault (record { counter = head.counter; crc_error = head.crc_error; frame_error = head.frame_error; len = head.len }) (subst (Consumes _ _) whole c.in_ok-filled.ensures.taken) c.in_ok-take_body.ensures.ok
