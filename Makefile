@@ -1,11 +1,14 @@
-# The commands of the README. `rt` is the toolchain's command; RT names another one.
+# `make` or `make help` lists the targets. `rt` is the toolchain's command; RT names another one.
 RT ?= rt
+export RT
 
-.PHONY: demo test build bench clean
+.PHONY: help demo build check test refused-growth bench clean
 
-# A short tour, on the samples in examples/.
-demo: build
-	bin/bpfrec asm crates/bpfrec_cases/data/filters/udp_port.bpf > bin/udp_port.txt
+help: ## lists the targets
+	@grep -E '^[a-z-]+:.*## ' Makefile | sed -E 's/:[^#]*## /\t/' | expand -t 18
+
+demo: build ## builds the program, and shows a short tour on the samples in examples/
+	bin/bpfrec asm examples/filters/udp_port.bpf > bin/udp_port.txt
 	bin/bpfrec verify bin/udp_port.txt
 	bin/bpfrec dis bin/udp_port.txt
 	bin/bpfrec < examples/arp_frame.txt
@@ -14,25 +17,36 @@ demo: build
 	bin/bpfrec run examples/arp.txt ffffffffffff0200000000010800
 	-bin/bpfrec verify examples/jump_out.txt
 
-# The gate: every proof from nothing, every edit that must fail, every test, every stored run.
-test:
+build: ## proves the program and all that it stands on, and leaves it at bin/bpfrec
+	@tools/build
+
+# For whoever edits: over the work that each crate's out/ keeps, so what is unchanged takes seconds.
+# It proves every crate, then runs the tests of the libraries that have a #[test]. It runs no edit
+# that must fail and no stored run of a program: `make test` does.
+check: ## proves all crates and runs their tests, over kept work
+	tools/check_links
+	tools/check_examples
+	$(RT) all check
+	@for tests in $$(grep -l -r --include=*.rt '#\[test\]' crates/*/src | cut -d/ -f2 | sort -u); do \
+		echo "== tests of $$tests"; (cd crates/$$tests && $(RT) test) || exit 1; done
+
+test: ## the gate: all proofs from scratch, each edit that must fail, all tests, all stored runs
 	$(RT) ci
 
-# Proves the program and all that it stands on, and leaves it at bin/bpfrec.
-build:
+refused-growth: build ## refuses each growth of memory of each command in turn; about a minute
+	tools/refused_growth
+
+bench: bin/pcap_filter ## times the filter machine beside libpcap's, and compares their values
+	@command -v python3 || { echo "make bench wants libpcap-dev, python3 and cc: python3 is missing"; exit 1; }
+	tools/build bench
+	bench/compare.py bin/bench bin/pcap_filter bin/bench_work
+
+bin/pcap_filter: bench/pcap_filter.c
+	@command -v $(CC) || { echo "make bench wants libpcap-dev, python3 and cc: $(CC) is missing"; exit 1; }
+	@test -f /usr/include/pcap/bpf.h || \
+		{ echo "make bench wants libpcap-dev, python3 and cc: libpcap-dev is missing"; exit 1; }
 	@mkdir -p bin
-	@cd crates/bpfrec && $(RT) run < stdin > ../../bin/build.log 2>&1 || { cat ../../bin/build.log; exit 1; }
-	@cp crates/bpfrec/out/bpfrec bin/bpfrec
-
-clean:
-	rm -rf bin crates/*/out
-
-# Times the filter machine beside libpcap's bpf_filter, and checks that both give the same values.
-bench: bin/bench/pcap_filter
-	cd crates/bpf_bench && $(RT) run > /dev/null 2>&1
-	python3 bench/run.py crates/bpf_bench/out/bpf_bench bin/bench/pcap_filter bin/bench/work
-
-bin/bench/pcap_filter: bench/pcap_filter.c
-	@mkdir -p bin/bench
-	@test -f /usr/include/pcap/bpf.h || { apt-get update -qq && apt-get install -y -qq libpcap-dev; } > bin/bench/apt.log 2>&1 || { echo "libpcap's header is missing: install Debian's libpcap-dev, as root"; exit 1; }
 	$(CC) -O2 -o $@ bench/pcap_filter.c -lpcap
+
+clean: ## removes what a build has made
+	rm -rf bin crates/*/out

@@ -1,4 +1,5 @@
-/* Times libpcap's interpreter on the programs and frames of the bench: the other side of bpf_bench, with the same words. */
+/* Times libpcap's interpreter on the programs and frames of compare.py: the other side of `bench machine`,
+ * with the same words after `machine`, and the same lines of output but that of the steps. */
 #include <sys/types.h>
 #include <pcap/bpf.h>
 #include <inttypes.h>
@@ -61,6 +62,6 @@ int main(int argc, char **argv)
             sum += bpf_filter(program, frames + i * length, (u_int)length, (u_int)length);
     clock_gettime(CLOCK_MONOTONIC, &end);
     double spent = (double)(end.tv_sec - begin.tv_sec) * 1e9 + (double)(end.tv_nsec - begin.tv_nsec);
-    printf("0 %.0f %" PRIu64 "\n", spent * 1000 / ((double)count * (double)turns), sum);
+    printf("libpcap.frame %zu %.3f %" PRIu64 "\n", length, spent / ((double)count * (double)turns), sum);
     return 0;
 }

@@ -1,6 +1,7 @@
 pub mod Numerals
+pub mod MnemonicNames
+pub mod OperandTable
 pub mod Lexemes
-pub mod Faults
 pub mod LineEnds
 pub mod Programs
 pub mod Shapes

@@ -15,7 +15,8 @@ value_more base ds i value digit within so_far is =
     rw (so_far, is) more
 
 -- a number that is too large with some of its digits is too large with all
-pub too_large : (base most : ℕ) (ds : List ℕ) (i value digit : ℕ) → 2 ≤ base → i < length ds → value ≡ digits_value base (take i ds) → digit ≡ digit_value (get_or ds i 0)
+pub too_large : (base most : ℕ) (ds : List ℕ) (i value digit : ℕ) → 2 ≤ base → i < length ds → value ≡ digits_value base (take i ds)
+    → digit ≡ digit_value (get_or ds i 0)
     → most < value * base + digit → digits_number base most ds ≡ None
 too_large base most ds i value digit least within so_far is over =
     let more = value_more base ds i value digit within so_far is in

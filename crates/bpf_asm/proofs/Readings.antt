@@ -6,8 +6,9 @@ use Rattle.bpf_asm.specs.declared.mnemonic.Mnemonic.{Mnemonic}
 use Rattle.bpf_asm.specs.Tokens.{Token, line_tokens, ◌>>=◌}
 use Rattle.bpf_asm.specs.Tokens.Token.{NameToken, NumberToken, SignToken}
 use Rattle.bpf_asm.specs.Operands.{Operand, operand_of}
-use Rattle.bpf_asm.specs.Templates.{Template, mnemonic_of, template_of}
-use Rattle.bpf_asm.specs.Lines.{Reading, labels_of, after_labels, insn_of, with_mnemonic, with_shape, allowed, reading_of}
+use Rattle.bpf_asm.specs.Mnemonics.{mnemonic_of}
+use Rattle.bpf_asm.specs.Templates.{Template, template_of}
+use Rattle.bpf_asm.specs.Lines.{Reading, labels_of, after_labels, insn_of, with_mnemonic, with_shape, insn_or_fault, reading_of}
 use Rattle.bpf_asm.specs.Grammar.{WritesInsn, WritesInsnOrNone, label_tokens, Shape, HasShape}
 use Rattle.bpf_asm.proofs.Shapes.{operand_is, operand_read}
 
@@ -30,12 +31,14 @@ labels_split (NameToken name ∷ SignToken c ∷ ts) = label_cases name c ts (la
 NoLabel : List Token → Type 0
 NoLabel ts = (labels_of ts ≡ []) × (after_labels ts ≡ ts)
 
-labels_back : (names : List (List ℕ)) (rest : List Token) → NoLabel rest → (labels_of (label_tokens names ++ rest) ≡ names) × (after_labels (label_tokens names ++ rest) ≡ rest)
+labels_back : (names : List (List ℕ)) (rest : List Token) → NoLabel rest
+    → (labels_of (label_tokens names ++ rest) ≡ names) × (after_labels (label_tokens names ++ rest) ≡ rest)
 unfolding NoLabel
 labels_back [] rest none = none
 labels_back (name ∷ names) rest none = let more = labels_back names rest none in (ap (λ ns. name ∷ ns) more.0, more.1)
 
-colon_cases : (name : List ℕ) (c : ℕ) (ts : List Token) (operand : Operand) → operand_of (SignToken c ∷ ts) ≡ Some operand → (eqb c 58 ≡ true) ⊎ (eqb c 58 ≡ false) → NoLabel (NameToken name ∷ SignToken c ∷ ts)
+colon_cases : (name : List ℕ) (c : ℕ) (ts : List Token) (operand : Operand) → operand_of (SignToken c ∷ ts) ≡ Some operand
+    → (eqb c 58 ≡ true) ⊎ (eqb c 58 ≡ false) → NoLabel (NameToken name ∷ SignToken c ∷ ts)
 unfolding NoLabel
 colon_cases name c ts operand read (inl e) =
     let colon : operand_of (SignToken 58 ∷ ts) ≡ Some operand = ap (λ b. operand_of (SignToken b ∷ ts)) (sym (eqb-true c 58 e)) ∙ read in
@@ -59,18 +62,31 @@ no_label (Some template) rest h =
 written_so : (template : Template) (insn : Option Template) (ts : List Token) → Some template ≡ insn → WritesInsn template ts → WritesInsnOrNone insn ts
 written_so template insn ts e h = let P : Option Template → Type 0 = λ i. WritesInsnOrNone i ts in subst P e h
 
-template_cases : (name : List ℕ) (ts : List Token) (insn : Option Template) (mnemonic : Mnemonic) (operand : Operand) (t : Option Template) → mnemonic_of name ≡ Some mnemonic → operand_of ts ≡ Some operand → template_of mnemonic operand ≡ t
-    → allowed t ≡ Ok insn → WritesInsnOrNone insn (NameToken name ∷ ts)
+template_cases : (name : List ℕ) (ts : List Token) (insn : Option Template) (mnemonic : Mnemonic) (operand : Operand) (t : Option Template)
+    → mnemonic_of name ≡ Some mnemonic → operand_of ts ≡ Some operand → template_of mnemonic operand ≡ t
+    → insn_or_fault t ≡ Ok insn → WritesInsnOrNone insn (NameToken name ∷ ts)
 template_cases name ts insn mnemonic operand None m o t e = cc
 template_cases name ts insn mnemonic operand (Some template) m o t e =
     let same : Some template ≡ insn = cc in
-    written_so template insn (NameToken name ∷ ts) same (record { name = name; mnemonic = mnemonic; operand = operand; operand_tokens = ts; tokens = refl; known = m; written = operand_is ts operand o; taken = t })
+    written_so template insn (NameToken name ∷ ts) same
+    (record {
+      name = name;
+      mnemonic = mnemonic;
+      operand = operand;
+      operand_tokens = ts;
+      tokens = refl;
+      known = m;
+      written = operand_is ts operand o;
+      taken = t;
+    })
 
-operand_cases : (name : List ℕ) (ts : List Token) (insn : Option Template) (mnemonic : Mnemonic) (o : Option Operand) → mnemonic_of name ≡ Some mnemonic → operand_of ts ≡ o → with_shape mnemonic o ≡ Ok insn → WritesInsnOrNone insn (NameToken name ∷ ts)
+operand_cases : (name : List ℕ) (ts : List Token) (insn : Option Template) (mnemonic : Mnemonic) (o : Option Operand) → mnemonic_of name ≡ Some mnemonic
+    → operand_of ts ≡ o → with_shape mnemonic o ≡ Ok insn → WritesInsnOrNone insn (NameToken name ∷ ts)
 operand_cases name ts insn mnemonic None m o e = cc
 operand_cases name ts insn mnemonic (Some operand) m o e = template_cases name ts insn mnemonic operand (template_of mnemonic operand) m o refl e
 
-mnemonic_cases : (name : List ℕ) (ts : List Token) (insn : Option Template) (m : Option Mnemonic) → mnemonic_of name ≡ m → with_mnemonic m ts ≡ Ok insn → WritesInsnOrNone insn (NameToken name ∷ ts)
+mnemonic_cases : (name : List ℕ) (ts : List Token) (insn : Option Template) (m : Option Mnemonic) → mnemonic_of name ≡ m → with_mnemonic m ts ≡ Ok insn
+    → WritesInsnOrNone insn (NameToken name ∷ ts)
 mnemonic_cases name ts insn None m e = cc
 mnemonic_cases name ts insn (Some mnemonic) m e = operand_cases name ts insn mnemonic (operand_of ts) m refl e
 
@@ -85,20 +101,26 @@ insn_is (NameToken name ∷ ts) insn e = mnemonic_cases name ts insn (mnemonic_o
 insn_read : (insn : Option Template) (ts : List Token) → WritesInsnOrNone insn ts → insn_of ts ≡ Ok insn
 insn_read None ts h = ap insn_of h
 insn_read (Some template) ts h =
-    ap insn_of h.tokens ∙ (ap (λ m. with_mnemonic m h.operand_tokens) h.known ∙ (ap (with_shape h.mnemonic) (operand_read h.operand h.operand_tokens h.written) ∙ ap allowed h.taken))
+    ap insn_of h.tokens ∙ (ap (λ m. with_mnemonic m h.operand_tokens) h.known ∙
+    (ap (with_shape h.mnemonic) (operand_read h.operand h.operand_tokens h.written) ∙ ap insn_or_fault h.taken))
 
 read_as : List Token → Reading
 read_as tokens = record { labels = labels_of tokens; insn = insn_of (after_labels tokens) }
 
-reading_cases : (line : List ℕ) (shape : Shape) (r : Result (List Token) LineFault) → line_tokens line ≡ r → (r >>= λ tokens. Ok (read_as tokens)) ≡ Ok (record { labels = shape.labels; insn = Ok shape.insn }) → HasShape line shape
+reading_cases : (line : List ℕ) (shape : Shape) (r : Result (List Token) LineFault) → line_tokens line ≡ r
+    → (r >>= λ tokens. Ok (read_as tokens)) ≡ Ok (record { labels = shape.labels; insn = Ok shape.insn }) → HasShape line shape
 unfolding read_as
 reading_cases line shape (Err fault) r e = cc
 reading_cases line shape (Ok tokens) r e =
     let want : Reading = record { labels = shape.labels; insn = Ok shape.insn } in
     let same : read_as tokens ≡ want = cc in
     let labels : labels_of tokens ≡ shape.labels = ap (λ (x : Reading). x.labels) same in
-    let insn : insn_of (after_labels tokens) ≡ Ok shape.insn = ap (λ (x : Reading). x.insn) same in
-    (after_labels tokens, r ∙ ap Ok (labels_split tokens ∙ ap (λ ns. label_tokens ns ++ after_labels tokens) labels), insn_is (after_labels tokens) shape.insn insn)
+    let insn : insn_of (after_labels tokens) ≡ Ok shape.insn = ap (λ (x : Reading). x.insn) same in (
+      after_labels tokens,
+      r ∙ ap Ok (labels_split tokens ∙ ap (λ ns. label_tokens ns ++ after_labels tokens) labels),
+      insn_is
+          (after_labels tokens) shape.insn insn,
+    )
 
 -- a line that is read without a fault has that shape
 pub shape_is : (line : List ℕ) (shape : Shape) → reading_of line ≡ Ok (record { labels = shape.labels; insn = Ok shape.insn }) → HasShape line shape

@@ -1,4 +1,6 @@
 -- Lists of lines and of their shapes: put together, cut, and what their labels and instructions are then.
+-- idea: each fact goes by induction over the first list; two elements of one list are compared by their fronts, so they are
+-- the same, or one stands in the front of the other
 use Rattle.std.proofs.Common.{ℕ, suc, ◌+◌, ◌≡◌, ◌≢◌, ◌<◌, ◌⊎◌, inl, inr, List, [], ◌∷◌, ◌++◌, map, length, Option, None, Some, refl, sym, ◌∙◌, ap, arith, subst, AllPairs, append_assoc, append-nil, length-append}
 use Rattle.std.specs.List.{cons_option}
 use Rattle.std.proofs.lemmas.List.{map-append, get_or-map, length-map, get_or_append_left}
@@ -7,7 +9,7 @@ use Rattle.std.proofs.lemmas.Grind.{flat_map-append}
 use Rattle.bpf_insn.specs.declared.insn.Insn.{Insn}
 use Rattle.bpf_asm.specs.Templates.{Template}
 use Rattle.bpf_asm.specs.Grammar.{Shape, HasShape}
-use Rattle.bpf_asm.specs.Denotes.{HaveShapes, Label, labels_from, templates_of, place_after, IsInsn, AreInsns}
+use Rattle.bpf_asm.specs.Denotes.{HaveShapes, Label, labels_from, templates_of, index_after, IsInsn, AreInsns}
 use Rattle.bpf_asm.specs.FirstFault.{names_of, Once}
 
 -- Two elements of a list, where they are the same one.
@@ -40,7 +42,8 @@ two_at {X} z w b1 x a1 b2 y a2 e h =
     subst P e (two_more z b1 x a1 b2 y a2 h)
 
 -- two elements of a list are the same, or one stands before the other
-pub two_places : {X : Type 0} (b1 : List X) (x : X) (a1 b2 : List X) (y : X) (a2 : List X) → b1 ++ x ∷ a1 ≡ b2 ++ y ∷ a2 → Same b1 x a1 b2 y a2 ⊎ (Later b1 x a1 b2 y a2 ⊎ Later b2 y a2 b1 x a1)
+pub two_places : {X : Type 0} (b1 : List X) (x : X) (a1 b2 : List X) (y : X) (a2 : List X) → b1 ++ x ∷ a1 ≡ b2 ++ y ∷ a2
+    → Same b1 x a1 b2 y a2 ⊎ (Later b1 x a1 b2 y a2 ⊎ Later b2 y a2 b1 x a1)
 two_places [] x a1 [] y a2 e =
     let here : x ≡ y = cc in
     let after : a1 ≡ a2 = cc in
@@ -71,9 +74,16 @@ cut_shapes [] after shapes h = record { front = []; back = shapes; whole = refl;
 cut_shapes (line ∷ before) after [] h = absurd h
 cut_shapes (line ∷ before) after (shape ∷ shapes) h =
     let more = cut_shapes before after shapes h.1 in
-    record { front = shape ∷ more.front; back = more.back; whole = ap (λ l. shape ∷ l) more.whole; shaped_front = (h.0, more.shaped_front); shaped_back = more.shaped_back }
+    record {
+      front = shape ∷ more.front;
+      back = more.back;
+      whole = ap (λ l. shape ∷ l) more.whole;
+      shaped_front = (h.0, more.shaped_front);
+      shaped_back = more.shaped_back;
+    }
 
-pub one_more_shape : (lines : List (List ℕ)) (shapes : List Shape) (line : List ℕ) (shape : Shape) → HaveShapes lines shapes → HasShape line shape → HaveShapes (lines ++ line ∷ []) (shapes ++ shape ∷ [])
+pub one_more_shape : (lines : List (List ℕ)) (shapes : List Shape) (line : List ℕ) (shape : Shape) → HaveShapes lines shapes → HasShape line shape
+    → HaveShapes (lines ++ line ∷ []) (shapes ++ shape ∷ [])
 one_more_shape [] [] line shape h one = (one, tt)
 one_more_shape [] (s ∷ shapes) line shape h one = absurd h
 one_more_shape (l ∷ lines) [] line shape h one = absurd h
@@ -99,35 +109,38 @@ pub count_append : (ss ts : List Shape) → count (ss ++ ts) ≡ count ss + coun
 count_append ss ts = ap length (templates_append ss ts) ∙ length-append (templates_of ss) (templates_of ts)
 
 abbrev pub label_at : ℕ → List ℕ → Label
-label_at place name = record { name = name; place = place }
+label_at index name = record { name = name; at = index }
 
-counted : (place : ℕ) (insn : Option Template) (ts : List Template) → place_after place insn + length ts ≡ place + length (cons_option insn ts)
-counted place None ts = refl
-counted place (Some template) ts = omega arith
+counted : (index : ℕ) (insn : Option Template) (ts : List Template) → index_after index insn + length ts ≡ index + length (cons_option insn ts)
+counted index None ts = refl
+counted index (Some template) ts = omega arith
 
-pub labels_append : (place : ℕ) (ss ts : List Shape) → labels_from place (ss ++ ts) ≡ labels_from place ss ++ labels_from (place + count ss) ts
-labels_append place [] ts = let e : place ≡ place + 0 = omega arith in ap (λ p. labels_from p ts) e
-labels_append place (s ∷ ss) ts =
-    ap (λ ls. map (label_at place) s.labels ++ ls) (labels_append (place_after place s.insn) ss ts ∙ ap (λ p. labels_from (place_after place s.insn) ss ++ labels_from p ts) (counted place s.insn (templates_of ss)))
-    ∙ sym (append_assoc (map (label_at place) s.labels) (labels_from (place_after place s.insn) ss) (labels_from (place + count (s ∷ ss)) ts))
+pub labels_append : (index : ℕ) (ss ts : List Shape) → labels_from index (ss ++ ts) ≡ labels_from index ss ++ labels_from (index + count ss) ts
+labels_append index [] ts = let e : index ≡ index + 0 = omega arith in ap (λ p. labels_from p ts) e
+labels_append index (s ∷ ss) ts =
+    ap (λ ls. map (label_at index) s.labels ++ ls)
+    (labels_append (index_after index s.insn) ss ts ∙ ap (λ p. labels_from (index_after index s.insn) ss ++ labels_from p ts)
+    (counted index s.insn (templates_of ss)))
+    ∙ sym (append_assoc (map (label_at index) s.labels) (labels_from (index_after index s.insn) ss) (labels_from (index + count (s ∷ ss)) ts))
 
 -- the labels of one more line
 pub labels_more : (ss : List Shape) (s : Shape) → labels_from 0 (ss ++ s ∷ []) ≡ labels_from 0 ss ++ map (label_at (count ss)) s.labels
 labels_more ss s =
     let e : 0 + count ss ≡ count ss = omega arith in
-    labels_append 0 ss (s ∷ []) ∙ ap (λ ls. labels_from 0 ss ++ ls) (append-nil (map (label_at (0 + count ss)) s.labels) ∙ ap (λ p. map (label_at p) s.labels) e)
+    labels_append 0 ss (s ∷ []) ∙ ap (λ ls. labels_from 0 ss ++ ls)
+    (append-nil (map (label_at (0 + count ss)) s.labels) ∙ ap (λ p. map (label_at p) s.labels) e)
 
-names_at : (place : ℕ) (names : List (List ℕ)) → map (λ (l : Label). l.name) (map (label_at place) names) ≡ names
-names_at place [] = refl
-names_at place (name ∷ names) = ap (λ ns. name ∷ ns) (names_at place names)
+names_at : (index : ℕ) (names : List (List ℕ)) → map (λ (l : Label). l.name) (map (label_at index) names) ≡ names
+names_at index [] = refl
+names_at index (name ∷ names) = ap (λ ns. name ∷ ns) (names_at index names)
 
 -- the names of the labels
-pub label_names : (place : ℕ) (ss : List Shape) → map (λ (l : Label). l.name) (labels_from place ss) ≡ names_of ss
-label_names place [] = refl
-label_names place (s ∷ ss) =
-    map-append (λ (l : Label). l.name) (map (label_at place) s.labels) (labels_from (place_after place s.insn) ss)
-    ∙ (ap (λ ns. ns ++ map (λ (l : Label). l.name) (labels_from (place_after place s.insn) ss)) (names_at place s.labels)
-    ∙ ap (λ ns. s.labels ++ ns) (label_names (place_after place s.insn) ss))
+pub label_names : (index : ℕ) (ss : List Shape) → map (λ (l : Label). l.name) (labels_from index ss) ≡ names_of ss
+label_names index [] = refl
+label_names index (s ∷ ss) =
+    map-append (λ (l : Label). l.name) (map (label_at index) s.labels) (labels_from (index_after index s.insn) ss)
+    ∙ (ap (λ ns. ns ++ map (λ (l : Label). l.name) (labels_from (index_after index s.insn) ss)) (names_at index s.labels)
+    ∙ ap (λ ns. s.labels ++ ns) (label_names (index_after index s.insn) ss))
 
 -- no name stands twice as a label
 abbrev pub LabelledOnce : List Label → Type 0
@@ -177,7 +190,8 @@ insns_length labels at (t ∷ ts) [] h = absurd h
 insns_length labels at (t ∷ ts) (i ∷ insns) h = ap suc (insns_length labels (at + 1) ts insns h.1)
 
 -- one of the instructions
-pub insn_within : (labels : List Label) (at : ℕ) (before : List Template) (t : Template) (after : List Template) (insns : List Insn) → AreInsns labels at (before ++ t ∷ after) insns
+pub insn_within : (labels : List Label) (at : ℕ) (before : List Template) (t : Template) (after : List Template) (insns : List Insn)
+    → AreInsns labels at (before ++ t ∷ after) insns
     → (i : Insn) × IsInsn labels (at + length before) t i
 insn_within labels at [] t after [] h = absurd h
 insn_within labels at [] t after (i ∷ insns) h = let P : ℕ → Type 0 = λ p. IsInsn labels p t i in let e : at ≡ at + 0 = omega arith in (i, subst P e h.0)
@@ -189,7 +203,8 @@ insn_within labels at (u ∷ before) t after (i ∷ insns) h =
     (more.0, subst P e more.1)
 
 -- one more instruction
-pub insns_more : (labels : List Label) (at : ℕ) (ts : List Template) (insns : List Insn) (t : Template) (i : Insn) → AreInsns labels at ts insns → IsInsn labels (at + length ts) t i → AreInsns labels at (ts ++ t ∷ []) (insns ++ i ∷ [])
+pub insns_more : (labels : List Label) (at : ℕ) (ts : List Template) (insns : List Insn) (t : Template) (i : Insn) → AreInsns labels at ts insns
+    → IsInsn labels (at + length ts) t i → AreInsns labels at (ts ++ t ∷ []) (insns ++ i ∷ [])
 insns_more labels at [] [] t i h one = let P : ℕ → Type 0 = λ p. IsInsn labels p t i in let e : at + 0 ≡ at = omega arith in (subst P e one, tt)
 insns_more labels at [] (j ∷ insns) t i h one = absurd h
 insns_more labels at (u ∷ ts) [] t i h one = absurd h

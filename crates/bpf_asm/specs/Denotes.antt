@@ -3,7 +3,8 @@ use Rattle.std.specs.Prelude.{ℕ, ◌+◌, ◌≡◌, ◌≢◌, ◌<◌, ◌�
 use Rattle.std.specs.List.{filter_map}
 use Rattle.bpf_insn.specs.declared.insn.Insn.{Insn}
 use Rattle.bpf_insn.specs.declared.insn.TheConstants.{MAX_INSNS}
-use Rattle.bpf_asm.specs.Blanked.{blanked, lines_of}
+use Rattle.bpf_insn.specs.Forms.{code_of}
+use Rattle.bpf_asm.specs.Blanked.{without_comments, lines_of}
 use Rattle.bpf_asm.specs.Templates.{Template, Jump}
 use Rattle.bpf_asm.specs.Templates.Jump.{NoJump, Always, Branch}
 use Rattle.bpf_asm.specs.Grammar.{Shape, HasShape}
@@ -14,61 +15,72 @@ HaveShapes [] [] = Unit {0}
 HaveShapes (line ∷ lines) (shape ∷ shapes) = HasShape line shape × HaveShapes lines shapes
 HaveShapes lines shapes = ⊥
 
--- A label, and the place of the instruction after it.
+-- a label, and the index of the instruction after it
 pub record Label : Type 0 where
   pub name : List ℕ
-  pub place : ℕ
+  pub at : ℕ
 
--- the place after a line, which may have an instruction
-abbrev pub place_after : ℕ → Option Template → ℕ
-place_after place None = place
-place_after place (Some template) = place + 1
+-- the index after a line, which may have an instruction
+abbrev pub index_after : ℕ → Option Template → ℕ
+index_after at None = at
+index_after at (Some template) = at + 1
 
 -- the labels of lines, before the first of which this many instructions stand
 abbrev pub labels_from : ℕ → List Shape → List Label
-labels_from place [] = []
-labels_from place (shape ∷ shapes) =
-    map (λ name. record { name = name; place = place }) shape.labels ++ labels_from (place_after place shape.insn) shapes
+labels_from at [] = []
+labels_from at (shape ∷ shapes) =
+    map (λ name. record { name = name; at = at }) shape.labels
+    ++ labels_from (index_after at shape.insn) shapes
 
 -- the instructions of lines, their labels left open
 abbrev pub templates_of : List Shape → List Template
 templates_of shapes = filter_map (λ shape. shape.insn) shapes
 
--- from the instruction at a place this offset leads to the instruction that the label names: offset 0 is the next instruction
+-- from the instruction with this index the offset leads to the one that the label names: offset 0 is the next one
 abbrev pub Leads : List Label → ℕ → List ℕ → ℕ → Type 0
-Leads labels at name offset = Contains labels (record { name = name; place = at + 1 + offset })
+Leads labels at name offset = Contains labels (record { name = name; at = at + 1 + offset })
 
--- the same in a test, where the offset is a byte, and a label that is left out is the next instruction
+-- the offset of a test's label, which is a byte; a label that is left out is the next instruction
 abbrev pub Branches : List Label → ℕ → Option (List ℕ) → ℕ → Type 0
 Branches labels at None offset = offset ≡ 0
 Branches labels at (Some name) offset = (offset ≤ 255) × Leads labels at name offset
 
--- the fields of an instruction at a place: those that it doesn't use are 0
+-- the fields of the instruction with this index: those that it doesn't use are 0
 abbrev pub HasFields : List Label → ℕ → Jump → ℕ → Insn → Type 0
 HasFields labels at NoJump k insn = (insn.jt ≡ 0) × (insn.jf ≡ 0) × (insn.k ≡ k)
-HasFields labels at (Always name) k insn = (insn.jt ≡ 0) × (insn.jf ≡ 0) × Leads labels at name insn.k
-HasFields labels at (Branch holds fails) k insn = Branches labels at holds insn.jt × Branches labels at fails insn.jf × (insn.k ≡ k)
+HasFields labels at (Always name) k insn =
+    (insn.jt ≡ 0) × (insn.jf ≡ 0) × Leads labels at name insn.k
+HasFields labels at (Branch holds fails) k insn =
+    Branches labels at holds insn.jt × Branches labels at fails insn.jf × (insn.k ≡ k)
 
--- the instruction at a place is the one that its line says
+-- the instruction with this index is the one that its line says
 abbrev pub IsInsn : List Label → ℕ → Template → Insn → Type 0
-IsInsn labels at template insn = (insn.code ≡ template.code) × HasFields labels at template.jump template.k insn
+IsInsn labels at template insn =
+    (insn.code ≡ code_of template.form) × HasFields labels at template.jump template.k insn
 
--- so is each instruction from this place on
+-- so is each instruction from this index on
 abbrev pub AreInsns : List Label → ℕ → List Template → List Insn → Type 0
 AreInsns labels at [] [] = Unit {0}
-AreInsns labels at (template ∷ templates) (insn ∷ insns) = IsInsn labels at template insn × AreInsns labels (at + 1) templates insns
+AreInsns labels at (template ∷ templates) (insn ∷ insns) =
+    IsInsn labels at template insn × AreInsns labels (at + 1) templates insns
 AreInsns labels at templates insns = ⊥
 
--- The text whose lines have these shapes denotes the program.
+-- the text whose lines have these shapes denotes the program
 pub record DenotesBy (shapes : List Shape) (program : List Insn) : Type 0 where
   -- no name stands twice as a label
   pub once : AllPairs (λ l m. l.name ≢ m.name) (labels_from 0 shapes)
   -- each label names the instruction after it
-  pub named : All (λ l. l.place < length program) (labels_from 0 shapes)
+  pub named : All (λ l. l.at < length program) (labels_from 0 shapes)
   -- there are as many instructions as lines with one, and each is the table's
   pub insns : AreInsns (labels_from 0 shapes) 0 (templates_of shapes) program
   pub size : length program ≤ MAX_INSNS
 
 -- the text denotes the program: each line has its shape, and by these shapes the program is the text's
 abbrev pub Denotes : List ℕ → List Insn → Type 0
-Denotes text program = (shapes : List Shape) × HaveShapes (lines_of (blanked text)) shapes × DenotesBy shapes program
+Denotes text program =
+    (shapes : List Shape) × HaveShapes (lines_of (without_comments text)) shapes
+    × DenotesBy shapes program
+
+-- the text denotes some program
+abbrev pub DenotesSome : List ℕ → Type 0
+DenotesSome text = (program : List Insn) × Denotes text program

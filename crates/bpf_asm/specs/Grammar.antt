@@ -1,28 +1,32 @@
 -- The grammar of a line: how labels, an instruction and its operand are written in tokens.
--- The signs are # 35, % 37, & 38, ( 40, ) 41, * 42, + 43, comma 44, colon 58, [ 91 and ] 93.
+-- the signs are # 35, % 37, & 38, ( 40, ) 41, * 42, + 43, comma 44, colon 58, [ 91 and ] 93
 use Rattle.std.specs.Prelude.{ℕ, ◌≡◌, ◌⊎◌, codes, List, [], ◌∷◌, ◌++◌, Option, None, Some, Ok}
+use Rattle.bpf_insn.specs.declared.form.Src.{Src}
+use Rattle.bpf_insn.specs.declared.form.Src.TheVariants.{K, X}
 use Rattle.bpf_asm.specs.declared.mnemonic.Mnemonic.{Mnemonic}
 use Rattle.bpf_asm.specs.Tokens.{Token, line_tokens}
 use Rattle.bpf_asm.specs.Tokens.Token.{NameToken, NumberToken, SignToken}
-use Rattle.bpf_asm.specs.Operands.{Operand, Source}
-use Rattle.bpf_asm.specs.Operands.Source.{Constant, Index}
+use Rattle.bpf_asm.specs.Operands.{Operand}
 use Rattle.bpf_asm.specs.Operands.Operand.{Nothing, Absolute, Indexed, Scratch, Immediate, Bare, Word, HashWord, IndexRegister, Accumulator, Length, HeaderLength, Targets}
-use Rattle.bpf_asm.specs.Templates.{Template, mnemonic_of, template_of}
+use Rattle.bpf_asm.specs.Mnemonics.{mnemonic_of}
+use Rattle.bpf_asm.specs.Templates.{Template, template_of}
 use Rattle.bpf_asm.specs.Lines.{Reading}
 
 -- the index register: x or %x
 abbrev pub IsIndex : List Token → Type 0
-IsIndex ts = (ts ≡ NameToken (codes "x") ∷ []) ⊎ (ts ≡ SignToken 37 ∷ NameToken (codes "x") ∷ [])
+IsIndex ts =
+    (ts ≡ NameToken (codes "x") ∷ []) ⊎ (ts ≡ SignToken 37 ∷ NameToken (codes "x") ∷ [])
 
--- what a test compares with: #k, x or %x
-abbrev pub IsSource : Source → List Token → Type 0
-IsSource (Constant k) ts = ts ≡ SignToken 35 ∷ NumberToken k ∷ []
-IsSource Index ts = IsIndex ts
+-- what a test compares with: #k, x or %x; x has no constant
+abbrev pub IsSource : Src → ℕ → List Token → Type 0
+IsSource K k ts = ts ≡ SignToken 35 ∷ NumberToken k ∷ []
+IsSource X k ts = (k ≡ 0) × IsIndex ts
 
 -- a comma and a label, once or twice
 abbrev pub target_tokens : List ℕ → Option (List ℕ) → List Token
 target_tokens first None = SignToken 44 ∷ NameToken first ∷ []
-target_tokens first (Some second) = SignToken 44 ∷ NameToken first ∷ SignToken 44 ∷ NameToken second ∷ []
+target_tokens first (Some second) =
+    SignToken 44 ∷ NameToken first ∷ SignToken 44 ∷ NameToken second ∷ []
 
 -- how an operand is written
 abbrev pub IsOperand : Operand → List Token → Type 0
@@ -31,9 +35,12 @@ IsOperand Nothing ts = ts ≡ []
 -- [k]
 IsOperand (Absolute k) ts = ts ≡ SignToken 91 ∷ NumberToken k ∷ SignToken 93 ∷ []
 -- [x + k] or [%x + k]
-IsOperand (Indexed k) ts = (x : List Token) × IsIndex x × (ts ≡ SignToken 91 ∷ (x ++ SignToken 43 ∷ NumberToken k ∷ SignToken 93 ∷ []))
+IsOperand (Indexed k) ts =
+    (x : List Token) × IsIndex x
+    × (ts ≡ SignToken 91 ∷ (x ++ SignToken 43 ∷ NumberToken k ∷ SignToken 93 ∷ []))
 -- M[k]
-IsOperand (Scratch k) ts = ts ≡ NameToken (codes "M") ∷ SignToken 91 ∷ NumberToken k ∷ SignToken 93 ∷ []
+IsOperand (Scratch k) ts =
+    ts ≡ NameToken (codes "M") ∷ SignToken 91 ∷ NumberToken k ∷ SignToken 93 ∷ []
 -- #k
 IsOperand (Immediate k) ts = ts ≡ SignToken 35 ∷ NumberToken k ∷ []
 -- k
@@ -50,11 +57,14 @@ IsOperand Accumulator ts = ts ≡ SignToken 37 ∷ NameToken (codes "a") ∷ []
 IsOperand Length ts = ⊥
 -- m*([k]&n)
 IsOperand (HeaderLength m k n) ts =
-    ts ≡ NumberToken m ∷ SignToken 42 ∷ SignToken 40 ∷ SignToken 91 ∷ NumberToken k ∷ SignToken 93 ∷ SignToken 38 ∷ NumberToken n ∷ SignToken 41 ∷ []
+    ts ≡ NumberToken m ∷ SignToken 42 ∷ SignToken 40
+    ∷ SignToken 91 ∷ NumberToken k ∷ SignToken 93
+    ∷ SignToken 38 ∷ NumberToken n ∷ SignToken 41 ∷ []
 -- #k,L or #k,L,L and the same of x
-IsOperand (Targets source first second) ts = (front : List Token) × IsSource source front × (ts ≡ front ++ target_tokens first second)
+IsOperand (Targets src k first second) ts =
+    (front : List Token) × IsSource src k front × (ts ≡ front ++ target_tokens first second)
 
--- An instruction as it is written: a mnemonic, and an operand that it takes.
+-- an instruction as it is written: a mnemonic, and an operand that it takes
 pub record WritesInsn (template : Template) (ts : List Token) : Type 0 where
   pub name : List ℕ
   pub mnemonic : Mnemonic
@@ -75,14 +85,16 @@ abbrev pub label_tokens : List (List ℕ) → List Token
 label_tokens [] = []
 label_tokens (name ∷ names) = NameToken name ∷ SignToken 58 ∷ label_tokens names
 
--- The shape of a line without a fault: its labels, and its instruction if it has one.
+-- the shape of a line without a fault: its labels, and its instruction if it has one
 pub record Shape : Type 0 where
   pub labels : List (List ℕ)
   pub insn : Option Template
 
--- a line has this shape: its tokens are well, and they are the labels and then the instruction if there is one
+-- a line has this shape: its tokens have no fault, and they are the labels and then the instruction if there is one
 abbrev pub HasShape : List ℕ → Shape → Type 0
-HasShape line shape = (rest : List Token) × (line_tokens line ≡ Ok (label_tokens shape.labels ++ rest)) × WritesInsnOrNone shape.insn rest
+HasShape line shape =
+    (rest : List Token) × (line_tokens line ≡ Ok (label_tokens shape.labels ++ rest))
+    × WritesInsnOrNone shape.insn rest
 
 -- what a line with this shape reads as
 abbrev pub shape_reading : Shape → Reading

@@ -23,10 +23,17 @@ pub data Spells : List ℕ → List (List ℕ) → Type 0 where
   -- nothing
   Nothing : Spells [] []
   -- a blank, and the rest
-  Blank : (b : ℕ) (rest : List ℕ) (lexemes : List (List ℕ)) → is_blank b ≡ true → Spells rest lexemes → Spells (b ∷ rest) lexemes
+  Blank : (b : ℕ) (rest : List ℕ) (lexemes : List (List ℕ)) → is_blank b ≡ true
+      → Spells rest lexemes → Spells (b ∷ rest) lexemes
   -- a letter, a digit or _, with all of them that follow, and the rest
-  Word : (b : ℕ) (word rest : List ℕ) (lexemes : List (List ℕ)) → is_word b ≡ true → IsWords word → NoWordFirst rest → Spells rest lexemes → Spells (b ∷ (word ++ rest)) ((b ∷ word) ∷ lexemes)
+  Word : (b : ℕ) (word rest : List ℕ) (lexemes : List (List ℕ)) → is_word b ≡ true
+      → IsWords word → NoWordFirst rest → Spells rest lexemes
+      → Spells (b ∷ (word ++ rest)) ((b ∷ word) ∷ lexemes)
   -- a minus and a digit right after it, with all letters, digits and _ that follow, and the rest
-  Minus : (d : ℕ) (word rest : List ℕ) (lexemes : List (List ℕ)) → is_ascii_digit d ≡ true → IsWords word → NoWordFirst rest → Spells rest lexemes → Spells (45 ∷ d ∷ (word ++ rest)) ((45 ∷ d ∷ word) ∷ lexemes)
+  Minus : (d : ℕ) (word rest : List ℕ) (lexemes : List (List ℕ)) → is_ascii_digit d ≡ true
+      → IsWords word → NoWordFirst rest → Spells rest lexemes
+      → Spells (45 ∷ d ∷ (word ++ rest)) ((45 ∷ d ∷ word) ∷ lexemes)
   -- any other byte by itself, a minus only where no digit follows it
-  Single : (b : ℕ) (rest : List ℕ) (lexemes : List (List ℕ)) → is_blank b ≡ false → is_word b ≡ false → (b ≡ 45 → NoDigitFirst rest) → Spells rest lexemes → Spells (b ∷ rest) ((b ∷ []) ∷ lexemes)
+  Single : (b : ℕ) (rest : List ℕ) (lexemes : List (List ℕ)) → is_blank b ≡ false
+      → is_word b ≡ false → (b ≡ 45 → NoDigitFirst rest) → Spells rest lexemes
+      → Spells (b ∷ rest) ((b ∷ []) ∷ lexemes)

@@ -4,6 +4,7 @@ pub mod Numbers
 pub mod Tokens
 pub mod Lexing
 pub mod Operands
+pub mod Mnemonics
 pub mod Templates
 pub mod Lines
 pub mod Grammar

@@ -6,7 +6,8 @@ use Rattle.bpf_asm.specs.declared.mnemonic.Mnemonic.{Mnemonic}
 use Rattle.bpf_asm.specs.Tokens.{Token, line_tokens, ◌>>=◌}
 use Rattle.bpf_asm.specs.Tokens.Token.{NameToken, SignToken}
 use Rattle.bpf_asm.specs.Operands.{Operand, operand_of}
-use Rattle.bpf_asm.specs.Templates.{Template, mnemonic_of, template_of}
+use Rattle.bpf_asm.specs.Mnemonics.{mnemonic_of}
+use Rattle.bpf_asm.specs.Templates.{Template, template_of}
 
 -- the names that a colon follows, at the front of a line
 abbrev pub labels_of : List Token → List (List ℕ)
@@ -15,18 +16,19 @@ labels_of ts = []
 
 -- the tokens after the labels
 abbrev pub after_labels : List Token → List Token
-after_labels (NameToken name ∷ SignToken c ∷ ts) = if c == 58 then after_labels ts else NameToken name ∷ SignToken c ∷ ts
+after_labels (NameToken name ∷ SignToken c ∷ ts) =
+    if c == 58 then after_labels ts else NameToken name ∷ SignToken c ∷ ts
 after_labels ts = ts
 
 -- an instruction, where the mnemonic takes the operand
-abbrev pub allowed : Option Template → Result (Option Template) LineFault
-allowed None = Err OperandNotAllowed
-allowed (Some template) = Ok (Some template)
+abbrev pub insn_or_fault : Option Template → Result (Option Template) LineFault
+insn_or_fault None = Err OperandNotAllowed
+insn_or_fault (Some template) = Ok (Some template)
 
 -- a mnemonic with an operand, where the tokens are one
 abbrev pub with_shape : Mnemonic → Option Operand → Result (Option Template) LineFault
 with_shape mnemonic None = Err Syntax
-with_shape mnemonic (Some operand) = allowed (template_of mnemonic operand)
+with_shape mnemonic (Some operand) = insn_or_fault (template_of mnemonic operand)
 
 -- a name, where it is a mnemonic, and the tokens after it
 abbrev pub with_mnemonic : Option Mnemonic → List Token → Result (Option Template) LineFault
@@ -39,7 +41,7 @@ insn_of [] = Ok None
 insn_of (NameToken name ∷ ts) = with_mnemonic (mnemonic_of name) ts
 insn_of ts = Err Syntax
 
--- What a line reads as that has no fault in its tokens: its labels, and then its instruction if it has one, or a fault.
+-- what a line whose tokens have no fault reads as: its labels, and then its instruction if it has one, or a fault
 pub record Reading : Type 0 where
   pub labels : List (List ℕ)
   pub insn : Result (Option Template) LineFault

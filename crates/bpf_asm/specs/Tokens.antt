@@ -26,20 +26,20 @@ abbrev pub is_sign : ℕ → Bool
 is_sign b = list_any (λ c. b == c) (codes "#[]()+*&,:%")
 
 -- the byte is of one token with the next: both are letters, digits or _, or it is a minus and the next is a digit
-abbrev pub joins : ℕ → List ℕ → Bool
-joins b [] = false
-joins b (c ∷ bs) = (is_word b && is_word c) || (b == 45 && is_ascii_digit c)
+abbrev pub are_joined : ℕ → List ℕ → Bool
+are_joined b [] = false
+are_joined b (c ∷ bs) = (is_word b && is_word c) || (b == 45 && is_ascii_digit c)
 
 -- how many of the bytes after a byte are of one token with it
 abbrev pub joined_len : ℕ → List ℕ → ℕ
-joined_len b bs = if joins b bs then prefix_len is_word bs else 0
+joined_len b bs = if are_joined b bs then prefix_len is_word bs else 0
 
 -- the spellings of a line's tokens; a byte that no token has stands for itself
 abbrev pub lexemes : List ℕ → List (List ℕ)
 lexemes [] = []
 lexemes (b ∷ bs) =
     if is_blank b then lexemes bs else
-    if joins b bs then with_first b (lexemes bs) else
+    if are_joined b bs then with_first b (lexemes bs) else
     (b ∷ []) ∷ lexemes bs
 
 -- it begins with a digit, or with a minus before a digit
@@ -62,7 +62,8 @@ token_of (b ∷ bs) =
 
 -- and then
 infixl 10 ◌>>=◌
-abbrev pub ◌>>=◌ : {A B : Type 0} → Result A LineFault → (A → Result B LineFault) → Result B LineFault
+abbrev pub ◌>>=◌ :
+    {A B : Type 0} → Result A LineFault → (A → Result B LineFault) → Result B LineFault
 (Ok x) >>= f = f x
 (Err e) >>= f = Err e
 
@@ -86,4 +87,5 @@ before_fault (Err fault) tokens = []
 -- the tokens before the first fault
 abbrev pub tokens_before_fault : List (List ℕ) → List Token
 tokens_before_fault [] = []
-tokens_before_fault (lexeme ∷ lexemes) = before_fault (token_of lexeme) (tokens_before_fault lexemes)
+tokens_before_fault (lexeme ∷ lexemes) =
+    before_fault (token_of lexeme) (tokens_before_fault lexemes)

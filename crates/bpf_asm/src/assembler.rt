@@ -1,20 +1,20 @@
-ghost use Rattle.std.specs.Prelude.{◌≡◌, ◌≤◌, ◌<◌, ◌⊎◌, ℕ, List, vec_len, MatchResult, IfOk, IfErr};
+//! From a text to its program: the two passes, one after the other.
+
+ghost use Rattle.std.specs.Prelude.{◌≡◌, ◌≤◌, ◌<◌, ◌⊎◌, vec_len, IfOk, IfErr};
 ghost use Rattle.std.specs.Option.{option_copied};
 ghost use Rattle.bpf_insn.specs.declared.insn.TheConstants.{MAX_INSNS as most};
-ghost use Rattle.bpf_asm.specs.Blanked.{blanked, lines_of};
-ghost use Rattle.bpf_asm.specs.Grammar.{Shape};
-ghost use Rattle.bpf_asm.specs.Denotes.{Label, HaveShapes, Leads, Branches, IsInsn, AreInsns, Denotes};
-ghost use Rattle.bpf_asm.specs.FirstFault.{FaultInLine, LabelBreaks, TargetBreaks, JumpBreaks, FirstFault, DenotesNone, KeepsSomething};
-ghost use Rattle.bpf_asm.specs.Views.{template_seen, jump_seen};
-ghost use Rattle.bpf_asm.specs.Drafts.{IsTableOf, IsDraftOf, templates_in, BreaksAmong};
+ghost use Rattle.bpf_asm.specs.Blanked.{without_comments, lines_of};
+ghost use Rattle.bpf_asm.specs.Denotes.{Denotes};
+ghost use Rattle.bpf_asm.specs.FirstFault.{FirstFault, DenotesNone, KeepsSomething};
+ghost use Rattle.bpf_asm.specs.Drafts.{ReadsLines, LinksAll, LinksInsn, LinksTarget, LinksLabel};
 
-use super::blank::Text;
-use super::draft::{Draft, Unlinked};
-use super::fault::AsmFault;
-use super::labels::LabelTable;
-use super::line::next_line;
-use super::template::{Jump, Template};
-use bpf_insn::Insn;
+use crate::draft::{Draft, Unlinked};
+use crate::fault::AsmFault;
+use crate::labels::LabelTable;
+use crate::line::next_line;
+use crate::template::{Jump, Template};
+use crate::text::Text;
+use bpf_insn::{Insn, code_of};
 use std::alloc::Global;
 
 /// The program of a text in the language of the Linux kernel's `bpf_asm` (Linux networking
@@ -23,10 +23,14 @@ use std::alloc::Global;
 /// The faults of lines come first, in the text's order; then labels that no instruction follows;
 /// then, jump by jump, the labels that jumps name. An empty text is the empty program.
 pub fn assemble(alloc: Global, text: &str) -> Result<Vec<Insn>, AsmFault>
-    // Memory is wanted only for a label or an instruction, after lines without a fault.
-    ensures memory { IfErr result (λ fault. fault ≡ AsmFault.Memory → KeepsSomething (lines_of (blanked text.now))) }
+    // At Ok.
     ensures program { IfOk result (λ program. Denotes text.now program.items) }
-    ensures refused { IfErr result (λ fault. (fault ≡ AsmFault.Memory) ⊎ (FirstFault text.now fault × DenotesNone text.now)) }
+    // At a fault: only memory depends on more than the text.
+    ensures refused { IfErr result (λ fault.
+        (fault ≡ AsmFault.Memory) ⊎ (FirstFault text.now fault × DenotesNone text.now)) }
+    // Out of memory: only for a label or an instruction, after lines without a fault.
+    ensures memory { IfErr result (λ fault.
+        fault ≡ AsmFault.Memory → KeepsSomething (lines_of (without_comments text.now))) }
 {
     let draft = read_lines(alloc, text)?;
     if let Some(line) = draft.unfollowed {
@@ -37,8 +41,9 @@ pub fn assemble(alloc: Global, text: &str) -> Result<Vec<Insn>, AsmFault>
 
 /// The first pass: the instructions with their labels left open, and the labels.
 fn read_lines<'a>(alloc: Global, text: &'a str) -> Result<Draft<'a>, AsmFault>
-    ensures lines { MatchResult result (λ draft. (shapes : List Shape) × HaveShapes (lines_of (blanked text.now)) shapes × IsDraftOf shapes draft) (λ fault. (fault ≡ AsmFault.Memory) ⊎ FaultInLine (lines_of (blanked text.now)) fault) }
-    ensures memory { IfErr result (λ fault. fault ≡ AsmFault.Memory → KeepsSomething (lines_of (blanked text.now))) }
+    ensures lines { ReadsLines (lines_of (without_comments text.now)) result }
+    ensures memory { IfErr result (λ fault.
+        fault ≡ AsmFault.Memory → KeepsSomething (lines_of (without_comments text.now))) }
 {
     let mut draft = Draft::new(alloc);
     let mut rest = Text::of(text);
@@ -56,24 +61,23 @@ fn read_lines<'a>(alloc: Global, text: &'a str) -> Result<Draft<'a>, AsmFault>
 /// The second pass: the instructions with offsets in place of labels.
 fn link(alloc: Global, draft: &Draft<'_>) -> Result<Vec<Insn>, AsmFault>
     requires { vec_len draft.now.insns ≤ most }
-    ensures program { (labels : List Label) → IsTableOf labels draft.now.labels → MatchResult result (λ program. AreInsns labels 0 (templates_in draft.now.insns.items) program.items) (λ fault. (fault ≡ AsmFault.Memory) ⊎ BreaksAmong labels draft.now.insns.items fault) }
-    ensures memory { IfErr result (λ fault. fault ≡ AsmFault.Memory → 0 < vec_len draft.now.insns) }
+    ensures program { LinksAll draft.now result }
+    ensures memory { IfErr result (λ fault.
+        fault ≡ AsmFault.Memory → 0 < vec_len draft.now.insns) }
 {
     let mut program = Vec::new(alloc);
     'insns: for unlinked in &draft.insns {
         let insn = link_insn(&draft.labels, unlinked, program.len() as u32)?;
-        let Ok(()) = program.push(insn) else {
-            return Err(AsmFault::Memory);
-        };
+        program.push(insn)?;
     }
     Ok(program)
 }
 
-/// The instruction at a place, with offsets in place of labels.
+/// The instruction with this index, with offsets in place of labels.
 fn link_insn(labels: &LabelTable<'_>, unlinked: &Unlinked<'_>, at: u32) -> Result<Insn, AsmFault>
-    ensures { (known : List Label) → IsTableOf known labels.now → MatchResult result (λ insn. IsInsn known at (template_seen unlinked.now.template) insn) (λ fault. JumpBreaks known at unlinked.now.line (jump_seen unlinked.now.template.jump) fault) }
+    ensures { LinksInsn labels.now at unlinked.now result }
 {
-    let Template { code, k, jump } = unlinked.template;
+    let Template { form, k, jump } = unlinked.template;
     let line = unlinked.line;
     let (jt, jf, k) = match jump {
         Jump::NoJump => (0, 0, k),
@@ -84,6 +88,7 @@ fn link_insn(labels: &LabelTable<'_>, unlinked: &Unlinked<'_>, at: u32) -> Resul
             (jt, jf, k)
         }
     };
+    let code = code_of(form);
     Ok(Insn { code, jt, jf, k })
 }
 
@@ -94,7 +99,7 @@ fn short_offset(
     at: u32,
     line: usize,
 ) -> Result<u8, AsmFault>
-    ensures { (known : List Label) → IsTableOf known labels.now → MatchResult result (λ offset. Branches known at (option_copied target.entry) offset) (λ fault. TargetBreaks known at line (option_copied target.entry) fault) }
+    ensures { LinksTarget labels.now at line (option_copied target.entry) result }
 {
     let Some(name) = target else {
         return Ok(0);
@@ -106,15 +111,15 @@ fn short_offset(
     Ok(offset as u8)
 }
 
-/// How many instructions lie between the one at a place and a label.
+/// How many instructions lie between the one with this index and a label.
 fn offset(labels: &LabelTable<'_>, name: &[u8], at: u32, line: usize) -> Result<u32, AsmFault>
-    ensures { (known : List Label) → IsTableOf known labels.now → MatchResult result (λ offset. Leads known at name.now offset) (λ fault. LabelBreaks known at line name.now fault) }
+    ensures { LinksLabel labels.now at line name.now result }
 {
-    let Some(place) = labels.place(name) else {
+    let Some(target) = labels.index_of(name) else {
         return Err(AsmFault::LabelMissing { line });
     };
-    if place <= at {
+    if target <= at {
         return Err(AsmFault::Backward { line });
     }
-    Ok(place - at - 1)
+    Ok(target - at - 1)
 }

@@ -1,15 +1,16 @@
-ghost use Rattle.std.specs.Prelude.{◌≡◌, ◌≢◌, ◌+◌, ◌≤◌, ◌⊎◌, ℕ, List, [], ◌∷◌, ◌++◌, length, vec_len, Some, IfErr, MatchResult};
-ghost use Rattle.bpf_insn.specs.declared.insn.TheConstants.{MAX_INSNS as most};
-ghost use Rattle.bpf_asm.specs.FirstFault.{LineBreaks, HasContent};
-ghost use Rattle.bpf_asm.specs.Grammar.{Shape, HasShape};
-ghost use Rattle.bpf_asm.specs.Views.{line_in, labels_in, template_seen};
-ghost use Rattle.bpf_asm.specs.Drafts.{IsDraftOf, labelled, TwiceOrMemory, FullOrMemory};
+//! The first pass: what lines say, read one by one.
 
-use super::blank::Text;
-use super::fault::AsmFault;
-use super::labels::LabelTable;
-use super::line::{Labels, next_label, read_line};
-use super::template::Template;
+ghost use Rattle.std.specs.Prelude.{◌≡◌, ◌≢◌, ◌≤◌, [], vec_len, IfErr};
+ghost use Rattle.bpf_insn.specs.declared.insn.TheConstants.{MAX_INSNS as most};
+ghost use Rattle.bpf_asm.specs.FirstFault.{HasContent};
+ghost use Rattle.bpf_asm.specs.Views.{line_in, labels_in, template_data};
+ghost use Rattle.bpf_asm.specs.Drafts.{IsDraftOf, AddsLine, AddsLabels, AddsLabel, AddsInsn};
+
+use crate::fault::AsmFault;
+use crate::labels::LabelTable;
+use crate::line::{Labels, next_label, read_line};
+use crate::template::Template;
+use crate::text::Text;
 use bpf_insn::MAX_INSNS;
 use std::alloc::Global;
 
@@ -44,8 +45,9 @@ impl<'a> Draft<'a> {
     /// Adds the first line of a text, which has this number.
     pub(crate) fn add_line(&mut self, text: Text<'a>, line: usize) -> Result<(), AsmFault>
         requires { vec_len self.old.insns ≤ most }
-        ensures added { (shapes : List Shape) → length shapes + 1 ≡ line → IsDraftOf shapes self.old → MatchResult result (λ _. (shape : Shape) × HasShape (line_in text.entry) shape × IsDraftOf (shapes ++ shape ∷ []) self.new) (λ fault. (fault ≡ AsmFault.Memory) ⊎ LineBreaks shapes (line_in text.entry) line fault) }
-        ensures memory { IfErr result (λ fault. fault ≡ AsmFault.Memory → HasContent (line_in text.entry)) }
+        ensures added { AddsLine self.old (line_in text.entry) line result self.new }
+        ensures memory { IfErr result (λ fault.
+            fault ≡ AsmFault.Memory → HasContent (line_in text.entry)) }
     {
         let reading = match read_line(text) {
             Ok(reading) => reading,
@@ -65,8 +67,9 @@ impl<'a> Draft<'a> {
     /// Adds the labels of a line.
     fn add_labels(&mut self, labels: Labels<'a>, line: usize) -> Result<(), AsmFault>
         requires { vec_len self.old.insns ≤ most }
-        ensures added { (shapes : List Shape) → length shapes + 1 ≡ line → IsDraftOf shapes self.old → MatchResult result (λ _. IsDraftOf (shapes ++ labelled (labels_in labels.entry) ∷ []) self.new) (TwiceOrMemory shapes (labels_in labels.entry) line) }
-        ensures memory { IfErr result (λ fault. fault ≡ AsmFault.Memory → labels_in labels.entry ≢ []) }
+        ensures added { AddsLabels self.old (labels_in labels.entry) line result self.new }
+        ensures memory { IfErr result (λ fault.
+            fault ≡ AsmFault.Memory → labels_in labels.entry ≢ []) }
     {
         let mut rest = labels;
         'labels: while let Some((name, after)) = next_label(rest) {
@@ -79,12 +82,10 @@ impl<'a> Draft<'a> {
     /// Adds a label of a line, after others of the line.
     fn add_label(&mut self, name: &'a [u8], line: usize) -> Result<(), AsmFault>
         requires { vec_len self.old.insns ≤ most }
-        ensures added { (shapes : List Shape) (names : List (List ℕ)) → length shapes + 1 ≡ line → IsDraftOf (shapes ++ labelled names ∷ []) self.old → MatchResult result (λ _. IsDraftOf (shapes ++ labelled (names ++ name.now ∷ []) ∷ []) self.new) (TwiceOrMemory shapes (names ++ name.now ∷ []) line) }
+        ensures added { AddsLabel self.old name.now line result self.new }
         ensures insns { vec_len self.new.insns ≡ vec_len self.old.insns }
     {
-        let Ok(earlier) = self.labels.define(name, self.insns.len() as u32) else {
-            return Err(AsmFault::Memory);
-        };
+        let earlier = self.labels.define(name, self.insns.len() as u32)?;
         if earlier.is_some() {
             return Err(AsmFault::LabelTwice { line });
         }
@@ -94,14 +95,12 @@ impl<'a> Draft<'a> {
 
     /// Adds the instruction of a line, after its labels.
     fn add_insn(&mut self, template: Template<'a>, line: usize) -> Result<(), AsmFault>
-        ensures added { (shapes : List Shape) (names : List (List ℕ)) → length shapes + 1 ≡ line → IsDraftOf (shapes ++ labelled names ∷ []) self.old → MatchResult result (λ _. IsDraftOf (shapes ++ record { labels = names; insn = Some (template_seen template.entry) } ∷ []) self.new) (FullOrMemory shapes) }
+        ensures added { AddsInsn self.old (template_data template.entry) line result self.new }
     {
         if self.insns.len() == MAX_INSNS {
             return Err(AsmFault::TooLong);
         }
-        let Ok(()) = self.insns.push(Unlinked { template, line }) else {
-            return Err(AsmFault::Memory);
-        };
+        self.insns.push(Unlinked { template, line })?;
         self.unfollowed = None;
         Ok(())
     }

@@ -1,22 +1,22 @@
+//! Why a text is no program.
+
 ghost use Rattle.std.specs.Prelude.{◌≡◌};
 ghost use Rattle.bpf_asm.specs.FirstFault.{in_line};
+ghost use Rattle.bpf_asm.specs.declared.fault.AsmFault.TheVariants.{Memory};
 
+use std::alloc::{AllocError, AllocFailed};
 use thiserror::Error;
 
 /// What is wrong with one line of a text, looked at by itself.
-#[derive(Clone, Copy, Debug, PartialEq, Eq, Error)]
-pub enum LineFault {
+#[derive(Clone, Copy, Debug, PartialEq, Eq)]
+pub(crate) enum LineFault {
     /// A byte that no token has, a comment without an end, or tokens that are no operand.
-    #[error("asm 1 Syntax")]
     Syntax,
     /// A number that is spelled wrong, or too large.
-    #[error("asm 2 Number")]
     Number,
     /// The line's first name is neither a label nor a mnemonic.
-    #[error("asm 3 UnknownMnemonic")]
     UnknownMnemonic,
     /// The mnemonic does not take this operand.
-    #[error("asm 4 OperandNotAllowed")]
     OperandNotAllowed,
 }
 
@@ -36,7 +36,7 @@ pub enum AsmFault {
     /// The mnemonic does not take this operand.
     #[error("asm 4 OperandNotAllowed line {line}")]
     OperandNotAllowed { line: usize },
-    /// The jump in this line names a label that stands nowhere.
+    /// The jump in this line names a label that no line has.
     #[error("asm 5 LabelMissing line {line}")]
     LabelMissing { line: usize },
     /// A label of this line is the second of its name.
@@ -51,9 +51,25 @@ pub enum AsmFault {
     /// There are more instructions than a program may have.
     #[error("asm 9 TooLong")]
     TooLong,
-    /// There is no memory for the labels or the program.
+    /// Out of memory for the labels or the program.
     #[error("memory")]
     Memory,
+}
+
+impl From<AllocError> for AsmFault {
+    ghost from_gives = { λ _ fault. fault ≡ Memory };
+
+    fn from(_error: AllocError) -> AsmFault {
+        AsmFault::Memory
+    }
+}
+
+impl<T: Drop> From<AllocFailed<T>> for AsmFault {
+    ghost from_gives = { λ _ fault. fault ≡ Memory };
+
+    fn from(_error: AllocFailed<T>) -> AsmFault {
+        AsmFault::Memory
+    }
 }
 
 impl LineFault {

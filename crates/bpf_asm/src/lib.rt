@@ -3,7 +3,6 @@
 #![tactic(auto)]
 
 mod assembler;
-mod blank;
 mod draft;
 mod fault;
 mod labels;
@@ -13,18 +12,17 @@ mod mnemonic;
 mod number;
 mod operand;
 mod template;
+mod text;
 mod token;
 
 pub use assembler::assemble;
-pub use blank::Text;
-pub use fault::{AsmFault, LineFault};
+pub use fault::AsmFault;
 pub use laws::{
     a_text_denotes_a_program_or_has_one_first_fault, a_text_denotes_at_most_one_program,
     comments_are_blanked, lines_are_cut_into_tokens, lines_are_read_by_the_grammar,
-    operands_are_read_by_the_grammar, the_arp_text_denotes_the_arp_filter,
+    mnemonics_of_instructions_are_read, operands_are_read_by_the_grammar,
+    the_arp_text_denotes_the_arp_filter,
 };
-pub use line::{Labels, Reading, next_label, next_line, read_line};
-pub use template::{Jump, Template};
 
 #[cfg(test)]
 mod tests;

@@ -1,5 +1,7 @@
+//! The mnemonics, by their names.
+
 ghost use Rattle.std.specs.Prelude.{◌≡◌};
-ghost use Rattle.bpf_asm.specs.Templates.{mnemonic_of};
+ghost use Rattle.bpf_asm.specs.Mnemonics.{mnemonic_of};
 
 use bpf_insn::{Cond, Op};
 

@@ -1,32 +1,33 @@
-ghost use Rattle.std.specs.Prelude.{◌≡◌, ◌≤◌, ◌<◌, SomeIff, IsTrue};
-ghost use Rattle.std.specs.Str.Parse.{digits_value};
-ghost use Rattle.bpf_asm.specs.Numbers.{number_of, after_zero, numeral, digits_number, negated};
+//! The number that a spelling says.
 
-/// The greatest number that a word of 32 bits holds.
-const WORD_MAX: u32 = 4_294_967_295;
+ghost use Rattle.std.specs.Prelude.{◌≡◌, ◌≤◌, ◌<◌};
+ghost use Rattle.bpf_asm.specs.Numbers.{number_of, after_zero, numeral, digits_number, negative_of};
+
+/// The greatest number after a minus.
+const MINUS_MAX: u32 = 2_147_483_648;
 
 /// The number that a spelling says: 0, decimal without a zero in front, minus and decimal digits,
-/// hexadecimal after `0x`, binary after `0b`, or octal after `0`. None where it says none, or one
-/// past 32 bits, or past 2^31 after a minus.
+/// hexadecimal after `0x`, binary after `0b`, or octal after `0`. `None` where the spelling is no
+/// number, or one past 32 bits, or past 2^31 after a minus.
 pub(crate) fn read_number(spelling: &[u8]) -> Option<u32>
     ensures { result ≡ number_of spelling.now }
 {
     let (first, rest) = spelling.split_first()?;
     match *first {
-        b'-' => Some(negative(read_numeral(10, 2_147_483_648, rest)?)),
+        b'-' => Some(negative(read_numeral(10, MINUS_MAX, rest)?)),
         b'0' => read_after_zero(rest),
-        _ => read_numeral(10, WORD_MAX, spelling),
+        _ => read_numeral(10, u32::MAX, spelling),
     }
 }
 
 /// Minus a number, in a word of 32 bits.
 fn negative(number: u32) -> u32
-    ensures { result ≡ negated number }
+    ensures { result ≡ negative_of number }
 {
     if number == 0 {
         0
     } else {
-        WORD_MAX - number + 1
+        u32::MAX - number + 1
     }
 }
 
@@ -38,9 +39,9 @@ fn read_after_zero(rest: &[u8]) -> Option<u32>
         return Some(0);
     };
     match *base {
-        b'x' | b'X' => read_numeral(16, WORD_MAX, digits),
-        b'b' | b'B' => read_numeral(2, WORD_MAX, digits),
-        _ => read_numeral(8, WORD_MAX, rest),
+        b'x' | b'X' => read_numeral(16, u32::MAX, digits),
+        b'b' | b'B' => read_numeral(2, u32::MAX, digits),
+        _ => read_numeral(8, u32::MAX, rest),
     }
 }
 
@@ -57,7 +58,7 @@ fn read_numeral(base: u32, most: u32, digits: &[u8]) -> Option<u32>
     if value <= most { Some(value) } else { None }
 }
 
-/// The number that digits of a base write; None where one is no digit of the base, or the number
+/// The number that digits of a base write; `None` where one is no digit of the base, or the number
 /// is past 32 bits.
 fn value_of(base: u32, digits: &[u8]) -> Option<u32>
     requires least { 2 ≤ base }

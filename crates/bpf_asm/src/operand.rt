@@ -1,19 +1,13 @@
+//! The operand of an instruction, by its shape.
+
 ghost use Rattle.std.specs.Prelude.{◌≡◌};
 ghost use Rattle.std.specs.Option.{option_map};
-ghost use Rattle.bpf_asm.specs.Operands.{operand_of, after_number, after_name, loaded, after_hash, after_percent, targets, second_target, indexed, header_length, in_brackets, after_index, at_end};
-ghost use Rattle.bpf_asm.specs.Views.{tokens_in, operand_seen, source_seen, number_left};
+ghost use Rattle.bpf_asm.specs.Operands.{operand_of, after_number, after_name, load_operand, after_hash, after_percent, targets, second_target, indexed_operand, header_length, number_in_brackets, after_index, at_end};
+ghost use Rattle.bpf_asm.specs.Views.{tokens_in, operand_data, number_and_rest};
 
-use super::blank::Text;
-use super::token::{Token, is_at_end, next_token, skip_sign, take_name, take_number};
-
-/// What a test compares the accumulator with.
-#[derive(Clone, Copy, Debug)]
-pub(crate) enum Source {
-    /// `#k`
-    Constant(u32),
-    /// `x`, the index register.
-    Index,
-}
+use crate::text::Text;
+use crate::token::{Token, is_at_end, next_token, skip_sign, take_name, take_number};
+use bpf_insn::Src;
 
 /// An operand by its shape.
 #[derive(Clone, Copy, Debug)]
@@ -41,13 +35,13 @@ pub(crate) enum Operand<'a> {
     Length,
     /// `m*([k]&n)`, by m, k and n.
     HeaderLength(u32, u32, u32),
-    /// `#k` or `x`, with one label or two.
-    Targets(Source, &'a [u8], Option<&'a [u8]>),
+    /// `#k` or `x`, with one label or two; the constant is 0 for `x`.
+    Targets(Src, u32, &'a [u8], Option<&'a [u8]>),
 }
 
-/// The operand that the first line's tokens are; None where they are of no shape.
+/// The operand that the first line's tokens are; `None` where they have no operand's shape.
 pub(crate) fn read_operand(text: Text<'_>) -> Option<Operand<'_>>
-    ensures { option_map operand_seen result ≡ operand_of (tokens_in text.entry) }
+    ensures { option_map operand_data result ≡ operand_of (tokens_in text.entry) }
 {
     let Some((first, rest)) = next_token(text) else {
         return Some(Operand::Nothing);
@@ -64,7 +58,7 @@ pub(crate) fn read_operand(text: Text<'_>) -> Option<Operand<'_>>
 
 /// `k`, or `m*([k]&n)`.
 fn begins_with_number(number: u32, rest: Text<'_>) -> Option<Operand<'_>>
-    ensures { option_map operand_seen result ≡ after_number number (tokens_in rest.entry) }
+    ensures { option_map operand_data result ≡ after_number number (tokens_in rest.entry) }
 {
     if is_at_end(rest) {
         return Some(Operand::Bare(number));
@@ -75,7 +69,7 @@ fn begins_with_number(number: u32, rest: Text<'_>) -> Option<Operand<'_>>
 /// `m*([k]&n)`, after `m`.
 #[tactic(auto, unfolding(crate::specs::Operands::header_length))]
 fn read_header_length(factor: u32, text: Text<'_>) -> Option<Operand<'_>>
-    ensures { option_map operand_seen result ≡ header_length factor (tokens_in text.entry) }
+    ensures { option_map operand_data result ≡ header_length factor (tokens_in text.entry) }
 {
     let rest = skip_sign(text, b'*')?;
     let rest = skip_sign(rest, b'(')?;
@@ -88,7 +82,7 @@ fn read_header_length(factor: u32, text: Text<'_>) -> Option<Operand<'_>>
 
 /// A name, `M[k]`, or `x` with labels.
 fn begins_with_name<'a>(name: &'a [u8], rest: Text<'a>) -> Option<Operand<'a>>
-    ensures { option_map operand_seen result ≡ after_name name.entry.now (tokens_in rest.entry) }
+    ensures { option_map operand_data result ≡ after_name name.entry.now (tokens_in rest.entry) }
 {
     if is_at_end(rest) {
         return Some(Operand::Word(name));
@@ -98,14 +92,14 @@ fn begins_with_name<'a>(name: &'a [u8], rest: Text<'a>) -> Option<Operand<'a>>
             let (k, rest) = number_in_brackets(rest)?;
             if_at_end(Operand::Scratch(k), rest)
         }
-        b"x" => read_targets(Source::Index, rest),
+        b"x" => read_targets(Src::X, 0, rest),
         _ => None,
     }
 }
 
 /// `[k]`, `[x + k]` or `[%x + k]`, after the bracket.
 fn load(text: Text<'_>) -> Option<Operand<'_>>
-    ensures { option_map operand_seen result ≡ loaded (tokens_in text.entry) }
+    ensures { option_map operand_data result ≡ load_operand (tokens_in text.entry) }
 {
     if let Some((k, rest)) = take_number(text) {
         let rest = skip_sign(rest, b']')?;
@@ -115,9 +109,9 @@ fn load(text: Text<'_>) -> Option<Operand<'_>>
 }
 
 /// `[x + k]` or `[%x + k]`, after the bracket.
-#[tactic(auto, unfolding(crate::specs::Operands::indexed))]
+#[tactic(auto, unfolding(crate::specs::Operands::indexed_operand))]
 fn read_indexed(text: Text<'_>) -> Option<Operand<'_>>
-    ensures { option_map operand_seen result ≡ indexed (tokens_in text.entry) }
+    ensures { option_map operand_data result ≡ indexed_operand (tokens_in text.entry) }
 {
     let rest = skip_index(text)?;
     let rest = skip_sign(rest, b'+')?;
@@ -128,12 +122,12 @@ fn read_indexed(text: Text<'_>) -> Option<Operand<'_>>
 
 /// `#k`, `#k` with labels, or `#` and a name, after the sign.
 fn begins_with_hash(text: Text<'_>) -> Option<Operand<'_>>
-    ensures { option_map operand_seen result ≡ after_hash (tokens_in text.entry) }
+    ensures { option_map operand_data result ≡ after_hash (tokens_in text.entry) }
 {
     let (first, rest) = next_token(text)?;
     match first {
         Token::Number(k) if is_at_end(rest) => Some(Operand::Immediate(k)),
-        Token::Number(k) => read_targets(Source::Constant(k), rest),
+        Token::Number(k) => read_targets(Src::K, k, rest),
         Token::Name(name) => if_at_end(Operand::HashWord(name), rest),
         Token::Sign(_) => None,
     }
@@ -141,12 +135,12 @@ fn begins_with_hash(text: Text<'_>) -> Option<Operand<'_>>
 
 /// `%x`, `%x` with labels, or `%a`, after the sign.
 fn begins_with_percent(text: Text<'_>) -> Option<Operand<'_>>
-    ensures { option_map operand_seen result ≡ after_percent (tokens_in text.entry) }
+    ensures { option_map operand_data result ≡ after_percent (tokens_in text.entry) }
 {
     let (name, rest) = take_name(text)?;
     match name {
         b"x" if is_at_end(rest) => Some(Operand::IndexRegister),
-        b"x" => read_targets(Source::Index, rest),
+        b"x" => read_targets(Src::X, 0, rest),
         b"a" => if_at_end(Operand::Accumulator, rest),
         _ => None,
     }
@@ -154,30 +148,31 @@ fn begins_with_percent(text: Text<'_>) -> Option<Operand<'_>>
 
 /// A comma and a label, once or twice.
 #[tactic(auto, unfolding(crate::specs::Operands::targets))]
-fn read_targets(source: Source, text: Text<'_>) -> Option<Operand<'_>>
-    ensures { option_map operand_seen result ≡ targets (source_seen source) (tokens_in text.entry) }
+fn read_targets(src: Src, k: u32, text: Text<'_>) -> Option<Operand<'_>>
+    ensures { option_map operand_data result ≡ targets src k (tokens_in text.entry) }
 {
     let rest = skip_sign(text, b',')?;
     let (first, rest) = take_name(rest)?;
-    read_second_target(source, first, rest)
+    read_second_target(src, k, first, rest)
 }
 
 /// A comma and a label, or nothing, after the first label.
-fn read_second_target<'a>(source: Source, first: &'a [u8], rest: Text<'a>) -> Option<Operand<'a>>
-    ensures { option_map operand_seen result ≡ second_target (source_seen source) first.entry.now (tokens_in rest.entry) }
+fn read_second_target<'a>(src: Src, k: u32, first: &'a [u8], rest: Text<'a>) -> Option<Operand<'a>>
+    ensures { option_map operand_data result
+        ≡ second_target src k first.entry.now (tokens_in rest.entry) }
 {
     if is_at_end(rest) {
-        return Some(Operand::Targets(source, first, None));
+        return Some(Operand::Targets(src, k, first, None));
     }
     let rest = skip_sign(rest, b',')?;
     let (second, rest) = take_name(rest)?;
-    if_at_end(Operand::Targets(source, first, Some(second)), rest)
+    if_at_end(Operand::Targets(src, k, first, Some(second)), rest)
 }
 
 /// `[k]`, and what is left after it.
-#[tactic(auto, unfolding(crate::specs::Operands::in_brackets))]
+#[tactic(auto, unfolding(crate::specs::Operands::number_in_brackets))]
 fn number_in_brackets(text: Text<'_>) -> Option<(u32, Text<'_>)>
-    ensures { option_map number_left result ≡ in_brackets (tokens_in text.entry) }
+    ensures { option_map number_and_rest result ≡ number_in_brackets (tokens_in text.entry) }
 {
     let rest = skip_sign(text, b'[')?;
     let (k, rest) = take_number(rest)?;
@@ -198,7 +193,8 @@ fn skip_index(text: Text<'_>) -> Option<Text<'_>>
 
 /// The operand, where no token is left.
 fn if_at_end<'a>(operand: Operand<'a>, text: Text<'a>) -> Option<Operand<'a>>
-    ensures { option_map operand_seen result ≡ at_end (operand_seen operand.entry) (tokens_in text.entry) }
+    ensures { option_map operand_data result
+        ≡ at_end (operand_data operand.entry) (tokens_in text.entry) }
 {
     if is_at_end(text) { Some(operand) } else { None }
 }

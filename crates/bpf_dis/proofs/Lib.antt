@@ -1,11 +1,10 @@
 pub mod Words
 pub mod Numbers
 pub mod Pieces
-pub mod Codes
 pub mod Statements
 pub mod Lines
 pub mod Rows
-pub mod Spellings
+pub mod ProgramTexts
 pub mod FirstFaults
-pub mod Marks
+pub mod LabelledTargets
 pub mod Targets

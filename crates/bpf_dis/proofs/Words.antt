@@ -4,7 +4,7 @@ use Rattle.std.specs.Char.{is_ascii_digit}
 use Rattle.std.specs.List.{list_all}
 use Rattle.std.proofs.lemmas.Bool.{cases_Bool, both_ways, and_parts, and_from, and_left, and_right, or_from, or_left, ne_eqb}
 use Rattle.bpf_asm.specs.Blanked.{with_first}
-use Rattle.bpf_asm.specs.Tokens.{is_blank, is_word, joins, lexemes}
+use Rattle.bpf_asm.specs.Tokens.{is_blank, is_word, are_joined, lexemes}
 use Rattle.bpf_asm.specs.Lexing.{NoWordFirst}
 
 abbrev pub AreWords : List ℕ → Type 0
@@ -25,7 +25,7 @@ no_digit c other (inl digit) = absurd (both_ways (is_word c) other (digit_word c
 no_digit c other (inr none) = none
 
 -- nothing joins a byte before which no word stands
-ends : (b : ℕ) (rest : List ℕ) → NoWordFirst rest → joins b rest ≡ false
+ends : (b : ℕ) (rest : List ℕ) → NoWordFirst rest → are_joined b rest ≡ false
 ends b [] none = refl
 ends b (c ∷ rest) none = or_from _ _ (and_right (is_word b) _ none) (and_right (eqb b 45) _ (no_digit c none (cases_Bool _)))
 
@@ -37,11 +37,11 @@ word_lexeme b [] rest h none =
 word_lexeme b (c ∷ word) rest h none =
     let first = and_parts (is_word b) (is_word c && list_all is_word word) h in
     let second = and_parts (is_word c) (list_all is_word word) first.1 in
-    let together : joins b (c ∷ (word ++ rest)) ≡ true = or_left _ _ (and_from (is_word b) (is_word c) first.0 second.0) in
+    let together : are_joined b (c ∷ (word ++ rest)) ≡ true = or_left _ _ (and_from (is_word b) (is_word c) first.0 second.0) in
     rw (word_solid b first.0, together) (ap (with_first b) (word_lexeme c word rest first.1 none))
 
 -- a byte that is no blank, no minus and of no word is a token by itself
-apart : (c : ℕ) (rest : List ℕ) → is_word c ≡ false → eqb c 45 ≡ false → joins c rest ≡ false
+apart : (c : ℕ) (rest : List ℕ) → is_word c ≡ false → eqb c 45 ≡ false → are_joined c rest ≡ false
 apart c [] other minus = refl
 apart c (d ∷ rest) other minus = or_from _ _ (and_left _ (is_word d) other) (and_left _ (is_ascii_digit d) minus)
 

@@ -1,4 +1,3 @@
 pub mod Targets
-pub mod Uses
-pub mod Spelled
+pub mod ProgramText
 pub mod Faults

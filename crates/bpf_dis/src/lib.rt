@@ -4,12 +4,9 @@
 
 mod check;
 mod fault;
-mod fields;
-mod jumps;
 mod labels;
 mod laws;
 mod line;
-mod mnemonics;
 mod text;
 
 pub use fault::DisFault;

@@ -1,13 +1,16 @@
-ghost use Rattle.std.specs.Prelude.{◌≡◌, ◌<◌, ◌+◌, ◌^◌, ◌++◌, codes, OnOk, string_bytes};
-ghost use Rattle.bpf_insn.specs.Forms.{form};
-ghost use Rattle.bpf_dis.specs.Spelled.{form_text, insn_text, label_text, source_text, test_text};
+//! The line of an instruction.
 
-use super::jumps::target;
-use super::mnemonics::{cond_mnemonic, load_mnemonic, op_mnemonic};
-use bpf_insn::{Cond, Form, Insn, Src, form_of};
+ghost use Rattle.std.specs.Prelude.{◌≡◌, ◌<◌, ◌^◌, ◌++◌, codes, OnOk, string_bytes};
+ghost use Rattle.bpf_insn.specs.Forms.{form};
+ghost use Rattle.bpf_insn.specs.Views.{targets_data};
+ghost use Rattle.bpf_dis.specs.ProgramText.{form_text, insn_text, label_text, labels_text, line_text, source_text};
+
+use bpf_insn::{
+    Form, Insn, Src, Targets, cond_mnemonic, form_of, jump_targets, load_mnemonic, op_mnemonic,
+};
 use std::alloc::AllocError;
 
-/// The line of an instruction at a place.
+/// Writes the line of the instruction with this index.
 pub(crate) fn write_line(
     text: &mut String,
     labelled: bool,
@@ -15,16 +18,18 @@ pub(crate) fn write_line(
     at: usize,
 ) -> Result<(), AllocError>
     requires { at < 2 ^ 62 }
-    ensures { OnOk result (string_bytes text.new ≡ string_bytes text.old ++ ((label_text labelled at ++ insn_text (form insn.code) at insn) ++ codes "\n")) }
+    ensures { OnOk result (string_bytes text.new
+        ≡ string_bytes text.old ++ (line_text labelled at insn ++ codes "\n")) }
 {
     write_label(text, labelled, at)?;
     write_insn(text, insn, at)?;
     text.push('\n')
 }
 
-/// The label of a line that has one.
+/// Writes the label of a line that has one.
 fn write_label(text: &mut String, labelled: bool, at: usize) -> Result<(), AllocError>
-    ensures { OnOk result (string_bytes text.new ≡ string_bytes text.old ++ label_text labelled at) }
+    ensures { OnOk result
+        (string_bytes text.new ≡ string_bytes text.old ++ label_text labelled at) }
 {
     if labelled {
         write!(text, "L{at}: ")
@@ -33,10 +38,11 @@ fn write_label(text: &mut String, labelled: bool, at: usize) -> Result<(), Alloc
     }
 }
 
-/// An instruction at a place; nothing where its code is not legal.
+/// Writes the instruction with this index; nothing where its code is not legal.
 fn write_insn(text: &mut String, insn: Insn, at: usize) -> Result<(), AllocError>
     requires { at < 2 ^ 62 }
-    ensures { OnOk result (string_bytes text.new ≡ string_bytes text.old ++ insn_text (form insn.code) at insn) }
+    ensures { OnOk result
+        (string_bytes text.new ≡ string_bytes text.old ++ insn_text (form insn.code) at insn) }
 {
     match form_of(insn) {
         Some(form) => write_form(text, form, insn, at),
@@ -44,10 +50,11 @@ fn write_insn(text: &mut String, insn: Insn, at: usize) -> Result<(), AllocError
     }
 }
 
-/// An instruction of this form at a place.
+/// Writes the instruction with this index, which has this form.
 fn write_form(text: &mut String, form: Form, insn: Insn, at: usize) -> Result<(), AllocError>
     requires { at < 2 ^ 62 }
-    ensures { OnOk result (string_bytes text.new ≡ string_bytes text.old ++ form_text form at insn) }
+    ensures { OnOk result
+        (string_bytes text.new ≡ string_bytes text.old ++ form_text form at insn) }
 {
     let k = insn.k;
     match form {
@@ -62,11 +69,21 @@ fn write_form(text: &mut String, form: Form, insn: Insn, at: usize) -> Result<()
         Form::LdxMsh => write!(text, "ldxb 4*([{k}]&0xf)"),
         Form::St => write!(text, "st M[{k}]"),
         Form::Stx => write!(text, "stx M[{k}]"),
-        Form::Alu(op, Src::K) => write!(text, "{} #{k}", op_mnemonic(op)),
-        Form::Alu(op, Src::X) => write!(text, "{} x", op_mnemonic(op)),
+        Form::Alu(op, src) => {
+            write!(text, "{} ", op_mnemonic(op))?;
+            write_source(text, src, k)
+        }
         Form::Neg => text.push_str("neg"),
-        Form::Ja => write!(text, "jmp L{}", target(at, k)),
-        Form::Test(cond, src) => write_test(text, cond, src, insn, at),
+        Form::Ja => {
+            text.push_str("jmp ")?;
+            write_labels(text, jump_targets(form, insn, at))
+        }
+        Form::Test(cond, src) => {
+            write!(text, "{} ", cond_mnemonic(cond))?;
+            write_source(text, src, k)?;
+            text.push(',')?;
+            write_labels(text, jump_targets(form, insn, at))
+        }
         Form::RetK => write!(text, "ret #{k}"),
         Form::RetA => text.push_str("ret a"),
         Form::Tax => text.push_str("tax"),
@@ -74,23 +91,24 @@ fn write_form(text: &mut String, form: Form, insn: Insn, at: usize) -> Result<()
     }
 }
 
-/// A test at a place, with the labels where it holds and where it fails.
-fn write_test(
-    text: &mut String,
-    cond: Cond,
-    src: Src,
-    insn: Insn,
-    at: usize,
-) -> Result<(), AllocError>
-    requires { at < 2 ^ 62 }
-    ensures { OnOk result (string_bytes text.new ≡ string_bytes text.old ++ test_text cond (source_text src insn.k) (at + 1) insn) }
+/// Writes the second operand of an operation or a test.
+fn write_source(text: &mut String, src: Src, k: u32) -> Result<(), AllocError>
+    ensures { OnOk result (string_bytes text.new ≡ string_bytes text.old ++ source_text src k) }
 {
-    let name = cond_mnemonic(cond);
-    let k = insn.k;
-    let holds = target(at, u32::from(insn.jt));
-    let fails = target(at, u32::from(insn.jf));
     match src {
-        Src::K => write!(text, "{name} #{k},L{holds},L{fails}"),
-        Src::X => write!(text, "{name} x,L{holds},L{fails}"),
+        Src::K => write!(text, "#{k}"),
+        Src::X => text.push('x'),
+    }
+}
+
+/// Writes the labels of these indexes.
+fn write_labels(text: &mut String, targets: Targets) -> Result<(), AllocError>
+    ensures { OnOk result
+        (string_bytes text.new ≡ string_bytes text.old ++ labels_text (targets_data targets)) }
+{
+    match targets {
+        Targets::Nowhere => Ok(()),
+        Targets::One(to) => write!(text, "L{to}"),
+        Targets::Two(holds, fails) => write!(text, "L{holds},L{fails}"),
     }
 }

@@ -1,4 +1,6 @@
-use super::*;
+//! Tests of what is printed of a program, and that the assembler reads it as that program.
+
+use crate::{DisFault, text_of};
 use bpf_asm::assemble;
 use bpf_insn::parse_listing;
 use std::test::Fail;
@@ -19,7 +21,7 @@ fn is_read_again(rt: &HostRuntime, text: &str, listing: &str) -> Result<bool, Fa
 }
 
 #[test]
-fn worked_examples(rt: HostRuntime) -> Result<(), Fail> {
+fn the_worked_examples_are_printed_as_written(rt: HostRuntime) -> Result<(), Fail> {
     let table = [
         (
             "4,40 0 0 12,21 0 1 2054,6 0 0 4294967295,6 0 0 0,",
@@ -80,7 +82,7 @@ const LINES: [(&str, &str); 40] = [
 ];
 
 #[test]
-fn every_form_that_is_no_jump(rt: HostRuntime) -> Result<(), Fail> {
+fn every_form_that_is_no_jump_has_its_line(rt: HostRuntime) -> Result<(), Fail> {
     for (insn, line) in LINES {
         let listing = format!(in rt.alloc(); "1,{insn},")?;
         let text = format!(in rt.alloc(); "{line}\n")?;
@@ -95,7 +97,7 @@ fn every_form_that_is_no_jump(rt: HostRuntime) -> Result<(), Fail> {
 }
 
 #[test]
-fn every_jump(rt: HostRuntime) -> Result<(), Fail> {
+fn every_jump_has_its_labels(rt: HostRuntime) -> Result<(), Fail> {
     let table = [
         ("5 0 0 1", "jmp L2\nret #0\nL2: ret a\n"),
         ("21 0 1 7", "jeq #7,L1,L2\nL1: ret #0\nL2: ret a\n"),
@@ -117,7 +119,7 @@ fn every_jump(rt: HostRuntime) -> Result<(), Fail> {
 }
 
 #[test]
-fn the_first_fault_is_told(rt: HostRuntime) -> Result<(), Fail> {
+fn the_first_fault_is_reported(rt: HostRuntime) -> Result<(), Fail> {
     let table = [
         // No form.
         ("1,14 0 0 0,", "dis 1 NoForm 0"),
@@ -134,7 +136,7 @@ fn the_first_fault_is_told(rt: HostRuntime) -> Result<(), Fail> {
         ("2,21 1 0 7,6 0 0 0,", "dis 2 JumpOut 0"),
         ("2,21 0 1 7,6 0 0 0,", "dis 2 JumpOut 0"),
         ("1,21 0 0 7,", "dis 2 JumpOut 0"),
-        // The least place, and a wrong field before a jump out.
+        // The least index, and a wrong field before a jump out.
         ("2,5 0 0 1,14 0 0 0,", "dis 2 JumpOut 0"),
         ("2,14 0 0 0,5 0 0 0,", "dis 1 NoForm 0"),
         ("1,5 1 0 7,", "dis 1 NoForm 0"),

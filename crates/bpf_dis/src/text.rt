@@ -1,14 +1,16 @@
-ghost use Rattle.std.specs.Prelude.{ℕ, ◌≡◌, ◌≤◌, ◌<◌, ◌⊎◌, length, MatchResult, IfOk, IfErr, IsErrOf, string_bytes};
+//! The text of a program.
+
+ghost use Rattle.std.specs.Prelude.{◌≡◌, ◌≤◌, ◌<◌, ◌⊎◌, length, MatchResult, IfOk, IfErr, IsErrOf, string_bytes};
 ghost use Rattle.bpf_insn.specs.declared.insn.TheConstants.{MAX_INSNS};
 ghost use Rattle.bpf_asm.specs.Denotes.{Denotes};
 ghost use Rattle.bpf_dis.specs.declared.fault.DisFault.{DisFault};
 ghost use Rattle.bpf_dis.specs.Faults.{HasText, IsFaultOf};
-ghost use Rattle.bpf_dis.specs.Spelled.{spelled};
+ghost use Rattle.bpf_dis.specs.ProgramText.{program_text};
 
-use super::check::first_fault;
-use super::fault::DisFault;
-use super::labels::labelled_places;
-use super::line::write_line;
+use crate::check::first_fault;
+use crate::fault::DisFault;
+use crate::labels::label_all;
+use crate::line::write_line;
 use bpf_insn::Insn;
 use std::alloc::{AllocError, Global};
 
@@ -16,31 +18,36 @@ use std::alloc::{AllocError, Global};
 /// a line feed, with a label in front where a jump leads there. Numbers are decimal. Of at most
 /// [`bpf_insn::MAX_INSNS`] instructions, the text denotes this very program.
 ///
-/// The first instruction that has no line is answered: with [`DisFault::NoForm`] where a text can't
-/// say it, else with [`DisFault::JumpOut`] where it can jump out of the program.
+/// The fault is that of the first instruction that has no line: [`DisFault::NoForm`] where a text
+/// can't say it, else [`DisFault::JumpOut`] where it can jump out of the program.
 pub fn text_of(alloc: Global, program: &[Insn]) -> Result<String, DisFault>
-    ensures text { IfOk result (λ text. string_bytes text ≡ spelled program.now) }
-    ensures fault { MatchResult result (λ _. HasText program.now) (λ fault. (fault ≡ DisFault.Memory) ⊎ IsFaultOf program.now fault) }
+    // At Ok.
+    ensures text { IfOk result (λ text. string_bytes text ≡ program_text program.now) }
+    ensures denotes { IfOk result (λ text.
+        length program.now ≤ MAX_INSNS → Denotes (string_bytes text) program.now) }
+    // At Ok and at each fault: only memory depends on more than the program.
+    ensures fault { MatchResult result
+        (λ _. HasText program.now)
+        (λ fault. (fault ≡ DisFault.Memory) ⊎ IsFaultOf program.now fault) }
     ensures first { (fault : DisFault) → IsFaultOf program.now fault → IsErrOf result fault }
-    // Memory is wanted only for a program that has a text, and an instruction.
-    ensures memory { IfErr result (λ fault. fault ≡ DisFault.Memory → HasText program.now × (0 < length program.now)) }
-    ensures denotes { IfOk result (λ text. length program.now ≤ MAX_INSNS → Denotes (string_bytes text) program.now) }
+    // Out of memory: only for a program that has a text, and an instruction.
+    ensures memory { IfErr result (λ fault.
+        fault ≡ DisFault.Memory → HasText program.now × (0 < length program.now)) }
 {
     if let Some(fault) = first_fault(program) {
         return Err(fault);
     }
-    match lines(alloc, program) {
-        Ok(text) => Ok(text),
-        Err(_) => Err(DisFault::Memory),
-    }
+    Ok(write_lines(alloc, program)?)
 }
 
 /// The lines of a program that has a text.
-fn lines(alloc: Global, program: &[Insn]) -> Result<String, AllocError>
+fn write_lines(alloc: Global, program: &[Insn]) -> Result<String, AllocError>
     requires { HasText program.now }
-    ensures { MatchResult result (λ text. string_bytes text ≡ spelled program.now) (λ _. 0 < length program.now) }
+    ensures { MatchResult result
+        (λ text. string_bytes text ≡ program_text program.now)
+        (λ _. 0 < length program.now) }
 {
-    let labelled = labelled_places(alloc, program)?;
+    let labelled = label_all(alloc, program)?;
     let mut text = String::new(alloc);
     'lines: for at in 0..program.len() {
         write_line(&mut text, labelled[at], program[at], at)?;

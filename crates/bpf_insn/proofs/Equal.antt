@@ -1,5 +1,5 @@
 -- Equality of instructions, field by field.
-use Rattle.std.proofs.Common.{ℕ, ◌≡◌, Bool, true, ◌&&◌, eqb, refl, ap}
+use Rattle.std.proofs.Common.{◌≡◌, Bool, true, ◌&&◌, eqb, ap}
 use Rattle.std.proofs.lemmas.Bool.{and_parts, and_from, eqb-true, eq-eqb}
 use Rattle.bpf_insn.specs.declared.insn.Insn.{Insn}
 

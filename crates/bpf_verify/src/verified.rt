@@ -58,6 +58,6 @@ impl Verified {
     pub fn same(&self, other: &Verified) -> bool
         ensures decides { IsTrue result ↔ (self.now ≡ other.now) }
     {
-        self.insns.as_slice() == other.insns.as_slice()
+        self.insns() == other.insns()
     }
 }

@@ -1,4 +1,4 @@
-//! The recorder's program: the words and streams of the process, handed to `rec_cli`.
+//! The recorder's program: the words and streams of the process, passed to `rec_cli`.
 #![tactic(auto)]
 
 use std::process::ExitCode;

@@ -1,3 +1,5 @@
+//! The words of each run, but for those on texts.
+
 /// The view of an ARP frame, a broadcast.
 pub(crate) const ARP: &str = "ffffffffffff0200000000010806";
 /// The view of an IPv4 frame whose header has 20 bytes.

@@ -1,6 +1,7 @@
 //! Drives the recorder's program through a table of cases and prints, for each, its words, its
 //! output, its errors (a line of them begins with `! `) and its status. The files that the cases
-//! name lie in `data/`; the listings of texts go from one command to the next. The stored output is the record of all that the program prints.
+//! name lie in `data/`; the listings of texts go from one command to the next. The stored output
+//! is the record of all that the program prints.
 #![tactic(auto)]
 
 mod cases;
@@ -14,16 +15,16 @@ use std::{fs, io};
 use texts::{FILTERS, TEXTS, TextCase};
 
 fn main(rt: HostRuntime) -> io::Result<()> {
-    'cases: for words in CASES {
+    for words in CASES {
         show(&rt, words)?;
     }
-    'texts: for text in &TEXTS {
+    for text in &TEXTS {
         show_text(&rt, text)?;
     }
-    'filters: for filter in &FILTERS {
+    for filter in &FILTERS {
         show_text(&rt, filter)?;
     }
-    'help: for words in HELP {
+    for words in HELP {
         show_help(&rt, words)?;
     }
     show_closed_output(&rt)
@@ -40,7 +41,7 @@ fn show_text<R: AllocGlobal + Files + Print>(rt: &R, text: &TextCase) -> io::Res
     let listing = answered(rt, &["asm", text.file])?;
     fs::write(rt, "listing", listing.as_slice())?;
     show(rt, &["verify", "listing"])?;
-    'views: for view in text.views {
+    for view in text.views {
         show(rt, &["run", "listing", view])?;
     }
     Ok(())
@@ -54,21 +55,21 @@ fn answered<R: AllocGlobal + Files + Print>(rt: &R, words: &[&str]) -> io::Resul
     let status = rec_cli::program(rt, owned.as_slice(), io::empty(), &mut output, &mut errors);
     title(rt, words)?;
     print!(rt; "{}", text(&output))?;
-    'errors: for line in text(&errors).lines() {
+    for line in text(&errors).lines() {
         println!(rt; "! {line}")?;
     }
     println!(rt; "= {status}")?;
     Ok(output)
 }
 
-/// Help is told by its stream, its status and the commands that it names, not by its text.
+/// Help is shown by its stream, its status and the commands that it names, not by its text.
 fn show_help<R: AllocGlobal + Files + Print>(rt: &R, words: &[&str]) -> io::Result<()> {
     let owned = words_of(rt, words)?;
     let mut output = Vec::new(rt.alloc());
     let mut errors = Vec::new(rt.alloc());
     let status = rec_cli::program(rt, owned.as_slice(), io::empty(), &mut output, &mut errors);
     title(rt, words)?;
-    'names: for name in ["asm", "dis", "verify", "run", "FILE", "HEX", "Usage"] {
+    for name in ["asm", "dis", "verify", "run", "FILE", "HEX", "Usage"] {
         if text(&output).contains(name) {
             println!(rt; "names {name}")?;
         }
@@ -92,7 +93,7 @@ impl Write for Closed {
 
 fn show_closed_output<R: AllocGlobal + Files + Print>(rt: &R) -> io::Result<()> {
     let mut closed = Closed;
-    'commands: for words in [
+    for words in [
         ["verify", "arp"].as_slice(),
         &["verify", "no_return"],
         &["run", "arp", ""],
@@ -110,7 +111,7 @@ fn show_closed_output<R: AllocGlobal + Files + Print>(rt: &R) -> io::Result<()> 
 
 fn title<R: Print>(rt: &R, words: &[&str]) -> io::Result<()> {
     print!(rt; "$ bpfrec")?;
-    'words: for word in words {
+    for word in words {
         print!(rt; " {}", if word.is_empty() { "''" } else { *word })?;
     }
     println!(rt)
@@ -118,7 +119,7 @@ fn title<R: Print>(rt: &R, words: &[&str]) -> io::Result<()> {
 
 fn words_of<R: AllocGlobal>(rt: &R, words: &[&str]) -> Result<Vec<String>, AllocError> {
     let mut owned = Vec::new(rt.alloc());
-    'words: for word in words {
+    for word in words {
         owned.push(String::from_str(rt.alloc(), word)?)?;
     }
     Ok(owned)

@@ -1,4 +1,6 @@
-use super::cases::{ARP, IPV4};
+//! The texts that are assembled, and the views that their programs run on.
+
+use crate::cases::{ARP, IPV4};
 
 /// A text in the language of `bpf_asm`, and the views that its program runs on.
 pub(crate) struct TextCase {

@@ -10,10 +10,11 @@ use Rattle.std.proofs.lemmas.List.Concat.{flat_map-append}
 use Rattle.std.proofs.lemmas.List.Sums.{sum_by-cons, sum_by_push}
 use Rattle.std.proofs.lemmas.List.Elements.{All-nil, All-head, All-tail, All-push}
 use Rattle.eth_frame.specs.Frame.{FrameData, IsFrame}
-use Rattle.ch11_packet.specs.declared.limits.TheConstants.{MAX_SPEED, BODY_WORD_LEN, HEADER_LEN, MAX_ETHERNET_PACKET_LEN, MIN_LIMIT}
-use Rattle.ch11_packet.specs.EthernetData.{frame_bytes, frame_len, data_bytes, data_len}
-use Rattle.ch11_packet.specs.BodyFrames.{written, frame_in, first_reads}
-use Rattle.ch11_packet.specs.ReadBody.{SpellsBody}
+use Rattle.ch11_packet.specs.declared.frames.word.TheConstants.{MAX_SPEED, BODY_WORD_LEN}
+use Rattle.ch11_packet.specs.declared.header.TheConstants.{HEADER_LEN, MAX_ETHERNET_PACKET_LEN}
+use Rattle.ch11_packet.specs.declared.limit.TheConstants.{MIN_LIMIT}
+use Rattle.ch11_packet.specs.Frames.{frame_bytes, frame_len, data_bytes, data_len}
+use Rattle.ch11_packet.specs.FramesRead.{body_frame, frame_in, first_reads, SpellsBody}
 use Rattle.ch11_packet.specs.Building.{EthernetBody, IsEthernetBody, body_of, open_of, Fits, first_counter, frames_in, Holds, IsOpen, IsSealed}
 use Rattle.ch11_packet.proofs.FrameBytes.{length-frame_bytes, Begins-written, first_reads-flat_map}
 use Rattle.ch11_packet.proofs.FirstFrames.{length-first_reads}
@@ -215,12 +216,12 @@ first_counter-fits [] each = omega arith
 first_counter-fits (f ∷ fs) each = (All-head IsFrame f fs each).counter
 
 -- a body that is written is a body of its frames
-pub SpellsBody-written : (body : EthernetBody) → IsEthernetBody body → SpellsBody (map (written body.net body.speed) body.frames) (data_bytes body.net body.speed body.frames)
+pub SpellsBody-written : (body : EthernetBody) → IsEthernetBody body → SpellsBody (map (body_frame body.net body.speed) body.frames) (data_bytes body.net body.speed body.frames)
 unfolding data_bytes
 SpellsBody-written body is =
-    let many = length-map body.frames (written body.net body.speed) in
+    let many = length-map body.frames (body_frame body.net body.speed) in
     let rest = flat_map (frame_bytes body.net body.speed) body.frames in
-    let word : length body.frames ≡ length (map (written body.net body.speed) body.frames) + 0 * 2 ^ 16 = omega (arith, many) in
+    let word : length body.frames ≡ length (map (body_frame body.net body.speed) body.frames) + 0 * 2 ^ 16 = omega (arith, many) in
     record {
       few = omega (arith, many, is.few);
       spare = 0;

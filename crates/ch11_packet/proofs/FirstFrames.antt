@@ -4,12 +4,11 @@ use Rattle.std.proofs.Common.{◌≡◌, ℕ, zero, suc, ◌+◌, ◌-◌, ◌*�
 use Rattle.std.specs.Int.{w16, w32, to_le_bytes, bytes_low_first}
 use Rattle.std.proofs.lemmas.Nat.{from_le_bytes-to_le_bytes_4}
 use Rattle.std.proofs.lemmas.List.{length-append, take_at, drop_at, drop-drop, drop_all}
-use Rattle.ch11_packet.specs.declared.limits.TheConstants.{FRAME_HEADER_LEN}
-use Rattle.ch11_packet.specs.Bytes.{u32_at}
-use Rattle.ch11_packet.specs.EthernetData.{frame_len}
-use Rattle.ch11_packet.specs.BodyFrames.{ReadFrameData, read_frame_of, has_bit, length_in, first_read, after_first, first_reads}
-use Rattle.ch11_packet.specs.ReadFrames.{IsReadFrame, read_word, IsFiller, StandsFirst, Begins, IsCut, AreFrames}
-use Rattle.ch11_packet.proofs.Headers.{six_again}
+use Rattle.ch11_packet.specs.declared.frames.word.TheConstants.{FRAME_HEADER_LEN}
+use Rattle.eth_frame.specs.Bytes.{u32_at}
+use Rattle.ch11_packet.specs.Frames.{frame_len}
+use Rattle.ch11_packet.specs.FramesRead.{ReadFrameData, read_frame_of, has_bit, length_in, first_read, after_first, first_reads, IsReadFrame, read_word, IsFiller, StandsFirst, Begins, IsCut, AreFrames}
+use Rattle.eth_frame.proofs.Bytes.{six_again}
 
 -- ---- the word
 

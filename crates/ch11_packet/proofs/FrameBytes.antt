@@ -6,10 +6,9 @@ use Rattle.std.specs.List.{flat_map}
 use Rattle.std.proofs.lemmas.List.{append-nil, length-append, length-map, length-replicate}
 use Rattle.std.proofs.lemmas.List.Elements.{All-head, All-tail}
 use Rattle.eth_frame.specs.Frame.{FrameData, IsFrame}
-use Rattle.ch11_packet.specs.declared.limits.TheConstants.{MAX_SPEED}
-use Rattle.ch11_packet.specs.EthernetData.{frame_word, frame_header, frame_filler, frame_bytes, frame_len}
-use Rattle.ch11_packet.specs.BodyFrames.{written, frame_in, first_reads}
-use Rattle.ch11_packet.specs.ReadFrames.{read_word, SpellsFrame, Begins}
+use Rattle.ch11_packet.specs.declared.frames.word.TheConstants.{MAX_SPEED}
+use Rattle.ch11_packet.specs.Frames.{frame_word, frame_header, frame_filler, frame_bytes, frame_len}
+use Rattle.ch11_packet.specs.FramesRead.{body_frame, frame_in, first_reads, read_word, SpellsFrame, Begins}
 use Rattle.ch11_packet.proofs.FirstFrames.{first_reads-Begins}
 
 -- ---- the word
@@ -36,9 +35,9 @@ pub record AreFields (net speed : ℕ) : Type 0 where
   pub net_fits : net < 2 ^ 8
   pub speed_fits : speed ≤ MAX_SPEED
 
-SpellsFrame-written : (net speed : ℕ) (frame : FrameData) → AreFields net speed → IsFrame frame → SpellsFrame (written net speed frame) (frame_header net speed frame ++ frame.bytes)
+SpellsFrame-written : (net speed : ℕ) (frame : FrameData) → AreFields net speed → IsFrame frame → SpellsFrame (body_frame net speed frame) (frame_header net speed frame ++ frame.bytes)
 SpellsFrame-written net speed frame fields is =
-    let same : frame_word net speed frame ≡ read_word (written net speed frame) 0 = omega arith in
+    let same : frame_word net speed frame ≡ read_word (body_frame net speed frame) 0 = omega arith in
     record {
       in_range = record { counter = is.counter; net = fields.net_fits; speed = omega (arith, fields.speed_fits); content = omega arith; longest = omega (arith, is.longest) };
       unused = 0;
@@ -47,7 +46,7 @@ SpellsFrame-written net speed frame fields is =
       whole = ap (λ w. bytes_low_first 0 6 frame.counter ++ to_le_bytes w16 0 ++ to_le_bytes w32 w ++ frame.bytes) same;
     }
 
-pub Begins-written : (net speed : ℕ) (frames : List FrameData) → AreFields net speed → All IsFrame frames → Begins (map (written net speed) frames) (flat_map (frame_bytes net speed) frames) []
+pub Begins-written : (net speed : ℕ) (frames : List FrameData) → AreFields net speed → All IsFrame frames → Begins (map (body_frame net speed) frames) (flat_map (frame_bytes net speed) frames) []
 unfolding frame_bytes
 Begins-written net speed [] fields each = refl
 Begins-written net speed (f ∷ fs) fields each =
@@ -65,7 +64,7 @@ Begins-written net speed (f ∷ fs) fields each =
       Begins-written net speed fs fields (All-tail IsFrame f fs each),
     )
 
-frames_again : (net speed : ℕ) (frames : List FrameData) → map frame_in (map (written net speed) frames) ≡ frames
+frames_again : (net speed : ℕ) (frames : List FrameData) → map frame_in (map (body_frame net speed) frames) ≡ frames
 frames_again net speed [] = refl
 frames_again net speed (f ∷ fs) = ap (λ l. f ∷ l) (frames_again net speed fs)
 
@@ -73,8 +72,8 @@ frames_again net speed (f ∷ fs) = ap (λ l. f ∷ l) (frames_again net speed f
 pub first_reads-flat_map : (net speed : ℕ) (frames : List FrameData) → AreFields net speed → All IsFrame frames → map frame_in (first_reads (length frames) (flat_map (frame_bytes net speed) frames)) ≡ frames
 first_reads-flat_map net speed frames fields each =
     let bytes = flat_map (frame_bytes net speed) frames in
-    let found = first_reads-Begins (map (written net speed) frames) bytes [] (Begins-written net speed frames fields each) in
-    ap (λ n. map frame_in (first_reads n bytes)) (sym (length-map frames (written net speed))) ∙ ap (map frame_in) found ∙ frames_again net speed frames
+    let found = first_reads-Begins (map (body_frame net speed) frames) bytes [] (Begins-written net speed frames fields each) in
+    ap (λ n. map frame_in (first_reads n bytes)) (sym (length-map frames (body_frame net speed))) ∙ ap (map frame_in) found ∙ frames_again net speed frames
 
 pub length-frame_bytes : (net speed : ℕ) (frame : FrameData) → length (frame_bytes net speed frame) ≡ frame_len (length frame.bytes)
 unfolding frame_bytes

@@ -1,64 +1,17 @@
 -- A header's bytes say its fields, and 24 bytes with the sync pattern and their checksum are those of
 -- the fields that they say.
-use Rattle.std.proofs.Common.{◌≡◌, ℕ, zero, suc, ◌^◌, ◌<◌, List, [], ◌∷◌, ◌++◌, length, get_or, take, Option, None, Some, refl, sym, ap, ◌∙◌, arith, lit<}
+use Rattle.std.proofs.Common.{◌≡◌, ℕ, List, [], ◌∷◌, ◌++◌, length, get_or, take, Option, None, Some, refl, sym, ap, ◌∙◌, arith}
 use Rattle.std.specs.Prelude.{IsSome, IfSome, IfOk, IsOkAnd}
 use Rattle.std.specs.Option.{ok_or}
-use Rattle.std.specs.Int.{w16, w32, w64, from_le_bytes, to_le_bytes, bytes_low_first, byte_at}
-use Rattle.std.proofs.lemmas.Nat.{le_bytes_2, le_bytes_4, le_bytes_8, from_le_bytes-to_le_bytes_2, from_le_bytes-to_le_bytes_4, from_le_bytes-to_le_bytes_8}
-use Rattle.ch11_packet.specs.declared.limits.TheConstants.{SYNC_PATTERN, HEADER_LEN, CHECKED_LEN}
+use Rattle.std.specs.Int.{w16, w32, to_le_bytes, bytes_low_first}
+use Rattle.std.proofs.lemmas.Nat.{from_le_bytes-to_le_bytes_2, from_le_bytes-to_le_bytes_4}
+use Rattle.eth_frame.proofs.Bytes.{two_bytes, four_bytes, six_bytes, six_again}
+use Rattle.ch11_packet.specs.declared.header.TheConstants.{SYNC_PATTERN, HEADER_LEN, CHECKED_LEN}
 use Rattle.ch11_packet.specs.declared.header.Header.{Header}
 use Rattle.ch11_packet.specs.declared.header.HeaderFault.TheVariants.{Length}
-use Rattle.ch11_packet.specs.Bytes.{AreBytes, u16_at, u32_at, u48_at}
-use Rattle.ch11_packet.specs.Checksum.{checksum_of}
-use Rattle.ch11_packet.specs.Header.{HeaderData, header_of, IsHeader, checked_bytes, header_bytes}
-use Rattle.ch11_packet.specs.HeaderView.{header_data, header_at, HasSync, HasChecksum, HasLengths}
-
--- ---- numbers
-
-two_fit : (a b : ℕ) → a < 256 → b < 256 → (i : ℕ) → get_or (a ∷ b ∷ []) i 0 < 256
-two_fit a b fa fb zero = fa
-two_fit a b fa fb (suc zero) = fb
-two_fit a b fa fb (suc (suc i)) = lit< tt
-
-four_fit : (a b c d : ℕ) → a < 256 → b < 256 → c < 256 → d < 256 → (i : ℕ) → get_or (a ∷ b ∷ c ∷ d ∷ []) i 0 < 256
-four_fit a b c d fa fb fc fd zero = fa
-four_fit a b c d fa fb fc fd (suc zero) = fb
-four_fit a b c d fa fb fc fd (suc (suc zero)) = fc
-four_fit a b c d fa fb fc fd (suc (suc (suc zero))) = fd
-four_fit a b c d fa fb fc fd (suc (suc (suc (suc i)))) = lit< tt
-
-six_fit : (a b c d e f : ℕ) → a < 256 → b < 256 → c < 256 → d < 256 → e < 256 → f < 256 → (i : ℕ) → get_or (a ∷ b ∷ c ∷ d ∷ e ∷ f ∷ 0 ∷ 0 ∷ []) i 0 < 256
-six_fit a b c d e f fa fb fc fd fe ff zero = fa
-six_fit a b c d e f fa fb fc fd fe ff (suc zero) = fb
-six_fit a b c d e f fa fb fc fd fe ff (suc (suc zero)) = fc
-six_fit a b c d e f fa fb fc fd fe ff (suc (suc (suc zero))) = fd
-six_fit a b c d e f fa fb fc fd fe ff (suc (suc (suc (suc zero)))) = fe
-six_fit a b c d e f fa fb fc fd fe ff (suc (suc (suc (suc (suc zero))))) = ff
-six_fit a b c d e f fa fb fc fd fe ff (suc (suc (suc (suc (suc (suc zero)))))) = lit< tt
-six_fit a b c d e f fa fb fc fd fe ff (suc (suc (suc (suc (suc (suc (suc zero))))))) = lit< tt
-six_fit a b c d e f fa fb fc fd fe ff (suc (suc (suc (suc (suc (suc (suc (suc i)))))))) = lit< tt
-
--- the number that two, four or six bytes say has these bytes
-pub two_bytes : (a b : ℕ) → a < 256 → b < 256 → to_le_bytes w16 (from_le_bytes w16 (a ∷ b ∷ [])) ≡ a ∷ b ∷ []
-two_bytes a b fa fb = le_bytes_2 (a ∷ b ∷ []) _ refl (two_fit a b fa fb) refl
-
-pub four_bytes : (a b c d : ℕ) → a < 256 → b < 256 → c < 256 → d < 256 → to_le_bytes w32 (from_le_bytes w32 (a ∷ b ∷ c ∷ d ∷ [])) ≡ a ∷ b ∷ c ∷ d ∷ []
-four_bytes a b c d fa fb fc fd = le_bytes_4 (a ∷ b ∷ c ∷ d ∷ []) _ refl (four_fit a b c d fa fb fc fd) refl
-
-pub six_bytes : (a b c d e f : ℕ) → a < 256 → b < 256 → c < 256 → d < 256 → e < 256 → f < 256
-    → bytes_low_first 0 6 (from_le_bytes w64 (a ∷ b ∷ c ∷ d ∷ e ∷ f ∷ 0 ∷ 0 ∷ [])) ≡ a ∷ b ∷ c ∷ d ∷ e ∷ f ∷ []
-six_bytes a b c d e f fa fb fc fd fe ff =
-    ap (take 6) (le_bytes_8 (a ∷ b ∷ c ∷ d ∷ e ∷ f ∷ 0 ∷ 0 ∷ []) _ refl (six_fit a b c d e f fa fb fc fd fe ff) refl)
-
-high_bytes : (n : ℕ) → n < 2 ^ 48 → (byte_at 6 n ≡ 0) × (byte_at 7 n ≡ 0)
-high_bytes n lt = (omega arith, omega arith)
-
--- a number of 48 bits is what its six low bytes say
-pub six_again : (n : ℕ) → n < 2 ^ 48 → u48_at (bytes_low_first 0 6 n) 0 ≡ n
-six_again n lt =
-    let high = high_bytes n lt in
-    let same : from_le_bytes w64 (bytes_low_first 0 6 n ++ (0 ∷ 0 ∷ [])) ≡ from_le_bytes w64 (to_le_bytes w64 n) = rw (high.0, high.1) refl in
-    same ∙ from_le_bytes-to_le_bytes_8 n (omega arith)
+use Rattle.eth_frame.specs.Bytes.{AreBytes, u16_at, u32_at, u48_at}
+use Rattle.ch11_packet.specs.Header.{header_sum, HeaderData, header_of, IsHeader, checked_bytes, header_bytes, header_at, HasSync, HasHeaderSum, HasLengths}
+use Rattle.ch11_packet.specs.Views.{header_data}
 
 -- ---- headers
 
@@ -79,10 +32,10 @@ pub HasSync-header_bytes : (header : HeaderData) → HasSync (header_bytes heade
 unfolding header_bytes
 HasSync-header_bytes header = refl
 
-pub HasChecksum-header_bytes : (header : HeaderData) → HasChecksum (header_bytes header)
+pub HasHeaderSum-header_bytes : (header : HeaderData) → HasHeaderSum (header_bytes header)
 unfolding header_bytes
-HasChecksum-header_bytes header =
-    from_le_bytes-to_le_bytes_2 (checksum_of (checked_bytes header)) (omega arith)
+HasHeaderSum-header_bytes header =
+    from_le_bytes-to_le_bytes_2 (header_sum (checked_bytes header)) (omega arith)
 
 -- 24 bytes, one by one
 cells : (bytes : List ℕ) → length bytes ≡ HEADER_LEN → bytes ≡
@@ -94,7 +47,7 @@ cells (a ∷ b ∷ c ∷ d ∷ e ∷ f ∷ g ∷ h ∷ i ∷ j ∷ k ∷ l ∷ m
 cells other len = absurd (omega arith)
 
 -- 24 bytes with the sync pattern and their checksum are those of the fields that they say
-pub header_bytes-header_at : (bytes : List ℕ) → length bytes ≡ HEADER_LEN → AreBytes bytes → HasSync bytes → HasChecksum bytes → bytes ≡ header_bytes (header_at bytes)
+pub header_bytes-header_at : (bytes : List ℕ) → length bytes ≡ HEADER_LEN → AreBytes bytes → HasSync bytes → HasHeaderSum bytes → bytes ≡ header_bytes (header_at bytes)
 unfolding header_bytes
 header_bytes-header_at bytes len fit sync sum =
     let at = λ (i : ℕ). get_or bytes i 0 in
@@ -104,16 +57,16 @@ header_bytes-header_at bytes len fit sync sum =
     let packet_len = four_bytes (at 4) (at 5) (at 6) (at 7) (fit 4) (fit 5) (fit 6) (fit 7) in
     let data_len = four_bytes (at 8) (at 9) (at 10) (at 11) (fit 8) (fit 9) (fit 10) (fit 11) in
     let counter = six_bytes (at 16) (at 17) (at 18) (at 19) (at 20) (at 21) (fit 16) (fit 17) (fit 18) (fit 19) (fit 20) (fit 21) in
-    let marks = at 12 ∷ at 13 ∷ at 14 ∷ at 15 ∷ [] in
+    let four = at 12 ∷ at 13 ∷ at 14 ∷ at 15 ∷ [] in
     let checked : checked_bytes (header_at bytes) ≡ take CHECKED_LEN bytes =
-    ap (λ l. l ++ to_le_bytes w16 (u16_at bytes 2) ++ to_le_bytes w32 (u32_at bytes 4) ++ to_le_bytes w32 (u32_at bytes 8) ++ (marks ++ bytes_low_first 0 6 (u48_at bytes 16))) first
-    ∙ ap (λ l. (at 0 ∷ at 1 ∷ []) ++ l ++ to_le_bytes w32 (u32_at bytes 4) ++ to_le_bytes w32 (u32_at bytes 8) ++ (marks ++ bytes_low_first 0 6 (u48_at bytes 16))) channel
-    ∙ ap (λ l. (at 0 ∷ at 1 ∷ at 2 ∷ at 3 ∷ []) ++ l ++ to_le_bytes w32 (u32_at bytes 8) ++ (marks ++ bytes_low_first 0 6 (u48_at bytes 16))) packet_len
-    ∙ ap (λ l. (at 0 ∷ at 1 ∷ at 2 ∷ at 3 ∷ at 4 ∷ at 5 ∷ at 6 ∷ at 7 ∷ []) ++ l ++ (marks ++ bytes_low_first 0 6 (u48_at bytes 16))) data_len
-    ∙ ap (λ l. (at 0 ∷ at 1 ∷ at 2 ∷ at 3 ∷ at 4 ∷ at 5 ∷ at 6 ∷ at 7 ∷ at 8 ∷ at 9 ∷ at 10 ∷ at 11 ∷ []) ++ (marks ++ l)) counter
+    ap (λ l. l ++ to_le_bytes w16 (u16_at bytes 2) ++ to_le_bytes w32 (u32_at bytes 4) ++ to_le_bytes w32 (u32_at bytes 8) ++ (four ++ bytes_low_first 0 6 (u48_at bytes 16))) first
+    ∙ ap (λ l. (at 0 ∷ at 1 ∷ []) ++ l ++ to_le_bytes w32 (u32_at bytes 4) ++ to_le_bytes w32 (u32_at bytes 8) ++ (four ++ bytes_low_first 0 6 (u48_at bytes 16))) channel
+    ∙ ap (λ l. (at 0 ∷ at 1 ∷ at 2 ∷ at 3 ∷ []) ++ l ++ to_le_bytes w32 (u32_at bytes 8) ++ (four ++ bytes_low_first 0 6 (u48_at bytes 16))) packet_len
+    ∙ ap (λ l. (at 0 ∷ at 1 ∷ at 2 ∷ at 3 ∷ at 4 ∷ at 5 ∷ at 6 ∷ at 7 ∷ []) ++ l ++ (four ++ bytes_low_first 0 6 (u48_at bytes 16))) data_len
+    ∙ ap (λ l. (at 0 ∷ at 1 ∷ at 2 ∷ at 3 ∷ at 4 ∷ at 5 ∷ at 6 ∷ at 7 ∷ at 8 ∷ at 9 ∷ at 10 ∷ at 11 ∷ []) ++ (four ++ l)) counter
     ∙ sym (ap (take CHECKED_LEN) whole) in
-    let last : to_le_bytes w16 (checksum_of (checked_bytes (header_at bytes))) ≡ at 22 ∷ at 23 ∷ [] =
-    ap (λ l. to_le_bytes w16 (checksum_of l)) checked ∙ ap (to_le_bytes w16) (sym sum) ∙ two_bytes _ _ (fit 22) (fit 23) in
+    let last : to_le_bytes w16 (header_sum (checked_bytes (header_at bytes))) ≡ at 22 ∷ at 23 ∷ [] =
+    ap (λ l. to_le_bytes w16 (header_sum l)) checked ∙ ap (to_le_bytes w16) (sym sum) ∙ two_bytes _ _ (fit 22) (fit 23) in
     whole ∙ ap (λ l. l ++ (at 22 ∷ at 23 ∷ [])) (sym (checked ∙ ap (take CHECKED_LEN) whole)) ∙ ap (λ l. checked_bytes (header_at bytes) ++ l) (sym last)
 
 -- what 24 bytes say is in range

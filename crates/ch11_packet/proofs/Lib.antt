@@ -1,7 +1,7 @@
 pub mod Headers
 pub mod FrameBytes
 pub mod Bodies
-pub mod Records
+pub mod RecordBytes
 pub mod FirstFrames
 pub mod SplitFrame
 pub mod ReadBodies

@@ -3,14 +3,12 @@ use Rattle.std.proofs.Common.{◌≡◌, ℕ, ◌+◌, ◌-◌, ◌*◌, ◌/◌
 use Rattle.std.specs.Int.{w32, to_le_bytes}
 use Rattle.std.proofs.lemmas.Nat.{from_le_bytes-to_le_bytes_4}
 use Rattle.std.proofs.lemmas.List.{append-nil, length-append, nil_from_length, take_rest}
-use Rattle.ch11_packet.specs.declared.limits.TheConstants.{BODY_WORD_LEN}
-use Rattle.ch11_packet.specs.declared.frames.BodyFault.{BodyFault}
-use Rattle.ch11_packet.specs.declared.frames.BodyFault.TheVariants.{Format, Short, LeftOver}
-use Rattle.ch11_packet.specs.Bytes.{AreBytes, u32_at}
-use Rattle.ch11_packet.specs.BodyFrames.{ReadFrameData, first_reads}
-use Rattle.ch11_packet.specs.ReadFrames.{StandsFirst, Begins, IsCut, AreFrames}
-use Rattle.ch11_packet.specs.ReadBody.{SpellsBody, count_in, HasFormat, FramesEnd, MoreFollows, HasBodyFault}
-use Rattle.ch11_packet.proofs.Headers.{four_bytes}
+use Rattle.ch11_packet.specs.declared.frames.word.TheConstants.{BODY_WORD_LEN}
+use Rattle.ch11_packet.specs.declared.frames.decode.BodyFault.{BodyFault}
+use Rattle.ch11_packet.specs.declared.frames.decode.BodyFault.TheVariants.{Format, Short, LeftOver}
+use Rattle.eth_frame.specs.Bytes.{AreBytes, u32_at}
+use Rattle.ch11_packet.specs.FramesRead.{ReadFrameData, first_reads, StandsFirst, Begins, IsCut, AreFrames, SpellsBody, count_in, HasFormat, FramesEnd, MoreFollows, HasBodyFault}
+use Rattle.eth_frame.proofs.Bytes.{four_bytes}
 use Rattle.ch11_packet.proofs.FirstFrames.{goes_on, GoesOn, not_cut, Begins-snoc, first_reads-Begins, length-first_reads}
 
 -- ---- a body's word

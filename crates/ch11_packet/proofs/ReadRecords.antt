@@ -1,26 +1,25 @@
 -- The record that bytes are: they are one record at most, or have one fault.
-use Rattle.std.proofs.Common.{◌≡◌, ℕ, zero, suc, ◌+◌, ◌*◌, ◌^◌, ◌<◌, ◌≤◌, ◌≢◌, inl, inr, List, [], ◌∷◌, ◌++◌, length, get_or, take, drop, Option, None, Some, Result, Ok, Err, refl, sym, ap, subst, ◌∙◌, arith}
+use Rattle.std.proofs.Common.{◌≡◌, ℕ, ◌+◌, ◌*◌, ◌^◌, ◌<◌, ◌≤◌, ◌≢◌, inl, inr, List, [], ◌∷◌, ◌++◌, length, get_or, take, drop, Option, None, Some, Result, Ok, Err, refl, sym, ap, subst, ◌∙◌, arith}
 use Rattle.std.specs.Prelude.{codes, IsSome, IfSome}
 use Rattle.std.specs.Int.{w16, w32, w64, to_le_bytes}
 use Rattle.std.specs.List.{flat_map}
-use Rattle.std.proofs.lemmas.Nat.{le_bytes_8, from_le_bytes-to_le_bytes_2, from_le_bytes-to_le_bytes_4, from_le_bytes-to_le_bytes_8}
+use Rattle.std.proofs.lemmas.Nat.{from_le_bytes-to_le_bytes_2, from_le_bytes-to_le_bytes_4, from_le_bytes-to_le_bytes_8}
 use Rattle.std.proofs.lemmas.List.{length-drop, drop_all, append-nil}
 use Rattle.bpf_insn.specs.declared.insn.Insn.{Insn}
 use Rattle.bpf_insn.specs.Bytes.{insn_bytes}
-use Rattle.ch11_packet.specs.declared.limits.TheConstants.{RECORD_HEAD_LEN, PROGRAM_HEAD_LEN, END_RECORD_LEN, INSN_LEN, PROGRAM_RECORD, END_RECORD}
-use Rattle.ch11_packet.specs.declared.read_record.Record.{Record}
-use Rattle.ch11_packet.specs.declared.read_record.Record.TheVariants.{End}
-use Rattle.ch11_packet.specs.declared.read_record.RecordFault.{RecordFault}
-use Rattle.ch11_packet.specs.declared.read_record.RecordFault.TheVariants.{Kind, Channel, Length}
-use Rattle.ch11_packet.specs.Bytes.{AreBytes, u16_at, u32_at, u64_at}
-use Rattle.ch11_packet.specs.RecordBody.{program_spelling, end_spelling}
-use Rattle.ch11_packet.specs.StoredInsns.{stored_insns}
-use Rattle.ch11_packet.specs.ReadRecord.{RecordData, IsProgramRecord, IsEndRecord, SpellsRecord, IsTagged, kind_in, channel_in, insn_count_in, IsKind, HasRecordLength, HasHead, HasFields, HasRecordFault}
-use Rattle.ch11_packet.specs.ReadRecord.RecordData.{OfProgram, OfEnd}
-use Rattle.ch11_packet.specs.RecordView.{record_data}
-use Rattle.ch11_packet.proofs.Headers.{two_bytes, four_bytes}
-use Rattle.ch11_packet.proofs.Records.{length-insns}
-use Rattle.ch11_packet.proofs.StoredInsns.{length-stored_insns, stored_insns-flat_map, flat_map-stored_insns, InRange-stored_insns, AreBytes-drop}
+use Rattle.ch11_packet.specs.declared.records.TheConstants.{RECORD_HEAD_LEN, PROGRAM_HEAD_LEN, END_RECORD_LEN, INSN_LEN, PROGRAM_RECORD, END_RECORD}
+use Rattle.ch11_packet.specs.declared.records.record.Record.{Record}
+use Rattle.ch11_packet.specs.declared.records.record.Record.TheVariants.{End}
+use Rattle.ch11_packet.specs.declared.records.decode.RecordFault.{RecordFault}
+use Rattle.ch11_packet.specs.declared.records.decode.RecordFault.TheVariants.{Kind, Channel, Length}
+use Rattle.eth_frame.specs.Bytes.{AreBytes, u16_at, u32_at, u64_at}
+use Rattle.ch11_packet.specs.Records.{program_spelling, end_spelling}
+use Rattle.ch11_packet.specs.RecordsRead.{stored_insns, RecordData, IsProgramRecord, IsEndRecord, SpellsRecord, IsTagged, kind_in, channel_in, insn_count_in, IsKind, HasRecordLength, HasHead, HasFields, HasRecordFault}
+use Rattle.ch11_packet.specs.RecordsRead.RecordData.{OfProgram, OfEnd}
+use Rattle.ch11_packet.specs.Views.{record_data}
+use Rattle.eth_frame.proofs.Bytes.{AreBytes-drop, two_bytes, four_bytes, eight_bytes}
+use Rattle.ch11_packet.proofs.RecordBytes.{length-insns}
+use Rattle.ch11_packet.proofs.StoredInsns.{length-stored_insns, stored_insns-flat_map, flat_map-stored_insns, InRange-stored_insns}
 
 -- ---- what the bytes of a record say
 
@@ -98,44 +97,7 @@ no_record_fault said bytes Channel spells fault = (Says-SpellsRecord said bytes 
 no_record_fault said bytes Length spells (inl short) = let says = Says-SpellsRecord said bytes spells in omega (arith, says.head.whole, short.1)
 no_record_fault said bytes Length spells (inr wrong) = wrong.3 (Says-SpellsRecord said bytes spells).length_is
 
--- a fault is one
-pub one_record_fault : (bytes : List ℕ) (fault other : RecordFault) → HasRecordFault bytes fault → HasRecordFault bytes other → fault ≡ other
-one_record_fault bytes Kind Kind a b = refl
-one_record_fault bytes Kind Channel a b = absurd (a.1 b.1)
-one_record_fault bytes Kind Length a (inl b) = absurd (omega (arith, a.0.whole, b.1))
-one_record_fault bytes Kind Length a (inr b) = absurd (a.1 b.1)
-one_record_fault bytes Channel Kind a b = absurd (b.1 a.1)
-one_record_fault bytes Channel Channel a b = refl
-one_record_fault bytes Channel Length a (inl b) = absurd (omega (arith, a.0.whole, b.1))
-one_record_fault bytes Channel Length a (inr b) = absurd (b.2 a.2)
-one_record_fault bytes Length Kind (inl a) b = absurd (omega (arith, b.0.whole, a.1))
-one_record_fault bytes Length Kind (inr a) b = absurd (b.1 a.1)
-one_record_fault bytes Length Channel (inl a) b = absurd (omega (arith, b.0.whole, a.1))
-one_record_fault bytes Length Channel (inr a) b = absurd (a.2 b.2)
-one_record_fault bytes Length Length a b = refl
-
 -- ---- bytes with nothing wrong are the record that they say
-
-eight_fit : (a b c d e f g h : ℕ) → a < 256 → b < 256 → c < 256 → d < 256 → e < 256 → f < 256 → g < 256 → h < 256 → (i : ℕ) → get_or (a ∷ b ∷ c ∷ d ∷ e ∷ f ∷ g ∷ h ∷ []) i 0 < 256
-eight_fit a b c d e f g h fa fb fc fd fe ff fg fh zero = fa
-eight_fit a b c d e f g h fa fb fc fd fe ff fg fh (suc zero) = fb
-eight_fit a b c d e f g h fa fb fc fd fe ff fg fh (suc (suc zero)) = fc
-eight_fit a b c d e f g h fa fb fc fd fe ff fg fh (suc (suc (suc zero))) = fd
-eight_fit a b c d e f g h fa fb fc fd fe ff fg fh (suc (suc (suc (suc zero)))) = fe
-eight_fit a b c d e f g h fa fb fc fd fe ff fg fh (suc (suc (suc (suc (suc zero))))) = ff
-eight_fit a b c d e f g h fa fb fc fd fe ff fg fh (suc (suc (suc (suc (suc (suc zero)))))) = fg
-eight_fit a b c d e f g h fa fb fc fd fe ff fg fh (suc (suc (suc (suc (suc (suc (suc zero))))))) = fh
-eight_fit a b c d e f g h fa fb fc fd fe ff fg fh (suc (suc (suc (suc (suc (suc (suc (suc i)))))))) = omega arith
-
--- the eight bytes from a place on
-abbrev eight_at : List ℕ → ℕ → List ℕ
-eight_at bytes at =
-    get_or bytes at 0 ∷ get_or bytes (at + 1) 0 ∷ get_or bytes (at + 2) 0 ∷ get_or bytes (at + 3) 0
-    ∷ get_or bytes (at + 4) 0 ∷ get_or bytes (at + 5) 0 ∷ get_or bytes (at + 6) 0 ∷ get_or bytes (at + 7) 0 ∷ []
-
-eight_again : (bytes : List ℕ) (at : ℕ) → AreBytes bytes → to_le_bytes w64 (u64_at bytes at) ≡ eight_at bytes at
-eight_again bytes at fit =
-    le_bytes_8 (eight_at bytes at) (u64_at bytes at) refl (eight_fit _ _ _ _ _ _ _ _ (fit at) (fit (at + 1)) (fit (at + 2)) (fit (at + 3)) (fit (at + 4)) (fit (at + 5)) (fit (at + 6)) (fit (at + 7))) refl
 
 u64_fits : (bytes : List ℕ) (at : ℕ) → AreBytes bytes → u64_at bytes at < 2 ^ 64
 u64_fits bytes at fit = omega (arith, fit at, fit (at + 1), fit (at + 2), fit (at + 3), fit (at + 4), fit (at + 5), fit (at + 6), fit (at + 7))
@@ -187,7 +149,7 @@ SpellsRecord-program bytes fit tagged kind named len =
       insns_fit = InRange-stored_insns count rest (AreBytes-drop PROGRAM_HEAD_LEN bytes fit);
     } in
     let version = four_bytes (at 12) (at 13) (at 14) (at 15) (fit 12) (fit 13) (fit 14) (fit 15) in
-    let first = eight_again bytes 16 fit in
+    let first = eight_bytes bytes 16 fit in
     let counted : to_le_bytes w16 (length insns) ≡ at 24 ∷ at 25 ∷ [] = ap (to_le_bytes w16) many ∙ two_bytes (at 24) (at 25) (fit 24) (fit 25) in
     let unused = two_bytes (at 26) (at 27) (fit 26) (fit 27) in
     let stored = flat_map-stored_insns count rest (AreBytes-drop PROGRAM_HEAD_LEN bytes fit) (omega (arith, len, length-drop PROGRAM_HEAD_LEN bytes)) in
@@ -215,8 +177,8 @@ SpellsRecord-end bytes fit tagged kind named len =
     } in
     let spelled : end_spelling (u32_at bytes 0) (channel_in bytes) (u64_at bytes 12) (u64_at bytes 20) ≡ front bytes =
     head_again bytes END_RECORD fit long tagged kind (to_le_bytes w64 (u64_at bytes 12) ++ to_le_bytes w64 (u64_at bytes 20))
-    ∙ ap (λ l. take 12 (front bytes) ++ (l ++ to_le_bytes w64 (u64_at bytes 20))) (eight_again bytes 12 fit)
-    ∙ ap (λ l. take 20 (front bytes) ++ l) (eight_again bytes 20 fit) in
+    ∙ ap (λ l. take 12 (front bytes) ++ (l ++ to_le_bytes w64 (u64_at bytes 20))) (eight_bytes bytes 12 fit)
+    ∙ ap (λ l. take 20 (front bytes) ++ l) (eight_bytes bytes 20 fit) in
     (is, u32_at bytes 0, front_cells bytes long ∙ ap (λ l. front bytes ++ l) none ∙ append-nil (front bytes) ∙ sym spelled)
 
 -- ---- the record that was made

@@ -6,11 +6,10 @@ use Rattle.std.specs.Int.{w16, w32, to_le_bytes, bytes_low_first}
 use Rattle.std.proofs.lemmas.Bool.{ne_eqb, eq-eqb}
 use Rattle.std.proofs.lemmas.Nat.Bits.{and_pow}
 use Rattle.std.proofs.lemmas.List.{take_all, take_rest, take-append-drop}
-use Rattle.ch11_packet.specs.declared.limits.TheConstants.{FRAME_HEADER_LEN}
-use Rattle.ch11_packet.specs.Bytes.{AreBytes, u16_at, u32_at, u48_at}
-use Rattle.ch11_packet.specs.BodyFrames.{read_frame_of}
-use Rattle.ch11_packet.specs.ReadFrames.{read_word, IsFiller, StandsFirst}
-use Rattle.ch11_packet.proofs.Headers.{two_bytes, four_bytes, six_bytes}
+use Rattle.ch11_packet.specs.declared.frames.word.TheConstants.{FRAME_HEADER_LEN}
+use Rattle.eth_frame.specs.Bytes.{AreBytes, u16_at, u32_at, u48_at}
+use Rattle.ch11_packet.specs.FramesRead.{read_frame_of, read_word, IsFiller, StandsFirst}
+use Rattle.eth_frame.proofs.Bytes.{two_bytes, four_bytes, six_bytes}
 
 -- ---- the filler
 

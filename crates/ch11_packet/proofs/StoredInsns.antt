@@ -4,21 +4,18 @@ use Rattle.std.specs.Prelude.{slice_get}
 use Rattle.std.specs.Int.{w32, to_le_bytes}
 use Rattle.std.specs.List.{flat_map, AllByRecursion, slice_range}
 use Rattle.std.proofs.lemmas.Nat.{from_le_bytes-to_le_bytes_2, from_le_bytes-to_le_bytes_4}
-use Rattle.std.proofs.lemmas.List.{length-drop, drop-drop, get_or-drop, get_or-take, nil_from_length}
+use Rattle.std.proofs.lemmas.List.{length-drop, drop-drop, get_or-take, nil_from_length}
 use Rattle.bpf_insn.specs.declared.insn.Insn.{Insn}
 use Rattle.bpf_insn.specs.Bytes.{InRange, insn_bytes}
-use Rattle.ch11_packet.specs.declared.limits.TheConstants.{INSN_LEN}
-use Rattle.ch11_packet.specs.Bytes.{AreBytes, u32_at}
-use Rattle.ch11_packet.specs.StoredInsns.{first_insn, stored_insns}
-use Rattle.ch11_packet.proofs.Headers.{two_bytes, four_bytes}
+use Rattle.ch11_packet.specs.declared.records.TheConstants.{INSN_LEN}
+use Rattle.eth_frame.specs.Bytes.{AreBytes, u32_at}
+use Rattle.ch11_packet.specs.RecordsRead.{first_insn, stored_insns}
+use Rattle.eth_frame.proofs.Bytes.{AreBytes-drop, two_bytes, four_bytes}
 
 pub length-stored_insns : (count : ℕ) (bytes : List ℕ) → length (stored_insns count bytes) ≡ count
 unfolding stored_insns
 length-stored_insns zero bytes = refl
 length-stored_insns (suc count) bytes = ap suc (length-stored_insns count (drop INSN_LEN bytes))
-
-pub AreBytes-drop : (n : ℕ) (bytes : List ℕ) → AreBytes bytes → AreBytes (drop n bytes)
-AreBytes-drop n bytes fit i = rw get_or-drop (fit (n + i))
 
 -- ---- one instruction
 

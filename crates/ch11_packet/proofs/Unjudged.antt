@@ -2,11 +2,9 @@
 use Rattle.std.proofs.Common.{◌≡◌, ℕ, ◌+◌, ◌*◌, ◌/◌, ◌%◌, ◌^◌, ◌<◌, List, [], ◌++◌, length, take, drop, sym, ap, subst, ◌∙◌, arith}
 use Rattle.std.specs.Int.{w16, w32, to_le_bytes}
 use Rattle.std.proofs.lemmas.Nat.{from_le_bytes-to_le_bytes_4}
-use Rattle.ch11_packet.specs.declared.limits.TheConstants.{BODY_WORD_LEN}
-use Rattle.ch11_packet.specs.Bytes.{u32_at}
-use Rattle.ch11_packet.specs.BodyFrames.{ReadFrameData}
-use Rattle.ch11_packet.specs.ReadFrames.{SpellsFrame, Begins}
-use Rattle.ch11_packet.specs.ReadBody.{SpellsBody}
+use Rattle.ch11_packet.specs.declared.frames.word.TheConstants.{BODY_WORD_LEN}
+use Rattle.eth_frame.specs.Bytes.{u32_at}
+use Rattle.ch11_packet.specs.FramesRead.{ReadFrameData, SpellsFrame, Begins, SpellsBody}
 
 -- the bits of a body's word
 pub other_word : (frames : List ReadFrameData) (word other : ℕ) (rest : List ℕ) → word < 2 ^ 32 → other < 2 ^ 28 → other % 2 ^ 16 ≡ word % 2 ^ 16

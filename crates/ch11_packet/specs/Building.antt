@@ -2,10 +2,11 @@
 use Rattle.std.specs.Prelude.{ℕ, ◌≡◌, ◌+◌, ◌^◌, ◌<◌, ◌≤◌, List, [], ◌∷◌, ◌++◌, length, map, drop, All}
 use Rattle.std.specs.Int.{w32, to_le_bytes}
 use Rattle.std.specs.List.{flat_map}
-use Rattle.ch11_packet.specs.declared.limits.TheConstants.{BODY_WORD_LEN, HEADER_LEN, MAX_SPEED, MAX_ETHERNET_PACKET_LEN}
+use Rattle.ch11_packet.specs.declared.frames.word.TheConstants.{BODY_WORD_LEN, MAX_SPEED}
+use Rattle.ch11_packet.specs.declared.header.TheConstants.{HEADER_LEN, MAX_ETHERNET_PACKET_LEN}
 use Rattle.ch11_packet.specs.PacketLen.{packet_len}
-use Rattle.ch11_packet.specs.EthernetData.{frame_bytes, frame_len, data_len}
-use Rattle.ch11_packet.specs.BodyFrames.{frame_in, first_reads}
+use Rattle.ch11_packet.specs.Frames.{frame_bytes, frame_len, data_len}
+use Rattle.ch11_packet.specs.FramesRead.{frame_in, first_reads}
 use Rattle.eth_frame.specs.Frame.{FrameData, IsFrame}
 
 -- ---- what contracts see
@@ -19,8 +20,8 @@ pub record EthernetBody : Type 0 where
 abbrev pub body_of : (frames : List FrameData) (net speed : ℕ) → EthernetBody
 body_of frames net speed = record { frames = frames; net = net; speed = speed }
 
--- its frames, its network identifier and its speed are in range, it has a frame, and its packet isn't
--- over the greatest length
+-- its frames, its network identifier and its speed are in range, it has a frame, and its packet
+-- isn't over the greatest length
 pub record IsEthernetBody (body : EthernetBody) : Type 0 where
   pub in_range : All IsFrame body.frames
   pub net_fits : body.net < 2 ^ 8
@@ -29,7 +30,7 @@ pub record IsEthernetBody (body : EthernetBody) : Type 0 where
   pub few : length body.frames < 2 ^ 16
   pub fits : packet_len (data_len body.frames) ≤ MAX_ETHERNET_PACKET_LEN
 
--- a body that frames are added to, as far as its packet isn't longer than the limit
+-- a body to which frames are added, as long as its packet isn't longer than the limit
 pub record OpenBody : Type 0 where
   pub frames : List FrameData
   pub net : ℕ
@@ -40,7 +41,7 @@ abbrev pub open_of : (frames : List FrameData) (net speed limit : ℕ) → OpenB
 open_of frames net speed limit =
     record { frames = frames; net = net; speed = speed; limit = limit }
 
--- with a further frame of so many bytes the packet isn't longer than the limit
+-- with a further frame of `len` bytes the packet isn't longer than the limit
 abbrev pub Fits : OpenBody → ℕ → Type 0
 Fits body len = packet_len (data_len body.frames + frame_len len) ≤ body.limit
 
@@ -56,21 +57,23 @@ abbrev pub frames_in : (count : ℕ) (bytes : List ℕ) → List FrameData
 frames_in count bytes = map frame_in (first_reads count (drop BODY_WORD_LEN bytes))
 
 -- the bytes are a word of this number and these frames, and this is their first counter
-pub record Holds (word : ℕ) (frames : List FrameData) (net speed counter : ℕ) (bytes : List ℕ) : Type 0 where
+pub record Holds (word : ℕ) (frames : List FrameData) (net speed counter : ℕ) (bytes : List ℕ)
+    : Type 0 where
   pub bytes_are : bytes ≡ to_le_bytes w32 word ++ flat_map (frame_bytes net speed) frames
   pub in_range : All IsFrame frames
   pub net_fits : net < 2 ^ 8
   pub speed_fits : speed ≤ MAX_SPEED
   pub first : counter ≡ first_counter frames
 
--- the bytes hold so many frames below the limit, with a word of 0, and there is room up to the limit
+-- the bytes hold `count` frames below the limit, with a word of 0, and there is room up to the
+-- limit
 pub record IsOpen (count net speed counter limit room : ℕ) (bytes : List ℕ) : Type 0 where
   pub holds : Holds 0 (frames_in count bytes) net speed counter bytes
   pub fits : packet_len (length bytes) ≤ limit
   pub bounded : limit ≤ MAX_ETHERNET_PACKET_LEN
   pub room_left : limit ≤ HEADER_LEN + room
 
--- the bytes are the body of so many frames, one at least
+-- the bytes are the body of `count` frames, at least one
 pub record IsSealed (count net speed counter : ℕ) (bytes : List ℕ) : Type 0 where
   pub holds : Holds count (frames_in count bytes) net speed counter bytes
   pub some : 0 < count

@@ -2,39 +2,29 @@
 //! and the bodies that are written and read.
 #![tactic(auto)]
 
-mod body;
-mod builder;
-mod checksum;
-mod frame_walk;
 mod frames;
 mod header;
 mod laws;
 mod limit;
-mod limits;
-mod read_frame;
-mod read_record;
-mod record;
-mod record_decoder;
-mod sizes;
-mod split_frame;
+mod packet_len;
+mod records;
 
-pub use body::DataBody;
-pub use builder::DataBuilder;
-pub use frame_walk::FrameWalk;
-pub use frames::{BodyFault, Frames, decode_frames};
-pub use header::{Header, HeaderFault};
-pub use laws::{body_has_one_reading, header_has_one_spelling, record_has_one_reading};
-pub use limit::Limit;
-pub use limits::{
-    COMPUTER_GENERATED_DATA, END_RECORD_LEN, ETHERNET_DATA, HEADER_LEN, MAX_ETHERNET_PACKET_LEN,
-    MAX_PROGRAM_RECORD_LEN, MAX_SPEED, MIN_LIMIT, SYNC_PATTERN,
+pub use frames::{
+    BodyFault, DataBody, DataBuilder, FrameWalk, Frames, MAX_SPEED, ReadFrame, decode_frames,
 };
-pub use read_frame::ReadFrame;
-pub use read_record::{ProgramRecord, Record, RecordFault};
-pub use record::{end_body, program_body};
-pub use record_decoder::decode_record;
+pub use header::{
+    COMPUTER_GENERATED_DATA, ETHERNET_DATA, HEADER_LEN, Header, HeaderFault,
+    MAX_ETHERNET_PACKET_LEN, SYNC_PATTERN,
+};
+pub use laws::{
+    body_has_one_reading, header_has_one_spelling, least_limit_holds_the_longest_frame,
+    record_has_one_reading,
+};
+pub use limit::{Limit, MIN_LIMIT};
+pub use records::{
+    END_RECORD_LEN, MAX_PROGRAM_RECORD_LEN, ProgramRecord, Record, RecordFault, decode_record,
+    end_body, program_body,
+};
 
-#[cfg(test)]
-mod reading_tests;
 #[cfg(test)]
 mod tests;

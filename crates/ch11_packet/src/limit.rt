@@ -1,5 +1,13 @@
-use crate::limits::{MAX_ETHERNET_PACKET_LEN, MIN_LIMIT};
+//! How long a packet of Ethernet data may get.
+use crate::frames::{BODY_WORD_LEN, FRAME_HEADER_LEN};
+use crate::header::{HEADER_LEN, MAX_ETHERNET_PACKET_LEN};
+use eth_frame::MAX_FRAME_LEN;
 use std::marker::Model;
+
+/// The least limit of a packet's length, in bytes: that of a packet with the longest frame, rounded
+/// up to a multiple of 4.
+pub const MIN_LIMIT: u32 = ((HEADER_LEN + BODY_WORD_LEN + FRAME_HEADER_LEN + MAX_FRAME_LEN + 3) / 4
+    * 4) as u32;
 
 /// How long a packet of Ethernet data may get, in bytes: from [`MIN_LIMIT`] to
 /// [`MAX_ETHERNET_PACKET_LEN`].
@@ -10,7 +18,8 @@ pub struct Limit {
 
 impl Model for Limit {
     ghost use Rattle.std.specs.Prelude.{ℕ, ◌≤◌};
-    ghost use Rattle.ch11_packet.specs.declared.limits.TheConstants.{MIN_LIMIT, MAX_ETHERNET_PACKET_LEN};
+    ghost use Rattle.ch11_packet.specs.declared.header.TheConstants.{MAX_ETHERNET_PACKET_LEN};
+    ghost use Rattle.ch11_packet.specs.declared.limit.TheConstants.{MIN_LIMIT};
 
     ghost Value = { ℕ };
 
@@ -24,7 +33,7 @@ impl Model for Limit {
 impl Limit {
     ghost use Rattle.std.specs.Prelude.{◌≡◌, ◌≤◌, ◌↔◌, IsSome, IfSome};
 
-    /// A limit of so many bytes: `None` below [`MIN_LIMIT`] and above
+    /// A limit of `bytes` bytes: `None` below [`MIN_LIMIT`] and above
     /// [`MAX_ETHERNET_PACKET_LEN`].
     pub fn new(bytes: u32) -> Option<Limit>
         ensures in_range { IsSome result

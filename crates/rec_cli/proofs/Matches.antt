@@ -31,24 +31,24 @@ pub first_same : {E A : Type 0} (row : E → Row) (arg : E → A) (vals : A → 
 first_same row arg vals key es same =
     ap (option_and_then (λ (r : Row). slice_get r.values 0)) (find_map row key es) ∙ at_found row arg vals (find (λ e. key (row e)) es) same
 
--- a name and rows that are told apart, of one subcommand
-pub pair_told : {S : Type 0} (pair : S → Text × List Row) (o : Option S) (n : Text) (rs : List Row) → Some n ≡ option_map (λ s. (pair s).0) o → Some rs ≡ option_map (λ (p : Text × List Row). p.1) (option_map pair o)
+-- a name and rows that are given apart, of one subcommand
+pub pair_is : {S : Type 0} (pair : S → Text × List Row) (o : Option S) (n : Text) (rs : List Row) → Some n ≡ option_map (λ s. (pair s).0) o → Some rs ≡ option_map (λ (p : Text × List Row). p.1) (option_map pair o)
     → option_map pair o ≡ Some (n, rs)
-pair_told pair None n rs e f = cc
-pair_told pair (Some s) n rs e f =
+pair_is pair None n rs e f = cc
+pair_is pair (Some s) n rs e f =
     let one : n ≡ (pair s).0 = cc in
     let two : rs ≡ (pair s).1 = cc in
     rw (one, two) refl
 
 -- the text of a getter that falls back on the empty text
-pub text_told : (o : Option (Bor (List ℕ))) (none : Bor (List ℕ)) (found : Option Text) → none.now ≡ [] → option_map (λ (s : Bor (List ℕ)). s.now) o ≡ found → (unwrap_or o none).now ≡ unwrap_or found []
-text_told None none found empty e = rw (← e) empty
-text_told (Some s) none found empty e = rw (← e) refl
+pub text_is : (o : Option (Bor (List ℕ))) (none : Bor (List ℕ)) (found : Option Text) → none.now ≡ [] → option_map (λ (s : Bor (List ℕ)). s.now) o ≡ found → (unwrap_or o none).now ≡ unwrap_or found []
+text_is None none found empty e = rw (← e) empty
+text_is (Some s) none found empty e = rw (← e) refl
 
 -- the value that a getter reads is that of the rows
 pub value_is : (m : ArgMatches) (id : Text) → first_of id (rows_of (found_of m)) ≡ first_value (found_of m) id
 value_is m id = first_same row_of _ _ _ (found_of m).entries.items (λ e. refl)
 
 -- the word that a getter with a fallback gives
-pub word_told : (m : ArgMatches) (id : Text) (o : Option (Bor (List ℕ))) (none : Bor (List ℕ)) → none.now ≡ [] → option_map (λ (s : Bor (List ℕ)). s.now) o ≡ first_value (found_of m) id → (unwrap_or o none).now ≡ word_for id (rows_of (found_of m))
-word_told m id o none empty e = text_told o none (first_of id (rows_of (found_of m))) empty (e ∙ sym (value_is m id))
+pub word_is : (m : ArgMatches) (id : Text) (o : Option (Bor (List ℕ))) (none : Bor (List ℕ)) → none.now ≡ [] → option_map (λ (s : Bor (List ℕ)). s.now) o ≡ first_value (found_of m) id → (unwrap_or o none).now ≡ word_for id (rows_of (found_of m))
+word_is m id o none empty e = text_is o none (first_of id (rows_of (found_of m))) empty (e ∙ sym (value_is m id))

@@ -19,9 +19,10 @@ abbrev pub verify_app : App
 verify_app = with_rule (new_app (codes "verify")) (operand (codes "FILE"))
 
 abbrev pub run_app : App
-run_app = with_rule (with_rule (new_app (codes "run")) (operand (codes "FILE"))) (operand (codes "HEX"))
+run_app =
+    with_rule (with_rule (new_app (codes "run")) (operand (codes "FILE"))) (operand (codes "HEX"))
 
--- the program without its commands: its words are those after its name, and a command must stand among them
+-- the program without its commands: a command must stand among the words after its name
 abbrev pub top_app : App
 top_app =
     let named = new_app (codes "bpfrec") in
@@ -41,9 +42,16 @@ word_for name rows = unwrap_or (first_of name rows) []
 
 -- the command and the words of a subcommand with its matches
 abbrev pub AsksFor : Option (Text × List Row) → Words → Type 0
-AsksFor asked NoCommand =
-    (rows : List Row) → (asked ≢ Some (codes "asm", rows)) × (asked ≢ Some (codes "dis", rows)) × (asked ≢ Some (codes "verify", rows)) × (asked ≢ Some (codes "run", rows))
-AsksFor asked (Asm file) = (rows : List Row) × (asked ≡ Some (codes "asm", rows)) × (file.now ≡ word_for (codes "FILE") rows)
-AsksFor asked (Dis file) = (rows : List Row) × (asked ≡ Some (codes "dis", rows)) × (file.now ≡ word_for (codes "FILE") rows)
-AsksFor asked (Verify file) = (rows : List Row) × (asked ≡ Some (codes "verify", rows)) × (file.now ≡ word_for (codes "FILE") rows)
-AsksFor asked (Run file view) = (rows : List Row) × (asked ≡ Some (codes "run", rows)) × (file.now ≡ word_for (codes "FILE") rows) × (view.now ≡ word_for (codes "HEX") rows)
+AsksFor met NoCommand =
+    (rows : List Row) → (met ≢ Some (codes "asm", rows)) × (met ≢ Some (codes "dis", rows))
+    × (met ≢ Some (codes "verify", rows)) × (met ≢ Some (codes "run", rows))
+AsksFor met (Asm file) =
+    (rows : List Row) × (met ≡ Some (codes "asm", rows)) × (file.now ≡ word_for (codes "FILE") rows)
+AsksFor met (Dis file) =
+    (rows : List Row) × (met ≡ Some (codes "dis", rows)) × (file.now ≡ word_for (codes "FILE") rows)
+AsksFor met (Verify file) =
+    (rows : List Row) × (met ≡ Some (codes "verify", rows))
+    × (file.now ≡ word_for (codes "FILE") rows)
+AsksFor met (Run file view) =
+    (rows : List Row) × (met ≡ Some (codes "run", rows))
+    × (file.now ≡ word_for (codes "FILE") rows) × (view.now ≡ word_for (codes "HEX") rows)

@@ -23,13 +23,20 @@ first_line input = without_return (before_first (λ b. b == 10) input)
 abbrev pub second_line : List ℕ → List ℕ
 second_line input = without_return (before_first (λ b. b == 10) (after_first (λ b. b == 10) input))
 
--- the program that this listing lists is valid, and on the view that these hexadecimal digits write it returns the value in so many steps
+-- the program that this listing lists is valid, and it returns the value in `steps` steps
+-- on the view that these hexadecimal digits write
 abbrev pub RunsOn : List ℕ → List ℕ → ℕ → ℕ → Type 0
 RunsOn listing_text view_text steps value =
-    (p : List Insn) × (view : List ℕ) × (listing listing_text ≡ Ok p) × (decode_of view_text ≡ Ok view) × Valid p × Runs p view steps value
+    (program : List Insn) × (view : List ℕ)
+    × (listing listing_text ≡ Ok program) × (decode_of view_text ≡ Ok view)
+    × Valid program × Runs program view steps value
 
--- the output took the value and the steps of the program of the first line on the view of the second, a space between them and a line feed after them
+-- what a run prints: its value, a space, its steps and a line feed
+abbrev pub outcome_line : ℕ → ℕ → List ℕ
+outcome_line value steps = decimal value ++ (32 ∷ []) ++ decimal steps ++ (10 ∷ [])
+
+-- the output took the line of the run of the first line's program on the second line's view
 abbrev pub AnswersLines : List ℕ → Option (List ℕ) → Option (List ℕ) → Type 0
 AnswersLines input before after =
     (steps : ℕ) × (value : ℕ) × RunsOn (first_line input) (second_line input) steps value
-    × Appends before after (decimal value ++ (32 ∷ []) ++ decimal steps ++ (10 ∷ []))
+    × Appends before after (outcome_line value steps)

@@ -6,7 +6,7 @@ use Rattle.clap.specs.declared.error.ErrorKind.TheVariants.{DisplayHelp}
 use Rattle.rec_cli.specs.declared.words.WordsFault.{WordsFault}
 use Rattle.rec_cli.specs.declared.words.WordsFault.TheVariants.{Help, Words, Memory}
 
--- help is told only where it is among the kinds, another text only where another kind is
+-- help is reported only where it is among the kinds, another text only where another kind is
 abbrev pub IsFaultOf : Kinds → WordsFault → Type 0
 IsFaultOf kinds (Help text) = IsAmong DisplayHelp kinds
 IsFaultOf kinds (Words text) = (kind : ErrorKind) × (kind ≢ DisplayHelp) × IsAmong kind kinds

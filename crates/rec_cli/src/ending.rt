@@ -1,23 +1,27 @@
+//! How a command ends: its exit status, and the text of a fault.
+
 ghost use Rattle.std.specs.Prelude.{◌<◌};
 
-use super::view::ViewFault;
+use crate::output::finish;
+use crate::view::ViewFault;
 use bpf_asm::AsmFault;
 use bpf_dis::DisFault;
 use bpf_insn::ListingFault;
 use bpf_verify::Refused;
+use std::alloc::AllocError;
 use std::io;
 use std::io::{ErrorKind, Write};
 use thiserror::Error;
 
-/// The command did what was asked.
+/// The status where the command did what was asked.
 pub(crate) const ANSWERED: u8 = 0;
-/// A text, a listing, a program or a view was refused.
+/// The status where a text, a listing, a program or a view was refused.
 const REFUSED: u8 = 1;
-/// The words of the command line were no command.
+/// The status where the words of the command line were no command.
 const WORDS: u8 = 2;
-/// A file or a stream couldn't be read or written.
+/// The status where a file or a stream couldn't be read or written.
 const FILE: u8 = 3;
-/// There was no memory.
+/// The status where there was no memory.
 const MEMORY: u8 = 4;
 
 /// The name of standard input and standard output among files.
@@ -42,6 +46,9 @@ pub(crate) enum Ending<'a> {
     /// The words are no command; the text is clap's, with its line feeds.
     #[error("{0}")]
     Words(String),
+    /// The words couldn't be read.
+    #[error("error: the words can't be read: {0}\n")]
+    WordsUnread(&'a io::Error),
     #[error("memory\n")]
     Memory,
 }
@@ -60,22 +67,30 @@ impl<'a> Ending<'a> {
     pub(crate) fn report<O: Write, E: Write>(self, output: &mut O, errors: &mut E) -> u8
         ensures nonzero { 0 < result }
     {
-        if let Ending::Refused(refused) = &self {
-            return match print_line(output, refused) {
-                Ok(()) => REFUSED,
-                Err(_) => Ending::File(STREAM).tell(errors),
-            };
+        let Ending::Refused(refused) = &self else {
+            return self.print_fault(errors);
+        };
+        let written = writeln!(output, "{refused}");
+        match finish(output, written) {
+            Ok(()) => self.status(),
+            Err(ending) => ending.print_fault(errors),
         }
-        self.tell(errors)
     }
 
     /// Prints the text of a fault, and gives its exit status.
-    pub(crate) fn tell<E: Write>(&self, errors: &mut E) -> u8
+    pub(crate) fn print_fault<E: Write>(&self, errors: &mut E) -> u8
         ensures nonzero { 0 < result }
     {
         let _ = write!(errors, "{self}");
+        self.status()
+    }
+
+    /// The exit status.
+    fn status(&self) -> u8
+        ensures nonzero { 0 < result }
+    {
         match self {
-            Ending::Words(_) => WORDS,
+            Ending::Words(_) | Ending::WordsUnread(_) => WORDS,
             Ending::File(_) => FILE,
             Ending::Listing(ListingFault::Memory) | Ending::View(ViewFault::Memory) => MEMORY,
             Ending::Assembler(AsmFault::Memory) | Ending::Disassembler(DisFault::Memory) => MEMORY,
@@ -86,7 +101,8 @@ impl<'a> Ending<'a> {
     }
 }
 
-fn print_line<O: Write>(output: &mut O, refused: &Refused) -> io::Result<()> {
-    writeln!(output, "{refused}")?;
-    output.flush()
+impl<'a> From<AllocError> for Ending<'a> {
+    fn from(_error: AllocError) -> Ending<'a> {
+        Ending::Memory
+    }
 }

@@ -1,10 +1,13 @@
+//! The program as a function: it reads the words, does what they ask for, and gives a status.
+
 ghost use Rattle.std.specs.Prelude.{◌≡◌, ◌<◌, IfSome, length};
 ghost use Rattle.rec_cli.specs.Lines.{AnswersLines};
 
-use super::ending::{ANSWERED, Ending};
-use super::one_frame::answer_lines;
-use super::programs::{assemble_file, disassemble_file, print_text, run_file, verify_file};
-use super::words::{Words, WordsFault, words_of};
+use crate::ending::{ANSWERED, Ending};
+use crate::filters::{assemble_file, disassemble_file, run_file, verify_file};
+use crate::no_words::answer_lines;
+use crate::output::print_text;
+use crate::words::{Words, WordsFault, words_of};
 use std::io;
 use std::io::{ErrorKind, Read, Write};
 use std::rt::Files;
@@ -24,7 +27,8 @@ pub fn program<R: AllocGlobal + Files, I: Read, O: Write, E: Write>(
 where
     I: Drop,
     E: Drop,
-    ensures lines { length words.now ≡ 0 → result ≡ 0 → IfSome (I.remaining input) (λ bytes. AnswersLines bytes (O.contents output.old) (O.contents output.new)) }
+    ensures lines { length words.now ≡ 0 → result ≡ 0 → IfSome (I.remaining input) (λ bytes.
+        AnswersLines bytes (O.contents output.old) (O.contents output.new)) }
 {
     let answer = if words.is_empty() {
         answer_lines(rt.alloc(), &mut input, output)
@@ -66,20 +70,20 @@ fn answer<'a, R: AllocGlobal + Files, O: Write>(
     }
 }
 
+/// Prints the help that was asked for.
 fn print_help<O: Write>(output: &mut O, text: String) -> Result<(), Ending<'static>> {
     print_text(output, text.as_str())
 }
 
-/// Tells why the words of the command line couldn't be had, and gives the exit status:
-/// 4 for want of memory, else 2, as for words that are no text.
+/// Prints why the words of the command line couldn't be read, and gives the exit status: 4 where
+/// there is no memory for them, else 2, as for words that are no text.
 pub fn words_unread<E: Write>(error: &io::Error, mut errors: E) -> u8
 where
     E: Drop,
     ensures nonzero { 0 < result }
 {
     if error.kind() == ErrorKind::OutOfMemory {
-        return Ending::Memory.tell(&mut errors);
+        return Ending::Memory.print_fault(&mut errors);
     }
-    let _ = writeln!(errors, "error: the words can't be read: {error}");
-    2
+    Ending::WordsUnread(error).print_fault(&mut errors)
 }

@@ -1,11 +1,12 @@
 //! The program `bpfrec` as a function over its words, its input and its outputs.
 #![tactic(auto)]
 
-mod commands;
+mod command_line;
 mod ending;
 mod entry;
-mod one_frame;
-mod programs;
+mod filters;
+mod no_words;
+mod output;
 mod view;
 mod words;
 

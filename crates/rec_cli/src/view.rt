@@ -1,3 +1,5 @@
+//! A view in hexadecimal: the bytes of a frame that a program sees.
+
 ghost use Rattle.std.specs.Prelude.{ℕ, ◌≡◌, ◌<◌, ◌≤◌, ◌⊎◌, List, length, Ok, IfOk, IfErr};
 ghost use Rattle.hex.specs.Hex.{decode_of};
 
@@ -22,7 +24,8 @@ pub enum ViewFault {
 pub fn view_of(alloc: Global, text: &str) -> Result<Vec<u8>, ViewFault>
     ensures bytes { IfOk result (λ view. decode_of text.now ≡ Ok view.items) }
     ensures short { IfOk result (λ view. length view.items ≤ MAX_VIEW) }
-    ensures fault { IfErr result (λ fault. (fault ≡ ViewFault.Memory) ⊎ ((bytes : List ℕ) → decode_of text.now ≡ Ok bytes → MAX_VIEW < length bytes)) }
+    ensures fault { IfErr result (λ fault. (fault ≡ ViewFault.Memory) ⊎
+        ((bytes : List ℕ) → decode_of text.now ≡ Ok bytes → MAX_VIEW < length bytes)) }
 {
     match hex::decode(alloc, text) {
         Ok(view) if view.len() <= MAX_VIEW => Ok(view),

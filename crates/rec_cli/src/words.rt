@@ -1,12 +1,15 @@
+//! What the words of the command line ask for, by `clap`.
+
 ghost use Rattle.std.specs.Prelude.{◌≡◌, ◌⊎◌, true, map, string_bytes, IfOk, IfErr};
 ghost use Rattle.clap.specs.Words.{HasKind, Kinds, fault_of, kind_of, subcommand_of, subcommand_rows_of, takes};
 ghost use Rattle.rec_cli.specs.Commands.{AsksFor, bpfrec_app};
 ghost use Rattle.rec_cli.specs.WordsFaults.{IsFaultOf};
+ghost use Rattle.rec_cli.specs.declared.words.WordsFault.TheVariants.{Memory};
 
-use super::commands::bpfrec;
+use crate::command_line::bpfrec;
 use clap::error::ErrorKind;
 use clap::{ArgMatches, Error};
-use std::alloc::Global;
+use std::alloc::{AllocError, Global};
 
 /// What a command line asks for.
 #[derive(Debug, Drop)]
@@ -34,23 +37,32 @@ pub enum WordsFault {
     Memory,
 }
 
+impl From<AllocError> for WordsFault {
+    ghost from_gives = { λ _ fault. fault ≡ Memory };
+
+    fn from(_error: AllocError) -> WordsFault {
+        WordsFault::Memory
+    }
+}
+
 /// The command that the words ask for, by `clap`; the program's name is not among the words.
 pub fn words_of<'a>(alloc: Global, words: &'a [String]) -> Result<Words<'a>, WordsFault>
-    ensures asked { IfOk result (AsksFor (subcommand_of bpfrec_app (map string_bytes words.entry.now))) }
-    ensures takes { IfErr result (λ fault. takes bpfrec_app (map string_bytes words.entry.now) ≡ true → fault ≡ WordsFault.Memory) }
-    ensures kinds { IfErr result (IsFaultOf (fault_of bpfrec_app (map string_bytes words.entry.now))) }
+    ensures asked { IfOk result
+        (AsksFor (subcommand_of bpfrec_app (map string_bytes words.entry.now))) }
+    ensures takes { IfErr result (λ fault.
+        takes bpfrec_app (map string_bytes words.entry.now) ≡ true → fault ≡ WordsFault.Memory) }
+    ensures kinds { IfErr result
+        (IsFaultOf (fault_of bpfrec_app (map string_bytes words.entry.now))) }
 {
-    let Ok(command) = bpfrec(alloc) else {
-        return Err(WordsFault::Memory);
-    };
+    let command = bpfrec(alloc)?;
     match command.try_get_matches_from(words) {
-        Ok(matches) => Ok(asked(&matches)),
+        Ok(matches) => Ok(command_in(&matches)),
         Err(error) => Err(fault_from(alloc, error)),
     }
 }
 
-/// The command that was met, with its words.
-fn asked<'a>(matches: &ArgMatches<'a>) -> Words<'a>
+/// The command that the words have, with its own words.
+fn command_in<'a>(matches: &ArgMatches<'a>) -> Words<'a>
     ensures { AsksFor (subcommand_rows_of matches.now) result }
 {
     let Some((name, inner)) = matches.subcommand() else {

@@ -1,3 +1,5 @@
+//! Small programs drawn from a seed.
+
 ghost use Rattle.std.specs.Prelude.{◌<◌};
 
 use bpf_insn::{Form, Insn, form_of};
@@ -49,7 +51,7 @@ impl Draws {
     pub(crate) fn program(&mut self, alloc: Global) -> Result<Vec<Insn>, AllocError> {
         let last = self.below(MOST_INSNS).max(self.below(MOST_INSNS));
         let mut program = Vec::new(alloc);
-        'insns: for place in 0..=last {
+        for place in 0..=last {
             program.push(self.insn(last.saturating_sub(place)))?;
         }
         Ok(program)

@@ -1,3 +1,5 @@
+//! A slow judge of programs: all their paths as lists, and the conditions in their order.
+
 use bpf_insn::{Form, Insn, Op, Src, form_of};
 use std::alloc::{AllocError, Global};
 
@@ -48,7 +50,7 @@ pub(crate) fn judge(program: &[Insn], paths: &[Vec<u16>]) -> Verdict {
     if program.len() > MOST_INSNS {
         return Verdict::of_whole(Kind::TooLong);
     }
-    'places: for (at, insn) in program.iter().enumerate() {
+    for (at, insn) in program.iter().enumerate() {
         if let Some(kind) = fault_of(at, *insn, program.len()) {
             return Verdict::of_place(kind, at);
         }
@@ -148,7 +150,7 @@ fn walk(
     found: &mut Vec<Vec<u16>>,
 ) -> Result<(), AllocError> {
     if steps > 0 {
-        'followers: for place in followers(alloc, program, path.as_slice())? {
+        for place in followers(alloc, program, path.as_slice())? {
             let mut longer = path.clone()?;
             longer.push(place)?;
             walk(alloc, program, longer, steps - 1, found)?;
@@ -165,7 +167,7 @@ fn followers(alloc: Global, program: &[Insn], path: &[u16]) -> Result<Vec<u16>, 
     let Some(insn) = program.get(last) else {
         return Ok(places);
     };
-    'successors: for successor in successors(last, *insn) {
+    for successor in successors(last, *insn) {
         let place = successor.and_then(|successor| u16::try_from(successor).ok());
         if let Some(place) = place
             && usize::from(place) < program.len()
@@ -181,7 +183,7 @@ fn followers(alloc: Global, program: &[Insn], path: &[u16]) -> Result<Vec<u16>, 
 pub(crate) fn unset_word(program: &[Insn], list: &[u16]) -> Option<u32> {
     let (last, earlier) = list.split_last()?;
     let word = word_read(*program.get(usize::from(*last))?)?;
-    'earlier: for place in earlier {
+    for place in earlier {
         if word_written(*program.get(usize::from(*place))?) == Some(word) {
             return None;
         }
@@ -192,7 +194,7 @@ pub(crate) fn unset_word(program: &[Insn], list: &[u16]) -> Option<u32> {
 /// The first place at which some path ends with an unset read.
 fn first_unset_read(program: &[Insn], paths: &[Vec<u16>]) -> Option<u16> {
     let mut first = None;
-    'paths: for path in paths {
+    for path in paths {
         if unset_word(program, path.as_slice()).is_some()
             && let Some(last) = path.last()
         {

@@ -1,5 +1,7 @@
-use super::draws::Draws;
-use super::search::{Kind, Verdict, all_paths, judge, unset_word};
+//! The verifier beside the slow search, on drawn programs and on a few by hand.
+
+use crate::draws::Draws;
+use crate::search::{Kind, Verdict, all_paths, judge, unset_word};
 use bpf_insn::Insn;
 use bpf_verify::{VerifyFault, check_path, verify};
 use std::alloc::{AllocError, Global};
@@ -21,7 +23,7 @@ fn verdicts_agree(rt: HostRuntime) -> Result<(), Fail> {
     let alloc = rt.alloc();
     let mut draws = Draws::from_seed(SEED);
     let mut verdicts = Vec::new(alloc);
-    'programs: for _ in 0..PROGRAMS {
+    for _ in 0..PROGRAMS {
         let program = draws.program(alloc)?;
         verdicts.push(compare_verdicts(&rt, alloc, program.as_slice())?)?;
     }
@@ -34,7 +36,7 @@ fn verdicts_agree(rt: HostRuntime) -> Result<(), Fail> {
         Kind::NoReturn,
         Kind::Unset,
     ];
-    'kinds: for kind in kinds {
+    for kind in kinds {
         let count = count_of(verdicts.as_slice(), kind);
         assert!(rt; count >= FEW, "{kind:?} came up {count} times");
     }
@@ -51,7 +53,7 @@ fn verdicts_agree_at_the_least_and_greatest_lengths(rt: HostRuntime) -> Result<(
         (512, Kind::Valid),
         (513, Kind::TooLong),
     ];
-    'table: for (length, kind) in table {
+    for (length, kind) in table {
         let program = vec![in alloc; insn(0x06, 0, 0, 0); length]?;
         let verdict = compare_verdicts(&rt, alloc, program.as_slice())?;
         assert_eq!(rt; verdict, Verdict::of_whole(kind), "length {length}");
@@ -65,7 +67,7 @@ fn paths_agree(rt: HostRuntime) -> Result<(), Fail> {
     let alloc = rt.alloc();
     let mut draws = Draws::from_seed(SEED);
     let mut unset_reads = 0usize;
-    'programs: for _ in 0..PROGRAMS {
+    for _ in 0..PROGRAMS {
         let program = draws.program(alloc)?;
         let count = compare_paths(&rt, alloc, program.as_slice())?;
         unset_reads = unset_reads.saturating_add(count);
@@ -76,7 +78,7 @@ fn paths_agree(rt: HostRuntime) -> Result<(), Fail> {
 
 /// A store that one side of a test passes over, and then a load; the answers were found by hand.
 #[test]
-fn a_store_on_one_side(rt: HostRuntime) -> Result<(), Fail> {
+fn a_store_on_one_side_alone_leaves_the_word_unset(rt: HostRuntime) -> Result<(), Fail> {
     let alloc = rt.alloc();
     let program = store_on_one_side();
     let program = program.as_slice();
@@ -90,7 +92,7 @@ fn a_store_on_one_side(rt: HostRuntime) -> Result<(), Fail> {
         &[0, 2, 3],
     ];
     assert_eq!(rt; paths.len(), walked.len());
-    'walked: for path in walked {
+    for path in walked {
         assert!(rt; is_among(paths.as_slice(), path), "{path:?}");
     }
     let verdict = compare_verdicts(&rt, alloc, program)?;
@@ -100,7 +102,7 @@ fn a_store_on_one_side(rt: HostRuntime) -> Result<(), Fail> {
 
 /// The one path of that program's unset read, and lists of places that are none.
 #[test]
-fn the_path_past_the_store(rt: HostRuntime) {
+fn the_path_past_the_store_is_the_only_unset_read(rt: HostRuntime) {
     let program = store_on_one_side();
     let program = program.as_slice();
     assert!(rt; check_path(program, &[0, 2], 3));
@@ -117,7 +119,7 @@ fn the_path_past_the_store(rt: HostRuntime) {
         &[0, 2, 3],
         &[0, 2, 4],
     ];
-    'refused: for list in refused {
+    for list in refused {
         assert!(rt; !check_path(program, list, 3), "{list:?}");
     }
 }
@@ -203,12 +205,12 @@ fn check_unset(rt: &impl Abort, program: &[Insn], paths: &[Vec<u16>], fault: &Ve
 fn compare_paths(rt: &impl Abort, alloc: Global, program: &[Insn]) -> Result<usize, AllocError> {
     let paths = all_paths(alloc, program)?;
     let mut unset_reads = 0usize;
-    'paths: for path in &paths {
+    for path in &paths {
         let unset = unset_word(program, path.as_slice());
         compare_list(rt, program, path.as_slice(), unset);
         unset_reads = unset_reads.saturating_add(usize::from(unset.is_some()));
     }
-    'lists: for list in non_paths(alloc, program.len(), paths.as_slice())? {
+    for list in non_paths(alloc, program.len(), paths.as_slice())? {
         compare_list(rt, program, list.as_slice(), None);
     }
     Ok(unset_reads)
@@ -217,7 +219,7 @@ fn compare_paths(rt: &impl Abort, alloc: Global, program: &[Insn]) -> Result<usi
 /// Stops unless `check_path` says of a list of places that it is the path of an unset read of
 /// the word `unset`, where there is one, and of no other word.
 fn compare_list(rt: &impl Abort, program: &[Insn], list: &[u16], unset: Option<u32>) {
-    'words: for word in (0..WORDS).chain(unset) {
+    for word in (0..WORDS).chain(unset) {
         let expected = unset == Some(word);
         assert_eq!(rt;
             check_path(program, list, word),
@@ -241,7 +243,7 @@ fn non_paths(
 ) -> Result<Vec<Vec<u16>>, AllocError> {
     let mut lists = rising_lists(alloc, length)?;
     lists.retain(|list| !is_among(paths, list.as_slice()));
-    'paths: for path in paths {
+    for path in paths {
         let mut list = path.clone()?;
         if let Some(last) = path.last() {
             list.push(*last)?;
@@ -254,10 +256,10 @@ fn non_paths(
 /// All rising lists of the numbers from 0 to `greatest`.
 fn rising_lists(alloc: Global, greatest: usize) -> Result<Vec<Vec<u16>>, AllocError> {
     let mut lists = vec![in alloc; Vec::new(alloc)]?;
-    'places: for place in 0..=greatest {
+    for place in 0..=greatest {
         let place = u16::try_from(place).unwrap_or(u16::MAX);
         let mut longer = Vec::new(alloc);
-        'lists: for list in &lists {
+        for list in &lists {
             let mut list = list.clone()?;
             list.push(place)?;
             longer.push(list)?;

@@ -1,8 +1,8 @@
 use Rattle.std.proofs.Common.{inr}
 use Rattle.std.proofs.lemmas.Result.{err_from_is_err_and}
-use Rattle.bpf_asm.specs.Blanked.{blanked, lines_of}
+use Rattle.bpf_asm.specs.Blanked.{without_comments, lines_of}
 use Rattle.bpf_asm.specs.Denotes.{labels_from}
-use Rattle.bpf_asm.proofs.Assembling.{line_refused, unfollowed, followed, told_program, told_fault, told_memory}
+use Rattle.bpf_asm.proofs.Assembling.{line_refused, unfollowed, followed, reported_program, reported_fault, reported_memory}
 use Rattle.bpf_asm.proofs.assembler.assemble.Goals as goal
 
 pub returns-in_err-draft-clause-refused : goal.returns-in_err-draft-clause-refused
@@ -18,14 +18,16 @@ returns-in-Some-clause-refused c =
 pub returns-clause-memory : goal.returns-clause-memory
 returns-clause-memory c =
     let d = c.in_ok-draft.ensures.lines in
-    told_memory c.link.result (lines_of (blanked c.args.text.now)) d.0 c.in_ok-draft.draft d.1 d.2 c.link.ensures.memory
+    reported_memory c.link.result (lines_of (without_comments c.args.text.now)) d.0 c.in_ok-draft.draft d.1 d.2 c.link.ensures.memory
 
 pub returns-clause-program : goal.returns-clause-program
 returns-clause-program c =
     let d = c.in_ok-draft.ensures.lines in
-    told_program c.link.result c.args.text.now d.0 c.in_ok-draft.draft d.1 d.2 (followed d.0 c.in_ok-draft.draft d.2 c.in_default.is) (c.link.ensures.program (labels_from 0 d.0) d.2.labels)
+    reported_program c.link.result c.args.text.now d.0 c.in_ok-draft.draft d.1 d.2 (followed d.0 c.in_ok-draft.draft d.2 c.in_default.is)
+    (c.link.ensures.program (labels_from 0 d.0) d.2.labels)
 
 pub returns-clause-refused : goal.returns-clause-refused
 returns-clause-refused c =
     let d = c.in_ok-draft.ensures.lines in
-    told_fault c.link.result c.args.text.now d.0 c.in_ok-draft.draft d.1 d.2 (followed d.0 c.in_ok-draft.draft d.2 c.in_default.is) (c.link.ensures.program (labels_from 0 d.0) d.2.labels)
+    reported_fault c.link.result c.args.text.now d.0 c.in_ok-draft.draft d.1 d.2 (followed d.0 c.in_ok-draft.draft d.2 c.in_default.is)
+    (c.link.ensures.program (labels_from 0 d.0) d.2.labels)

@@ -7,5 +7,6 @@ use Rattle.bpf_asm.proofs.assembler.link.Given as goal
 abbrev pub invariant-insns : goal.invariant-insns
 invariant-insns l = record {
   count : vec_len l.program ≡ l.unlinked-index;
-  linked : (labels : List Label) → IsTableOf labels l.draft.labels → AreInsns labels 0 (templates_in (take l.unlinked-index l.draft.insns.items)) l.program.items;
+  linked : (labels : List Label) → IsTableOf labels l.draft.labels → AreInsns labels 0
+      (templates_in (take l.unlinked-index l.draft.insns.items)) l.program.items;
 }

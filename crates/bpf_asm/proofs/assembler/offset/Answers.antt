@@ -5,13 +5,14 @@ use Rattle.bpf_asm.proofs.Tables.{table_missing}
 use Rattle.bpf_asm.proofs.assembler.offset.Goals as goal
 
 pub returns-in_default : goal.returns-in_default
-returns-in_default c = λ known is. Missing (table_missing known c.args.labels.now c.args.name.now is (sym c.place.ensures ∙ c.in_default.is))
+returns-in_default c = λ known is. Missing (table_missing known c.args.labels.now c.args.name.now is (sym c.index_of.ensures ∙ c.in_default.is))
 
-pub returns-then-place-at : goal.returns-then-place-at
-returns-then-place-at c = λ known is. Back c.in-Some.place ((is c.args.name.now c.in-Some.place).0 (sym c.place.ensures ∙ c.in-Some.is)) c.if-place-at.true
+pub returns-then-target-at : goal.returns-then-target-at
+returns-then-target-at c = λ known is. Back c.in-Some.target
+    ((is c.args.name.now c.in-Some.target).0 (sym c.index_of.ensures ∙ c.in-Some.is)) c.if-target-at.true
 
 pub returns : goal.returns
 returns c = λ known is.
-    let e : c.in-Some.place ≡ c.args.at + 1 + (c.in-Some.place - c.args.at - 1) = omega (arith, c.if-place-at.false) in
+    let e : c.in-Some.target ≡ c.args.at + 1 + (c.in-Some.target - c.args.at - 1) = omega (arith, c.if-target-at.false) in
     let P : ℕ → Type 0 = λ p. Contains known (label_at p c.args.name.now) in
-    subst P e ((is c.args.name.now c.in-Some.place).0 (sym c.place.ensures ∙ c.in-Some.is))
+    subst P e ((is c.args.name.now c.in-Some.target).0 (sym c.index_of.ensures ∙ c.in-Some.is))

@@ -11,7 +11,8 @@ returns-in_err-checked_mul c =
     let i = c.digits.digit-index in
     let is : c.in_ok-digit.digit ≡ digit_value (get_or ds i 0) = c.in_ok-digit.ensures.value.1 ∙ ap digit_value c.from.ensures in
     let over : 4294967295 < c.digits.value * c.args.base + c.in_ok-digit.digit = omega (arith, c.in_err-checked_mul.ensures) in
-    rw c.from_residual-in_err-checked_mul.ensures (sym (too_large c.args.base 4294967295 ds i c.digits.value c.in_ok-digit.digit c.requires.least c.digits-test.true c.digits.invariant.number is over))
+    rw c.from_residual-in_err-checked_mul.ensures
+    (sym (too_large c.args.base 4294967295 ds i c.digits.value c.in_ok-digit.digit c.requires.least c.digits-test.true c.digits.invariant.number is over))
 
 pub returns-in_err-value : goal.returns-in_err-value
 returns-in_err-value c =
@@ -19,7 +20,8 @@ returns-in_err-value c =
     let i = c.digits.digit-index in
     let is : c.in_ok-digit.digit ≡ digit_value (get_or ds i 0) = c.in_ok-digit.ensures.value.1 ∙ ap digit_value c.from.ensures in
     let over : 4294967295 < c.digits.value * c.args.base + c.in_ok-digit.digit = omega (arith, c.in_err-value.ensures, c.in_ok-checked_mul.ensures) in
-    rw c.from_residual-in_err-value.ensures (sym (too_large c.args.base 4294967295 ds i c.digits.value c.in_ok-digit.digit c.requires.least c.digits-test.true c.digits.invariant.number is over))
+    rw c.from_residual-in_err-value.ensures (sym
+    (too_large c.args.base 4294967295 ds i c.digits.value c.in_ok-digit.digit c.requires.least c.digits-test.true c.digits.invariant.number is over))
 
 pub digits-preserved : goal.digits-preserved
 digits-preserved c =

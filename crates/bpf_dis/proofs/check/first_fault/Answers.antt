@@ -7,20 +7,21 @@ use Rattle.bpf_dis.proofs.check.first_fault.Goals as goal
 pub returns-in-Some-clause-fault : goal.returns-in-Some-clause-fault
 returns-in-Some-clause-fault c =
     let none : Insn = record { code = 0; jt = 0; jf = 0; k = 0 } in
-    fault_is c.args.program.now c.places.at (get_or c.args.program.now c.places.at none) c.in-Some.fault (slice_get-get_or c.args.program.now c.places.at none c.places-test.true) c.places-test.true c.places.invariant.said c.in-Some.ensures.fault
+    fault_is c.args.program.now c.insns.at (get_or c.args.program.now c.insns.at none) c.in-Some.fault
+    (slice_get-get_or c.args.program.now c.insns.at none c.insns-test.true) c.insns-test.true c.insns.invariant.said c.in-Some.ensures.fault
 
-pub places-preserved : goal.places-preserved
-places-preserved c =
+pub insns-preserved : goal.insns-preserved
+insns-preserved c =
     let none : Insn = record { code = 0; jt = 0; jf = 0; k = 0 } in
-    let insn : Insn = get_or c.args.program.now c.places.at none in
-    let stands = slice_get-get_or c.args.program.now c.places.at none c.places-test.true in
+    let insn : Insn = get_or c.args.program.now c.insns.at none in
+    let stands = slice_get-get_or c.args.program.now c.insns.at none c.insns-test.true in
     record {
-      said = said_more c.args.program.now c.places.at insn stands c.places.invariant.said c.in_default.ensures.fault;
-      ranged = below_more _ _ c.places.invariant.ranged (insn, stands, c.in_default.ensures.range);
+      said = said_more c.args.program.now c.insns.at insn stands c.insns.invariant.said c.in_default.ensures.fault;
+      ranged = below_more _ _ c.insns.invariant.ranged (insn, stands, c.in_default.ensures.range);
     }
 
 pub returns-clause-fault : goal.returns-clause-fault
-returns-clause-fault c = λ at below. c.places.invariant.said at (omega (arith, below))
+returns-clause-fault c = λ at below. c.insns.invariant.said at (omega (arith, below))
 
 pub returns-clause-range : goal.returns-clause-range
-returns-clause-range c = all_in_range c.args.program.now (λ at below. c.places.invariant.ranged at (omega (arith, below)))
+returns-clause-range c = all_in_range c.args.program.now (λ at below. c.insns.invariant.ranged at (omega (arith, below)))

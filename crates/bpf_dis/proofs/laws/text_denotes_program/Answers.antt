@@ -1,5 +1,5 @@
-use Rattle.bpf_dis.proofs.Spellings.{spelled_denotes}
+use Rattle.bpf_dis.proofs.ProgramTexts.{text_denotes}
 use Rattle.bpf_dis.proofs.laws.text_denotes_program.Goals as goal
 
 pub returns : goal.returns
-returns c = spelled_denotes
+returns c = text_denotes

@@ -10,7 +10,7 @@ pub returns-clause-written : goal.returns-clause-written
 returns-clause-written c = λ body is. SpellsBody-written body is
 
 pub returns-clause-word : goal.returns-clause-word
-returns-clause-word c = λ frames word other rest fits other_fits same spells. other_word frames word other rest fits other_fits same spells
+returns-clause-word c = λ frames word other rest same spells. other_word frames word other rest same.word_fits same.format same.count spells
 
 pub returns-clause-unused : goal.returns-clause-unused
 returns-clause-unused c = λ frame spelling other spells. other_unused frame spelling other spells

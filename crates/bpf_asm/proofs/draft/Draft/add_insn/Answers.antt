@@ -10,6 +10,7 @@ returns-then-len-eq-MAX_INSNS c = record {
 pub returns : goal.returns
 returns c = record {
   added = λ shapes names at h.
-      let long : vec_len c.push.new.self ≡ vec_len c.args.self.now.insns + 1 = c.in-Ok.ensures.len in
-      draft_insn shapes names c.args.line (record { template = c.args.template; line = c.args.line }) c.args.self.now _ at refl (λ full. c.if-len-eq-MAX_INSNS.false (c.len.ensures ∙ full)) h c.in-Ok.ensures.items long refl refl;
+      let long : vec_len c.push.new.self ≡ vec_len c.args.self.now.insns + 1 = c.in_ok-push.ensures.len in
+      draft_insn shapes names c.args.line (record { template = c.args.template; line = c.args.line }) c.args.self.now _ at refl
+      (λ full. c.if-len-eq-MAX_INSNS.false (c.len.ensures ∙ full)) h c.in_ok-push.ensures.items long refl refl;
 }

@@ -11,14 +11,18 @@ labels-init c = record { room = c.requires; names = []; said = refl; drafted = �
 pub returns-in_err-add_label-clause-added : goal.returns-in_err-add_label-clause-added
 returns-in_err-add_label-clause-added c = λ shapes at h.
     let names = c.labels.invariant.names in
-    let said : labels_in c.args.labels ≡ names ++ c.in-Some.name.now ∷ labels_in c.in-Some.after = c.labels.invariant.said ∙ ap (λ l. names ++ l) c.in-Some.ensures in
+    let said : labels_in c.args.labels ≡ names ++ c.in-Some.name.now ∷ labels_in c.in-Some.after =
+    c.labels.invariant.said ∙ ap (λ l. names ++ l) c.in-Some.ensures in
     let p = err_from_is_err_and c.from_residual.result c.from_residual.ensures.1 in
-    rw (p.1, p.2) (twice_so_far shapes names c.in-Some.name.now (labels_in c.in-Some.after) (labels_in c.args.labels) c.args.line c.in_err-add_label.field-0.0 said (c.in_err-add_label.ensures.added shapes names at (c.labels.invariant.drafted shapes at h)))
+    rw (p.1, p.2) (twice_so_far shapes names c.in-Some.name.now (labels_in c.in-Some.after)
+    (labels_in c.args.labels) c.args.line c.in_err-add_label.field-0.0 said
+    (c.in_err-add_label.ensures.added shapes names at (c.labels.invariant.drafted shapes at h)))
 
 pub returns-in_err-add_label-clause-memory : goal.returns-in_err-add_label-clause-memory
 returns-in_err-add_label-clause-memory c =
     let names = c.labels.invariant.names in
-    let said : labels_in c.args.labels ≡ names ++ c.in-Some.name.now ∷ labels_in c.in-Some.after = c.labels.invariant.said ∙ ap (λ l. names ++ l) c.in-Some.ensures in
+    let said : labels_in c.args.labels ≡ names ++ c.in-Some.name.now ∷ labels_in c.in-Some.after =
+    c.labels.invariant.said ∙ ap (λ l. names ++ l) c.in-Some.ensures in
     let p = err_from_is_err_and c.from_residual.result c.from_residual.ensures.1 in
     rw p.1 (λ e. some_within names c.in-Some.name.now (labels_in c.in-Some.after) (labels_in c.args.labels) said)
 
@@ -28,6 +32,7 @@ labels-preserved c =
     record {
       room = rw c.in_ok-add_label.ensures.insns c.labels.invariant.room;
       names = names ++ c.in-Some.name.now ∷ [];
-      said = c.labels.invariant.said ∙ (ap (λ l. names ++ l) c.in-Some.ensures ∙ sym (append_assoc names (c.in-Some.name.now ∷ []) (labels_in c.in-Some.after)));
+      said = c.labels.invariant.said ∙ (ap (λ l. names ++ l) c.in-Some.ensures ∙ sym
+          (append_assoc names (c.in-Some.name.now ∷ []) (labels_in c.in-Some.after)));
       drafted = λ shapes at h. c.in_ok-add_label.ensures.added shapes names at (c.labels.invariant.drafted shapes at h);
     }

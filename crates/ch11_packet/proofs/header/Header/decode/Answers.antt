@@ -1,8 +1,7 @@
 use Rattle.std.proofs.Common.{ap, subst, sym, ◌∙◌}
 use Rattle.std.specs.Prelude.{IsSome}
-use Rattle.ch11_packet.specs.Header.{IsHeader, header_bytes}
-use Rattle.ch11_packet.specs.HeaderView.{header_at, HasSync, HasChecksum}
-use Rattle.ch11_packet.proofs.Headers.{same_header, header_at-header_bytes, header_bytes-header_at, HasSync-header_bytes, HasChecksum-header_bytes, spelled_by, read_as}
+use Rattle.ch11_packet.specs.Header.{IsHeader, header_bytes, header_at, HasSync, HasHeaderSum}
+use Rattle.ch11_packet.proofs.Headers.{same_header, header_at-header_bytes, header_bytes-header_at, HasSync-header_bytes, HasHeaderSum-header_bytes, spelled_by, read_as}
 use Rattle.ch11_packet.proofs.header.Header.decode.Goals as goal
 
 pub returns-then-from_le_bytes-clause-read_back : goal.returns-then-from_le_bytes-clause-read_back
@@ -10,23 +9,23 @@ returns-then-from_le_bytes-clause-read_back c = λ header is e.
     let sync : HasSync c.args.bytes.now = subst HasSync (sym e) (HasSync-header_bytes header) in
     absurd (c.if-from_le_bytes.true (c.from_le_bytes.ensures ∙ sync))
 
-pub returns-then-checksum-header_checksum-clause-read_back :
-    goal.returns-then-checksum-header_checksum-clause-read_back
-returns-then-checksum-header_checksum-clause-read_back c = λ header is e.
-    let sum : HasChecksum c.args.bytes.now = subst HasChecksum (sym e) (HasChecksum-header_bytes header) in
-    absurd (c.if-checksum-header_checksum.true (c.from_le_bytes-checksum.ensures ∙ sum ∙ sym c.header_checksum.ensures.sum))
+pub returns-then-sum-header_sum-clause-read_back :
+    goal.returns-then-sum-header_sum-clause-read_back
+returns-then-sum-header_sum-clause-read_back c = λ header is e.
+    let sum : HasHeaderSum c.args.bytes.now = subst HasHeaderSum (sym e) (HasHeaderSum-header_bytes header) in
+    absurd (c.if-sum-header_sum.true (c.from_le_bytes-sum.ensures ∙ sum ∙ sym c.header_sum.ensures.sum))
 
 pub returns-clause-spelled : goal.returns-clause-spelled
 returns-clause-spelled c =
     let bytes = c.args.bytes.now in
-    let fields = same_header _ _ _ _ _ _ _ _ _ _ _ _ c.from_le_bytes-channel.ensures c.from_le_bytes-packet_len.ensures c.from_le_bytes-data_len.ensures c.from_le_bytes-counter.ensures in
-    let sum = sym c.from_le_bytes-checksum.ensures ∙ c.if-checksum-header_checksum.false ∙ c.header_checksum.ensures.sum in
+    let fields = same_header _ _ _ _ _ _ _ _ _ _ _ _ c.from_le_bytes-channel.ensures c.from_le_bytes-packet_len.ensures c.from_le_bytes-data_len.ensures c.counter_of-counter.ensures.value in
+    let sum = sym c.from_le_bytes-sum.ensures ∙ c.if-sum-header_sum.false ∙ c.header_sum.ensures.sum in
     let whole = header_bytes-header_at bytes c.told-bytes c.fits-bytes (sym c.from_le_bytes.ensures ∙ c.if-from_le_bytes.false) sum in
     rw c.ok_or.ensures.value (spelled_by bytes c.new-header.result _ (whole ∙ ap header_bytes (sym fields)) c.new-header.ensures.fields)
 
 pub returns-clause-read_back : goal.returns-clause-read_back
 returns-clause-read_back c = λ header is e.
-    let fields = same_header _ _ _ _ _ _ _ _ _ _ _ _ c.from_le_bytes-channel.ensures c.from_le_bytes-packet_len.ensures c.from_le_bytes-data_len.ensures c.from_le_bytes-counter.ensures in
+    let fields = same_header _ _ _ _ _ _ _ _ _ _ _ _ c.from_le_bytes-channel.ensures c.from_le_bytes-packet_len.ensures c.from_le_bytes-data_len.ensures c.counter_of-counter.ensures.value in
     let same = fields ∙ ap header_at e ∙ header_at-header_bytes header is in
     let made : IsSome c.new-header.result = c.new-header.ensures.in_range.1 (subst IsHeader (sym same) is) in
     rw c.ok_or.ensures.value (read_as c.new-header.result _ header same made c.new-header.ensures.fields)

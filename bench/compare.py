@@ -1,0 +1,174 @@
+#!/usr/bin/env python3
+"""Times bpfrec's filter machine beside libpcap's bpf_filter, on the same programs and frames.
+
+Makes the programs and the frames from a fixed seed in the folder WORK, checks that both machines
+give the same value on every frame, times each pair ROUNDS times in turn, and prints a table of the
+best time of each. The status is 1 where a value differs.
+"""
+import argparse
+import random
+import subprocess
+import sys
+from pathlib import Path
+
+SEED = 20
+ARP = ["40 0 0 12", "21 0 1 2054", "6 0 0 262144", "6 0 0 0"]
+# port 53 over IPv4 and IPv6, as tcpdump -ddd prints it
+PORT = """40 0 0 12
+21 0 8 34525
+48 0 0 20
+21 2 0 132
+21 1 0 6
+21 0 17 17
+40 0 0 54
+21 14 0 53
+40 0 0 56
+21 12 13 53
+21 0 12 2048
+48 0 0 23
+21 2 0 132
+21 1 0 6
+21 0 8 17
+40 0 0 20
+69 6 0 8191
+177 0 0 14
+72 0 0 14
+21 2 0 53
+72 0 0 16
+21 0 1 53
+6 0 0 262144
+6 0 0 0""".split("\n")
+STRAIGHT = """40 0 0 12,32 0 0 26,48 0 0 23,21 0 0 2048,37 0 0 9,53 0 0 4,69 0 0 1,4 0 0 7,20 0 0 3
+84 0 0 65535,68 0 0 16,164 0 0 255,36 0 0 3,100 0 0 2,116 0 0 1,7 0 0 0,12 0 0 0,135 0 0 0
+80 0 0 14""".replace("\n", ",").split(",")
+SCRATCH = ["2 0 0 {}", "3 0 0 {}", "96 0 0 {}", "97 0 0 {}"]
+BESIDE_SCRATCH = ["40 0 0 12", "4 0 0 7", "84 0 0 65535", "21 0 0 2048"]
+TO_X = "7 0 0 0"
+LENGTHS = (64, 300, 1500)
+CACHED_FRAMES, LIST_BYTES = 32, 96_000_000
+NANOS_OF_A_ROUND = 0.15e9
+COLUMNS = "Program,Instructions,Frame,Frames,Steps a frame,bpfrec ns,libpcap ns,Ratio".split(",")
+
+
+def straight_line(length):
+    """Loads, arithmetic and tests; X stays below 16, so that an indexed load finds its byte."""
+    line = []
+    while len(line) < length - 1:
+        insn = random.choice(STRAIGHT)
+        if insn != TO_X:
+            line.append(insn)
+        elif len(line) < length - 2:
+            line += ["84 0 0 15", insn]
+    return line + ["22 0 0 0"]
+
+
+def scratch_line(length):
+    """Every other instruction is a store to or a load from the first four scratch words."""
+    line = [f"2 0 0 {word}" for word in range(4)]
+    while len(line) < length - 1:
+        if len(line) % 2:
+            line.append(random.choice(SCRATCH).format(random.randrange(4)))
+        else:
+            line.append(random.choice(BESIDE_SCRATCH))
+    return line + ["22 0 0 0"]
+
+
+def programs():
+    return {
+        "accept all": ["6 0 0 262144"],
+        "ARP": ARP,
+        "port 53": PORT,
+        "line of 25": straight_line(25),
+        "line of 100": straight_line(100),
+        "line of 400": straight_line(400),
+        "scratch words, 100": scratch_line(100),
+    }
+
+
+def frame(length):
+    """A frame of one of the kinds that the programs ask for, its other bytes by chance."""
+    bytes_ = bytearray(random.randbytes(length))
+    kind = random.randrange(4)
+    bytes_[12:14] = [(8, 6), (8, 0), (8, 0), (0x86, 0xDD)][kind]
+    if kind in (1, 2):
+        bytes_[14], bytes_[23] = 0x45, random.choice((6, 17, 1))
+        bytes_[20:22] = (0, 0)
+        bytes_[34:38] = random.choice(((0, 53, 200, 1), (200, 1, 0, 53), (200, 1, 0, 80)))
+    return bytes(bytes_)
+
+
+def make_frames(path, length, count):
+    kinds = [frame(length) for _ in range(min(count, 4096))]
+    path.write_bytes(b"".join(kinds[i % len(kinds)] for i in range(count)))
+
+
+def output_of(*words):
+    done = subprocess.run([str(it) for it in words], capture_output=True, text=True, check=True)
+    return done.stdout
+
+
+def measured(*words):
+    """The nanoseconds and the sum of each line of a bench's output, by the line's name."""
+    rows = [line.split() for line in output_of(*words).splitlines()]
+    return {name.split(".")[1]: (float(nanos), total) for name, _, nanos, total in rows}
+
+
+def best(ours, theirs, words, count, rounds):
+    """The least nanoseconds of a frame of each machine, and the steps, over rounds in turn."""
+    turns = 1
+    while turns < 1 << 24:
+        if measured(*ours, "time", *words, turns)["frame"][0] * count * turns >= NANOS_OF_A_ROUND:
+            break
+        turns *= 2
+    our_times, their_times, steps = [], [], 0
+    for _ in range(rounds):
+        our = measured(*ours, "time", *words, turns)
+        their = measured(*theirs, "time", *words, turns)
+        our_times.append(our["frame"][0])
+        their_times.append(their["frame"][0])
+        steps = our["step"][1]
+        if our["frame"][1] != their["frame"][1]:
+            sys.exit(f"the sums differ: {words}: {our['frame'][1]} and {their['frame'][1]}")
+    return min(our_times), min(their_times), steps
+
+
+def compare(ours, theirs, work, rounds):
+    """Prints the table, a row for each program, length of a frame and set of frames."""
+    listings = {}
+    for name, lines in programs().items():
+        path = work / (name.replace(" ", "_").replace(",", "") + ".txt")
+        path.write_text(",".join([str(len(lines)), *lines]) + ",\n")
+        listings[name] = (path, len(lines))
+    for length in LENGTHS:
+        for where, count in (("in cache", CACHED_FRAMES), ("from memory", LIST_BYTES // length)):
+            frames = work / f"frames_{length}_{where.replace(' ', '_')}"
+            make_frames(frames, length, count)
+            for name, (listing, insns) in listings.items():
+                words = (listing, frames, length)
+                if where == "in cache":
+                    our_values = output_of(*ours, "values", *words)
+                    if our_values != output_of(*theirs, "values", *words):
+                        sys.exit(f"the values differ: {name} on frames of {length} bytes")
+                our, their, steps = best(ours, theirs, words, count, rounds)
+                row = [name, insns, length, where, steps]
+                row += [f"{our:.1f}", f"{their:.1f}", f"{our / their:.2f}"]
+                print("|", " | ".join(map(str, row)), "|", flush=True)
+            frames.unlink()
+
+
+def main():
+    shape = argparse.RawDescriptionHelpFormatter
+    parser = argparse.ArgumentParser(description=__doc__, formatter_class=shape)
+    parser.add_argument("bench", metavar="BENCH", help="the program of crates/bench")
+    parser.add_argument("pcap", metavar="PCAP_FILTER", help="what bench/pcap_filter.c makes")
+    parser.add_argument("work", metavar="WORK", type=Path, help="a folder for what is made")
+    parser.add_argument("rounds", metavar="ROUNDS", type=int, nargs="?", default=5)
+    words = parser.parse_args()
+    words.work.mkdir(parents=True, exist_ok=True)
+    random.seed(SEED)
+    print("|", " | ".join(COLUMNS), "|")
+    print("|" + "---|" * len(COLUMNS))
+    compare([words.bench, "machine"], [words.pcap], words.work, words.rounds)
+
+
+main()

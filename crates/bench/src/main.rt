@@ -1,0 +1,62 @@
+//! Times the machine, the assembler, the feed's reader, packets and the slot. The first word names
+//! the part, and the others say how much of it is timed; `bench/README.md` has them. Without words
+//! it runs a little of each part, and prints what each loop came to.
+#![tactic(auto)]
+
+mod assembler;
+mod clock;
+mod feed;
+mod machine;
+mod packets;
+mod slot;
+mod words;
+
+use anyhow::{Result, bail};
+use std::env;
+use std::sync::Wait;
+
+fn main(rt: HostRuntime) -> Result<()> {
+    let mut words = Vec::new(rt.alloc());
+    for word in env::args(&rt)?.skip(1) {
+        words.push(word)?;
+    }
+    let Some(part) = words.first() else {
+        return self_check(&rt, &rt);
+    };
+    measure(
+        &rt,
+        &rt,
+        part.as_str(),
+        words.as_slice().get(1..).unwrap_or(&[]),
+    )
+}
+
+/// Times one part. A draw waits for the slot's lock, by `waits`.
+fn measure<R: Wait>(rt: &HostRuntime, waits: &R, part: &str, words: &[String]) -> Result<()> {
+    if part == "machine" {
+        return machine::measure(rt, words);
+    }
+    if part == "assembler" {
+        return assembler::measure(rt, words);
+    }
+    if part == "feed" {
+        return feed::measure(rt, words);
+    }
+    if part == "packets" {
+        return packets::measure(rt, words);
+    }
+    if part == "slot" {
+        return slot::measure(rt, waits, words);
+    }
+    bail!("no such part: machine, assembler, feed, packets and slot are there");
+}
+
+/// Runs a little of each part, and prints what each loop came to.
+fn self_check<R: Wait>(rt: &HostRuntime, waits: &R) -> Result<()> {
+    println!(rt; "machine {}", machine::self_check(rt)?)?;
+    println!(rt; "assembler {}", assembler::self_check(rt)?)?;
+    println!(rt; "feed {}", feed::self_check(rt)?)?;
+    println!(rt; "packets {}", packets::self_check(rt)?)?;
+    println!(rt; "slot {}", slot::self_check(rt, waits)?)?;
+    Ok(())
+}

@@ -1,0 +1,170 @@
+//! Whole programs: worked examples, faults in their order, and limits.
+
+use crate::{AsmFault, assemble};
+use bpf_insn::Insn;
+use std::alloc::{AllocError, Global};
+use std::test::Fail;
+
+fn insn(code: u16, jt: u8, jf: u8, k: u32) -> Insn {
+    Insn { code, jt, jf, k }
+}
+
+#[test]
+fn texts_are_assembled(rt: HostRuntime) -> Result<(), Fail> {
+    let arp = [
+        insn(40, 0, 0, 12),
+        insn(21, 0, 1, 2054),
+        insn(6, 0, 0, u32::MAX),
+        insn(6, 0, 0, 0),
+    ];
+    let inverted = [insn(37, 0, 1, 7), insn(6, 0, 0, 0), insn(6, 0, 0, 1)];
+    let branch = [
+        insn(29, 1, 0, 0),
+        insn(5, 0, 0, 1),
+        insn(135, 0, 0, 0),
+        insn(22, 0, 0, 0),
+    ];
+    let commented = [insn(6, 0, 0, 16)];
+    let table: [(&str, &[Insn]); 5] = [
+        ("ldh [12]\njne #0x806, drop\nret #-1\ndrop: ret #0", &arp),
+        ("jle #7, low\nret #0\nlow: ret #1", &inverted),
+        ("jeq x,b,a\na: jmp c\n\nb:\n txa\nc: d: ret a", &branch),
+        ("ret #0x10 /* a\n b */ ; c", &commented),
+        ("", &[]),
+    ];
+    for (text, program) in table {
+        let assembled = assemble(rt.alloc(), text)?;
+        assert_eq!(rt; assembled.as_slice(), program, "{text}");
+    }
+    Ok(())
+}
+
+const ASM_FAULTS: [(&str, AsmFault); 20] = [
+    ("top: ld #1\njmp top", AsmFault::Backward { line: 2 }),
+    ("ld #1\na: jmp a", AsmFault::Backward { line: 2 }),
+    ("ld #proto", AsmFault::OperandNotAllowed { line: 1 }),
+    ("ldi 08", AsmFault::Number { line: 1 }),
+    ("ret #0\nfoo", AsmFault::UnknownMnemonic { line: 2 }),
+    ("x:\nx: ret #0", AsmFault::LabelTwice { line: 2 }),
+    ("x: y: x: foo", AsmFault::LabelTwice { line: 1 }),
+    ("x: ret 08\nx: ret #0", AsmFault::Number { line: 1 }),
+    ("x:\nx: ret 08", AsmFault::Number { line: 2 }),
+    ("/* ret #0", AsmFault::Syntax { line: 1 }),
+    ("ret #0\na:\nb:\n\n; c", AsmFault::Syntax { line: 3 }),
+    ("a:\nfoo", AsmFault::UnknownMnemonic { line: 2 }),
+    ("jmp b\na:", AsmFault::Syntax { line: 2 }),
+    ("ret #0\n\njmp x", AsmFault::LabelMissing { line: 3 }),
+    ("jmp x\nret 08", AsmFault::Number { line: 2 }),
+    ("a: jeq x,b,a\nret #0", AsmFault::LabelMissing { line: 1 }),
+    ("a: jeq x,a,b\nret #0", AsmFault::Backward { line: 1 }),
+    (
+        "a: jeq #0,c,a\nc: ret #0\njmp d",
+        AsmFault::Backward { line: 1 },
+    ),
+    ("a: jmp c\njmp a\nc: jmp d", AsmFault::Backward { line: 2 }),
+    ("a: jne #0,A\nret #0", AsmFault::LabelMissing { line: 1 }),
+];
+
+#[test]
+fn the_first_fault_of_a_text_is_reported(rt: HostRuntime) {
+    for (text, fault) in ASM_FAULTS {
+        let answer = assemble(rt.alloc(), text);
+        assert_eq!(rt; answer.err(), Some(fault), "{text}");
+    }
+}
+
+/// A text of a first line, `count` times `ret #0`, and a last line.
+fn padded(alloc: Global, first: &str, count: usize, last: &str) -> Result<String, AllocError> {
+    let mut text = String::new(alloc);
+    text.push_str(first)?;
+    for _ in 0..count {
+        text.push_str("ret #0\n")?;
+    }
+    text.push_str(last)?;
+    Ok(text)
+}
+
+/// The first instruction of a text.
+fn assembled_first(alloc: Global, text: &str) -> Result<Option<Insn>, AsmFault> {
+    let program = assemble(alloc, text)?;
+    Ok(program.first().copied())
+}
+
+#[test]
+fn a_test_leads_over_255_instructions_and_a_jump_over_510(rt: HostRuntime) -> Result<(), Fail> {
+    let table = [
+        ("jeq #0,far\n", 255, Ok(Some(insn(21, 255, 0, 0)))),
+        ("jne #0,far\n", 255, Ok(Some(insn(21, 0, 255, 0)))),
+        ("jeq #0,far\n", 256, Err(AsmFault::TooFar { line: 1 })),
+        ("jne #0,far\n", 256, Err(AsmFault::TooFar { line: 1 })),
+        ("jmp far\n", 256, Ok(Some(insn(5, 0, 0, 256)))),
+        ("jmp far\n", 510, Ok(Some(insn(5, 0, 0, 510)))),
+        ("jmp far\n", 511, Err(AsmFault::TooLong)),
+    ];
+    for (first, count, answer) in table {
+        let text = padded(rt.alloc(), first, count, "far: ret #1")?;
+        assert_eq!(rt; assembled_first(rt.alloc(), &text), answer);
+    }
+    Ok(())
+}
+
+#[test]
+fn a_program_has_at_most_512_instructions(rt: HostRuntime) -> Result<(), Fail> {
+    let text = padded(rt.alloc(), "", 512, "")?;
+    let program = assemble(rt.alloc(), &text)?;
+    assert_eq!(rt; program.len(), 512);
+    let table = [
+        ("ret #1", AsmFault::TooLong),
+        ("ret #1\nret 08", AsmFault::TooLong),
+        ("ret 08", AsmFault::Number { line: 513 }),
+    ];
+    for (last, fault) in table {
+        let text = padded(rt.alloc(), "", 512, last)?;
+        assert_eq!(rt; assembled_first(rt.alloc(), &text), Err(fault));
+    }
+    Ok(())
+}
+
+#[test]
+fn each_of_512_labels_is_found(rt: HostRuntime) -> Result<(), Fail> {
+    let mut text = String::new(rt.alloc());
+    for at in 0..511 {
+        let next = at + 1;
+        let line = format!(in rt.alloc(); "l{at}: jmp l{next}\n")?;
+        text.push_str(&line)?;
+    }
+    text.push_str("l511: jeq #0,end\nend: ")?;
+    assert_eq!(rt;
+        assemble(rt.alloc(), &text).err(),
+        Some(AsmFault::Syntax { line: 513 })
+    );
+    Ok(())
+}
+
+#[test]
+fn each_fault_is_printed_as_its_text(rt: HostRuntime) -> Result<(), Fail> {
+    let line = 7;
+    let table = [
+        (AsmFault::Syntax { line }, "asm 1 Syntax line 7"),
+        (AsmFault::Number { line }, "asm 2 Number line 7"),
+        (
+            AsmFault::UnknownMnemonic { line },
+            "asm 3 UnknownMnemonic line 7",
+        ),
+        (
+            AsmFault::OperandNotAllowed { line },
+            "asm 4 OperandNotAllowed line 7",
+        ),
+        (AsmFault::LabelMissing { line }, "asm 5 LabelMissing line 7"),
+        (AsmFault::LabelTwice { line }, "asm 6 LabelTwice line 7"),
+        (AsmFault::Backward { line }, "asm 7 Backward line 7"),
+        (AsmFault::TooFar { line }, "asm 8 TooFar line 7"),
+        (AsmFault::TooLong, "asm 9 TooLong"),
+        (AsmFault::Memory, "memory"),
+    ];
+    for (fault, printed) in table {
+        let text = format!(in rt.alloc(); "{fault}")?;
+        assert_eq!(rt; text.as_str(), printed);
+    }
+    Ok(())
+}

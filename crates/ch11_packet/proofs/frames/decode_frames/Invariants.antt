@@ -1,5 +1,0 @@
-use Rattle.ch11_packet.proofs.ReadBodies.{Passed}
-use Rattle.ch11_packet.proofs.frames.decode_frames.Given as goal
-
-abbrev pub invariant-frames : goal.invariant-frames
-invariant-frames l = Passed l.counter l.bytes l.rest

@@ -1,0 +1,114 @@
+-- The recording's own records as they are read: some bytes may have any value.
+use Rattle.std.specs.Prelude.{ℕ, zero, suc, List, [], ◌∷◌, drop, slice_index, ◌≡◌, ◌≢◌, ◌+◌, ◌*◌, ◌^◌, ◌<◌, ◌≤◌, ◌⊎◌, ◌++◌, length, take, codes}
+use Rattle.bpf_insn.specs.declared.insn.Insn.{Insn}
+use Rattle.ch11_packet.specs.declared.records.TheConstants.{INSN_LEN, RECORD_HEAD_LEN, PROGRAM_HEAD_LEN, END_RECORD_LEN, PROGRAM_RECORD, END_RECORD}
+use Rattle.eth_frame.specs.Bytes.{u16_at, u32_at}
+use Rattle.std.specs.Int.{w16, to_le_bytes}
+use Rattle.std.specs.List.{AllByRecursion}
+use Rattle.bpf_insn.specs.Bytes.{InRange}
+use Rattle.ch11_packet.specs.declared.records.decode.RecordFault.{RecordFault}
+use Rattle.ch11_packet.specs.declared.records.decode.RecordFault.TheVariants.{Kind, Channel, Length}
+use Rattle.ch11_packet.specs.Records.{program_spelling, end_spelling}
+
+-- ---- stored instructions
+
+-- the instruction that is stored in the 8 bytes at the front
+abbrev pub first_insn : List ℕ → Insn
+first_insn bytes = record {
+  code = u16_at bytes 0;
+  jt = slice_index bytes 2;
+  jf = slice_index bytes 3;
+  k = u32_at bytes 4;
+}
+
+-- the first `count` instructions of these bytes
+unfoldable pub stored_insns : ℕ → List ℕ → List Insn
+stored_insns zero bytes = []
+stored_insns (suc count) bytes = first_insn bytes ∷ stored_insns count (drop INSN_LEN bytes)
+
+-- ---- what a record is
+
+-- what a record says: a program that came into force on a channel as this version, from the frame
+-- with this number on; or a channel's end, with the numbers of frames offered and kept
+pub data RecordData : Type 0 where
+  OfProgram : (channel version first : ℕ) (insns : List Insn) → RecordData
+  OfEnd : (channel offered kept : ℕ) → RecordData
+
+-- the numbers of a program's record have their widths, and the channel is not 0
+pub record IsProgramRecord (channel version first : ℕ) (insns : List Insn) : Type 0 where
+  pub named : 0 < channel
+  pub channel_fits : channel < 2 ^ 16
+  pub version_fits : version < 2 ^ 32
+  pub first_fits : first < 2 ^ 64
+  pub few : length insns < 2 ^ 16
+  pub insns_fit : AllByRecursion InRange insns
+
+-- those of the record of an end
+pub record IsEndRecord (channel offered kept : ℕ) : Type 0 where
+  pub named : 0 < channel
+  pub channel_fits : channel < 2 ^ 16
+  pub offered_fits : offered < 2 ^ 64
+  pub kept_fits : kept < 2 ^ 64
+
+-- the bytes are this record, with any word before the tag, and in a program's record with any two
+-- bytes before the instructions
+abbrev pub SpellsRecord : RecordData → List ℕ → Type 0
+SpellsRecord (OfProgram channel version first insns) bytes =
+    IsProgramRecord channel version first insns
+    × (word : ℕ) × (unused : ℕ) × (bytes ≡ program_spelling word unused channel version first insns)
+SpellsRecord (OfEnd channel offered kept) bytes =
+    IsEndRecord channel offered kept
+    × (word : ℕ) × (bytes ≡ end_spelling word channel offered kept)
+
+-- the bytes of a program's record with this number in the two bytes before the instructions
+abbrev pub with_unused : ℕ → List ℕ → List ℕ
+with_unused unused bytes = take 26 bytes ++ to_le_bytes w16 unused ++ drop 28 bytes
+
+-- ---- what is wrong with other bytes
+
+-- the bytes 4 to 7 are the tag
+abbrev pub IsTagged : List ℕ → Type 0
+IsTagged bytes = take 4 (drop 4 bytes) ≡ codes "CBPR"
+
+-- the kind, the channel and the number of instructions that the bytes say
+abbrev pub kind_in : List ℕ → ℕ
+kind_in bytes = u16_at bytes 8
+
+abbrev pub channel_in : List ℕ → ℕ
+channel_in bytes = u16_at bytes 10
+
+abbrev pub insn_count_in : List ℕ → ℕ
+insn_count_in bytes = u16_at bytes 24
+
+-- the kind is that of a program or of an end
+abbrev pub IsKind : ℕ → Type 0
+IsKind kind = (kind ≡ PROGRAM_RECORD) ⊎ (kind ≡ END_RECORD)
+
+-- as many bytes as a record of the kind has
+pub record HasRecordLength (bytes : List ℕ) : Type 0 where
+  pub program : kind_in bytes ≡ PROGRAM_RECORD
+      → length bytes ≡ PROGRAM_HEAD_LEN + INSN_LEN * insn_count_in bytes
+  pub ending : kind_in bytes ≡ END_RECORD → length bytes ≡ END_RECORD_LEN
+
+-- a tag with a kind and a channel behind it
+pub record HasHead (bytes : List ℕ) : Type 0 where
+  pub tagged : IsTagged bytes
+  pub whole : RECORD_HEAD_LEN ≤ length bytes
+
+-- the tag with this kind and this channel, both of them right
+pub record HasFields (kind channel : ℕ) (bytes : List ℕ) : Type 0 where
+  pub head : HasHead bytes
+  pub kind_is : kind ≡ kind_in bytes
+  pub channel_is : channel ≡ channel_in bytes
+  pub known : IsKind kind
+  pub named : channel ≢ 0
+
+-- what is wrong with bytes that have the tag and are no record: they end before the kind and the
+-- channel; else the kind, else the channel, else the length
+abbrev pub HasRecordFault : List ℕ → RecordFault → Type 0
+HasRecordFault bytes Kind = HasHead bytes × ¬ IsKind (kind_in bytes)
+HasRecordFault bytes Channel =
+    HasHead bytes × IsKind (kind_in bytes) × (channel_in bytes ≡ 0)
+HasRecordFault bytes Length =
+    (IsTagged bytes × (length bytes < RECORD_HEAD_LEN))
+    ⊎ (HasHead bytes × IsKind (kind_in bytes) × (channel_in bytes ≢ 0) × ¬ HasRecordLength bytes)

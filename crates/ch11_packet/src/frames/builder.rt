@@ -1,0 +1,166 @@
+//! A body of Ethernet data while frames are added.
+ghost use Rattle.std.specs.Prelude.{◌≡◌, ◌+◌, ◌≤◌, ◌++◌, length, vec_len};
+ghost use Rattle.std.specs.Vec.{vec_capacity};
+ghost use Rattle.ch11_packet.specs.Frames.{frame_header, frame_bytes, frame_len};
+ghost use Rattle.eth_frame.specs.Views.{frame_data};
+
+use crate::frames::body::DataBody;
+use crate::frames::word::{
+    BODY_WORD_LEN, CRC_ERROR, FRAME_ERROR, FRAME_HEADER_LEN, MAX_SPEED, frame_len,
+};
+use crate::header::HEADER_LEN;
+use crate::limit::Limit;
+use crate::packet_len::packet_len;
+use eth_frame::{Frame, counter_bytes};
+use std::alloc::{AllocError, Global};
+use std::marker::Model;
+
+/// A body of Ethernet data to which frames are added, as long as its packet isn't longer than a
+/// limit. It takes its memory when it is made, and none later.
+#[derive(Debug, Drop)]
+pub struct DataBuilder {
+    bytes: Vec<u8>,
+    count: u16,
+    first_counter: u64,
+    net: u8,
+    speed: u8,
+    limit: Limit,
+}
+
+impl Model for DataBuilder {
+    ghost use Rattle.std.specs.Vec.{vec_capacity};
+    ghost use Rattle.ch11_packet.specs.Building.{OpenBody, open_of, frames_in, IsOpen};
+
+    ghost Value = { OpenBody };
+
+    ghost view = { λ b. open_of (frames_in b.count b.bytes.items) b.net b.speed b.limit };
+
+    ghost invariant = { λ b.
+        IsOpen b.count b.net b.speed b.first_counter b.limit (vec_capacity b.bytes) b.bytes.items };
+}
+
+impl DataBuilder {
+    ghost use Rattle.std.specs.Prelude.{ℕ, ◌≡◌, ◌≢◌, ◌≤◌, ◌↔◌, [], ◌∷◌, ◌++◌, length, IsTrue, IfOk};
+    ghost use Rattle.eth_frame.specs.declared.frame.TheConstants.{MAX_FRAME_LEN};
+    ghost use Rattle.ch11_packet.specs.PacketLen.{packet_len};
+    ghost use Rattle.ch11_packet.specs.Frames.{data_len};
+    ghost use Rattle.ch11_packet.specs.Building.{Fits, body_of, open_of};
+    ghost use Rattle.eth_frame.specs.Views.{frame_data};
+
+    /// A body of no frames, with room for all that the limit allows. Each frame that is added has
+    /// this network identifier and this speed, which is at most [`MAX_SPEED`].
+    pub fn with_limit(
+        alloc: Global,
+        limit: Limit,
+        net: u8,
+        speed: u8,
+    ) -> Result<DataBuilder, AllocError>
+        requires { speed ≤ MAX_SPEED }
+        ensures empty { IfOk result (λ builder. builder ≡ open_of [] net speed limit) }
+        ensures roomy { IfOk result (λ builder. (len : ℕ) → len ≤ MAX_FRAME_LEN
+            → Fits builder len) }
+    {
+        let mut bytes = Vec::with_capacity(alloc, limit.get() as usize - HEADER_LEN)?;
+        append(&mut bytes, &[0; BODY_WORD_LEN]);
+        Ok(DataBuilder {
+            bytes,
+            count: 0,
+            first_counter: 0,
+            net,
+            speed,
+            limit,
+        })
+    }
+
+    /// Whether no frame was added.
+    pub fn is_empty(&self) -> bool
+        ensures empty { IsTrue result ↔ (self.now.frames ≡ []) }
+    {
+        self.count == 0
+    }
+
+    /// Whether the packet with a further frame of `len` bytes isn't longer than the limit.
+    pub fn fits(&self, len: usize) -> bool
+        ensures fits { IsTrue result ↔ Fits self.now len }
+    {
+        let limit = self.limit.get() as usize;
+        len <= limit && packet_len(self.bytes.len() + frame_len(len)) <= limit
+    }
+
+    /// Adds a frame, which fits.
+    pub fn push(&mut self, frame: &Frame<'_>)
+        requires { Fits self.old (length frame.now.bytes.now) }
+        ensures added { self.new
+            ≡ record self.old { frames = self.old.frames ++ frame_data frame.now ∷ [] } }
+    {
+        let first_counter = if self.count == 0 {
+            frame.counter
+        } else {
+            self.first_counter
+        };
+        append_frame(&mut self.bytes, frame, self.net, self.speed);
+        self.first_counter = first_counter;
+        self.count += 1;
+    }
+
+    /// The body of the frames that were added, of which there is at least one.
+    pub fn seal(self) -> DataBody
+        requires { self.frames ≢ [] }
+        ensures sealed { result ≡ body_of self.frames self.net self.speed }
+        ensures within { packet_len (data_len self.frames) ≤ self.limit }
+    {
+        let DataBuilder {
+            mut bytes,
+            count,
+            first_counter,
+            net,
+            speed,
+            ..
+        } = self;
+        let [low, high] = count.to_le_bytes();
+        bytes[0] = low;
+        bytes[1] = high;
+        DataBody::new(bytes, count, first_counter, net, speed)
+    }
+}
+
+/// Adds a frame for which there is room: its header, its bytes, and one of filler if their number
+/// is odd.
+fn append_frame(body: &mut Vec<u8>, frame: &Frame<'_>, net: u8, speed: u8)
+    requires speed { speed ≤ MAX_SPEED }
+    requires room { vec_len body.old + frame_len (length frame.now.bytes.now)
+        ≤ vec_capacity body.old }
+    ensures items { body.new.items
+        ≡ body.old.items ++ frame_bytes net speed (frame_data frame.now) }
+    ensures capacity { vec_capacity body.old ≤ vec_capacity body.new }
+{
+    append(body, &frame_header(frame, net, speed));
+    append(body, frame.bytes);
+    if frame.bytes.len() % 2 == 1 {
+        append(body, &[0]);
+    }
+}
+
+/// The 12 bytes of a body before the bytes of a frame: counter (6), zero (2) and the frame's word.
+fn frame_header(frame: &Frame<'_>, net: u8, speed: u8) -> [u8; FRAME_HEADER_LEN]
+    requires { speed ≤ MAX_SPEED }
+    ensures bytes { result ≡ frame_header net speed (frame_data frame.now) }
+{
+    let [c0, c1, c2, c3, c4, c5] = counter_bytes(frame.counter);
+    let [low, high] = (frame.bytes.len() as u16).to_le_bytes();
+    let frame_error = if frame.frame_error { FRAME_ERROR } else { 0 };
+    let crc_error = if frame.crc_error { CRC_ERROR } else { 0 };
+    let top_byte = speed + frame_error + crc_error;
+    [c0, c1, c2, c3, c4, c5, 0, 0, low, high, net, top_byte]
+}
+
+/// Adds bytes for which there is room.
+fn append(body: &mut Vec<u8>, bytes: &[u8])
+    requires { vec_len body.old + length bytes.now ≤ vec_capacity body.old }
+    ensures items { body.new.items ≡ body.old.items ++ bytes.now }
+    ensures capacity { vec_capacity body.old ≤ vec_capacity body.new }
+{
+    if body.extend_from_slice(bytes).is_err() {
+        unreachable!()
+    }
+}

@@ -1,0 +1,195 @@
+//! Bodies of Ethernet data, written and read.
+use super::*;
+
+#[test]
+fn a_limit_is_16424_to_524288_bytes(rt: HostRuntime) {
+    let table = [
+        (16_423, None),
+        (16_424, Some(16_424)),
+        (524_288, Some(524_288)),
+        (524_289, None),
+    ];
+    for (bytes, limit) in table {
+        assert_eq!(rt; Limit::new(bytes).map(Limit::get), limit);
+    }
+}
+
+#[test]
+fn a_body_of_one_frame_is_written(rt: HostRuntime) -> Result<(), Fail> {
+    let arp: [u8; 19] = bytes(rt.alloc(), ARP)?;
+    for (len, text) in [(18, BODY), (19, ODD_BODY)] {
+        let frame = Frame::new(16, false, false, &arp[..len]).ok_or("a frame in range")?;
+        let limit = Limit::new(MIN_LIMIT).ok_or("the least limit")?;
+        let mut builder = DataBuilder::with_limit(rt.alloc(), limit, 0, 3)?;
+        assert!(rt; builder.is_empty());
+        assert!(rt; builder.fits(len));
+        builder.push(&frame);
+        let body = builder.seal();
+        assert_eq!(rt; body.bytes(), all_bytes(rt.alloc(), text)?.as_slice());
+        assert_eq!(rt; body.counter(), 16);
+        assert_eq!(rt; body.count(), 1);
+    }
+    Ok(())
+}
+
+#[test]
+fn the_longest_frame_fills_the_least_packet(rt: HostRuntime) -> Result<(), Fail> {
+    let bytes = [0x5a; 16_383];
+    let frame = Frame::new(16, false, false, &bytes).ok_or("the longest frame")?;
+    let limit = Limit::new(16_424).ok_or("the least limit")?;
+    let mut builder = DataBuilder::with_limit(rt.alloc(), limit, 0, 3)?;
+    assert!(rt; builder.fits(16_383));
+    builder.push(&frame);
+    for len in [0, 18, 16_383] {
+        assert!(rt; !builder.fits(len), "{len} bytes");
+    }
+    let body = builder.seal();
+    assert_eq!(rt; body.bytes().len(), 16_400);
+    let header = Header::new(1, 16_424, 16_400, 8, 0, 0, ETHERNET_DATA, 16).ok_or(
+        "a header in range",
+    )?;
+    assert_eq!(rt; Header::decode(&header.encode()), Ok(header));
+    Ok(())
+}
+
+/// The first frame of a body.
+fn first_frame(body: &[u8]) -> Result<ReadFrame<'_>, Fail> {
+    let frames = decode_frames(body)?;
+    Ok(frames.frame_at(0).ok_or("a frame")?)
+}
+
+#[test]
+fn a_body_of_one_frame_is_read(rt: HostRuntime) -> Result<(), Fail> {
+    let arp: [u8; 19] = bytes(rt.alloc(), ARP)?;
+    let even: [u8; 34] = bytes(rt.alloc(), BODY)?;
+    let odd: [u8; 36] = bytes(rt.alloc(), ODD_BODY)?;
+    let table = [
+        (even.as_slice(), 18),
+        (odd.as_slice(), 19),
+        (&odd[..35], 19),
+    ];
+    for (body, len) in table {
+        let frames = decode_frames(body)?;
+        assert_eq!(rt; frames.count(), 1);
+        let frame = frames.frame_at(0).ok_or("a frame")?;
+        assert_eq!(rt; (frame.net, frame.speed, frame.content), (0, 3, 0));
+        assert_eq!(rt; frame.frame(), Frame::new(16, false, false, &arp[..len]));
+        assert_eq!(rt; frames.frame_at(1), None);
+        let mut walk = frames.walk();
+        assert_eq!(rt; walk.next(), Some(frame));
+        assert_eq!(rt; walk.next(), None);
+    }
+    Ok(())
+}
+
+#[test]
+fn unused_bits_of_a_body_make_no_difference(rt: HostRuntime) -> Result<(), Fail> {
+    let odd: [u8; 36] = bytes(rt.alloc(), ODD_BODY)?;
+    for (at, value) in [
+        (2, 0xff),
+        (3, 0x0f),
+        (10, 0xff),
+        (11, 0xff),
+        (13, 0xc0),
+        (35, 0xff),
+    ] {
+        let mut body: [u8; 36] = bytes(rt.alloc(), ODD_BODY)?;
+        put(&mut body, at, value);
+        assert_eq!(rt; first_frame(&body)?, first_frame(&odd)?, "byte {at}");
+    }
+    Ok(())
+}
+
+#[test]
+fn a_frame_is_read_with_its_marks_speed_and_content(rt: HostRuntime) -> Result<(), Fail> {
+    for (top_byte, fields) in [
+        (0x83, (true, false, 0, 3)),
+        (0x43, (false, true, 0, 3)),
+        (0x1f, (false, false, 1, 15)),
+        (0x33, (false, false, 3, 3)),
+    ] {
+        let mut body: [u8; 34] = bytes(rt.alloc(), BODY)?;
+        put(&mut body, 14, 7);
+        put(&mut body, 15, top_byte);
+        let frame = first_frame(&body)?;
+        let read = (
+            frame.crc_error,
+            frame.frame_error,
+            frame.content,
+            frame.speed,
+        );
+        assert_eq!(rt; read, fields);
+        assert_eq!(rt; frame.net, 7);
+        assert_eq!(rt; frame.frame().is_some(), frame.content == 0);
+    }
+    Ok(())
+}
+
+#[test]
+fn a_frame_of_17_bytes_is_read_as_no_whole_frame(rt: HostRuntime) -> Result<(), Fail> {
+    let arp: [u8; 19] = bytes(rt.alloc(), ARP)?;
+    let mut body: [u8; 34] = bytes(rt.alloc(), BODY)?;
+    put(&mut body, 12, 17);
+    let frame = first_frame(&body)?;
+    assert_eq!(rt; frame.bytes, &arp[..17]);
+    assert_eq!(rt; frame.frame(), None);
+    Ok(())
+}
+
+/// Whether the body has this fault.
+fn has_fault(body: &[u8], fault: BodyFault) -> bool {
+    matches!(decode_frames(body), Err(found) if found == fault)
+}
+
+#[test]
+fn each_bad_body_has_its_fault(rt: HostRuntime) -> Result<(), Fail> {
+    for (text, fault) in [
+        ("010000", BodyFault::Short),
+        ("000010", BodyFault::Short),
+        ("01000010", BodyFault::Format),
+        ("ffff0000", BodyFault::Short),
+        ("01000000 100000000000 0000 120000", BodyFault::Short),
+        (
+            "01000000 100000000000 0000 12000003 ffffffffffff 020000000001 0806 a1b2c3",
+            BodyFault::Short,
+        ),
+        ("00000000 00", BodyFault::LeftOver),
+        (
+            "01000000 100000000000 0000 12000003 ffffffffffff 020000000001 0806 a1b2c3d4 \
+            00000000",
+            BodyFault::LeftOver,
+        ),
+        (
+            "01000000 100000000000 0000 13000003 ffffffffffff 020000000001 0806 a1b2c3d4 e5 00 \
+            00",
+            BodyFault::LeftOver,
+        ),
+    ] {
+        assert!(rt; has_fault(&all_bytes(rt.alloc(), text)?, fault), "{text}");
+    }
+    Ok(())
+}
+
+#[test]
+fn what_a_builder_sealed_is_read(rt: HostRuntime) -> Result<(), Fail> {
+    let limit = Limit::new(MIN_LIMIT).ok_or("the least limit")?;
+    let mut builder = DataBuilder::with_limit(rt.alloc(), limit, 7, 5)?;
+    let arp: [u8; 19] = bytes(rt.alloc(), ARP)?;
+    let odd = Frame::new(1, true, false, &arp).ok_or("a frame in range")?;
+    let even = Frame::new(2, false, true, &arp[..18]).ok_or("a frame in range")?;
+    for frame in [odd, even, odd] {
+        assert!(rt; builder.fits(frame.bytes.len()));
+        builder.push(&frame);
+    }
+    assert!(rt; !builder.is_empty());
+    let body = builder.seal();
+    let frames = decode_frames(body.bytes())?;
+    let mut walk = frames.walk();
+    for frame in [odd, even, odd] {
+        let read = walk.next().ok_or("a frame")?;
+        assert_eq!(rt; (read.net, read.speed), (7, 5));
+        assert_eq!(rt; read.frame(), Some(frame));
+    }
+    assert_eq!(rt; walk.next(), None);
+    Ok(())
+}

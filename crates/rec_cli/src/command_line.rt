@@ -1,0 +1,190 @@
+//! The command line as `clap` reads it: a function for each command, with its help.
+
+ghost use Rattle.std.specs.Prelude.{◌≡◌, IfOk, codes, false};
+ghost use Rattle.clap.specs.Words.{app_of, new_app, rule_of};
+ghost use Rattle.clap.specs.declared.builder.Command.TheViews.{out-Command as fields_of};
+ghost use Rattle.rec_cli.specs.Commands.{asm_app, bpfrec_app, dis_app, operand, run_app, texts_app, top_app, verify_app};
+
+use clap::{Arg, ArgAction, Command};
+use std::alloc::{AllocError, Global};
+
+const ABOUT: &str =
+    "Assembles, checks and runs the filters of the bpfrec recorder, which are classic BPF programs.";
+
+const STATUSES: &str = "\
+Without words, bpfrec reads a listing and a view in hexadecimal, a line each, from standard
+input, and prints what run prints.
+
+Exit status: 0 answered; 1 a text, listing, program or view was refused; 2 the words are no
+command; 3 a file could not be read, or standard output not written; 4 no memory.";
+
+const ASM: &str = "\
+Reads a filter in the text of the Linux kernel's bpf_asm, and prints its listing on standard
+output, on one line, for verify, run and dis. The first fault of the text is told on standard
+error, with its line, counted from 1:
+  asm <number> <Name> line <n>     Syntax, Number, UnknownMnemonic, OperandNotAllowed,
+                                   LabelMissing, LabelTwice, Backward or TooFar
+  asm 9 TooLong                    more than 512 instructions
+
+Exit status: 0 answered; 1 no program; 2 words; 3 the file; 4 no memory.
+
+Example:
+  bpfrec asm arp.bpf";
+
+const DIS: &str = "\
+Reads a program's listing, and prints the program in the text of the Linux kernel's bpf_asm on
+standard output, a line for each instruction, with labels where jumps lead. asm reads a text of
+at most 512 instructions as the same program. What has no text is told on standard error:
+  dis 1 NoForm <i>                 instruction i has no legal code, or a number in a field that
+                                   it doesn't use, as tcpdump leaves them (7 0 0 5); verify and
+                                   run pass over such a number, the text could not say it
+  dis 2 JumpOut <i>                a jump of instruction i leads past the last instruction
+
+Exit status: 0 answered; 1 no listing, or no text; 2 words; 3 the file; 4 no memory.
+
+Example:
+  bpfrec dis arp.txt";
+
+const VERIFY: &str = "\
+Reads a program's listing, as bpf_asm and tcpdump -ddd print it. Prints on standard output
+  valid <n>                        a program of n instructions, which may be installed
+  refused <number> <Name> [<i>]    the first condition that it breaks, at instruction i
+A fault of the listing (listing ..) or of the file (file <path>) is told on standard error.
+
+Exit status: 0 valid; 1 refused, or no listing; 2 words; 3 the file; 4 no memory.
+
+Example:
+  bpfrec verify arp.txt";
+
+const RUN: &str = "\
+Reads a program's listing, and runs the program on a view: the bytes of a frame without its
+check sequence, in hexadecimal (the empty word is the empty view). Prints on standard output
+  <value> <steps>                  what the program returns, and how many instructions ran
+A value of 0 means that the frame is dropped. A program that verify refuses is refused here
+too; a view that is odd, not hexadecimal or over 16,379 bytes is told as view.
+
+Exit status: 0 answered; 1 refused; 2 words; 3 the file; 4 no memory.
+
+Example:
+  bpfrec run arp.txt ffffffffffff0200000000010806";
+
+/// The command line of the program. Each command has a function of its own here.
+pub(crate) fn bpfrec<'a>(alloc: Global) -> Result<Command<'a>, AllocError>
+    ensures app { IfOk result (λ c. app_of c ≡ bpfrec_app) }
+    ensures local { IfOk result (λ c. (fields_of c).has_globals ≡ false) }
+{
+    with_texts(alloc)?
+        .subcommand(verify(alloc)?)?
+        .subcommand(run(alloc)?)
+}
+
+/// The program with the commands on texts alone.
+fn with_texts<'a>(alloc: Global) -> Result<Command<'a>, AllocError>
+    ensures app { IfOk result (λ c. app_of c ≡ texts_app) }
+    ensures local { IfOk result (λ c. (fields_of c).has_globals ≡ false) }
+{
+    top(alloc)?.subcommand(asm(alloc)?)?.subcommand(dis(alloc)?)
+}
+
+/// The program without its commands.
+fn top<'a>(alloc: Global) -> Result<Command<'a>, AllocError>
+    ensures app { IfOk result (λ c. app_of c ≡ top_app) }
+    ensures local { IfOk result (λ c. (fields_of c).has_globals ≡ false) }
+{
+    Ok(
+        Command::new(alloc, "bpfrec")
+            .bin_name("bpfrec")?
+            .about(ABOUT)
+            .after_help(STATUSES)
+            .no_binary_name(true)
+            .subcommand_required(true),
+    )
+}
+
+fn asm<'a>(alloc: Global) -> Result<Command<'a>, AllocError>
+    ensures app { IfOk result (λ c. app_of c ≡ asm_app) }
+    ensures local { IfOk result (λ c. (fields_of c).has_globals ≡ false) }
+{
+    command(
+        alloc,
+        "asm",
+        "bpfrec asm",
+        "Prints the listing of a filter's text",
+        ASM,
+    )?
+    .arg(operand(alloc, "FILE").help("A filter in the text of the Linux kernel's bpf_asm"))
+}
+
+fn dis<'a>(alloc: Global) -> Result<Command<'a>, AllocError>
+    ensures app { IfOk result (λ c. app_of c ≡ dis_app) }
+    ensures local { IfOk result (λ c. (fields_of c).has_globals ≡ false) }
+{
+    command(
+        alloc,
+        "dis",
+        "bpfrec dis",
+        "Prints the text of a program's listing",
+        DIS,
+    )?
+    .arg(file(alloc))
+}
+
+fn verify<'a>(alloc: Global) -> Result<Command<'a>, AllocError>
+    ensures app { IfOk result (λ c. app_of c ≡ verify_app) }
+    ensures local { IfOk result (λ c. (fields_of c).has_globals ≡ false) }
+{
+    command(
+        alloc,
+        "verify",
+        "bpfrec verify",
+        "Says whether a program may be installed",
+        VERIFY,
+    )?
+    .arg(file(alloc))
+}
+
+fn run<'a>(alloc: Global) -> Result<Command<'a>, AllocError>
+    ensures app { IfOk result (λ c. app_of c ≡ run_app) }
+    ensures local { IfOk result (λ c. (fields_of c).has_globals ≡ false) }
+{
+    command(alloc, "run", "bpfrec run", "Runs a program on a view", RUN)?
+        .arg(file(alloc))?
+        .arg(operand(alloc, "HEX").help("The view in hexadecimal"))
+}
+
+/// A command without its words: its name alone, and as a user writes it.
+fn command<'a>(
+    alloc: Global,
+    name: &'a str,
+    usage: &'a str,
+    about: &'a str,
+    help: &'a str,
+) -> Result<Command<'a>, AllocError>
+    ensures app { IfOk result (λ c. app_of c ≡ new_app name.entry.now) }
+    ensures local { IfOk result (λ c. (fields_of c).has_globals ≡ false) }
+{
+    Ok(
+        Command::new(alloc, name)
+            .bin_name(usage)?
+            .about(about)
+            .after_help(help),
+    )
+}
+
+/// A file with a listing.
+fn file<'a>(alloc: Global) -> Arg<'a>
+    ensures rule { rule_of result ≡ operand (codes "FILE") }
+    ensures local { result.global ≡ false }
+{
+    operand(alloc, "FILE").help(
+        "A program's listing: the count, then code jt jf k of each instruction",
+    )
+}
+
+/// A word that must be given.
+fn operand<'a>(alloc: Global, name: &'a str) -> Arg<'a>
+    ensures rule { rule_of result ≡ operand name.entry.now }
+    ensures local { result.global ≡ false }
+{
+    Arg::new(alloc, name).required(true).action(ArgAction::Set)
+}

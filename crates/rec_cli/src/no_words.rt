@@ -1,0 +1,71 @@
+//! The run without words: a listing and a view, a line each, from standard input.
+
+ghost use Rattle.std.specs.Prelude.{◌≡◌, ◌==◌, OnOk, IfOk, IfSome, string_bytes};
+ghost use Rattle.std.specs.List.{before_first, after_first};
+ghost use Rattle.rec_cli.specs.Lines.{AnswersLines, RunsOn, without_return};
+
+use crate::ending::{Ending, STREAM};
+use crate::output::print_outcome;
+use crate::view::view_of;
+use bpf_insn::parse_listing;
+use bpf_machine::{Outcome, run};
+use bpf_verify::verify;
+use std::alloc::Global;
+use std::io::{Read, Write};
+
+/// Reads a listing and a view in hexadecimal, a line each, and prints `<value> <steps>`.
+pub(crate) fn answer_lines<I: Read, O: Write>(
+    alloc: Global,
+    input: &mut I,
+    output: &mut O,
+) -> Result<(), Ending<'static>>
+    ensures { OnOk result (IfSome (I.remaining input.old) (λ bytes.
+        AnswersLines bytes (O.contents output.old) (O.contents output.new))) }
+{
+    let text = whole_text(alloc, input)?;
+    let (listing, rest) = cut_line(text.as_str());
+    let (view, _) = cut_line(rest);
+    let outcome = outcome_of(alloc, listing, view)?;
+    print_outcome(output, outcome)
+}
+
+/// What the listed program returns on the view.
+pub(crate) fn outcome_of<'a>(
+    alloc: Global,
+    listing: &str,
+    view: &str,
+) -> Result<Outcome, Ending<'a>>
+    ensures { IfOk result (λ outcome. RunsOn listing.now view.now outcome.steps outcome.value) }
+{
+    let program = verify(parse_listing(alloc, listing)?)?;
+    let view = view_of(alloc, view)?;
+    Ok(run(&program, view.as_slice()))
+}
+
+/// The whole input, as text.
+fn whole_text<I: Read>(alloc: Global, input: &mut I) -> Result<String, Ending<'static>>
+    ensures { IfOk result (λ text. IfSome (I.remaining input.old) (λ bytes.
+        string_bytes text ≡ bytes)) }
+{
+    let mut text = String::new(alloc);
+    match input.read_to_string(&mut text) {
+        Ok(_) => Ok(text),
+        Err(error) => Err(Ending::of_read(STREAM, &error)),
+    }
+}
+
+/// The first line, without a carriage return at its end, and what follows its line feed.
+fn cut_line(text: &str) -> (&str, &str)
+    ensures line { result.0.now ≡ without_return (before_first (λ b. b == 10) text.now) }
+    ensures rest { result.1.now ≡ after_first (λ b. b == 10) text.now }
+{
+    let (line, rest) = text.split_once('\n').unwrap_or((text, ""));
+    (without_return(line), rest)
+}
+
+/// A line without a carriage return at its end.
+fn without_return(line: &str) -> &str
+    ensures { result.now ≡ without_return line.now }
+{
+    line.strip_suffix('\r').unwrap_or(line)
+}
