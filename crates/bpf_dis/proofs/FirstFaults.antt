@@ -1,10 +1,8 @@
 -- The first fault of a program is that of its first instruction with one.
-use Rattle.std.proofs.Common.{ℕ, ◌+◌, ◌<◌, ◌≡◌, ◌⊎◌, inl, inr, List, length, slice_get, Option, Some, sym, ap, subst, All, below_more}
+use Rattle.std.proofs.Common.{ℕ, ◌+◌, ◌<◌, ◌≡◌, ◌⊎◌, inl, inr, List, length, slice_get, Option, Some, sym, ap, subst, below_more}
 use Rattle.std.proofs.lemmas.Bool.{cases_order}
-use Rattle.std.proofs.lemmas.Option.{get_or_from_slice_get}
 use Rattle.bpf_insn.specs.declared.insn.Insn.{Insn}
 use Rattle.bpf_insn.specs.declared.form.Form.{Form}
-use Rattle.bpf_insn.specs.Bytes.{InRange}
 use Rattle.bpf_insn.specs.Flow.{FormJumpsOut, JumpsOut}
 use Rattle.bpf_insn.specs.Forms.{form}
 use Rattle.bpf_dis.specs.declared.fault.DisFault.{DisFault}
@@ -55,17 +53,6 @@ pub inside_at : (program : List Insn) (at : ℕ) (insn : Insn) (f : Form) → Ha
 inside_at program at insn f text below stands formed =
     let P : Option Form → Type 0 = λ o. ¬ FormJumpsOut (length program) o insn at in
     subst P (sym formed) (λ out. (text at below).1 (insn, stands, out))
-
--- each instruction before this index is in range
-abbrev pub AreInRangeBefore : List Insn → ℕ → Type 0
-AreInRangeBefore program bound = (at : ℕ) → at < bound → (insn : Insn) × (slice_get program at ≡ Some insn) × InRange insn
-
-pub all_in_range : (program : List Insn) → AreInRangeBefore program (length program) → All InRange program
-all_in_range program before =
-    λ k d below.
-    let here = before k below in
-    let P : Insn → Type 0 = λ i. InRange i in
-    subst P (sym (get_or_from_slice_get program k here.0 d here.1)) here.2
 
 -- a program that has a text has no fault
 pub no_fault : (program : List Insn) (fault : DisFault) → HasText program → IsFaultOf program fault → ⊥

@@ -1,7 +1,7 @@
 //! Which programs have a text, and the first fault of one that has none.
 
 ghost use Rattle.std.specs.Prelude.{◌≡◌, ◌↔◌, ◌<◌, ◌^◌, All, IsTrue, IfNone, MatchOption};
-ghost use Rattle.bpf_insn.specs.Bytes.{InRange};
+ghost use Rattle.bpf_insn.specs.Bytes.{InRange, AreInRange};
 ghost use Rattle.bpf_insn.specs.Flow.{FormJumpsOut};
 ghost use Rattle.bpf_insn.specs.Forms.{form};
 ghost use Rattle.bpf_dis.specs.Faults.{UnusedAreZero, FormIsSaid, HasText, IsFaultOf, FormHasFault};
@@ -14,7 +14,7 @@ pub(crate) fn first_fault(program: &[Insn]) -> Option<DisFault>
     ensures fault { MatchOption result
         (HasText program.now)
         (λ fault. IsFaultOf program.now fault) }
-    ensures range { IfNone result (All InRange program.now) }
+    ensures range { IfNone result (AreInRange program.now) }
 {
     'insns: for at in 0..program.len() {
         if let Some(fault) = fault_at(program[at], at, program.len()) {

@@ -47,7 +47,8 @@ field_of most word =
 
 -- and then
 infixl 10 ◌>>=◌
-abbrev pub ◌>>=◌ : {A B : Type 0} → Result A ListingFault → (A → Result B ListingFault) → Result B ListingFault
+abbrev pub ◌>>=◌ : {A B : Type 0}
+    → Result A ListingFault → (A → Result B ListingFault) → Result B ListingFault
 (Ok x) >>= f = f x
 (Err e) >>= f = Err e
 

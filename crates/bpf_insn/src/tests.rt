@@ -40,6 +40,10 @@ fn a_listing_is_refused_with_its_first_fault(rt: HostRuntime) {
         ("1,6 0 0 0 0,", ListingFault::Syntax { at: 2 }),
         ("1,6 0 256 +0,", ListingFault::Syntax { at: 2 }),
         ("1,6 0\r 0 0,", ListingFault::Syntax { at: 2 }),
+        // after good instructions
+        ("2,6 0 0 0,6 0 0,", ListingFault::Syntax { at: 10 }),
+        ("2,6 0 0 0,6 0 256 0,", ListingFault::Range { at: 14 }),
+        ("3,6 0 0 0,6 0 0 0,", count(3, 2)),
         ("65536,", ListingFault::Range { at: 0 }),
         ("1,65536 0 0 0,", ListingFault::Range { at: 2 }),
         ("1,6 256 0 0,", ListingFault::Range { at: 4 }),
@@ -70,6 +74,21 @@ fn a_program_is_printed_as_its_listing(rt: HostRuntime) -> Result<(), Fail> {
         let printed = print_listing(rt.alloc(), program.as_slice())?;
         assert_eq!(rt; printed.as_str(), text);
     }
+    Ok(())
+}
+
+#[test]
+fn the_longest_listing_is_read_and_printed(rt: HostRuntime) -> Result<(), Fail> {
+    let mut text = String::from_str(rt.alloc(), "65535,")?;
+    for _ in 0..65_535 {
+        text.push_str("6 0 0 1,")?;
+    }
+    let program = parse_listing(rt.alloc(), text.as_str())?;
+    assert_eq!(rt; program.len(), 65_535);
+    assert_eq!(rt;
+        print_listing(rt.alloc(), program.as_slice())?.as_str(),
+        text.as_str()
+    );
     Ok(())
 }
 

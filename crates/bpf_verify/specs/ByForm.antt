@@ -13,4 +13,5 @@ IsAt program at f insn = (slice_get program at ≡ Some insn) × (form insn.code
 -- an instruction of this form reads or writes a scratch word past the last
 abbrev pub FormUsesWordPastScratch : Form → Insn → Type 0
 FormUsesWordPastScratch f insn =
-    (word : ℕ) × (FormReadsWord (Some f) insn word ⊎ FormWritesWord (Some f) insn word) × (SCRATCH_WORDS ≤ word)
+    (word : ℕ) × (FormReadsWord (Some f) insn word ⊎ FormWritesWord (Some f) insn word)
+    × (SCRATCH_WORDS ≤ word)

@@ -12,7 +12,8 @@ use Rattle.bpf_verify.specs.ControlFlow.{IsPath, NoneWrites}
 -- the path arrives at this index, and no instruction before its last writes the word
 abbrev pub ArrivesBy : List Insn → ℕ → List ℕ → ℕ → Type 0
 ArrivesBy program at path word =
-    (earlier : List ℕ) × (path ≡ earlier ++ at ∷ []) × IsPath program path × NoneWrites program earlier word
+    (earlier : List ℕ) × (path ≡ earlier ++ at ∷ [])
+    × IsPath program path × NoneWrites program earlier word
 
 -- some path arrives at this index with the word unwritten
 abbrev pub ArrivesUnset : List Insn → ℕ → ℕ → Type 0

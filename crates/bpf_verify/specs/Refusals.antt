@@ -1,5 +1,5 @@
--- When a refusal of the verifier is true of a program: the first condition of a valid program that is
--- broken, at the least index where there is one.
+-- When a refusal of the verifier is true of a program: the first condition of a valid program that
+-- is broken, at the least index where there is one.
 use Rattle.std.specs.Prelude.{ℕ, ◌<◌, ◌≤◌, ◌≡◌, ◌⊎◌, List, length}
 use Rattle.bpf_insn.specs.declared.insn.TheConstants.{MAX_INSNS}
 use Rattle.bpf_insn.specs.declared.insn.Insn.{Insn}
@@ -15,7 +15,9 @@ HasLength program = (0 < length program) × (length program ≤ MAX_INSNS)
 
 -- the instruction at this index breaks one of the four conditions on single instructions
 abbrev pub BreaksAt : List Insn → ℕ → Type 0
-BreaksAt program at = (LacksForm program at ⊎ UsesWordPastScratch program at) ⊎ (DividesByZero program at ⊎ JumpsOut program at)
+BreaksAt program at =
+    (LacksForm program at ⊎ UsesWordPastScratch program at)
+    ⊎ (DividesByZero program at ⊎ JumpsOut program at)
 
 -- the fault names the condition that the instruction at this index breaks
 abbrev pub BreaksAs : List Insn → ℕ → VerifyFault → Type 0
@@ -44,10 +46,15 @@ NoUnsetReadBelow program bound = (at : ℕ) (path : List ℕ) (word : ℕ) → a
 abbrev pub Refuses : List Insn → VerifyFault → Type 0
 Refuses program Empty = length program ≡ 0
 Refuses program TooLong = MAX_INSNS < length program
-Refuses program (BadOpcode at) = HasLength program × NoneBreaksBelow program at × LacksForm program at
-Refuses program (BadScratch at) = HasLength program × NoneBreaksBelow program at × UsesWordPastScratch program at
-Refuses program (ZeroDivisor at) = HasLength program × NoneBreaksBelow program at × DividesByZero program at
-Refuses program (JumpOut at) = HasLength program × NoneBreaksBelow program at × JumpsOut program at
-Refuses program NoReturn = HasLength program × NoneBreaksBelow program (length program) × (¬ EndsWithReturn program)
+Refuses program (BadOpcode at) =
+    HasLength program × NoneBreaksBelow program at × LacksForm program at
+Refuses program (BadScratch at) =
+    HasLength program × NoneBreaksBelow program at × UsesWordPastScratch program at
+Refuses program (ZeroDivisor at) =
+    HasLength program × NoneBreaksBelow program at × DividesByZero program at
+Refuses program (JumpOut at) =
+    HasLength program × NoneBreaksBelow program at × JumpsOut program at
+Refuses program NoReturn =
+    HasLength program × NoneBreaksBelow program (length program) × (¬ EndsWithReturn program)
 Refuses program (Unset at word path) =
     IsWellFormed program × NoUnsetReadBelow program at × UnsetReadAt program at path.items word

@@ -39,7 +39,9 @@ DividesByZero program at =
 
 -- the last instruction returns
 abbrev pub EndsWithReturn : List Insn → Type 0
-EndsWithReturn program = (insn : Insn) × (slice_get program (length program - 1) ≡ Some insn) × FormReturns (form insn.code)
+EndsWithReturn program =
+    (insn : Insn) × (slice_get program (length program - 1) ≡ Some insn)
+    × FormReturns (form insn.code)
 
 -- a valid program of at most `most` instructions
 pub record ValidWithin (most : ℕ) (program : List Insn) : Type 0 where

@@ -46,6 +46,21 @@ fn a_valid_program_is_taken(rt: HostRuntime) -> Result<(), Fail> {
 }
 
 #[test]
+fn programs_are_compared_whole(rt: HostRuntime) -> Result<(), Fail> {
+    let table = [
+        ("1,6 0 0 1,", "1,6 0 0 1,", true),
+        ("1,6 0 0 1,", "1,6 0 0 0,", false),
+        ("1,6 0 0 1,", "2,6 0 0 1,6 0 0 1,", false),
+    ];
+    for (one, other, same) in table {
+        let one = verify(parse_listing(rt.alloc(), one)?)?;
+        let other = verify(parse_listing(rt.alloc(), other)?)?;
+        assert_eq!(rt; one.same(&other), same);
+    }
+    Ok(())
+}
+
+#[test]
 fn a_path_shows_an_unset_read_or_not(rt: HostRuntime) -> Result<(), Fail> {
     let program = parse_listing(rt.alloc(), UNSET_ON_ONE_BRANCH)?;
     assert!(rt; check_path(&program, &[0, 1, 3], 0));

@@ -21,7 +21,7 @@ use Rattle.ch11_packet.proofs.FirstFrames.{length-first_reads}
 
 -- ---- sizes
 
-length-frames : (net speed : ℕ) (frames : List FrameData) → length (flat_map (frame_bytes net speed) frames) ≡ sum_by (λ frame. frame_len (length frame.bytes)) frames
+pub length-frames : (net speed : ℕ) (frames : List FrameData) → length (flat_map (frame_bytes net speed) frames) ≡ sum_by (λ frame. frame_len (length frame.bytes)) frames
 length-frames net speed [] = refl
 length-frames net speed (f ∷ fs) =
     omega (arith, length-append (frame_bytes net speed f) (flat_map (frame_bytes net speed) fs), length-frame_bytes net speed f, length-frames net speed fs, sum_by-cons (λ (frame : FrameData). frame_len (length frame.bytes)) f fs)

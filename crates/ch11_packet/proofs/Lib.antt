@@ -8,3 +8,4 @@ pub mod ReadBodies
 pub mod StoredInsns
 pub mod ReadRecords
 pub mod Unjudged
+pub mod Lengths

@@ -7,14 +7,16 @@ use Rattle.std.proofs.lemmas.Nat.{from_le_bytes-to_le_bytes_2, from_le_bytes-to_
 use Rattle.std.proofs.lemmas.List.{length-drop, drop_all, append-nil}
 use Rattle.bpf_insn.specs.declared.insn.Insn.{Insn}
 use Rattle.bpf_insn.specs.Bytes.{insn_bytes}
-use Rattle.ch11_packet.specs.declared.records.TheConstants.{RECORD_HEAD_LEN, PROGRAM_HEAD_LEN, END_RECORD_LEN, INSN_LEN, PROGRAM_RECORD, END_RECORD}
+use Rattle.bpf_insn.proofs.Ranges.{each_in_range, are_in_range}
+use Rattle.ch11_packet.specs.declared.records.encode.TheConstants.{END_RECORD_LEN}
+use Rattle.ch11_packet.specs.declared.records.TheConstants.{RECORD_HEAD_LEN, PROGRAM_HEAD_LEN, INSN_LEN, PROGRAM_RECORD, END_RECORD}
 use Rattle.ch11_packet.specs.declared.records.record.Record.{Record}
 use Rattle.ch11_packet.specs.declared.records.record.Record.TheVariants.{End}
 use Rattle.ch11_packet.specs.declared.records.decode.RecordFault.{RecordFault}
 use Rattle.ch11_packet.specs.declared.records.decode.RecordFault.TheVariants.{Kind, Channel, Length}
 use Rattle.eth_frame.specs.Bytes.{AreBytes, u16_at, u32_at, u64_at}
-use Rattle.ch11_packet.specs.Records.{program_spelling, end_spelling}
-use Rattle.ch11_packet.specs.RecordsRead.{stored_insns, RecordData, IsProgramRecord, IsEndRecord, SpellsRecord, IsTagged, kind_in, channel_in, insn_count_in, IsKind, HasRecordLength, HasHead, HasFields, HasRecordFault}
+use Rattle.ch11_packet.specs.Records.{EndData, IsEndRecord, program_spelling, end_spelling}
+use Rattle.ch11_packet.specs.RecordsRead.{stored_insns, RecordData, IsProgramRecord, SpellsRecord, IsTagged, kind_in, channel_in, insn_count_in, IsKind, HasRecordLength, HasHead, HasFields, HasRecordFault}
 use Rattle.ch11_packet.specs.RecordsRead.RecordData.{OfProgram, OfEnd}
 use Rattle.ch11_packet.specs.Views.{record_data}
 use Rattle.eth_frame.proofs.Bytes.{AreBytes-drop, two_bytes, four_bytes, eight_bytes}
@@ -27,8 +29,11 @@ use Rattle.ch11_packet.proofs.StoredInsns.{length-stored_insns, stored_insns-fla
 abbrev pub program_at : List ℕ → RecordData
 program_at bytes = OfProgram (channel_in bytes) (u32_at bytes 12) (u64_at bytes 16) (stored_insns (insn_count_in bytes) (drop PROGRAM_HEAD_LEN bytes))
 
+abbrev pub end_in : List ℕ → EndData
+end_in bytes = record { channel = channel_in bytes; offered = u64_at bytes 12; kept = u64_at bytes 20 }
+
 abbrev pub end_at : List ℕ → RecordData
-end_at bytes = OfEnd (channel_in bytes) (u64_at bytes 12) (u64_at bytes 20)
+end_at bytes = OfEnd (end_in bytes)
 
 -- what bytes that are a record say of themselves
 pub record Says (said : RecordData) (bytes : List ℕ) : Type 0 where
@@ -42,8 +47,8 @@ pub record Says (said : RecordData) (bytes : List ℕ) : Type 0 where
 same_program : (c v f : ℕ) (l : List Insn) (c' v' f' : ℕ) (l' : List Insn) → c ≡ c' → v ≡ v' → f ≡ f' → l ≡ l' → OfProgram c v f l ≡ OfProgram c' v' f' l'
 same_program c v f l c' v' f' l' ec ev ef el = cc
 
-same_end : (c o k c' o' k' : ℕ) → c ≡ c' → o ≡ o' → k ≡ k' → OfEnd c o k ≡ OfEnd c' o' k'
-same_end c o k c' o' k' ec eo ek = cc
+same_end : (end other : EndData) → end.channel ≡ other.channel → end.offered ≡ other.offered → end.kept ≡ other.kept → OfEnd end ≡ OfEnd other
+same_end end other channel offered kept = ap OfEnd (λ i. record { channel = channel i; offered = offered i; kept = kept i })
 
 Says-program : (channel version first word unused : ℕ) (insns : List Insn) → IsProgramRecord channel version first insns → Says (OfProgram channel version first insns) (program_spelling word unused channel version first insns)
 Says-program channel version first word unused insns is =
@@ -57,29 +62,29 @@ Says-program channel version first word unused insns is =
       named = λ none. omega (arith, is.named, channel_is, none);
       length_is = record { program = λ _. omega (arith, length-insns insns, count_is); ending = λ other. absurd (omega (arith, kind, other)) };
       program = λ _. sym (same_program _ _ _ _ _ _ _ _ channel_is (from_le_bytes-to_le_bytes_4 version is.version_fits) (from_le_bytes-to_le_bytes_8 first is.first_fits)
-          (ap (λ n. stored_insns n (flat_map insn_bytes insns)) count_is ∙ stored_insns-flat_map insns is.insns_fit));
+          (ap (λ n. stored_insns n (flat_map insn_bytes insns)) count_is ∙ stored_insns-flat_map insns (each_in_range insns is.insns_fit)));
       ending = λ other. absurd (omega (arith, kind, other));
     }
 
-Says-end : (channel offered kept word : ℕ) → IsEndRecord channel offered kept → Says (OfEnd channel offered kept) (end_spelling word channel offered kept)
-Says-end channel offered kept word is =
-    let bytes = end_spelling word channel offered kept in
+Says-end : (end : EndData) (word : ℕ) → IsEndRecord end → Says (OfEnd end) (end_spelling word end)
+Says-end end word is =
+    let bytes = end_spelling word end in
     let kind : kind_in bytes ≡ END_RECORD = from_le_bytes-to_le_bytes_2 END_RECORD (omega arith) in
-    let channel_is : channel_in bytes ≡ channel = from_le_bytes-to_le_bytes_2 channel is.channel_fits in
+    let channel_is : channel_in bytes ≡ end.channel = from_le_bytes-to_le_bytes_2 end.channel is.channel_fits in
     record {
       head = record { tagged = refl; whole = omega arith };
       known = inr kind;
       named = λ none. omega (arith, is.named, channel_is, none);
       length_is = record { program = λ other. absurd (omega (arith, kind, other)); ending = λ _. refl };
       program = λ other. absurd (omega (arith, kind, other));
-      ending = λ _. sym (same_end _ _ _ _ _ _ channel_is (from_le_bytes-to_le_bytes_8 offered is.offered_fits) (from_le_bytes-to_le_bytes_8 kept is.kept_fits));
+      ending = λ _. sym (same_end (end_in bytes) end channel_is (from_le_bytes-to_le_bytes_8 end.offered is.offered_fits) (from_le_bytes-to_le_bytes_8 end.kept is.kept_fits));
     }
 
 pub Says-SpellsRecord : (said : RecordData) (bytes : List ℕ) → SpellsRecord said bytes → Says said bytes
 Says-SpellsRecord (OfProgram channel version first insns) bytes spells =
     subst (λ l. Says (OfProgram channel version first insns) l) (sym spells.3) (Says-program channel version first spells.1 spells.2 insns spells.0)
-Says-SpellsRecord (OfEnd channel offered kept) bytes spells =
-    subst (λ l. Says (OfEnd channel offered kept) l) (sym spells.2) (Says-end channel offered kept spells.1 spells.0)
+Says-SpellsRecord (OfEnd end) bytes spells =
+    subst (λ l. Says (OfEnd end) l) (sym spells.2) (Says-end end spells.1 spells.0)
 
 -- ---- one outcome
 
@@ -146,7 +151,7 @@ SpellsRecord-program bytes fit tagged kind named len =
       version_fits = omega (arith, fit 12, fit 13, fit 14, fit 15);
       first_fits = u64_fits bytes 16 fit;
       few = omega (arith, many, fit 24, fit 25);
-      insns_fit = InRange-stored_insns count rest (AreBytes-drop PROGRAM_HEAD_LEN bytes fit);
+      insns_fit = are_in_range (stored_insns count rest) (InRange-stored_insns count rest (AreBytes-drop PROGRAM_HEAD_LEN bytes fit));
     } in
     let version = four_bytes (at 12) (at 13) (at 14) (at 15) (fit 12) (fit 13) (fit 14) (fit 15) in
     let first = eight_bytes bytes 16 fit in
@@ -169,13 +174,13 @@ SpellsRecord-end bytes fit tagged kind named len =
     let rest = drop PROGRAM_HEAD_LEN bytes in
     let long : PROGRAM_HEAD_LEN ≤ length bytes = omega (arith, len) in
     let none : rest ≡ [] = drop_all PROGRAM_HEAD_LEN bytes (omega (arith, len)) in
-    let is : IsEndRecord (channel_in bytes) (u64_at bytes 12) (u64_at bytes 20) = record {
+    let is : IsEndRecord (end_in bytes) = record {
       named = omega (arith, named);
       channel_fits = omega (arith, fit 10, fit 11);
       offered_fits = u64_fits bytes 12 fit;
       kept_fits = u64_fits bytes 20 fit;
     } in
-    let spelled : end_spelling (u32_at bytes 0) (channel_in bytes) (u64_at bytes 12) (u64_at bytes 20) ≡ front bytes =
+    let spelled : end_spelling (u32_at bytes 0) (end_in bytes) ≡ front bytes =
     head_again bytes END_RECORD fit long tagged kind (to_le_bytes w64 (u64_at bytes 12) ++ to_le_bytes w64 (u64_at bytes 20))
     ∙ ap (λ l. take 12 (front bytes) ++ (l ++ to_le_bytes w64 (u64_at bytes 20))) (eight_bytes bytes 12 fit)
     ∙ ap (λ l. take 20 (front bytes) ++ l) (eight_bytes bytes 20 fit) in
@@ -205,7 +210,7 @@ made_end bytes channel kind None fit fields not_program len found = tt
 made_end bytes channel kind (Some r) fit fields not_program len found =
     let is_end : kind_in bytes ≡ END_RECORD = end_kind kind fields.known not_program fields.kind_is in
     let spells = SpellsRecord-end bytes fit fields.head.tagged is_end (λ none. fields.named (fields.channel_is ∙ none)) (len refl) in
-    let same : end_at bytes ≡ record_data r = ap (λ c. OfEnd c (u64_at bytes 12) (u64_at bytes 20)) (sym fields.channel_is) ∙ ap record_data (sym found) in
+    let same : end_at bytes ≡ record_data r = ap (λ c. OfEnd (record { channel = c; offered = u64_at bytes 12; kept = u64_at bytes 20 })) (sym fields.channel_is) ∙ ap record_data (sym found) in
     subst (λ said. SpellsRecord said bytes) same spells
 
 -- ---- what is answered

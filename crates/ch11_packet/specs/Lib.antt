@@ -6,3 +6,4 @@ pub mod Building
 pub mod Records
 pub mod RecordsRead
 pub mod Views
+pub mod Packet

@@ -1,14 +1,14 @@
 -- The recording's own records as they are read: some bytes may have any value.
 use Rattle.std.specs.Prelude.{ℕ, zero, suc, List, [], ◌∷◌, drop, slice_index, ◌≡◌, ◌≢◌, ◌+◌, ◌*◌, ◌^◌, ◌<◌, ◌≤◌, ◌⊎◌, ◌++◌, length, take, codes}
 use Rattle.bpf_insn.specs.declared.insn.Insn.{Insn}
-use Rattle.ch11_packet.specs.declared.records.TheConstants.{INSN_LEN, RECORD_HEAD_LEN, PROGRAM_HEAD_LEN, END_RECORD_LEN, PROGRAM_RECORD, END_RECORD}
+use Rattle.ch11_packet.specs.declared.records.TheConstants.{INSN_LEN, RECORD_HEAD_LEN, PROGRAM_HEAD_LEN, PROGRAM_RECORD, END_RECORD}
+use Rattle.ch11_packet.specs.declared.records.encode.TheConstants.{END_RECORD_LEN}
 use Rattle.eth_frame.specs.Bytes.{u16_at, u32_at}
 use Rattle.std.specs.Int.{w16, to_le_bytes}
-use Rattle.std.specs.List.{AllByRecursion}
-use Rattle.bpf_insn.specs.Bytes.{InRange}
+use Rattle.bpf_insn.specs.Bytes.{AreInRange}
 use Rattle.ch11_packet.specs.declared.records.decode.RecordFault.{RecordFault}
 use Rattle.ch11_packet.specs.declared.records.decode.RecordFault.TheVariants.{Kind, Channel, Length}
-use Rattle.ch11_packet.specs.Records.{program_spelling, end_spelling}
+use Rattle.ch11_packet.specs.Records.{EndData, IsEndRecord, program_spelling, end_spelling}
 
 -- ---- stored instructions
 
@@ -29,10 +29,10 @@ stored_insns (suc count) bytes = first_insn bytes ∷ stored_insns count (drop I
 -- ---- what a record is
 
 -- what a record says: a program that came into force on a channel as this version, from the frame
--- with this number on; or a channel's end, with the numbers of frames offered and kept
+-- with this number on; or a channel's end
 pub data RecordData : Type 0 where
   OfProgram : (channel version first : ℕ) (insns : List Insn) → RecordData
-  OfEnd : (channel offered kept : ℕ) → RecordData
+  OfEnd : EndData → RecordData
 
 -- the numbers of a program's record have their widths, and the channel is not 0
 pub record IsProgramRecord (channel version first : ℕ) (insns : List Insn) : Type 0 where
@@ -41,14 +41,7 @@ pub record IsProgramRecord (channel version first : ℕ) (insns : List Insn) : T
   pub version_fits : version < 2 ^ 32
   pub first_fits : first < 2 ^ 64
   pub few : length insns < 2 ^ 16
-  pub insns_fit : AllByRecursion InRange insns
-
--- those of the record of an end
-pub record IsEndRecord (channel offered kept : ℕ) : Type 0 where
-  pub named : 0 < channel
-  pub channel_fits : channel < 2 ^ 16
-  pub offered_fits : offered < 2 ^ 64
-  pub kept_fits : kept < 2 ^ 64
+  pub insns_fit : AreInRange insns
 
 -- the bytes are this record, with any word before the tag, and in a program's record with any two
 -- bytes before the instructions
@@ -56,9 +49,8 @@ abbrev pub SpellsRecord : RecordData → List ℕ → Type 0
 SpellsRecord (OfProgram channel version first insns) bytes =
     IsProgramRecord channel version first insns
     × (word : ℕ) × (unused : ℕ) × (bytes ≡ program_spelling word unused channel version first insns)
-SpellsRecord (OfEnd channel offered kept) bytes =
-    IsEndRecord channel offered kept
-    × (word : ℕ) × (bytes ≡ end_spelling word channel offered kept)
+SpellsRecord (OfEnd end) bytes =
+    IsEndRecord end × (word : ℕ) × (bytes ≡ end_spelling word end)
 
 -- the bytes of a program's record with this number in the two bytes before the instructions
 abbrev pub with_unused : ℕ → List ℕ → List ℕ

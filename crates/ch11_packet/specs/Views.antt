@@ -34,4 +34,5 @@ record_insns p = stored_insns p.count p.insns.now
 -- what a record says, without the place of its borrowed bytes
 abbrev pub record_data : Record → RecordData
 record_data (Program p) = OfProgram p.channel p.version p.first (record_insns p)
-record_data (End channel offered kept) = OfEnd channel offered kept
+record_data (End channel offered kept) =
+    OfEnd (record { channel = channel; offered = offered; kept = kept })

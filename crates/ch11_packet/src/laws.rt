@@ -1,20 +1,23 @@
 //! Laws of packets, which run nothing.
-ghost use Rattle.std.specs.Prelude.{◌≡◌, ◌+◌, ◌%◌, ◌^◌, ◌<◌, ◌++◌, List, ℕ, length, map, take, drop};
+ghost use Rattle.std.specs.Prelude.{◌≡◌, ◌+◌, ◌*◌, ◌%◌, ◌^◌, ◌<◌, ◌++◌, List, ℕ, length, map, take, drop};
 ghost use Rattle.std.specs.Int.{w16, w32, to_le_bytes};
 ghost use Rattle.bpf_insn.specs.declared.insn.Insn.{Insn};
 ghost use Rattle.eth_frame.specs.Bytes.{AreBytes};
 ghost use Rattle.ch11_packet.specs.Header.{HeaderData, IsHeader, header_bytes, header_at, HasSync, HasHeaderSum, HasLengths};
 ghost use Rattle.ch11_packet.specs.PacketLen.{packet_len};
-ghost use Rattle.ch11_packet.specs.Frames.{data_bytes, frame_len};
+ghost use Rattle.ch11_packet.specs.Packet.{packet_bytes};
+ghost use Rattle.ch11_packet.specs.Frames.{data_bytes, data_len, frame_len};
+ghost use Rattle.eth_frame.specs.Frame.{FrameData};
 ghost use Rattle.ch11_packet.specs.FramesRead.{ReadFrameData, body_frame, SpellsFrame, SpellsBody, HasSameCount};
 ghost use Rattle.ch11_packet.specs.Building.{EthernetBody, IsEthernetBody};
-ghost use Rattle.ch11_packet.specs.Records.{program_bytes, end_bytes};
-ghost use Rattle.ch11_packet.specs.RecordsRead.{RecordData, SpellsRecord, IsProgramRecord, IsEndRecord, with_unused};
+ghost use Rattle.ch11_packet.specs.Records.{EndData, IsEndRecord, program_bytes, end_bytes};
+ghost use Rattle.ch11_packet.specs.RecordsRead.{RecordData, SpellsRecord, IsProgramRecord, with_unused};
 ghost use Rattle.ch11_packet.specs.RecordsRead.RecordData.{OfProgram, OfEnd};
 
 use crate::frames::BODY_WORD_LEN;
-use crate::header::HEADER_LEN;
+use crate::header::{HEADER_LEN, MAX_ETHERNET_PACKET_LEN};
 use crate::limit::MIN_LIMIT;
+use crate::records::{END_RECORD_LEN, INSN_LEN, MAX_PROGRAM_RECORD_LEN, PROGRAM_HEAD_LEN};
 use eth_frame::MAX_FRAME_LEN;
 
 /// Law: bytes begin with those of one header at most; a header's bytes say its fields; and 24 bytes
@@ -37,6 +40,29 @@ pub fn header_has_one_spelling()
 pub fn least_limit_holds_the_longest_frame()
     ensures bytes { MIN_LIMIT ≡ 16424 }
     ensures exact { packet_len (BODY_WORD_LEN + frame_len MAX_FRAME_LEN) ≡ MIN_LIMIT }
+{}
+
+/// Law: a whole packet is as long as its header and its data with the filler, and so are the three
+/// kinds of data.
+#[tactic(auto, unfolding(crate::specs::Records::program_bytes, crate::specs::Records::end_bytes))]
+pub fn packets_have_their_lengths()
+    ensures packet { (header : HeaderData) (body : List ℕ)
+        → length (packet_bytes header body) ≡ packet_len (length body) }
+    ensures frames { (net speed : ℕ) (frames : List FrameData)
+        → length (data_bytes net speed frames) ≡ data_len frames }
+    ensures program { (channel version first : ℕ) (insns : List Insn)
+        → length (program_bytes channel version first insns)
+        ≡ PROGRAM_HEAD_LEN + INSN_LEN * length insns }
+    ensures ending { (end : EndData) → length (end_bytes end) ≡ END_RECORD_LEN }
+{}
+
+/// Law: a packet of frames has at most 524,288 bytes; a record of an end has 28, and one of a
+/// program at most 4,124.
+pub fn the_limits_of_a_packet()
+    ensures ethernet { MAX_ETHERNET_PACKET_LEN ≡ 524288 }
+    ensures header { HEADER_LEN ≡ 24 }
+    ensures program { MAX_PROGRAM_RECORD_LEN ≡ 4124 }
+    ensures ending { END_RECORD_LEN ≡ 28 }
 {}
 
 /// Law: bytes are the body of one list of frames at most; a body that is written is one of its
@@ -65,8 +91,8 @@ pub fn record_has_one_reading()
     ensures program { (channel version first : ℕ) (insns : List Insn)
         → IsProgramRecord channel version first insns → SpellsRecord
         (OfProgram channel version first insns) (program_bytes channel version first insns) }
-    ensures ending { (channel offered kept : ℕ) → IsEndRecord channel offered kept
-        → SpellsRecord (OfEnd channel offered kept) (end_bytes channel offered kept) }
+    ensures ending { (end : EndData) → IsEndRecord end
+        → SpellsRecord (OfEnd end) (end_bytes end) }
     ensures word { (said : RecordData) (bytes : List ℕ) (other : ℕ) → SpellsRecord said bytes
         → SpellsRecord said (to_le_bytes w32 other ++ drop 4 bytes) }
     ensures unused { (channel version first other : ℕ) (insns : List Insn) (bytes : List ℕ)

@@ -18,7 +18,7 @@ pub use header::{
 };
 pub use laws::{
     body_has_one_reading, header_has_one_spelling, least_limit_holds_the_longest_frame,
-    record_has_one_reading,
+    packets_have_their_lengths, record_has_one_reading, the_limits_of_a_packet,
 };
 pub use limit::{Limit, MIN_LIMIT};
 pub use records::{

@@ -6,7 +6,7 @@ mod record;
 
 use bpf_insn::MAX_INSNS;
 pub use decode::{RecordFault, decode_record};
-pub use encode::{end_body, program_body};
+pub use encode::{END_RECORD_LEN, end_body, program_body};
 pub use record::{ProgramRecord, Record};
 
 /// The tag of the records, in their bytes 4 to 7.
@@ -29,6 +29,3 @@ pub(crate) const INSN_LEN: usize = 8;
 
 /// The greatest number of bytes of a program's record that is written.
 pub const MAX_PROGRAM_RECORD_LEN: usize = PROGRAM_HEAD_LEN + INSN_LEN * MAX_INSNS;
-
-/// The number of bytes of the record of a channel's end.
-pub const END_RECORD_LEN: usize = 28;

@@ -1,11 +1,12 @@
--- The programs of one channel, from which frame on each was in force, and which one is in force at a frame.
--- Frames are numbered from 0 in the order in which they were drawn.
+-- The programs of one channel, from which frame on each was in force, and which one is in force at
+-- a frame. Frames are numbered from 0 in the order in which they were drawn.
 use Rattle.std.specs.Prelude.{ℕ, ◌≡◌, ◌<◌, ◌≤◌, ◌-◌, nat_le, List, length, Some, slice_get, count_by, All, AllPairs}
 use Rattle.bpf_insn.specs.declared.insn.Insn.{Insn}
 use Rattle.bpf_insn.specs.Bytes.{AreInRange}
 use Rattle.bpf_verify.specs.Validity.{Valid}
 
--- a version of a channel's filter: a program, and its mark, the number of the first frame that it may meet
+-- a version of a channel's filter: a program, and its mark, the number of the first frame that it
+-- may meet
 pub record Version : Type 0 where
   pub program : List Insn
   pub mark : ℕ
@@ -30,6 +31,7 @@ pub record InForce (history : List Version) (number version : ℕ) : Type 0 wher
   pub last : (other : ℕ) (v : Version) →
       slice_get history other ≡ Some v → v.mark ≤ number → other ≤ version
 
--- that version of a history: as many versions as have begun by then, less one, since marks never fall
+-- that version of a history: as many versions as have begun by then, less one, since marks never
+-- fall
 abbrev pub version_at : List Version → ℕ → ℕ
 version_at history number = count_by (λ (v : Version). nat_le v.mark number) history - 1

@@ -127,3 +127,26 @@ fn two_callers_share_the_numbers(rt: HostRuntime) -> Result<(), Fail> {
     );
     Ok(())
 }
+
+#[test]
+fn a_shared_slot_takes_1023_installs_and_all_its_draws(rt: HostRuntime) -> Result<(), Fail> {
+    let accept = program(rt.alloc(), ACCEPT)?;
+    let slot = SharedSlot::new(Slot::new(rt.alloc(), Arc::try_clone(&accept)?, 10_000)?);
+    let mut front = Front::START;
+    for version in 1..1024 {
+        let (installed, after) = slot.install(&rt, Arc::try_clone(&accept)?, &front)?;
+        assert_eq!(rt; (installed.version, installed.mark), (version, 0));
+        front = after;
+    }
+    let Err(InstallFault::VersionsFull { .. }) = slot.install(&rt, accept, &front) else {
+        return Err(Fail::from("a 1025th version"));
+    };
+    for number in 0..10_000 {
+        let (drawn, after) = slot.draw(&rt, &front)?;
+        assert_eq!(rt; (drawn.number, drawn.version), (number, 1023));
+        front = after;
+    }
+    assert_eq!(rt; slot.draw(&rt, &front).err(), Some(DrawFault::CountFull));
+    assert_eq!(rt; (Front::START.versions, Front::START.offered), (0, 0));
+    Ok(())
+}

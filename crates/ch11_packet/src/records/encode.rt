@@ -4,11 +4,13 @@ ghost use Rattle.arrayvec.specs.ArrayVec.{array_vec_len};
 ghost use Rattle.ch11_packet.specs.Records.{program_bytes, end_bytes};
 
 use crate::records::{
-    END_RECORD, END_RECORD_LEN, MAX_PROGRAM_RECORD_LEN, PROGRAM_HEAD_LEN, PROGRAM_RECORD,
-    RECORD_TAG,
+    END_RECORD, MAX_PROGRAM_RECORD_LEN, PROGRAM_HEAD_LEN, PROGRAM_RECORD, RECORD_TAG,
 };
 use arrayvec::ArrayVec;
 use bpf_verify::Verified;
+
+/// The number of bytes of the record of a channel's end.
+pub const END_RECORD_LEN: usize = 28;
 
 /// The body of a program's record: the program that was in force on a channel as this version, from
 /// frame `first` on.
@@ -44,7 +46,8 @@ pub fn program_body(
 /// kept.
 #[tactic(auto, unfolding(crate::specs::Records::end_bytes))]
 pub fn end_body(channel: u16, offered: u64, kept: u64) -> [u8; END_RECORD_LEN]
-    ensures bytes { result ≡ end_bytes channel offered kept }
+    ensures bytes { result
+        ≡ end_bytes (record { channel = channel; offered = offered; kept = kept }) }
 {
     let [t0, t1, t2, t3] = RECORD_TAG;
     let [c0, c1] = channel.to_le_bytes();

@@ -52,6 +52,36 @@ fn the_longest_frame_fills_the_least_packet(rt: HostRuntime) -> Result<(), Fail>
     Ok(())
 }
 
+#[test]
+fn the_greatest_packet_is_filled_with_every_bit_of_net_and_speed(
+    rt: HostRuntime,
+) -> Result<(), Fail> {
+    let bytes = [0x5a; 18];
+    let frame = Frame::new(281_474_976_710_655, true, true, &bytes).ok_or("the greatest counter")?;
+    let limit = Limit::new(524_288).ok_or("the greatest limit")?;
+    let mut builder = DataBuilder::with_limit(rt.alloc(), limit, 255, 15)?;
+    for _ in 0..17_475 {
+        assert!(rt; builder.fits(18));
+        builder.push(&frame);
+    }
+    assert!(rt; !builder.fits(18));
+    assert!(rt; !builder.is_empty());
+    let body = builder.seal();
+    assert_eq!(rt;
+        (body.count(), body.counter()),
+        (17_475, 281_474_976_710_655)
+    );
+    let frames = decode_frames(body.bytes())?;
+    assert_eq!(rt; frames.count(), 17_475);
+    let last = frames.frame_at(17_474).ok_or("the last frame")?;
+    assert_eq!(rt; (last.net, last.speed, last.content), (255, 15, 0));
+    assert_eq!(rt;
+        (last.counter, last.crc_error, last.frame_error),
+        (frame.counter, true, true)
+    );
+    Ok(())
+}
+
 /// The first frame of a body.
 fn first_frame(body: &[u8]) -> Result<ReadFrame<'_>, Fail> {
     let frames = decode_frames(body)?;

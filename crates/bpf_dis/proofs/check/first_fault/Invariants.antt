@@ -1,5 +1,5 @@
 use Rattle.bpf_dis.specs.Faults.{AreSaidBefore}
-use Rattle.bpf_dis.proofs.FirstFaults.{AreInRangeBefore}
+use Rattle.bpf_insn.proofs.Ranges.{AreInRangeBefore}
 use Rattle.bpf_dis.proofs.check.first_fault.Given as goal
 
 abbrev pub invariant-insns : goal.invariant-insns
