@@ -1,0 +1,110 @@
+-- What a lane holds, and the frames that it stands for.
+use Rattle.std.specs.Prelude.{ℕ, ◌≡◌, ◌≤◌, ◌==◌, Bool, false, if◌then◌else◌, List, [], ◌∷◌, ◌++◌, length, All, Option, None, Some, slice_get}
+use Rattle.bpf_insn.specs.declared.insn.Insn.{Insn}
+use Rattle.eth_frame.specs.Frame.{FrameData}
+use Rattle.rec_channel.specs.History.{Version, InForce}
+use Rattle.rec_channel.specs.Slots.{programs_in}
+use Rattle.rec_lane.specs.Offered.{OfferedFrame, accepted, frames_of, AllMet}
+use Rattle.rec_lane.specs.Packets.{last_packet}
+use Rattle.rec_lane.specs.Pieces.{LaneSettings, PieceData, last_group, last_counter, ArePieces, ArePiecesSoFar}
+
+-- a version and its program
+pub record VersionProgram : Type 0 where
+  pub version : ℕ
+  pub program : List Insn
+
+-- a lane: its settings, how many frames were offered and kept, the counter of the last one, the
+-- version that it met with the program that ran, the frames of the open packet, and whether there
+-- is a spare buffer
+pub record LaneState : Type 0 where
+  pub settings : LaneSettings
+  pub offered : ℕ
+  pub kept : ℕ
+  pub counter : ℕ
+  pub current : Option VersionProgram
+  pub pending : List FrameData
+  pub ready : Bool
+
+-- a lane to which no frame was offered, without a spare buffer
+abbrev pub new_lane : LaneSettings → LaneState
+new_lane settings = record {
+  settings = settings;
+  offered = 0;
+  kept = 0;
+  counter = 0;
+  current = None;
+  pending = [];
+  ready = false;
+}
+
+-- ---- what a lane stands for
+
+-- the version that a group met, with the program of its first frame
+abbrev pub version_of : List OfferedFrame → Option VersionProgram
+version_of [] = None
+version_of (f ∷ fs) = Some (record { version = f.version; program = f.program })
+
+-- the lane holds what is left to say of these frames
+pub record HasMet (lane : LaneState) (offered : List OfferedFrame) : Type 0 where
+  pub offered_is : lane.offered ≡ length offered
+  pub kept_is : lane.kept ≡ length (accepted offered)
+  pub counter_is : lane.counter ≡ last_counter offered
+  pub current_is : lane.current ≡ version_of (last_group offered)
+  pub pending_is : lane.pending ≡ last_packet lane.settings.limit (accepted (last_group offered))
+
+-- the lane stands for these frames, offered to a channel with this history
+abbrev pub StandsFor : LaneState → List FrameData → List Version → Type 0
+StandsFor lane frames history =
+    (offered : List OfferedFrame)
+    × AllMet history offered × (frames_of offered ≡ frames) × HasMet lane offered
+
+-- ---- a frame that is offered
+
+-- whether this is the version that the lane met last
+abbrev pub is_current : Option VersionProgram → ℕ → Bool
+is_current None version = false
+is_current (Some current) version = current.version == version
+
+-- the program that runs at this version: that of its first frame
+abbrev pub running : Option VersionProgram → ℕ → List Insn → List Insn
+running None version program = program
+running (Some current) version program =
+    if current.version == version then current.program else program
+
+-- the frame as it is offered to a lane
+abbrev pub offered_now : LaneState → (version : ℕ) → List Insn → FrameData → ℕ → OfferedFrame
+offered_now lane version program frame value = record {
+  number = lane.offered;
+  frame = frame;
+  version = version;
+  program = running lane.current version program;
+  value = value;
+}
+
+-- the versions were installed after this number of frames
+abbrev pub MarkedFrom : ℕ → List Version → Type 0
+MarkedFrom number versions = All (λ (v : Version). number ≤ v.mark) versions
+
+-- at this number the version is in force, and this is its program
+pub record IsDrawn (history : List Version) (number version : ℕ) (program : List Insn) : Type 0 where
+  pub in_force : InForce history number version
+  pub program_is : slice_get (programs_in history) version ≡ Some program
+
+-- after this frame the lane stands for the frames with it, and these pieces became certain: whatever
+-- frames and history it stood for, with versions installed since
+abbrev pub TakesFrame :
+    LaneState → LaneState → FrameData → (version : ℕ) → List Insn → List PieceData → Type 0
+TakesFrame old new frame version program given =
+    (frames : List FrameData) (history more : List Version) (before : List PieceData)
+    → StandsFor old frames history → MarkedFrom (length frames) more
+    → IsDrawn (history ++ more) (length frames) version program
+    → ArePiecesSoFar old.settings frames history before
+    → StandsFor new (frames ++ frame ∷ []) (history ++ more)
+    × ArePiecesSoFar old.settings (frames ++ frame ∷ []) (history ++ more) (before ++ given)
+
+-- these are the last pieces: whatever frames and history the lane stands for
+abbrev pub Ends : LaneState → List PieceData → Type 0
+Ends lane given =
+    (frames : List FrameData) (history : List Version) (before : List PieceData)
+    → StandsFor lane frames history → ArePiecesSoFar lane.settings frames history before
+    → ArePieces lane.settings frames history (before ++ given)

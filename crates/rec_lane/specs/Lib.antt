@@ -1,0 +1,9 @@
+pub mod Offered
+pub mod Parts
+pub mod Packets
+pub mod Pieces
+pub mod Settings
+pub mod Lanes
+pub mod Currents
+pub mod Steps
+pub mod Views

@@ -1,0 +1,358 @@
+//! A lane: the frames of one channel, filtered and packed.
+
+ghost use Rattle.std.specs.Prelude.{ℕ, ◌≡◌, ◌+◌, ◌-◌, ◌^◌, ◌<◌, ◌≤◌, ◌==◌, true, false, List, [], ◌∷◌, ◌++◌, length, Option, None, Some, map, IsSome, IfOk, OnErr};
+
+use crate::laws::a_lane_stands_for_frames_and_a_history;
+use crate::offered::Offered;
+use crate::piece::{DataPiece, EndPiece, Piece, ProgramPiece};
+use crate::spec::LaneSpec;
+use crate::version::Current;
+use arrayvec::ArrayVec;
+use bpf_machine::run;
+use bpf_verify::Verified;
+use ch11_packet::DataBuilder;
+use eth_frame::Frame;
+use rec_channel::Drawn;
+use std::alloc::{AllocError, Global};
+use std::marker::Model;
+use std::mem;
+
+/// The lane of one channel. It keeps no frame but those of the open packet.
+#[derive(Debug, Drop)]
+pub struct Lane {
+    alloc: Global,
+    spec: LaneSpec,
+    offered: u64,
+    kept: u64,
+    counter: u64,
+    current: Option<Current>,
+    packet: DataBuilder,
+    spare: Option<DataBuilder>,
+}
+
+impl Model for Lane {
+    ghost use Rattle.std.specs.Prelude.{is_some};
+    ghost use Rattle.rec_lane.specs.Settings.{spec_data};
+    ghost use Rattle.rec_lane.specs.Lanes.{LaneState};
+    ghost use Rattle.rec_lane.specs.Currents.{current_of};
+    ghost use Rattle.rec_lane.specs.Steps.{IsLane};
+
+    ghost Value = { LaneState };
+
+    ghost view = { λ l. record {
+        settings = spec_data l.spec;
+        offered = l.offered;
+        kept = l.kept;
+        counter = l.counter;
+        current = current_of l.current;
+        pending = l.packet.frames;
+        ready = is_some l.spare;
+    } };
+
+    ghost invariant = { λ l. IsLane (spec_data l.spec) l.offered l.kept l.counter l.packet l.spare };
+}
+
+impl Lane {
+    ghost use Rattle.std.specs.Arc.{arc_value};
+    ghost use Rattle.bpf_insn.specs.declared.insn.Insn.{Insn};
+    ghost use Rattle.bpf_machine.specs.Machine.{Runs};
+    ghost use Rattle.eth_frame.specs.Frame.{FrameData, view};
+    ghost use Rattle.eth_frame.specs.Views.{frame_data};
+    ghost use Rattle.rec_channel.specs.History.{Version};
+    ghost use Rattle.rec_lane.specs.Offered.{OfferedFrame};
+    ghost use Rattle.rec_lane.specs.Parts.{as_part};
+    ghost use Rattle.rec_lane.specs.Packets.{has_room};
+    ghost use Rattle.rec_lane.specs.Pieces.{pieces_so_far, channel_pieces, ArePieces, ArePiecesSoFar};
+    ghost use Rattle.rec_lane.specs.Settings.{spec_data};
+    ghost use Rattle.rec_lane.specs.Lanes.{LaneState, HasMet, StandsFor, running, offered_now, new_lane, TakesFrame, Ends};
+    ghost use Rattle.rec_lane.specs.Lanes.{is_current};
+    ghost use Rattle.rec_lane.specs.Steps.{RunsAs, option_items, packet_closed, closed_pieces, frame_added, frame_kept, kept_pieces, frame_judged, judged_pieces, frame_counted, frame_of_new_version, version_begun, begun_piece, begun_pieces};
+    ghost use Rattle.rec_lane.specs.Views.{piece_data, pieces_data};
+
+    /// A lane of no frames, which isn't ready.
+    pub fn new(alloc: Global, spec: LaneSpec) -> Result<Lane, AllocError>
+        ensures empty { IfOk result (λ lane. lane ≡ new_lane (spec_data spec)) }
+        ensures stands { IfOk result (λ lane. HasMet lane []) }
+    {
+        let packet = DataBuilder::with_limit(alloc, spec.limit, spec.net, spec.speed)?;
+        Ok(Lane {
+            alloc,
+            spec,
+            offered: 0,
+            kept: 0,
+            counter: 0,
+            current: None,
+            packet,
+            spare: None,
+        })
+    }
+
+    /// Takes the buffer of the next packet, if it is missing.
+    ///
+    /// # Errors
+    ///
+    /// [`AllocError`] if there is no memory for it; the lane is as it was.
+    pub fn ready(&mut self) -> Result<(), AllocError>
+        ensures ready { IfOk result (λ _. self.new ≡ record self.old { ready = true }) }
+        ensures refused { OnErr result (self.new ≡ self.old) }
+    {
+        if self.spare.is_none() {
+            let LaneSpec {
+                net, speed, limit, ..
+            } = self.spec;
+            self.spare = Some(DataBuilder::with_limit(self.alloc, limit, net, speed)?);
+        }
+        Ok(())
+    }
+
+    /// Whether the lane has the buffer of the next packet.
+    pub fn is_ready(&self) -> bool
+        ensures ready { result ≡ self.now.ready }
+    {
+        self.spare.is_some()
+    }
+
+    /// How many frames were offered.
+    pub fn offered(&self) -> u64
+        ensures offered { result ≡ self.now.offered }
+    {
+        self.offered
+    }
+
+    /// How many of them the filter accepted.
+    pub fn kept(&self) -> u64
+        ensures kept { result ≡ self.now.kept }
+    {
+        self.kept
+    }
+
+    /// Runs the filter in force on a frame, and packs the frame if it is accepted. The frame's number
+    /// is the lane's count. Within a version the program that came with its first frame runs.
+    pub fn offer(&mut self, frame: &Frame<'_>, drawn: Drawn) -> Offered
+        requires ready { self.old.ready ≡ true }
+        requires number { drawn.number ≡ self.old.offered }
+        requires few { drawn.number < 2 ^ 64 - 1 }
+        // The value is that of the version's program on the frame's view.
+        ensures value { (steps : ℕ) × Runs
+            (running self.old.current drawn.version (arc_value drawn.program))
+            (view (frame_data frame.now)) steps result.value }
+        // The lane stands for one frame more, and the pieces are those that became certain.
+        ensures met { (before : List OfferedFrame) → HasMet self.old before
+            → HasMet self.new (before ++ offered_now self.old drawn.version
+                (arc_value drawn.program) (frame_data frame.now) result.value ∷ []) }
+        ensures pieces { (before : List OfferedFrame) → HasMet self.old before
+            → pieces_so_far self.old.settings (before ++ offered_now self.old drawn.version
+                (arc_value drawn.program) (frame_data frame.now) result.value ∷ [])
+            ≡ pieces_so_far self.old.settings before ++ pieces_data result.pieces.items }
+        ensures settings { self.new.settings ≡ self.old.settings }
+        // The same of frames and a history.
+        ensures in_history { TakesFrame self.old self.new (frame_data frame.now) drawn.version
+            (arc_value drawn.program) (pieces_data result.pieces.items) }
+    {
+        a_lane_stands_for_frames_and_a_history();
+        if self.is_current(drawn.version) {
+            self.offer_next(frame)
+        } else {
+            self.offer_first(frame, drawn)
+        }
+    }
+
+    /// The last pieces: the open packet, if it has frames, and the channel's end.
+    pub fn end(self) -> ArrayVec<Piece, 2>
+        ensures pieces { (offered : List OfferedFrame) → HasMet self offered
+            → channel_pieces self.settings offered
+            ≡ pieces_so_far self.settings offered ++ pieces_data result.items }
+        ensures in_history { Ends self (pieces_data result.items) }
+    {
+        a_lane_stands_for_frames_and_a_history();
+        self.last_pieces()
+    }
+
+    /// What [`Lane::end`] gives.
+    fn last_pieces(self) -> ArrayVec<Piece, 2>
+        ensures { (offered : List OfferedFrame) → HasMet self offered
+            → channel_pieces self.settings offered
+            ≡ pieces_so_far self.settings offered ++ pieces_data result.items }
+    {
+        let Lane {
+            spec,
+            offered,
+            kept,
+            counter,
+            packet,
+            ..
+        } = self;
+        let mut pieces = ArrayVec::new();
+        if !packet.is_empty() {
+            pieces.push(Piece::Data(DataPiece {
+                channel: spec.channel,
+                body: packet.seal(),
+            }));
+        }
+        pieces.push(Piece::End(EndPiece {
+            channel: spec.channel,
+            counter,
+            offered,
+            kept,
+        }));
+        pieces
+    }
+
+    /// A frame of the version that the lane met last.
+    fn offer_next(&mut self, frame: &Frame<'_>) -> Offered
+        requires ready { self.old.ready ≡ true }
+        requires some { IsSome self.old.current }
+        requires few { self.old.offered < 2 ^ 64 - 1 }
+        ensures value { RunsAs self.old.current (view (frame_data frame.now)) result.value }
+        ensures lane { self.new
+            ≡ frame_judged (frame_counted self.old (frame_data frame.now)) (frame_data frame.now)
+                result.value }
+        ensures pieces { pieces_data result.pieces.items
+            ≡ judged_pieces self.old (frame_data frame.now) result.value }
+        ensures roomy { has_room self.old.settings.limit [] (frame_data frame.now) ≡ true }
+    {
+        self.count(frame);
+        let value = self.value_on(frame);
+        let mut pieces = ArrayVec::new();
+        if value != 0 {
+            if let Some(full) = self.keep(frame) {
+                pieces.push(full);
+            }
+        }
+        Offered { value, pieces }
+    }
+
+    /// The first frame of a version.
+    fn offer_first(&mut self, frame: &Frame<'_>, drawn: Drawn) -> Offered
+        requires ready { self.old.ready ≡ true }
+        requires few { self.old.offered < 2 ^ 64 - 1 }
+        ensures value { (steps : ℕ) × Runs (arc_value drawn.program)
+            (view (frame_data frame.now)) steps result.value }
+        ensures lane { self.new
+            ≡ frame_of_new_version self.old drawn.version (arc_value drawn.program)
+                (frame_data frame.now) result.value }
+        ensures pieces { pieces_data result.pieces.items
+            ≡ begun_pieces self.old drawn.version (arc_value drawn.program)
+                (frame_data frame.now) }
+        ensures roomy { has_room self.old.settings.limit [] (frame_data frame.now) ≡ true }
+    {
+        let mut pieces = ArrayVec::new();
+        if let Some(full) = self.close_packet() {
+            pieces.push(full);
+        }
+        pieces.push(self.begin_version(frame, drawn));
+        self.count(frame);
+        let value = self.value_on(frame);
+        if value != 0 {
+            self.add(frame);
+        }
+        Offered { value, pieces }
+    }
+
+    /// Whether this is the version that the lane met last.
+    fn is_current(&self, version: u32) -> bool
+        ensures { result ≡ is_current self.now.current version }
+    {
+        match &self.current {
+            None => false,
+            Some(current) => current.version == version,
+        }
+    }
+
+    /// What the program of the version that the lane met last returns on a frame's view.
+    fn value_on(&self, frame: &Frame<'_>) -> u32
+        requires { IsSome self.now.current }
+        ensures { RunsAs self.now.current (view (frame_data frame.now)) result }
+    {
+        match &self.current {
+            None => unreachable!(),
+            Some(current) => run(&current.program, frame.view()).value,
+        }
+    }
+
+    /// Counts a frame.
+    fn count(&mut self, frame: &Frame<'_>)
+        requires { self.old.offered < 2 ^ 64 - 1 }
+        ensures counted { self.new ≡ frame_counted self.old (frame_data frame.now) }
+        ensures more { self.new.kept < self.new.offered }
+        ensures roomy { has_room self.new.settings.limit [] (frame_data frame.now) ≡ true }
+    {
+        self.offered += 1;
+        self.counter = frame.counter;
+    }
+
+    /// Takes a version as the one in force, and gives the piece of its program.
+    fn begin_version(&mut self, frame: &Frame<'_>, drawn: Drawn) -> Piece
+        ensures lane { self.new
+            ≡ version_begun self.old drawn.version (arc_value drawn.program) }
+        ensures piece { piece_data result
+            ≡ begun_piece self.old drawn.version (arc_value drawn.program)
+                (frame_data frame.now) }
+    {
+        let Drawn {
+            version,
+            program,
+            share,
+            ..
+        } = drawn;
+        self.current = Some(Current {
+            version,
+            program: share,
+        });
+        Piece::Program(ProgramPiece {
+            channel: self.spec.channel,
+            counter: frame.counter,
+            version,
+            first: self.offered,
+            program,
+        })
+    }
+
+    /// Adds an accepted frame to the open packet, or to the next one if it doesn't fit; gives the
+    /// packet that is full then.
+    fn keep(&mut self, frame: &Frame<'_>) -> Option<Piece>
+        requires ready { self.old.ready ≡ true }
+        requires counted { self.old.kept < self.old.offered }
+        ensures lane { self.new ≡ frame_kept self.old (frame_data frame.now) }
+        ensures piece { map piece_data (option_items result)
+            ≡ kept_pieces self.old (frame_data frame.now) }
+    {
+        if self.packet.fits(frame.bytes.len()) {
+            self.add(frame);
+            return None;
+        }
+        let full = self.close_packet();
+        self.add(frame);
+        full
+    }
+
+    /// Adds an accepted frame to the open packet, where it fits.
+    fn add(&mut self, frame: &Frame<'_>)
+        requires fits { has_room self.old.settings.limit self.old.pending (frame_data frame.now)
+            ≡ true }
+        requires counted { self.old.kept < self.old.offered }
+        ensures { self.new ≡ frame_added self.old (frame_data frame.now) }
+    {
+        self.packet.push(frame);
+        self.kept += 1;
+    }
+
+    /// The open packet as a piece, if it has frames.
+    fn close_packet(&mut self) -> Option<Piece>
+        requires { self.old.ready ≡ true }
+        ensures lane { self.new ≡ packet_closed self.old }
+        ensures piece { map piece_data (option_items result) ≡ closed_pieces self.old }
+    {
+        if self.packet.is_empty() {
+            return None;
+        }
+        let Some(next) = self.spare.take() else {
+            unreachable!()
+        };
+        let packet = mem::replace(&mut self.packet, next);
+        Some(Piece::Data(DataPiece {
+            channel: self.spec.channel,
+            body: packet.seal(),
+        }))
+    }
+}

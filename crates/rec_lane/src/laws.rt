@@ -1,0 +1,93 @@
+//! Laws of a channel's pieces, which run nothing.
+
+ghost use Rattle.std.specs.Prelude.{ℕ, ◌≡◌, ◌-◌, ◌≤◌, ◌++◌, ◌∷◌, [], List, length};
+ghost use Rattle.std.specs.List.{flat_map};
+ghost use Rattle.eth_frame.specs.declared.frame.TheConstants.{MAX_FRAME_LEN, CHECK_SEQUENCE_LEN};
+ghost use Rattle.bpf_machine.specs.declared.machine.TheConstants.{MAX_VIEW};
+ghost use Rattle.bpf_insn.specs.declared.insn.Insn.{Insn};
+ghost use Rattle.bpf_machine.specs.Machine.{Runs};
+ghost use Rattle.eth_frame.specs.Frame.{FrameData, view};
+ghost use Rattle.rec_channel.specs.History.{Version, IsHistory};
+ghost use Rattle.rec_lane.specs.Offered.{OfferedFrame, AllMet, AreAccepted, frames_of, accepted};
+ghost use Rattle.rec_lane.specs.Parts.{Begins};
+ghost use Rattle.rec_lane.specs.Pieces.{LaneSettings, PieceData, groups, frames_in, pieces_so_far, channel_pieces, ArePieces, ArePiecesSoFar};
+ghost use Rattle.rec_lane.specs.Lanes.{LaneState, HasMet, MarkedFrom, running, offered_now, TakesFrame, Ends};
+
+use bpf_machine::{a_valid_program_returns, runs_once};
+use rec_channel::{later_versions_leave_the_past, one_version_is_in_force};
+
+/// Law: the longest view of a frame is the longest that the filter machine takes.
+pub fn the_filter_takes_the_longest_view()
+    ensures { MAX_FRAME_LEN - CHECK_SEQUENCE_LEN ≡ MAX_VIEW }
+{}
+
+/// Law: in a history, frames meet one list of versions, programs and values, so the accepted ones
+/// are one list; and each list of frames has it.
+pub fn accepted_frames_are_one_list()
+    ensures one { (history : List Version) (offered other : List OfferedFrame)
+        → AllMet history offered → AllMet history other
+        → frames_of offered ≡ frames_of other → offered ≡ other }
+    ensures accepted { (history : List Version) (frames kept other : List FrameData)
+        → AreAccepted history frames kept → AreAccepted history frames other → kept ≡ other }
+    ensures some { (count : ℕ) (history : List Version) (frames : List FrameData)
+        → IsHistory count history
+        → (offered : List OfferedFrame) × AllMet history offered × (frames_of offered ≡ frames) }
+{
+    one_version_is_in_force();
+    runs_once();
+    a_valid_program_returns();
+}
+
+/// Law: versions that are installed after frames leave what the frames met.
+pub fn later_versions_leave_the_frames()
+    ensures kept { (history more : List Version) (offered : List OfferedFrame)
+        → MarkedFrom (length offered) more
+        → AllMet history offered → AllMet (history ++ more) offered }
+    ensures nothing_else { (history more : List Version) (offered : List OfferedFrame)
+        → MarkedFrom (length offered) more
+        → AllMet (history ++ more) offered → AllMet history offered }
+{
+    later_versions_leave_the_past();
+}
+
+/// Law: the pieces that are certain after some frames begin all pieces, whatever frames follow and
+/// whatever versions are installed later.
+pub fn pieces_so_far_begin_all_pieces()
+    ensures frames { (settings : LaneSettings) (offered more : List OfferedFrame)
+        → Begins (pieces_so_far settings offered) (channel_pieces settings (offered ++ more)) }
+    ensures history { (settings : LaneSettings) (frames more : List FrameData)
+        (history later : List Version) (so_far all : List PieceData)
+        → MarkedFrom (length frames) later → ArePiecesSoFar settings frames history so_far
+        → ArePieces settings (frames ++ more) (history ++ later) all → Begins so_far all }
+{
+    one_version_is_in_force();
+    runs_once();
+    later_versions_leave_the_past();
+}
+
+/// Law: the frames in the pieces of a channel, in order, are the accepted frames.
+pub fn pieces_hold_the_accepted_frames()
+    ensures { (settings : LaneSettings) (offered : List OfferedFrame)
+        → flat_map frames_in (channel_pieces settings offered) ≡ accepted offered }
+{}
+
+/// Law: what a lane says of the frames that it has met, it says of frames and a history.
+pub(crate) fn a_lane_stands_for_frames_and_a_history()
+    ensures takes { (old new : LaneState) (f : FrameData) (version : ℕ) (program : List Insn)
+        (value : ℕ) (given : List PieceData)
+        → ((steps : ℕ) × Runs (running old.current version program) (view f) steps value)
+        → ((before : List OfferedFrame) → HasMet old before
+            → HasMet new (before ++ offered_now old version program f value ∷ []))
+        → ((before : List OfferedFrame) → HasMet old before
+            → pieces_so_far old.settings (before ++ offered_now old version program f value ∷ [])
+            ≡ pieces_so_far old.settings before ++ given)
+        → TakesFrame old new f version program given }
+    ensures ends { (lane : LaneState) (given : List PieceData)
+        → ((offered : List OfferedFrame) → HasMet lane offered
+            → channel_pieces lane.settings offered ≡ pieces_so_far lane.settings offered ++ given)
+        → Ends lane given }
+{
+    one_version_is_in_force();
+    runs_once();
+    later_versions_leave_the_past();
+}

@@ -1,0 +1,21 @@
+//! The pieces of one channel. A [`Lane`] runs the filter in force on each frame that is offered,
+//! packs the accepted ones into packets, and gives the pieces of the channel's recording: each
+//! program that came into force, the packets of frames, and the channel's end.
+#![tactic(auto)]
+
+mod lane;
+mod laws;
+mod offered;
+mod piece;
+mod spec;
+mod version;
+
+pub use lane::Lane;
+pub use laws::{
+    accepted_frames_are_one_list, later_versions_leave_the_frames, pieces_hold_the_accepted_frames,
+    pieces_so_far_begin_all_pieces, the_filter_takes_the_longest_view,
+};
+pub use offered::Offered;
+pub use piece::{DataPiece, EndPiece, Piece, ProgramPiece};
+pub use spec::LaneSpec;
+

@@ -1,0 +1,13 @@
+//! What the offer of a frame gives.
+
+use crate::piece::Piece;
+use arrayvec::ArrayVec;
+
+/// What the offer of a frame gives.
+#[derive(Debug, Drop)]
+pub struct Offered {
+    /// What the program in force returned on the frame's view; 0 drops the frame.
+    pub value: u32,
+    /// The pieces that are certain now and were not before.
+    pub pieces: ArrayVec<Piece, 2>,
+}
