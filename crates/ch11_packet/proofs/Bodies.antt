@@ -11,11 +11,10 @@ use Rattle.std.proofs.lemmas.List.Sums.{sum_by-cons, sum_by_push}
 use Rattle.std.proofs.lemmas.List.Elements.{All-nil, All-head, All-tail, All-push}
 use Rattle.eth_frame.specs.Frame.{FrameData, IsFrame}
 use Rattle.ch11_packet.specs.declared.frames.word.TheConstants.{MAX_SPEED, BODY_WORD_LEN}
-use Rattle.ch11_packet.specs.declared.header.TheConstants.{HEADER_LEN, MAX_ETHERNET_PACKET_LEN}
-use Rattle.ch11_packet.specs.declared.limit.TheConstants.{MIN_LIMIT}
+use Rattle.ch11_packet.specs.PacketLen.{packet_len}
 use Rattle.ch11_packet.specs.Frames.{frame_bytes, frame_len, data_bytes, data_len}
 use Rattle.ch11_packet.specs.FramesRead.{body_frame, frame_in, first_reads, SpellsBody}
-use Rattle.ch11_packet.specs.Building.{EthernetBody, IsEthernetBody, body_of, open_of, Fits, first_counter, frames_in, Holds, IsOpen, IsSealed}
+use Rattle.ch11_packet.specs.Building.{EthernetBody, IsEthernetBody, body_of, open_of, Fits, first_counter, frames_in, Holds, HasRoom, IsOpen, IsSealed}
 use Rattle.ch11_packet.proofs.FrameBytes.{length-frame_bytes, Begins-written, first_reads-flat_map}
 use Rattle.ch11_packet.proofs.FirstFrames.{length-first_reads}
 
@@ -58,14 +57,13 @@ pub length-IsOpen : (count net speed counter limit room : ℕ) (bytes : List ℕ
 length-IsOpen count net speed counter limit room bytes is = length-Holds 0 (frames_in count bytes) net speed counter bytes is.holds
 
 -- a body of no frames
-pub IsOpen-none : (net speed limit room : ℕ) (bytes : List ℕ) → bytes ≡ to_le_bytes w32 0 → net < 2 ^ 8 → speed ≤ MAX_SPEED → MIN_LIMIT ≤ limit → limit ≤ MAX_ETHERNET_PACKET_LEN → limit ≤ HEADER_LEN + room
+pub IsOpen-none : (net speed limit room : ℕ) (bytes : List ℕ) → bytes ≡ to_le_bytes w32 0 → net < 2 ^ 8 → speed ≤ MAX_SPEED → HasRoom limit room
     → IsOpen 0 net speed 0 limit room bytes
 unfolding first_reads
-IsOpen-none net speed limit room bytes e n s least most fits = record {
+IsOpen-none net speed limit room bytes e n s roomy = record {
   holds = record { bytes_are = e; in_range = All-nil IsFrame; net_fits = n; speed_fits = s; first = refl };
-  fits = rw e (omega arith);
-  bounded = most;
-  room_left = fits;
+  fits = rw e (omega (arith, roomy.least));
+  roomy = roomy;
 }
 
 pub frames_in-none : (bytes : List ℕ) → frames_in 0 bytes ≡ []
@@ -113,8 +111,7 @@ IsOpen-push count net speed counter first limit room more old new frame is in_ra
       is_open = record {
         holds = subst (λ (l : List FrameData). Holds 0 l net speed first new) (sym found) held;
         fits = rw size fits;
-        bounded = is.bounded;
-        room_left = omega (arith, is.room_left);
+        roomy = record { least = is.roomy.least; most = is.roomy.most; enough = omega (arith, is.roomy.enough) };
       };
       frames = found;
     }
@@ -124,7 +121,7 @@ pub room_for : (count net speed counter limit room : ℕ) (bytes : List ℕ) (le
     → Fits (open_of (frames_in count bytes) net speed limit) len → length bytes + frame_len len ≤ room
 room_for count net speed counter limit room bytes len is fits =
     let size = length-IsOpen count net speed counter limit room bytes is in
-    let left = is.room_left in
+    let left = is.roomy.enough in
     omega arith
 
 -- there are fewer frames than a body's word can say
@@ -134,14 +131,14 @@ count_fits count net speed counter limit room bytes is =
     let few = few_frames (frames_in count bytes) is.holds.in_range in
     let many = length-frames_in count bytes in
     let fits = is.fits in
-    let most = is.bounded in
+    let most = is.roomy.most in
     omega arith
 
 -- ---- a sealed body
 
 -- the body with its number of frames written into the first two bytes
-pub record Seals (count net speed counter : ℕ) (old new : List ℕ) : Type 0 where
-  pub is_sealed : IsSealed count net speed counter new
+pub record Seals (count net speed counter limit room : ℕ) (old new : List ℕ) : Type 0 where
+  pub is_sealed : IsSealed count net speed counter limit room new
   pub frames : frames_in count new ≡ frames_in count old
 
 pub some_frames : (count : ℕ) (bytes : List ℕ) → (frames_in count bytes ≡ [] → ⊥) → 0 < count
@@ -155,7 +152,7 @@ word_of count rest lt =
     ap (λ n. count % 256 ∷ count / 256 % 256 ∷ n ∷ 0 ∷ rest) a ∙ ap (λ n. count % 256 ∷ count / 256 % 256 ∷ count / 65536 % 256 ∷ n ∷ rest) b
 
 pub IsSealed-IsOpen : (count net speed counter limit room : ℕ) (old new : List ℕ) → IsOpen count net speed counter limit room old → 0 < count
-    → new ≡ slice_set (slice_set old 0 (count % 256)) 1 (count / 256 % 256) → Seals count net speed counter old new
+    → new ≡ slice_set (slice_set old 0 (count % 256)) 1 (count / 256 % 256) → Seals count net speed counter limit room old new
 IsSealed-IsOpen count net speed counter limit room old new is some written =
     let fs = frames_in count old in
     let rest = flat_map (frame_bytes net speed) fs in
@@ -175,31 +172,34 @@ IsSealed-IsOpen count net speed counter limit room old new is some written =
       is_sealed = record {
         holds = subst (λ (l : List FrameData). Holds count l net speed counter new) (sym found) held;
         some = some;
-        fits = rw size (omega (arith, is.fits, is.bounded));
+        fits = rw size is.fits;
+        roomy = is.roomy;
       };
       frames = found;
     }
 
 -- a sealed body is in range
-pub IsEthernetBody-IsSealed : (count net speed counter : ℕ) (bytes : List ℕ) → IsSealed count net speed counter bytes → IsEthernetBody (body_of (frames_in count bytes) net speed)
-IsEthernetBody-IsSealed count net speed counter bytes is =
+pub IsEthernetBody-IsSealed : (count net speed counter limit room : ℕ) (bytes : List ℕ) → IsSealed count net speed counter limit room bytes → IsEthernetBody (body_of (frames_in count bytes) net speed limit)
+IsEthernetBody-IsSealed count net speed counter limit room bytes is =
     let many = length-frames_in count bytes in
     let size = length-Holds count (frames_in count bytes) net speed counter bytes is.holds in
     let few = few_frames (frames_in count bytes) is.holds.in_range in
-    let fits = is.fits in
+    let known = is.fits in
+    let most = is.roomy.most in
+    let fits : packet_len (data_len (frames_in count bytes)) ≤ limit = rw size at known in
     record {
       in_range = is.holds.in_range;
       net_fits = is.holds.net_fits;
       speed_fits = is.holds.speed_fits;
       some = omega (arith, many, is.some);
       few = omega arith;
-      fits = rw size at fits;
+      fits = omega arith;
     }
 
 -- what a sealed body's bytes are
-pub bytes-IsSealed : (count net speed counter : ℕ) (bytes : List ℕ) → IsSealed count net speed counter bytes → bytes ≡ data_bytes net speed (frames_in count bytes)
+pub bytes-IsSealed : (count net speed counter limit room : ℕ) (bytes : List ℕ) → IsSealed count net speed counter limit room bytes → bytes ≡ data_bytes net speed (frames_in count bytes)
 unfolding data_bytes
-bytes-IsSealed count net speed counter bytes is =
+bytes-IsSealed count net speed counter limit room bytes is =
     is.holds.bytes_are ∙ ap (λ n. to_le_bytes w32 n ++ flat_map (frame_bytes net speed) (frames_in count bytes)) (sym (length-frames_in count bytes))
 
 -- the first frame's counter

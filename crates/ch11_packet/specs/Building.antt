@@ -1,9 +1,10 @@
--- Bodies of Ethernet data, and those that frames are still added to.
+-- Bodies of Ethernet data, those that frames are still added to, and their buffers.
 use Rattle.std.specs.Prelude.{ℕ, ◌≡◌, ◌+◌, ◌^◌, ◌<◌, ◌≤◌, List, [], ◌∷◌, ◌++◌, length, map, drop, All}
 use Rattle.std.specs.Int.{w32, to_le_bytes}
 use Rattle.std.specs.List.{flat_map}
 use Rattle.ch11_packet.specs.declared.frames.word.TheConstants.{BODY_WORD_LEN, MAX_SPEED}
 use Rattle.ch11_packet.specs.declared.header.TheConstants.{HEADER_LEN, MAX_ETHERNET_PACKET_LEN}
+use Rattle.ch11_packet.specs.declared.limit.TheConstants.{MIN_LIMIT}
 use Rattle.ch11_packet.specs.PacketLen.{packet_len}
 use Rattle.ch11_packet.specs.Frames.{frame_bytes, frame_len, data_len}
 use Rattle.ch11_packet.specs.FramesRead.{frame_in, first_reads}
@@ -11,14 +12,17 @@ use Rattle.eth_frame.specs.Frame.{FrameData, IsFrame}
 
 -- ---- what contracts see
 
--- the body of a packet: its frames, their network identifier and their speed
+-- the body of a packet: its frames, their network identifier and their speed, and the limit of its
+-- buffer
 pub record EthernetBody : Type 0 where
   pub frames : List FrameData
   pub net : ℕ
   pub speed : ℕ
+  pub limit : ℕ
 
-abbrev pub body_of : (frames : List FrameData) (net speed : ℕ) → EthernetBody
-body_of frames net speed = record { frames = frames; net = net; speed = speed }
+abbrev pub body_of : (frames : List FrameData) (net speed limit : ℕ) → EthernetBody
+body_of frames net speed limit =
+    record { frames = frames; net = net; speed = speed; limit = limit }
 
 -- its frames, its network identifier and its speed are in range, it has a frame, and its packet
 -- isn't over the greatest length
@@ -65,16 +69,28 @@ pub record Holds (word : ℕ) (frames : List FrameData) (net speed counter : ℕ
   pub speed_fits : speed ≤ MAX_SPEED
   pub first : counter ≡ first_counter frames
 
+-- the limit is in range, and a buffer of `room` bytes has room for a packet up to it but its header
+pub record HasRoom (limit room : ℕ) : Type 0 where
+  pub least : MIN_LIMIT ≤ limit
+  pub most : limit ≤ MAX_ETHERNET_PACKET_LEN
+  pub enough : limit ≤ HEADER_LEN + room
+
+-- there are no bytes, and there is room up to the limit
+pub record IsBlank (limit room : ℕ) (bytes : List ℕ) : Type 0 where
+  pub empty : bytes ≡ []
+  pub roomy : HasRoom limit room
+
 -- the bytes hold `count` frames below the limit, with a word of 0, and there is room up to the
 -- limit
 pub record IsOpen (count net speed counter limit room : ℕ) (bytes : List ℕ) : Type 0 where
   pub holds : Holds 0 (frames_in count bytes) net speed counter bytes
   pub fits : packet_len (length bytes) ≤ limit
-  pub bounded : limit ≤ MAX_ETHERNET_PACKET_LEN
-  pub room_left : limit ≤ HEADER_LEN + room
+  pub roomy : HasRoom limit room
 
--- the bytes are the body of `count` frames, at least one
-pub record IsSealed (count net speed counter : ℕ) (bytes : List ℕ) : Type 0 where
+-- the bytes are the body of `count` frames below the limit, at least one, and there is room up to
+-- the limit
+pub record IsSealed (count net speed counter limit room : ℕ) (bytes : List ℕ) : Type 0 where
   pub holds : Holds count (frames_in count bytes) net speed counter bytes
   pub some : 0 < count
-  pub fits : packet_len (length bytes) ≤ MAX_ETHERNET_PACKET_LEN
+  pub fits : packet_len (length bytes) ≤ limit
+  pub roomy : HasRoom limit room

@@ -1,4 +1,5 @@
 //! The body of a packet of Ethernet data: how it is written and read.
+mod blank;
 mod body;
 mod builder;
 mod decode;
@@ -6,6 +7,7 @@ mod frame;
 mod walk;
 mod word;
 
+pub use blank::Blank;
 pub use body::DataBody;
 pub use builder::DataBuilder;
 pub use decode::{BodyFault, Frames, decode_frames};

@@ -10,7 +10,7 @@ mod packet_len;
 mod records;
 
 pub use frames::{
-    BodyFault, DataBody, DataBuilder, FrameWalk, Frames, MAX_SPEED, ReadFrame, decode_frames,
+    Blank, BodyFault, DataBody, DataBuilder, FrameWalk, Frames, MAX_SPEED, ReadFrame, decode_frames,
 };
 pub use header::{
     COMPUTER_GENERATED_DATA, ETHERNET_DATA, HEADER_LEN, Header, HeaderFault,

@@ -1,5 +1,7 @@
 //! A body of Ethernet data that is written.
+use crate::frames::blank::Blank;
 use crate::header::MAX_ETHERNET_PACKET_LEN;
+use crate::limit::Limit;
 use std::marker::Model;
 
 /// The body of a packet of Ethernet data, with one frame at least.
@@ -10,21 +12,25 @@ pub struct DataBody {
     first_counter: u64,
     net: u8,
     speed: u8,
+    limit: Limit,
 }
 
 impl Model for DataBody {
+    ghost use Rattle.std.specs.Vec.{vec_capacity};
     ghost use Rattle.ch11_packet.specs.Building.{EthernetBody, body_of, frames_in, IsSealed};
 
     ghost Value = { EthernetBody };
 
-    ghost view = { λ b. body_of (frames_in b.count b.bytes.items) b.net b.speed };
+    ghost view = { λ b. body_of (frames_in b.count b.bytes.items) b.net b.speed b.limit };
 
-    ghost invariant = { λ b. IsSealed b.count b.net b.speed b.first_counter b.bytes.items };
+    ghost invariant = { λ b. IsSealed b.count b.net b.speed b.first_counter b.limit
+        (vec_capacity b.bytes) b.bytes.items };
 }
 
 impl DataBody {
     ghost use Rattle.std.specs.Prelude.{◌≡◌, ◌^◌, ◌<◌, ◌≤◌, Some, length, slice_get};
     ghost use Rattle.std.specs.Option.{option_map};
+    ghost use Rattle.std.specs.Vec.{vec_capacity};
     ghost use Rattle.ch11_packet.specs.PacketLen.{packet_len};
     ghost use Rattle.ch11_packet.specs.Frames.{data_bytes, data_len};
     ghost use Rattle.ch11_packet.specs.Building.{IsEthernetBody, body_of, frames_in, IsSealed};
@@ -36,9 +42,10 @@ impl DataBody {
         first_counter: u64,
         net: u8,
         speed: u8,
+        limit: Limit,
     ) -> DataBody
-        requires { IsSealed count net speed first_counter bytes.items }
-        ensures { result ≡ body_of (frames_in count bytes.items) net speed }
+        requires { IsSealed count net speed first_counter limit (vec_capacity bytes) bytes.items }
+        ensures { result ≡ body_of (frames_in count bytes.items) net speed limit }
     {
         DataBody {
             bytes,
@@ -46,6 +53,7 @@ impl DataBody {
             first_counter,
             net,
             speed,
+            limit,
         }
     }
 
@@ -77,5 +85,18 @@ impl DataBody {
         ensures some { 0 < result }
     {
         self.count
+    }
+
+    /// The body's buffer as an empty one, of the limit of the builder that sealed the body.
+    pub fn reuse(self) -> Blank
+        ensures limit { result ≡ self.limit }
+    {
+        let DataBody {
+            mut bytes,
+            limit,
+            ..
+        } = self;
+        bytes.clear();
+        Blank { bytes, limit }
     }
 }

@@ -4,11 +4,11 @@ ghost use Rattle.std.specs.Vec.{vec_capacity};
 ghost use Rattle.ch11_packet.specs.Frames.{frame_header, frame_bytes, frame_len};
 ghost use Rattle.eth_frame.specs.Views.{frame_data};
 
+use crate::frames::blank::Blank;
 use crate::frames::body::DataBody;
 use crate::frames::word::{
     BODY_WORD_LEN, CRC_ERROR, FRAME_ERROR, FRAME_HEADER_LEN, MAX_SPEED, frame_len,
 };
-use crate::header::HEADER_LEN;
 use crate::limit::Limit;
 use crate::packet_len::packet_len;
 use eth_frame::{Frame, counter_bytes};
@@ -16,7 +16,7 @@ use std::alloc::{AllocError, Global};
 use std::marker::Model;
 
 /// A body of Ethernet data to which frames are added, as long as its packet isn't longer than a
-/// limit. It takes its memory when it is made, and none later.
+/// limit. It takes its memory when it is made, or has that of a buffer, and takes none later.
 #[derive(Debug, Drop)]
 pub struct DataBuilder {
     bytes: Vec<u8>,
@@ -60,16 +60,26 @@ impl DataBuilder {
         ensures roomy { IfOk result (λ builder. (len : ℕ) → len ≤ MAX_FRAME_LEN
             → Fits builder len) }
     {
-        let mut bytes = Vec::with_capacity(alloc, limit.get() as usize - HEADER_LEN)?;
+        Ok(DataBuilder::over(Blank::with_limit(alloc, limit)?, net, speed))
+    }
+
+    /// A body of no frames in this buffer, up to the buffer's limit, with a network identifier and
+    /// a speed as for [`DataBuilder::with_limit`].
+    pub fn over(blank: Blank, net: u8, speed: u8) -> DataBuilder
+        requires { speed ≤ MAX_SPEED }
+        ensures empty { result ≡ open_of [] net speed blank }
+        ensures roomy { (len : ℕ) → len ≤ MAX_FRAME_LEN → Fits result len }
+    {
+        let Blank { mut bytes, limit } = blank;
         append(&mut bytes, &[0; BODY_WORD_LEN]);
-        Ok(DataBuilder {
+        DataBuilder {
             bytes,
             count: 0,
             first_counter: 0,
             net,
             speed,
             limit,
-        })
+        }
     }
 
     /// Whether no frame was added.
@@ -106,7 +116,7 @@ impl DataBuilder {
     /// The body of the frames that were added, of which there is at least one.
     pub fn seal(self) -> DataBody
         requires { self.frames ≢ [] }
-        ensures sealed { result ≡ body_of self.frames self.net self.speed }
+        ensures sealed { result ≡ body_of self.frames self.net self.speed self.limit }
         ensures within { packet_len (data_len self.frames) ≤ self.limit }
     {
         let DataBuilder {
@@ -115,12 +125,12 @@ impl DataBuilder {
             first_counter,
             net,
             speed,
-            ..
+            limit,
         } = self;
         let [low, high] = count.to_le_bytes();
         bytes[0] = low;
         bytes[1] = high;
-        DataBody::new(bytes, count, first_counter, net, speed)
+        DataBody::new(bytes, count, first_counter, net, speed, limit)
     }
 }
 

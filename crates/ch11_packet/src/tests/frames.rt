@@ -223,3 +223,35 @@ fn what_a_builder_sealed_is_read(rt: HostRuntime) -> Result<(), Fail> {
     assert_eq!(rt; walk.next(), None);
     Ok(())
 }
+
+#[test]
+fn a_buffer_that_comes_back_has_the_next_frames_alone(rt: HostRuntime) -> Result<(), Fail> {
+    let arp: [u8; 19] = bytes(rt.alloc(), ARP)?;
+    let odd = "01000000 010000000000 0000 13000705 ffffffffffff 020000000001 0806 a1b2c3d4 e5 00";
+    let even = "01000000 020000000000 0000 1200ff0f ffffffffffff 020000000001 0806 a1b2c3d4";
+    let bodies = [
+        (7, 5, 1, 19, odd),
+        (255, 15, 2, 18, even),
+        (0, 3, 16, 18, BODY),
+    ];
+    for (most, fits_another) in [(16_424, false), (524_288, true)] {
+        let limit = Limit::new(most).ok_or("a limit in range")?;
+        let mut blank = Blank::with_limit(rt.alloc(), limit)?;
+        for (net, speed, counter, len, text) in bodies {
+            let frame = Frame::new(counter, false, false, &arp[..len]).ok_or("a frame in range")?;
+            assert!(rt; speed <= MAX_SPEED);
+            let mut builder = DataBuilder::over(blank, net, speed);
+            assert!(rt; builder.is_empty());
+            assert!(rt; builder.fits(16_383));
+            assert!(rt; builder.fits(len));
+            builder.push(&frame);
+            assert_eq!(rt; builder.fits(16_383), fits_another, "{most}");
+            let body = builder.seal();
+            assert_eq!(rt; body.bytes(), all_bytes(rt.alloc(), text)?.as_slice());
+            assert_eq!(rt; (body.counter(), body.count()), (counter, 1));
+            blank = body.reuse();
+            assert_eq!(rt; blank.limit(), limit);
+        }
+    }
+    Ok(())
+}
