@@ -11,10 +11,10 @@ use Rattle.eth_frame.specs.Frame.{FrameData}
 use Rattle.rec_lane.specs.Offered.{OfferedFrame, accepted, frames_of, is_accepted}
 use Rattle.rec_lane.specs.Parts.{ended_from, last_from, as_part}
 use Rattle.rec_lane.specs.Packets.{has_room, full_packets, last_packet}
-use Rattle.rec_lane.specs.Pieces.{LaneSettings, PieceData, has_version, ended_groups, last_group, program_piece, data_piece, open_group_pieces, group_pieces, pieces_so_far, last_counter_from, last_counter}
+use Rattle.rec_lane.specs.Pieces.{LaneSettings, PieceData, has_version, ended_groups, last_group, program_piece, data_piece, open_group_pieces, group_pieces, pieces_so_far, last_counter_from, last_counter, has_no_packet}
 use Rattle.rec_lane.specs.Pieces.PieceData.{OfProgram}
 use Rattle.rec_lane.specs.Lanes.{LaneState, HasMet, VersionProgram, version_of, is_current, running, offered_now}
-use Rattle.rec_lane.specs.Steps.{packet_closed, closed_pieces, frame_added, frame_kept, kept_pieces, frame_judged, judged_pieces, frame_counted, frame_of_new_version, begun_pieces, begun_piece, RunsAs}
+use Rattle.rec_lane.specs.Steps.{packet_closed, closed_pieces, frame_added, frame_kept, kept_pieces, frame_judged, judged_pieces, frame_counted, frame_of_new_version, begun_pieces, begun_piece, RunsAs, is_none}
 use Rattle.bpf_machine.specs.Machine.{Runs}
 use Rattle.rec_lane.proofs.Parted.{ended_on, last_on, ended_off, last_off}
 
@@ -315,3 +315,20 @@ runs_next (Some current) version program view value so runs = subst (λ b. (step
 
 pub runs_first : (current : Option VersionProgram) (version : ℕ) (program : List Insn) (view : List ℕ) (value : ℕ) → is_current current version ≡ false → ((steps : ℕ) × Runs program view steps value) → (steps : ℕ) × Runs (running current version program) view steps value
 runs_first current version program view value so runs = subst (λ p. (steps : ℕ) × Runs p view steps value) (sym (runs_new current version program so)) runs
+
+-- ---- the spare buffer
+
+closed_ready : (lane : LaneState) → lane.ready ≡ true → (packet_closed lane).ready ≡ has_no_packet (closed_pieces lane)
+closed_ready lane ready = elim (cases_shape lane.pending) as (λ _. (packet_closed lane).ready ≡ has_no_packet (closed_pieces lane)) [
+  | inl empty ↦ subst (λ fs. (if is_none fs then lane.ready else false) ≡ has_no_packet (map (data_piece lane.settings) (as_part fs))) (sym empty) ready
+  | inr some ↦ subst (λ fs. (if is_none fs then lane.ready else false) ≡ has_no_packet (map (data_piece lane.settings) (as_part fs))) (sym some.2) refl
+]
+
+pub next_ready : (old : LaneState) (f : FrameData) (value : ℕ) → old.ready ≡ true → (frame_judged (frame_counted old f) f value).ready ≡ has_no_packet (judged_pieces old f value)
+next_ready old f value ready = elim (cases_Bool (value == 0)) as (λ _. (frame_judged (frame_counted old f) f value).ready ≡ has_no_packet (judged_pieces old f value)) [
+  | inl zero_value ↦ rw zero_value ready
+  | inr some_value ↦ rw some_value (elim (cases_Bool (has_room old.settings.limit old.pending f)) as (λ _. (frame_kept (frame_counted old f) f).ready ≡ has_no_packet (kept_pieces old f)) [
+      | inl room ↦ rw room ready
+      | inr none ↦ rw none (closed_ready old ready)
+    ])
+]

@@ -1,6 +1,6 @@
 -- The pieces of a channel, in the order in which they are written: for each version that some frame
 -- met its program, and then its accepted frames in packets; last the channel's end.
-use Rattle.std.specs.Prelude.{ℕ, ◌≡◌, ◌==◌, Bool, true, List, [], ◌∷◌, ◌++◌, length, map}
+use Rattle.std.specs.Prelude.{ℕ, ◌≡◌, ◌==◌, Bool, true, false, List, [], ◌∷◌, ◌++◌, length, map}
 use Rattle.std.specs.List.{flat_map}
 use Rattle.bpf_insn.specs.declared.insn.Insn.{Insn}
 use Rattle.eth_frame.specs.Frame.{FrameData}
@@ -52,7 +52,7 @@ program_piece settings (f ∷ fs) =
 -- a packet of frames
 abbrev pub data_piece : LaneSettings → List FrameData → PieceData
 data_piece settings frames =
-    OfFrames settings.channel (body_of frames settings.net settings.speed)
+    OfFrames settings.channel (body_of frames settings.net settings.speed settings.limit)
 
 -- the pieces of a group: its program, and its accepted frames in packets
 abbrev pub group_pieces : LaneSettings → List OfferedFrame → List PieceData
@@ -113,3 +113,9 @@ ArePiecesSoFar settings frames history pieces =
 abbrev pub frames_in : PieceData → List FrameData
 frames_in (OfFrames channel body) = body.frames
 frames_in other = []
+
+-- none of the pieces is a packet of frames
+abbrev pub has_no_packet : List PieceData → Bool
+has_no_packet [] = true
+has_no_packet (OfFrames channel body ∷ pieces) = false
+has_no_packet (piece ∷ pieces) = has_no_packet pieces

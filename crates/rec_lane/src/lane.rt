@@ -1,6 +1,6 @@
 //! A lane: the frames of one channel, filtered and packed.
 
-ghost use Rattle.std.specs.Prelude.{ℕ, ◌≡◌, ◌+◌, ◌-◌, ◌^◌, ◌<◌, ◌≤◌, ◌==◌, true, false, List, [], ◌∷◌, ◌++◌, length, Option, None, Some, map, IsSome, IfOk, OnErr};
+ghost use Rattle.std.specs.Prelude.{ℕ, ◌≡◌, ◌+◌, ◌-◌, ◌^◌, ◌<◌, ◌≤◌, ◌==◌, true, false, List, [], ◌∷◌, ◌++◌, length, Option, None, Some, map, IsSome, IsNone, IfSome, IfNone, ◌↔◌, IfOk, OnErr};
 
 use crate::laws::a_lane_stands_for_frames_and_a_history;
 use crate::offered::Offered;
@@ -10,7 +10,7 @@ use crate::version::Current;
 use arrayvec::ArrayVec;
 use bpf_machine::run;
 use bpf_verify::Verified;
-use ch11_packet::DataBuilder;
+use ch11_packet::{Blank, DataBuilder};
 use eth_frame::Frame;
 use rec_channel::Drawn;
 use std::alloc::{AllocError, Global};
@@ -62,7 +62,7 @@ impl Lane {
     ghost use Rattle.rec_lane.specs.Offered.{OfferedFrame};
     ghost use Rattle.rec_lane.specs.Parts.{as_part};
     ghost use Rattle.rec_lane.specs.Packets.{has_room};
-    ghost use Rattle.rec_lane.specs.Pieces.{pieces_so_far, channel_pieces, ArePieces, ArePiecesSoFar};
+    ghost use Rattle.rec_lane.specs.Pieces.{pieces_so_far, channel_pieces, has_no_packet};
     ghost use Rattle.rec_lane.specs.Settings.{spec_data};
     ghost use Rattle.rec_lane.specs.Lanes.{LaneState, HasMet, StandsFor, running, offered_now, new_lane, TakesFrame, Ends};
     ghost use Rattle.rec_lane.specs.Lanes.{is_current};
@@ -105,6 +105,21 @@ impl Lane {
         Ok(())
     }
 
+    /// Takes an empty buffer for the next packet. It comes back if the lane has one, or if the
+    /// buffer's limit isn't the lane's.
+    pub fn give(&mut self, blank: Blank) -> Option<Blank>
+        ensures taken { IsNone result ↔ ((self.old.ready ≡ false)
+            × (blank ≡ self.old.settings.limit)) }
+        ensures ready { IfNone result (self.new ≡ record self.old { ready = true }) }
+        ensures back { IfSome result (λ same. (same ≡ blank) × (self.new ≡ self.old)) }
+    {
+        if self.spare.is_some() || blank.limit() != self.spec.limit {
+            return Some(blank);
+        }
+        self.spare = Some(DataBuilder::over(blank, self.spec.net, self.spec.speed));
+        None
+    }
+
     /// Whether the lane has the buffer of the next packet.
     pub fn is_ready(&self) -> bool
         ensures ready { result ≡ self.now.ready }
@@ -145,6 +160,8 @@ impl Lane {
                 (arc_value drawn.program) (frame_data frame.now) result.value ∷ [])
             ≡ pieces_so_far self.old.settings before ++ pieces_data result.pieces.items }
         ensures settings { self.new.settings ≡ self.old.settings }
+        // The lane is ready again unless a packet is among the pieces.
+        ensures ready { self.new.ready ≡ has_no_packet (pieces_data result.pieces.items) }
         // The same of frames and a history.
         ensures in_history { TakesFrame self.old self.new (frame_data frame.now) drawn.version
             (arc_value drawn.program) (pieces_data result.pieces.items) }

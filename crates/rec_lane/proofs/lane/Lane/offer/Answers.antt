@@ -1,10 +1,10 @@
 use Rattle.std.proofs.Common.{◌∙◌, ap, subst, sym, refl, ◌≡◌, ◌++◌, ◌∷◌, []}
-use Rattle.rec_lane.specs.Pieces.{pieces_so_far}
+use Rattle.rec_lane.specs.Pieces.{pieces_so_far, has_no_packet}
 use Rattle.rec_lane.specs.Lanes.{LaneState, HasMet, offered_now}
 use Rattle.std.specs.Arc.{arc_value}
 use Rattle.eth_frame.specs.Views.{frame_data}
 use Rattle.eth_frame.specs.Frame.{view}
-use Rattle.rec_lane.proofs.Offering.{next_met, next_pieces, first_met, first_pieces, runs_next, runs_first}
+use Rattle.rec_lane.proofs.Offering.{next_met, next_pieces, first_met, first_pieces, runs_next, runs_first, next_ready}
 use Rattle.rec_lane.specs.Views.{pieces_data}
 use Rattle.rec_lane.proofs.lane.Lane.offer.Goals as goal
 
@@ -31,3 +31,9 @@ returns-then-is_current-clause-in_history c = c.a_lane_stands_for_frames_and_a_h
 
 pub returns-else-is_current-clause-in_history : goal.returns-else-is_current-clause-in_history
 returns-else-is_current-clause-in_history c = c.a_lane_stands_for_frames_and_a_history.ensures.takes c.args.self.now c.offer_first.new.self (frame_data c.args.frame.now) c.args.drawn.version (arc_value c.args.drawn.program) c.offer_first.result.value (pieces_data c.offer_first.result.pieces.items) (returns-else-is_current-clause-value c) (returns-else-is_current-clause-met c) (returns-else-is_current-clause-pieces c)
+
+pub returns-then-is_current-clause-ready : goal.returns-then-is_current-clause-ready
+returns-then-is_current-clause-ready c =
+    ap (λ (lane : LaneState). lane.ready) c.offer_next.ensures.lane
+    ∙ (next_ready c.args.self.now (frame_data c.args.frame.now) c.offer_next.result.value c.requires.ready
+    ∙ ap has_no_packet (sym c.offer_next.ensures.pieces))
