@@ -5,8 +5,8 @@
 mod frames;
 mod header;
 mod laws;
+mod length;
 mod limit;
-mod packet_len;
 mod records;
 
 pub use frames::{
@@ -20,10 +20,11 @@ pub use laws::{
     body_has_one_reading, header_has_one_spelling, least_limit_holds_the_longest_frame,
     packets_have_their_lengths, record_has_one_reading, the_limits_of_a_packet,
 };
+pub use length::packet_len;
 pub use limit::{Limit, MIN_LIMIT};
 pub use records::{
-    END_RECORD_LEN, MAX_PROGRAM_RECORD_LEN, ProgramRecord, Record, RecordFault, decode_record,
-    end_body, program_body,
+    END_RECORD_LEN, INSN_LEN, MAX_PROGRAM_RECORD_LEN, PROGRAM_HEAD_LEN, ProgramRecord, Record,
+    RecordFault, decode_record, end_body, program_body,
 };
 
 #[cfg(test)]

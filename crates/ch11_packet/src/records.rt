@@ -22,10 +22,10 @@ pub(crate) const END_RECORD: u16 = 2;
 pub(crate) const RECORD_HEAD_LEN: usize = 12;
 
 /// The number of bytes of a program's record before its instructions.
-pub(crate) const PROGRAM_HEAD_LEN: usize = 28;
+pub const PROGRAM_HEAD_LEN: usize = 28;
 
 /// The number of bytes of an instruction in a program's record.
-pub(crate) const INSN_LEN: usize = 8;
+pub const INSN_LEN: usize = 8;
 
 /// The greatest number of bytes of a program's record that is written.
 pub const MAX_PROGRAM_RECORD_LEN: usize = PROGRAM_HEAD_LEN + INSN_LEN * MAX_INSNS;

@@ -9,8 +9,8 @@ use crate::frames::body::DataBody;
 use crate::frames::word::{
     BODY_WORD_LEN, CRC_ERROR, FRAME_ERROR, FRAME_HEADER_LEN, MAX_SPEED, frame_len,
 };
+use crate::length::packet_len;
 use crate::limit::Limit;
-use crate::packet_len::packet_len;
 use eth_frame::{Frame, counter_bytes};
 use std::alloc::{AllocError, Global};
 use std::marker::Model;

@@ -5,7 +5,7 @@ ghost use Rattle.ch11_packet.specs.PacketLen.{packet_len};
 use crate::header::HEADER_LEN;
 
 /// The length of a packet with `data_len` bytes of data, with its header and its filler.
-pub(crate) fn packet_len(data_len: usize) -> usize
+pub fn packet_len(data_len: usize) -> usize
     requires { packet_len data_len < 2 ^ 64 }
     ensures { result ≡ packet_len data_len }
 {
