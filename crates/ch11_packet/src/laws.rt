@@ -56,13 +56,11 @@ pub fn packets_have_their_lengths()
     ensures ending { (end : EndData) → length (end_bytes end) ≡ END_RECORD_LEN }
 {}
 
-/// Law: a packet of frames has at most 524,288 bytes; a record of an end has 28, and one of a
-/// program at most 4,124.
+/// Law: a packet of frames has at most 524,288 bytes, and a record of a program at most 4,124.
 pub fn the_limits_of_a_packet()
     ensures ethernet { MAX_ETHERNET_PACKET_LEN ≡ 524288 }
     ensures header { HEADER_LEN ≡ 24 }
     ensures program { MAX_PROGRAM_RECORD_LEN ≡ 4124 }
-    ensures ending { END_RECORD_LEN ≡ 28 }
 {}
 
 /// Law: bytes are the body of one list of frames at most; a body that is written is one of its

@@ -20,17 +20,6 @@ const BODY: &str = "01000000 100000000000 0000 12000003 ffffffffffff 02000000000
 const ODD_BODY: &str =
     "01000000 100000000000 0000 13000003 ffffffffffff 020000000001 0806 a1b2c3d4 e5 00";
 
-/// A program that keeps nothing, as version 0 of channel 1 from frame 0 on.
-const REJECTING: &str = "00000000 43425052 0100 0100 00000000 0000000000000000 0100 0000 \
-    0600000000000000";
-
-/// A program that keeps frames, as version 1 of channel 1 from frame 1 on.
-const ACCEPTING: &str = "00000000 43425052 0100 0100 01000000 0100000000000000 0100 0000 \
-    0600000001000000";
-
-/// The end of channel 1 after two frames, of which one was kept.
-const END: &str = "00000000 43425052 0200 0100 0200000000000000 0100000000000000";
-
 /// The `N` bytes of a hexadecimal text, in which spaces may stand.
 fn bytes<const N: usize>(alloc: Global, text: &str) -> Result<[u8; N], Fail> {
     let digits = text.replace(alloc, " ", "")?;

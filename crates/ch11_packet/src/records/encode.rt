@@ -4,13 +4,16 @@ ghost use Rattle.arrayvec.specs.ArrayVec.{array_vec_len};
 ghost use Rattle.ch11_packet.specs.Records.{program_bytes, end_bytes};
 
 use crate::records::{
-    END_RECORD, MAX_PROGRAM_RECORD_LEN, PROGRAM_HEAD_LEN, PROGRAM_RECORD, RECORD_TAG,
+    END_RECORD, MAX_PROGRAM_RECORD_LEN, PROGRAM_HEAD_LEN, PROGRAM_RECORD, RECORD_HEAD_LEN,
+    RECORD_TAG,
 };
 use arrayvec::ArrayVec;
 use bpf_verify::Verified;
 
 /// The number of bytes of the record of a channel's end.
-pub const END_RECORD_LEN: usize = 28;
+pub const END_RECORD_LEN: usize = RECORD_HEAD_LEN + 2 * 8;
+
+const _: () = prove!(END_RECORD_LEN == 28);
 
 /// The body of a program's record: the program that was in force on a channel as this version, from
 /// frame `first` on.

@@ -1,6 +1,17 @@
 //! The recording's own records, written and read.
 use super::*;
 
+/// A program that keeps nothing, as version 0 of channel 1 from frame 0 on.
+const REJECTING: &str = "00000000 43425052 0100 0100 00000000 0000000000000000 0100 0000 \
+    0600000000000000";
+
+/// A program that keeps frames, as version 1 of channel 1 from frame 1 on.
+const ACCEPTING: &str = "00000000 43425052 0100 0100 01000000 0100000000000000 0100 0000 \
+    0600000001000000";
+
+/// The end of channel 1 after two frames, of which one was kept.
+const END: &str = "00000000 43425052 0200 0100 0200000000000000 0100000000000000";
+
 #[test]
 fn records_are_written(rt: HostRuntime) -> Result<(), Fail> {
     for (version, first, listing, text) in [
