@@ -1,0 +1,221 @@
+-- What a writer stands for after a packet, and after a part of one.
+use Rattle.std.proofs.Common.{◌⊎◌, inl, inr, ℕ, zero, suc, ◌+◌, ◌≡◌, ◌≢◌, ◌<◌, ◌≤◌, List, [], ◌∷◌, ◌++◌, length, take, drop, map, All, Option, None, Some, get_or, refl, sym, ◌∙◌, ap, subst, arith, if◌then◌else◌}
+use Rattle.std.specs.Prelude.{slice_get, ◌-◌, replicate, slice_set, ◌%◌, ◌^◌, ◌==◌, min, count_by, Bool, true, false}
+use Rattle.std.specs.Io.KnownBytes.{Appends}
+use Rattle.std.proofs.KnownBytes.{Appends-trans}
+use Rattle.std.proofs.lemmas.List.{append_assoc, append-nil, length-append, length-map, length-set, length-drop, length-take-le, take-append-drop, get_or-set_other}
+use Rattle.std.proofs.lemmas.List.Sums.{sum_by-append}
+use Rattle.std.proofs.lemmas.Bool.{cases_Bool, cases_lt, cases_eq, eq-eqb, eqb-true}
+use Rattle.std.proofs.lemmas.Grind.{get_or-set_at}
+use Rattle.std.proofs.Math.Seq.{map-set_same}
+use Rattle.std.proofs.lemmas.Option.{slice_get_within, get_or_from_slice_get}
+use Rattle.rec_writer.proofs.Places.{channel_at, other_default}
+use Rattle.rec_lane.specs.Pieces.{PieceData}
+use Rattle.rec_writer.specs.declared.numbers.Numbered.{Numbered}
+use Rattle.rec_writer.specs.Encoding.{packet_of, packet_channel, packet_kind, packet_counter, has_channel, next_sequence, output_after, writer_output}
+use Rattle.rec_writer.specs.Numbers.{channels_in, AreNext, AreDistinct, with_packet, fresh_numbers}
+use Rattle.std.proofs.lemmas.List.Elements.{All-map}
+use Rattle.rec_writer.specs.Writers.{WriterState, HasWritten, IsCut, IsWriter, HasParts}
+use Rattle.ch11_packet.specs.Header.{header_bytes, header_of}
+use Rattle.ch11_packet.specs.PacketLen.{packet_len}
+use Rattle.ch11_packet.specs.Packet.{packet_bytes, packet_filler}
+
+-- the packet of a further piece goes behind the others
+pub output_more : (version : ℕ) (earlier pieces : List PieceData) (piece : PieceData)
+    → output_after version earlier (pieces ++ piece ∷ []) ≡ output_after version earlier pieces ++ packet_of piece version (next_sequence (earlier ++ pieces) (packet_channel piece))
+output_more version earlier [] piece = append-nil (packet_of piece version (next_sequence earlier (packet_channel piece))) ∙ ap (λ ps. packet_of piece version (next_sequence ps (packet_channel piece))) (sym (append-nil earlier))
+output_more version earlier (p ∷ ps) piece =
+    let first = packet_of p version (next_sequence earlier (packet_channel p)) in
+    ap (λ bytes. first ++ bytes) (output_more version (earlier ++ p ∷ []) ps piece ∙ ap (λ qs. output_after version (earlier ++ p ∷ []) ps ++ packet_of piece version (next_sequence qs (packet_channel piece))) (append_assoc earlier (p ∷ []) ps))
+    ∙ sym (append_assoc first (output_after version (earlier ++ p ∷ []) ps) (packet_of piece version (next_sequence (earlier ++ p ∷ ps) (packet_channel piece))))
+
+-- ---- the numbers
+
+-- the number that stands at an index
+abbrev pub number_at : List Numbered → ℕ → Numbered
+number_at numbers at = get_or numbers at (record { channel = 0; next = 0 })
+
+counted_more : (pieces : List PieceData) (piece : PieceData) (channel : ℕ) → count_by (has_channel channel) (pieces ++ piece ∷ []) ≡ count_by (has_channel channel) pieces + (if packet_channel piece == channel then 1 else 0)
+counted_more pieces piece channel = sum_by-append (λ (p : PieceData). if has_channel channel p then 1 else 0) pieces (piece ∷ []) ∙ omega arith
+
+pub sequence_same : (pieces : List PieceData) (piece : PieceData) (channel : ℕ) → packet_channel piece ≡ channel → next_sequence (pieces ++ piece ∷ []) channel ≡ (next_sequence pieces channel + 1) % 256
+sequence_same pieces piece channel same =
+    let here : (packet_channel piece == channel) ≡ true = eq-eqb (packet_channel piece) channel same in
+    let count = counted_more pieces piece channel ∙ ap (λ b. count_by (has_channel channel) pieces + (if b then 1 else 0)) here in
+    ap (λ n. n % 256) count ∙ omega arith
+
+pub sequence_other : (pieces : List PieceData) (piece : PieceData) (channel : ℕ) → packet_channel piece ≢ channel → next_sequence (pieces ++ piece ∷ []) channel ≡ next_sequence pieces channel
+sequence_other pieces piece channel other = elim (cases_Bool (packet_channel piece == channel)) as (λ _. next_sequence (pieces ++ piece ∷ []) channel ≡ next_sequence pieces channel) [
+  | inl same ↦ absurd (other (eqb-true (packet_channel piece) channel same))
+  | inr not_same ↦ (let count = counted_more pieces piece channel ∙ ap (λ b. count_by (has_channel channel) pieces + (if b then 1 else 0)) not_same in ap (λ n. n % 256) (count ∙ omega arith))
+]
+
+-- channel IDs that stand at two indexes differ
+apart : (channels : List ℕ) (i j : ℕ) → AreDistinct channels → i < length channels → j < length channels → i ≢ j → get_or channels i 0 ≢ get_or channels j 0
+apart channels i j distinct below_i below_j other = elim (cases_lt i j) as (λ _. get_or channels i 0 ≢ get_or channels j 0) [
+  | inl before ↦ distinct i j 0 before below_j
+  | inr after ↦ (λ same. distinct j i 0 (omega (arith, after, other)) below_i (sym same))
+]
+
+-- the numbers after the piece's packet are those of the packets to come
+pub next_numbers : (pieces : List PieceData) (piece : PieceData) (numbers : List Numbered) (at : ℕ)
+    → AreDistinct (channels_in numbers) → slice_get (channels_in numbers) at ≡ Some (packet_channel piece)
+    → AreNext pieces numbers → AreNext (pieces ++ piece ∷ []) (with_packet numbers at)
+next_numbers pieces piece numbers at distinct there next = λ k d within.
+    let number : Numbered = number_at numbers at in
+    let more : Numbered = record { channel = number.channel; next = (number.next + 1) % 256 } in
+    let count = length-map numbers (λ (n : Numbered). n.channel) in
+    let same_count = length-set numbers at more in
+    let below : at < length numbers = (let e = slice_get_within (channels_in numbers) at (packet_channel piece) there in omega (arith, e, count)) in
+    let below_k : k < length numbers = omega (arith, within, same_count) in
+    let channel : packet_channel piece ≡ number.channel = sym (get_or_from_slice_get (channels_in numbers) at (packet_channel piece) 0 there) ∙ channel_at numbers at in
+    let sequence : number.next ≡ next_sequence pieces number.channel = next at (record { channel = 0; next = 0 }) below in
+    elim (cases_eq k at) as (λ _. (get_or (slice_set numbers at more) k d).next ≡ next_sequence (pieces ++ piece ∷ []) (get_or (slice_set numbers at more) k d).channel) [
+      | inl same ↦ (
+          let is : get_or (slice_set numbers at more) k d ≡ more = get_or-set_at numbers at k more d same below in
+          ap (λ (n : Numbered). n.next) is
+          ∙ (ap (λ n. (n + 1) % 256) sequence
+          ∙ (sym (sequence_same pieces piece number.channel channel)
+          ∙ ap (λ (n : Numbered). next_sequence (pieces ++ piece ∷ []) n.channel) (sym is))))
+      | inr other ↦ (
+          let is : get_or (slice_set numbers at more) k d ≡ get_or numbers k d = get_or-set_other numbers at k more d other in
+          let differs : packet_channel piece ≢ (get_or numbers k d).channel = λ e.
+              apart (channels_in numbers) at k distinct (omega (arith, below, count)) (omega (arith, below_k, count)) (λ f. other (sym f))
+              (channel_at numbers at ∙ (sym channel ∙ (e ∙ (ap (λ (n : Numbered). n.channel) (other_default numbers k d (record { channel = 0; next = 0 }) below_k) ∙ sym (channel_at numbers k))))) in
+          ap (λ (n : Numbered). n.next) is
+          ∙ (next k d below_k
+          ∙ (sym (sequence_other pieces piece (get_or numbers k d).channel differs)
+          ∙ ap (λ (n : Numbered). next_sequence (pieces ++ piece ∷ []) n.channel) (sym is))))
+    ]
+
+-- the channel IDs are as before
+pub same_channels : (numbers : List Numbered) (at : ℕ) → channels_in (with_packet numbers at) ≡ channels_in numbers
+same_channels numbers at =
+    let number : Numbered = number_at numbers at in
+    map-set_same (λ (n : Numbered). n.channel) numbers at (record { channel = number.channel; next = (number.next + 1) % 256 }) (record { channel = 0; next = 0 }) refl
+
+-- ---- a packet
+
+sequence_at : (pieces : List PieceData) (piece : PieceData) (numbers : List Numbered) (at : ℕ)
+    → slice_get (channels_in numbers) at ≡ Some (packet_channel piece) → AreNext pieces numbers
+    → (number_at numbers at).next ≡ next_sequence pieces (packet_channel piece)
+sequence_at pieces piece numbers at there next =
+    let count = length-map numbers (λ (n : Numbered). n.channel) in
+    let below : at < length numbers = (let e = slice_get_within (channels_in numbers) at (packet_channel piece) there in omega (arith, e, count)) in
+    next at (record { channel = 0; next = 0 }) below
+    ∙ ap (next_sequence pieces) (sym (channel_at numbers at) ∙ get_or_from_slice_get (channels_in numbers) at (packet_channel piece) 0 there)
+
+pub put_whole : (old new : WriterState) (piece : PieceData) (at : ℕ)
+    → AreDistinct (channels_in old.numbers) → slice_get (channels_in old.numbers) at ≡ Some (packet_channel piece)
+    → new.version ≡ old.version → new.whole ≡ min (old.whole + 1) (2 ^ 64 - 1) → new.bytes ≡ old.bytes → new.numbers ≡ with_packet old.numbers at
+    → Appends old.held new.held (packet_of piece old.version (number_at old.numbers at).next)
+    → (first : Option (List ℕ)) (pieces : List PieceData) → HasWritten first pieces [] old → HasWritten first (pieces ++ piece ∷ []) [] new
+put_whole old new piece at distinct there version whole bytes numbers sent first pieces h = record {
+  whole_is = (let e = h.whole_is in let l = length-append pieces (piece ∷ []) in omega (arith, whole, e, l));
+  bytes_is = bytes ∙ h.bytes_is;
+  held_is =
+      let all : writer_output old.version (pieces ++ piece ∷ []) ++ [] ≡ (writer_output old.version pieces ++ []) ++ packet_of piece old.version (number_at old.numbers at).next =
+          append-nil (writer_output old.version (pieces ++ piece ∷ []))
+          ∙ (output_more old.version [] pieces piece
+          ∙ (ap (λ bs. bs ++ packet_of piece old.version (next_sequence pieces (packet_channel piece))) (sym (append-nil (writer_output old.version pieces)))
+          ∙ ap (λ n. (writer_output old.version pieces ++ []) ++ packet_of piece old.version n) (sym (sequence_at pieces piece old.numbers at there h.numbers_are)))) in
+      subst (λ v. Appends first new.held (writer_output v (pieces ++ piece ∷ []) ++ [])) (sym version)
+      (subst (λ bs. Appends first new.held bs) (sym all) (Appends-trans _ _ _ _ _ h.held_is sent));
+  numbers_are = subst (λ ns. AreNext (pieces ++ piece ∷ []) ns) (sym numbers) (next_numbers pieces piece old.numbers at distinct there h.numbers_are);
+}
+
+-- ---- a part of one
+
+some_left : {X : Type 0} (n : ℕ) (xs : List X) → n < length xs → drop n xs ≢ []
+some_left n xs below empty = (let e = ap (λ ys. length ys) empty in let l = length-drop n xs in omega (arith, e, l, below))
+
+pub put_part : (old new : WriterState) (piece : PieceData) (at n : ℕ)
+    → slice_get (channels_in old.numbers) at ≡ Some (packet_channel piece)
+    → new.version ≡ old.version → new.whole ≡ old.whole → new.bytes ≡ n → new.numbers ≡ old.numbers
+    → n < length (packet_of piece old.version (number_at old.numbers at).next)
+    → Appends old.held new.held (take n (packet_of piece old.version (number_at old.numbers at).next))
+    → (first : Option (List ℕ)) (pieces : List PieceData) → HasWritten first pieces [] old
+    → (cut : List ℕ) × IsCut old.version pieces piece cut × HasWritten first pieces cut new
+put_part old new piece at n there version whole bytes numbers below sent first pieces h =
+    let packet = packet_of piece old.version (number_at old.numbers at).next in
+    let same : packet ≡ packet_of piece old.version (next_sequence pieces (packet_channel piece)) = ap (packet_of piece old.version) (sequence_at pieces piece old.numbers at there h.numbers_are) in
+    (take n packet,
+      record {
+        rest = drop n packet;
+        some = some_left n packet below;
+        front = take-append-drop n packet ∙ same;
+      },
+      record {
+        whole_is = whole ∙ h.whole_is;
+        bytes_is = bytes ∙ sym (length-take-le n packet (omega (arith, below)));
+        held_is =
+            subst (λ v. Appends first new.held (writer_output v pieces ++ take n packet)) (sym version)
+            (subst (λ bs. Appends first new.held (bs ++ take n packet)) (append-nil (writer_output old.version pieces)) (Appends-trans _ _ _ _ _ h.held_is sent));
+        numbers_are = subst (λ ns. AreNext pieces ns) (sym numbers) h.numbers_are;
+      })
+
+-- ---- a writer that has written nothing
+
+pub appends_none : (held : Option (List ℕ)) → Appends held held []
+appends_none None = tt
+appends_none (Some bytes) = sym (append-nil bytes)
+
+fresh_channels : (channels : List ℕ) → map (λ (n : Numbered). n.channel) (map (λ (channel : ℕ). record { channel = channel; next = 0 }) channels) ≡ channels
+fresh_channels [] = refl
+fresh_channels (c ∷ cs) = ap (λ xs. c ∷ xs) (fresh_channels cs)
+
+pub fresh_are : (channels : List ℕ) → channels_in (fresh_numbers channels) ≡ 0 ∷ channels
+fresh_are channels = ap (λ xs. 0 ∷ xs) (fresh_channels channels)
+
+pub fresh_next : (channels : List ℕ) → AreNext [] (fresh_numbers channels)
+fresh_next channels = All-map (λ (n : Numbered). n.next ≡ next_sequence [] n.channel) (λ (channel : ℕ). record { channel = channel; next = 0 }) (0 ∷ channels) (λ k d within. refl)
+
+pub fresh_distinct : (channels : List ℕ) → All (λ (channel : ℕ). channel ≢ 0) channels → AreDistinct channels → AreDistinct (0 ∷ channels)
+fresh_distinct channels named distinct zero (suc j) d before within = λ e. named j d (omega (arith, within)) (sym e)
+fresh_distinct channels named distinct (suc i) (suc j) d before within = distinct i j d (omega (arith, before)) (omega (arith, within))
+fresh_distinct channels named distinct zero zero d before within = absurd (omega (arith, before))
+fresh_distinct channels named distinct (suc i) zero d before within = absurd (omega (arith, before))
+
+-- ---- what its fields hold
+
+pub still_writer : (numbers : List Numbered) (at bytes : ℕ) (failed : Bool) → IsWriter numbers bytes failed → IsWriter (with_packet numbers at) bytes failed
+still_writer numbers at bytes failed w = record {
+  records = ap (λ cs. slice_get cs 0) (same_channels numbers at) ∙ w.records;
+  distinct = subst AreDistinct (sym (same_channels numbers at)) w.distinct;
+  none_cut = w.none_cut;
+}
+
+pub zeros_taken : (k : ℕ) → k ≤ 3 → take {A = ℕ} k (0 ∷ 0 ∷ 0 ∷ []) ≡ replicate k 0
+zeros_taken zero few = refl
+zeros_taken (suc zero) few = refl
+zeros_taken (suc (suc zero)) few = refl
+zeros_taken (suc (suc (suc zero))) few = refl
+zeros_taken (suc (suc (suc (suc k)))) few = absurd (omega (arith, few))
+
+-- the parts of a piece's packet, put together, are the packet
+pub parts_are : (piece : PieceData) (version sequence channel kind counter : ℕ) (body header filler : List ℕ)
+    → HasParts piece channel kind counter body
+    → header ≡ header_bytes (header_of channel (packet_len (length body)) (length body) version sequence 0 kind counter)
+    → filler ≡ packet_filler (length body)
+    → header ++ (body ++ filler) ≡ packet_of piece version sequence
+parts_are piece version sequence channel kind counter body header filler parts headed filled =
+    ap (λ h. h ++ (body ++ filler)) headed
+    ∙ (ap (λ f. header_bytes (header_of channel (packet_len (length body)) (length body) version sequence 0 kind counter) ++ (body ++ f)) filled
+    ∙ sym (
+      ap (λ b. packet_bytes (header_of (packet_channel piece) (packet_len (length b)) (length b) version sequence 0 (packet_kind piece) (packet_counter piece)) b) parts.body_is
+      ∙ (ap (λ n. packet_bytes (header_of n (packet_len (length body)) (length body) version sequence 0 (packet_kind piece) (packet_counter piece)) body) parts.channel_is
+      ∙ (ap (λ n. packet_bytes (header_of channel (packet_len (length body)) (length body) version sequence 0 n (packet_counter piece)) body) parts.kind_is
+      ∙ ap (λ n. packet_bytes (header_of channel (packet_len (length body)) (length body) version sequence 0 kind n) body) parts.counter_is))))
+
+-- the filler, out of three zero bytes
+pub filler_is : (data_len len : ℕ) → len ≡ packet_len data_len → take {A = ℕ} (len - 24 - data_len) (0 ∷ 0 ∷ 0 ∷ []) ≡ packet_filler data_len
+filler_is data_len len is =
+    let same : len - 24 - data_len ≡ packet_len data_len - (24 + data_len) = omega (arith, is) in
+    zeros_taken (len - 24 - data_len) (omega (arith, is)) ∙ ap (λ k. replicate k 0) same
+
+pub below_packet : (header body filler packet : List ℕ) (n : ℕ) → header ++ (body ++ filler) ≡ packet → n < length header + length body + length filler → n < length packet
+below_packet header body filler packet n same below =
+    let outer = length-append header (body ++ filler) in
+    let inner = length-append body filler in
+    let all = ap (λ (bs : List ℕ). length bs) same in
+    omega (arith, outer, inner, all, below)

@@ -1,0 +1,4 @@
+pub mod Encoding
+pub mod Recording
+pub mod Numbers
+pub mod Writers

@@ -1,0 +1,90 @@
+-- What a writer holds, and the pieces that it stands for.
+use Rattle.std.specs.Prelude.{ℕ, ◌≡◌, ◌≢◌, ◌+◌, ◌-◌, ◌^◌, ◌<◌, ◌≤◌, Bool, true, false, min, List, [], ◌∷◌, ◌++◌, length, Contains, Option, slice_get, Some}
+use Rattle.std.specs.Io.KnownBytes.{Appends}
+use Rattle.rec_lane.specs.Pieces.{PieceData}
+use Rattle.rec_writer.specs.Encoding.{writer_output, packet_of, packet_channel, packet_kind, packet_counter, piece_bytes, next_sequence}
+use Rattle.rec_writer.specs.Numbers.{AreNext, channels_in, AreDistinct}
+use Rattle.rec_writer.specs.declared.numbers.Numbered.{Numbered}
+use Rattle.rec_writer.specs.declared.fault.WriteFault.{WriteFault}
+use Rattle.rec_writer.specs.declared.fault.WriteFault.TheVariants.{Output, Failed}
+
+-- a writer: what its output holds, if that is known, the data type version of its packets, the
+-- numbers of the packets to come, how many pieces went out whole, how many bytes of the next one
+-- did, and whether the output failed
+pub record WriterState : Type 0 where
+  pub held : Option (List ℕ)
+  pub version : ℕ
+  pub numbers : List Numbered
+  pub whole : ℕ
+  pub bytes : ℕ
+  pub failed : Bool
+
+-- it is a writer of this channel
+abbrev pub Knows : WriterState → ℕ → Type 0
+Knows writer channel = (channel ≢ 0) × Contains (channels_in writer.numbers) channel
+
+-- ---- what a writer stands for
+
+-- since its output held `first`, the pieces went out whole, and then these bytes
+pub record HasWritten
+    (first : Option (List ℕ)) (pieces : List PieceData) (cut : List ℕ) (writer : WriterState)
+    : Type 0 where
+  pub whole_is : writer.whole ≡ min (length pieces) (2 ^ 64 - 1)
+  pub bytes_is : writer.bytes ≡ length cut
+  pub held_is : Appends first writer.held (writer_output writer.version pieces ++ cut)
+  pub numbers_are : AreNext pieces writer.numbers
+
+-- the bytes are the beginning of the piece's packet after these pieces, and not all of it
+pub record IsCut (version : ℕ) (pieces : List PieceData) (piece : PieceData) (cut : List ℕ)
+    : Type 0 where
+  pub rest : List ℕ
+  pub some : rest ≢ []
+  pub front : cut ++ rest
+      ≡ packet_of piece version (next_sequence pieces (packet_channel piece))
+
+-- ---- what a call did
+
+-- the piece went out whole, whatever the writer stood for
+pub record PutsWhole (old new : WriterState) (piece : PieceData) : Type 0 where
+  pub worked : old.failed ≡ false
+  pub works : new.failed ≡ false
+  pub stands : (first : Option (List ℕ)) (pieces : List PieceData)
+      → HasWritten first pieces [] old → HasWritten first (pieces ++ piece ∷ []) [] new
+
+-- the output failed in this call, and a part of the piece's packet went out
+pub record PutsPart (old new : WriterState) (piece : PieceData) : Type 0 where
+  pub worked : old.failed ≡ false
+  pub fails : new.failed ≡ true
+  pub stands : (first : Option (List ℕ)) (pieces : List PieceData)
+      → HasWritten first pieces [] old
+      → (cut : List ℕ) × IsCut old.version pieces piece cut × HasWritten first pieces cut new
+
+-- why a piece did not go out
+abbrev pub PutFails : WriterState → WriterState → PieceData → WriteFault → Type 0
+PutFails old new piece (Output whole bytes) =
+    PutsPart old new piece × (whole ≡ new.whole) × (bytes ≡ new.bytes)
+PutFails old new piece (Failed whole bytes) =
+    (old.failed ≡ true) × (new ≡ old) × (whole ≡ new.whole) × (bytes ≡ new.bytes)
+
+-- why a writer did not finish: the flush failed, or the output had failed before
+abbrev pub FinishFails : WriterState → WriteFault → Type 0
+FinishFails writer (Output whole bytes) =
+    (writer.failed ≡ false) × (whole ≡ writer.whole) × (bytes ≡ 0)
+FinishFails writer (Failed whole bytes) =
+    (writer.failed ≡ true) × (whole ≡ writer.whole) × (bytes ≡ writer.bytes)
+
+-- the parts of a piece's packet
+pub record HasParts (piece : PieceData) (channel kind counter : ℕ) (body : List ℕ) : Type 0 where
+  pub channel_is : packet_channel piece ≡ channel
+  pub kind_is : packet_kind piece ≡ kind
+  pub counter_is : packet_counter piece ≡ counter
+  pub body_is : piece_bytes piece ≡ body
+
+-- ---- what its fields hold
+
+-- the first number is that of records, no channel ID stands twice, and a part of a packet went
+-- out only where the output failed
+pub record IsWriter (numbers : List Numbered) (bytes : ℕ) (failed : Bool) : Type 0 where
+  pub records : slice_get (channels_in numbers) 0 ≡ Some 0
+  pub distinct : AreDistinct (channels_in numbers)
+  pub none_cut : failed ≡ false → bytes ≡ 0

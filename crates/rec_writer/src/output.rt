@@ -1,0 +1,52 @@
+//! A packet's way to the output.
+
+ghost use Rattle.std.specs.Prelude.{◌≡◌, ◌+◌, ◌≤◌, ◌<◌, ◌^◌, ◌++◌, length, take, OnOk, IfErr, MatchResult};
+ghost use Rattle.std.specs.Io.KnownBytes.{Appends};
+
+use std::io::Write;
+
+/// Writes the parts of a packet one after the other: its header, its body and its filler. At `Err`
+/// it tells how many bytes went out.
+pub(crate) fn write_packet<W: Write>(
+    out: &mut W,
+    header: &[u8],
+    body: &[u8],
+    filler: &[u8],
+) -> Result<(), usize>
+    requires fits { length header.now + length body.now + length filler.now < 2 ^ 64 }
+    ensures whole { OnOk result (Appends (W.contents out.old) (W.contents out.new)
+        (header.now ++ (body.now ++ filler.now))) }
+    ensures part { IfErr result (λ n. (n < length header.now + length body.now + length filler.now)
+        × Appends (W.contents out.old) (W.contents out.new)
+        (take n (header.now ++ (body.now ++ filler.now)))) }
+{
+    match write_bytes(out, header) {
+        Ok(()) => {}
+        Err(written) => return Err(written),
+    }
+    match write_bytes(out, body) {
+        Ok(()) => {}
+        Err(written) => return Err(header.len() + written),
+    }
+    match write_bytes(out, filler) {
+        Ok(()) => Ok(()),
+        Err(written) => Err(header.len() + body.len() + written),
+    }
+}
+
+/// Writes bytes until all went out or the output failed. At `Err` it tells how many went out.
+fn write_bytes<W: Write>(out: &mut W, bytes: &[u8]) -> Result<(), usize>
+    ensures whole { OnOk result (Appends (W.contents out.old) (W.contents out.new) bytes.now) }
+    ensures part { IfErr result (λ n. (n < length bytes.now)
+        × Appends (W.contents out.old) (W.contents out.new) (take n bytes.now)) }
+{
+    let mut at = 0;
+    'writes: while at < bytes.len() {
+        match out.write(&bytes[at..]) {
+            Ok(0) => return Err(at),
+            Ok(written) => at += written,
+            Err(_) => return Err(at),
+        }
+    }
+    Ok(())
+}
