@@ -62,10 +62,10 @@ frame_more s offered x =
       | inr off ↦
           subst (λ gs. Begins (pieces_so_far s offered) (flat_map gp gs ++ open_group_pieces s (last_group (offered ++ x ∷ [])))) (sym (ended_off has_version [] offered x off))
           (subst (λ ps. Begins (pieces_so_far s offered) (ps ++ open_group_pieces s (last_group (offered ++ x ∷ []))))
-            (sym (flat_map-append gp (ended_groups offered) (group ∷ []) ∙ ap (λ ps. ended ++ ps) (append-nil (group_pieces s group) ∙ group_closed s group)))
+          (sym (flat_map-append gp (ended_groups offered) (group ∷ []) ∙ ap (λ ps. ended ++ ps) (append-nil (group_pieces s group) ∙ group_closed s group)))
           (begins_through (ended ++ open_group_pieces s group) (ended ++ (open_group_pieces s group ++ map (data_piece s) (as_part (last_packet s.limit (accepted group))))) _
-            (begins_after ended (open_group_pieces s group) _ (begins_more (open_group_pieces s group) _))
-            (begins_more _ (open_group_pieces s (last_group (offered ++ x ∷ []))))))
+          (begins_after ended (open_group_pieces s group) _ (begins_more (open_group_pieces s group) _))
+          (begins_more _ (open_group_pieces s (last_group (offered ++ x ∷ []))))))
     ]
 
 frames_more : (s : LaneSettings) (offered more : List OfferedFrame) → Begins (pieces_so_far s offered) (pieces_so_far s (offered ++ more))

@@ -28,7 +28,8 @@ begin_in_history one run leaves settings frames more history later so_far all ma
     let met_a : AllMet (history ++ later) a.0 = later_list leaves history later a.0 (subst (λ n. MarkedFrom n later) count marked) a.1 in
     let met_b : AllMet (history ++ later) parts.0 = from_front (history ++ later) 0 parts.0 parts.1 (subst (λ o. AllMet (history ++ later) o) (sym parts.3) b.1) in
     let same : a.0 ≡ parts.0 = one_list one run (history ++ later) a.0 parts.0 met_a met_b (a.2 ∙ sym parts.2) in
-    let begins = begin_all settings parts.0 parts.1 in
-    (begins.0,
+    let begins = begin_all settings parts.0 parts.1 in (
+      begins.0,
       ap (λ ps. ps ++ begins.0) (sym a.3 ∙ ap (λ o. pieces_so_far settings o) same)
-      ∙ (begins.1 ∙ (ap (λ o. channel_pieces settings o) parts.3 ∙ b.3)))
+          ∙ (begins.1 ∙ (ap (λ o. channel_pieces settings o) parts.3 ∙ b.3)),
+    )

@@ -93,14 +93,19 @@ some_from some run count history h number (f ∷ fs) =
     let valid : Valid force.entry.program = all_at (λ (v : Version). Valid v.program) history version force.entry force.stands h.valid in
     let ran = run force.entry.program (view f) valid in
     let rest = some_from some run count history h (number + 1) fs in
-    let x : OfferedFrame = record { number = number; frame = f; version = version; program = force.entry.program; value = ran.1 } in
-    (x ∷ rest.0,
-      (refl, record {
-        in_force = force;
-        program = program_there history number version force;
-        ran = (ran.0, ran.2);
-      }, rest.1),
-      ap (λ xs. f ∷ xs) rest.2)
+    let x : OfferedFrame = record { number = number; frame = f; version = version; program = force.entry.program; value = ran.1 } in (
+      x ∷ rest.0,
+      (
+        refl,
+        record {
+          in_force = force;
+          program = program_there history number version force;
+          ran = (ran.0, ran.2);
+        },
+        rest.1,
+      ),
+      ap (λ xs. f ∷ xs) rest.2,
+    )
 
 pub some_list : SomeInForce → SomeRun → (count : ℕ) (history : List Version) (frames : List FrameData) → IsHistory count history → (offered : List OfferedFrame) × AllMet history offered × (frames_of offered ≡ frames)
 some_list some run count history frames h = some_from some run count history h 0 frames
@@ -214,9 +219,10 @@ takes_frame one run leaves old new f version program value given ran met pieces 
     } in
     let all : AllMet (history ++ more) (offered ++ x ∷ []) = from_append (history ++ more) 0 offered (x ∷ []) later (omega (arith, number), last_met, tt) in
     let framed : frames_of (offered ++ x ∷ []) ≡ frames ++ f ∷ [] = map-append (λ (o : OfferedFrame). o.frame) offered (x ∷ []) ∙ ap (λ fs. fs ++ f ∷ []) stands.2 in
-    let same : so_far.0 ≡ offered = one_list one run history so_far.0 offered so_far.1 stands.1 (so_far.2 ∙ sym stands.2) in
-    ((offered ++ x ∷ [], all, framed, met offered stands.3),
-      (offered ++ x ∷ [], all, framed, pieces offered stands.3 ∙ ap (λ ps. ps ++ given) (ap (λ o. pieces_so_far old.settings o) (sym same) ∙ so_far.3)))
+    let same : so_far.0 ≡ offered = one_list one run history so_far.0 offered so_far.1 stands.1 (so_far.2 ∙ sym stands.2) in (
+      (offered ++ x ∷ [], all, framed, met offered stands.3),
+      (offered ++ x ∷ [], all, framed, pieces offered stands.3 ∙ ap (λ ps. ps ++ given) (ap (λ o. pieces_so_far old.settings o) (sym same) ∙ so_far.3)),
+    )
 
 pub ends : OneInForce → OneRun → (lane : LaneState) (given : List PieceData)
     → ((offered : List OfferedFrame) → HasMet lane offered → channel_pieces lane.settings offered ≡ pieces_so_far lane.settings offered ++ given)

@@ -252,7 +252,7 @@ first_of_more old before x begun h off =
     let group = last_group before in
     let ended = flat_map (group_pieces s) (ended_groups before) in
     let all : group_pieces s group ≡ open_group_pieces s group ++ closed_pieces old =
-        group_closed s group ∙ ap (λ fs. open_group_pieces s group ++ map (data_piece s) (as_part fs)) (sym h.pending_is) in
+    group_closed s group ∙ ap (λ fs. open_group_pieces s group ++ map (data_piece s) (as_part fs)) (sym h.pending_is) in
     ap (λ gs. flat_map (group_pieces s) gs ++ begun ∷ []) (ended_off has_version [] before x off)
     ∙ (ap (λ ps. ps ++ begun ∷ []) (flat_map-append (group_pieces s) (ended_groups before) (group ∷ []) ∙ ap (λ ps. ended ++ ps) (append-nil (group_pieces s group) ∙ all))
     ∙ (ap (λ ps. ps ++ begun ∷ []) (sym (append_assoc ended (open_group_pieces s group) (closed_pieces old)))
@@ -298,8 +298,8 @@ first_pieces old before version program f value so roomy h =
     let runs = runs_new old.current version program so in
     let begun = begun_piece old version program f in
     let alone : open_group_pieces s (x ∷ []) ≡ begun ∷ [] =
-        ap (λ ps. program_piece s (x ∷ []) ++ map (data_piece s) ps) (one_frame s.limit x roomy)
-        ∙ (append-nil (program_piece s (x ∷ [])) ∙ (ap (λ n. OfProgram s.channel f.counter version n (running old.current version program) ∷ []) refl ∙ ap (λ p. OfProgram s.channel f.counter version old.offered p ∷ []) runs)) in
+    ap (λ ps. program_piece s (x ∷ []) ++ map (data_piece s) ps) (one_frame s.limit x roomy)
+    ∙ (append-nil (program_piece s (x ∷ [])) ∙ (ap (λ n. OfProgram s.channel f.counter version n (running old.current version program) ∷ []) refl ∙ ap (λ p. OfProgram s.channel f.counter version old.offered p ∷ []) runs)) in
     ap (λ g. flat_map gp (ended_groups (before ++ x ∷ [])) ++ open_group_pieces s g) last
     ∙ (ap (λ ps. flat_map gp (ended_groups (before ++ x ∷ [])) ++ ps) alone
     ∙ elim (cases_shape (last_group before)) as (λ _. flat_map gp (ended_groups (before ++ x ∷ [])) ++ begun ∷ [] ≡ pieces_so_far s before ++ begun_pieces old version program f) [
@@ -328,7 +328,7 @@ pub next_ready : (old : LaneState) (f : FrameData) (value : ℕ) → old.ready �
 next_ready old f value ready = elim (cases_Bool (value == 0)) as (λ _. (frame_judged (frame_counted old f) f value).ready ≡ has_no_packet (judged_pieces old f value)) [
   | inl zero_value ↦ rw zero_value ready
   | inr some_value ↦ rw some_value (elim (cases_Bool (has_room old.settings.limit old.pending f)) as (λ _. (frame_kept (frame_counted old f) f).ready ≡ has_no_packet (kept_pieces old f)) [
-      | inl room ↦ rw room ready
-      | inr none ↦ rw none (closed_ready old ready)
-    ])
+    | inl room ↦ rw room ready
+    | inr none ↦ rw none (closed_ready old ready)
+  ])
 ]

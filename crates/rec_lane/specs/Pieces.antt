@@ -119,3 +119,9 @@ abbrev pub has_no_packet : List PieceData → Bool
 has_no_packet [] = true
 has_no_packet (OfFrames channel body ∷ pieces) = false
 has_no_packet (piece ∷ pieces) = has_no_packet pieces
+
+-- the channel that a piece is of
+abbrev pub channel_of : PieceData → ℕ
+channel_of (OfProgram channel counter version first program) = channel
+channel_of (OfFrames channel body) = channel
+channel_of (OfEnd channel counter offered kept) = channel

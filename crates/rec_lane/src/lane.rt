@@ -40,13 +40,13 @@ impl Model for Lane {
     ghost Value = { LaneState };
 
     ghost view = { λ l. record {
-        settings = spec_data l.spec;
-        offered = l.offered;
-        kept = l.kept;
-        counter = l.counter;
-        current = current_of l.current;
-        pending = l.packet.frames;
-        ready = is_some l.spare;
+      settings = spec_data l.spec;
+      offered = l.offered;
+      kept = l.kept;
+      counter = l.counter;
+      current = current_of l.current;
+      pending = l.packet.frames;
+      ready = is_some l.spare;
     } };
 
     ghost invariant = { λ l. IsLane (spec_data l.spec) l.offered l.kept l.counter l.packet l.spare };
@@ -98,7 +98,10 @@ impl Lane {
     {
         if self.spare.is_none() {
             let LaneSpec {
-                net, speed, limit, ..
+                net,
+                speed,
+                limit,
+                ..
             } = self.spec;
             self.spare = Some(DataBuilder::with_limit(self.alloc, limit, net, speed)?);
         }
@@ -154,10 +157,10 @@ impl Lane {
         // The lane stands for one frame more, and the pieces are those that became certain.
         ensures met { (before : List OfferedFrame) → HasMet self.old before
             → HasMet self.new (before ++ offered_now self.old drawn.version
-                (arc_value drawn.program) (frame_data frame.now) result.value ∷ []) }
+            (arc_value drawn.program) (frame_data frame.now) result.value ∷ []) }
         ensures pieces { (before : List OfferedFrame) → HasMet self.old before
             → pieces_so_far self.old.settings (before ++ offered_now self.old drawn.version
-                (arc_value drawn.program) (frame_data frame.now) result.value ∷ [])
+            (arc_value drawn.program) (frame_data frame.now) result.value ∷ [])
             ≡ pieces_so_far self.old.settings before ++ pieces_data result.pieces.items }
         ensures settings { self.new.settings ≡ self.old.settings }
         // The lane is ready again unless a packet is among the pieces.
@@ -223,7 +226,7 @@ impl Lane {
         ensures value { RunsAs self.old.current (view (frame_data frame.now)) result.value }
         ensures lane { self.new
             ≡ frame_judged (frame_counted self.old (frame_data frame.now)) (frame_data frame.now)
-                result.value }
+            result.value }
         ensures pieces { pieces_data result.pieces.items
             ≡ judged_pieces self.old (frame_data frame.now) result.value }
         ensures roomy { has_room self.old.settings.limit [] (frame_data frame.now) ≡ true }
@@ -247,10 +250,10 @@ impl Lane {
             (view (frame_data frame.now)) steps result.value }
         ensures lane { self.new
             ≡ frame_of_new_version self.old drawn.version (arc_value drawn.program)
-                (frame_data frame.now) result.value }
+            (frame_data frame.now) result.value }
         ensures pieces { pieces_data result.pieces.items
             ≡ begun_pieces self.old drawn.version (arc_value drawn.program)
-                (frame_data frame.now) }
+            (frame_data frame.now) }
         ensures roomy { has_room self.old.settings.limit [] (frame_data frame.now) ≡ true }
     {
         let mut pieces = ArrayVec::new();
@@ -304,7 +307,7 @@ impl Lane {
             ≡ version_begun self.old drawn.version (arc_value drawn.program) }
         ensures piece { piece_data result
             ≡ begun_piece self.old drawn.version (arc_value drawn.program)
-                (frame_data frame.now) }
+            (frame_data frame.now) }
     {
         let Drawn {
             version,

@@ -77,14 +77,14 @@ pub(crate) fn a_lane_stands_for_frames_and_a_history()
         (value : ℕ) (given : List PieceData)
         → ((steps : ℕ) × Runs (running old.current version program) (view f) steps value)
         → ((before : List OfferedFrame) → HasMet old before
-            → HasMet new (before ++ offered_now old version program f value ∷ []))
+        → HasMet new (before ++ offered_now old version program f value ∷ []))
         → ((before : List OfferedFrame) → HasMet old before
-            → pieces_so_far old.settings (before ++ offered_now old version program f value ∷ [])
-            ≡ pieces_so_far old.settings before ++ given)
+        → pieces_so_far old.settings (before ++ offered_now old version program f value ∷ [])
+        ≡ pieces_so_far old.settings before ++ given)
         → TakesFrame old new f version program given }
     ensures ends { (lane : LaneState) (given : List PieceData)
         → ((offered : List OfferedFrame) → HasMet lane offered
-            → channel_pieces lane.settings offered ≡ pieces_so_far lane.settings offered ++ given)
+        → channel_pieces lane.settings offered ≡ pieces_so_far lane.settings offered ++ given)
         → Ends lane given }
 {
     one_version_is_in_force();

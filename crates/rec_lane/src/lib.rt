@@ -18,4 +18,3 @@ pub use laws::{
 pub use offered::Offered;
 pub use piece::{DataPiece, EndPiece, Piece, ProgramPiece};
 pub use spec::LaneSpec;
-

@@ -60,6 +60,24 @@ pub enum Piece {
     End(EndPiece),
 }
 
+impl Piece {
+    ghost use Rattle.std.specs.Prelude.{◌≡◌, ◌≢◌};
+    ghost use Rattle.rec_lane.specs.Pieces.{channel_of};
+    ghost use Rattle.rec_lane.specs.Views.{piece_data};
+
+    /// The channel that the piece is of, which is not 0.
+    pub fn channel(&self) -> u16
+        ensures channel { result ≡ channel_of (piece_data self.now) }
+        ensures named { result ≢ 0 }
+    {
+        match self {
+            Piece::Program(program) => program.channel,
+            Piece::Data(data) => data.channel,
+            Piece::End(end) => end.channel,
+        }
+    }
+}
+
 impl Default for Piece {
     /// The end of channel 1 with no frame: it stands in the free places of an `ArrayVec`.
     fn default() -> Piece {

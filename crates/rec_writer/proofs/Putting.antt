@@ -80,8 +80,8 @@ next_numbers pieces piece numbers at distinct there next = λ k d within.
       | inr other ↦ (
           let is : get_or (slice_set numbers at more) k d ≡ get_or numbers k d = get_or-set_other numbers at k more d other in
           let differs : packet_channel piece ≢ (get_or numbers k d).channel = λ e.
-              apart (channels_in numbers) at k distinct (omega (arith, below, count)) (omega (arith, below_k, count)) (λ f. other (sym f))
-              (channel_at numbers at ∙ (sym channel ∙ (e ∙ (ap (λ (n : Numbered). n.channel) (other_default numbers k d (record { channel = 0; next = 0 }) below_k) ∙ sym (channel_at numbers k))))) in
+          apart (channels_in numbers) at k distinct (omega (arith, below, count)) (omega (arith, below_k, count)) (λ f. other (sym f))
+          (channel_at numbers at ∙ (sym channel ∙ (e ∙ (ap (λ (n : Numbered). n.channel) (other_default numbers k d (record { channel = 0; next = 0 }) below_k) ∙ sym (channel_at numbers k))))) in
           ap (λ (n : Numbered). n.next) is
           ∙ (next k d below_k
           ∙ (sym (sequence_other pieces piece (get_or numbers k d).channel differs)
@@ -115,10 +115,10 @@ put_whole old new piece at distinct there version whole bytes numbers sent first
   bytes_is = bytes ∙ h.bytes_is;
   held_is =
       let all : writer_output old.version (pieces ++ piece ∷ []) ++ [] ≡ (writer_output old.version pieces ++ []) ++ packet_of piece old.version (number_at old.numbers at).next =
-          append-nil (writer_output old.version (pieces ++ piece ∷ []))
-          ∙ (output_more old.version [] pieces piece
-          ∙ (ap (λ bs. bs ++ packet_of piece old.version (next_sequence pieces (packet_channel piece))) (sym (append-nil (writer_output old.version pieces)))
-          ∙ ap (λ n. (writer_output old.version pieces ++ []) ++ packet_of piece old.version n) (sym (sequence_at pieces piece old.numbers at there h.numbers_are)))) in
+      append-nil (writer_output old.version (pieces ++ piece ∷ []))
+      ∙ (output_more old.version [] pieces piece
+      ∙ (ap (λ bs. bs ++ packet_of piece old.version (next_sequence pieces (packet_channel piece))) (sym (append-nil (writer_output old.version pieces)))
+      ∙ ap (λ n. (writer_output old.version pieces ++ []) ++ packet_of piece old.version n) (sym (sequence_at pieces piece old.numbers at there h.numbers_are)))) in
       subst (λ v. Appends first new.held (writer_output v (pieces ++ piece ∷ []) ++ [])) (sym version)
       (subst (λ bs. Appends first new.held bs) (sym all) (Appends-trans _ _ _ _ _ h.held_is sent));
   numbers_are = subst (λ ns. AreNext (pieces ++ piece ∷ []) ns) (sym numbers) (next_numbers pieces piece old.numbers at distinct there h.numbers_are);
@@ -138,8 +138,8 @@ pub put_part : (old new : WriterState) (piece : PieceData) (at n : ℕ)
     → (cut : List ℕ) × IsCut old.version pieces piece cut × HasWritten first pieces cut new
 put_part old new piece at n there version whole bytes numbers below sent first pieces h =
     let packet = packet_of piece old.version (number_at old.numbers at).next in
-    let same : packet ≡ packet_of piece old.version (next_sequence pieces (packet_channel piece)) = ap (packet_of piece old.version) (sequence_at pieces piece old.numbers at there h.numbers_are) in
-    (take n packet,
+    let same : packet ≡ packet_of piece old.version (next_sequence pieces (packet_channel piece)) = ap (packet_of piece old.version) (sequence_at pieces piece old.numbers at there h.numbers_are) in (
+      take n packet,
       record {
         rest = drop n packet;
         some = some_left n packet below;
@@ -152,7 +152,8 @@ put_part old new piece at n there version whole bytes numbers below sent first p
             subst (λ v. Appends first new.held (writer_output v pieces ++ take n packet)) (sym version)
             (subst (λ bs. Appends first new.held (bs ++ take n packet)) (append-nil (writer_output old.version pieces)) (Appends-trans _ _ _ _ _ h.held_is sent));
         numbers_are = subst (λ ns. AreNext pieces ns) (sym numbers) h.numbers_are;
-      })
+      },
+    )
 
 -- ---- a writer that has written nothing
 
@@ -202,10 +203,10 @@ parts_are piece version sequence channel kind counter body header filler parts h
     ap (λ h. h ++ (body ++ filler)) headed
     ∙ (ap (λ f. header_bytes (header_of channel (packet_len (length body)) (length body) version sequence 0 kind counter) ++ (body ++ f)) filled
     ∙ sym (
-      ap (λ b. packet_bytes (header_of (packet_channel piece) (packet_len (length b)) (length b) version sequence 0 (packet_kind piece) (packet_counter piece)) b) parts.body_is
-      ∙ (ap (λ n. packet_bytes (header_of n (packet_len (length body)) (length body) version sequence 0 (packet_kind piece) (packet_counter piece)) body) parts.channel_is
-      ∙ (ap (λ n. packet_bytes (header_of channel (packet_len (length body)) (length body) version sequence 0 n (packet_counter piece)) body) parts.kind_is
-      ∙ ap (λ n. packet_bytes (header_of channel (packet_len (length body)) (length body) version sequence 0 kind n) body) parts.counter_is))))
+    ap (λ b. packet_bytes (header_of (packet_channel piece) (packet_len (length b)) (length b) version sequence 0 (packet_kind piece) (packet_counter piece)) b) parts.body_is
+    ∙ (ap (λ n. packet_bytes (header_of n (packet_len (length body)) (length body) version sequence 0 (packet_kind piece) (packet_counter piece)) body) parts.channel_is
+    ∙ (ap (λ n. packet_bytes (header_of channel (packet_len (length body)) (length body) version sequence 0 n (packet_counter piece)) body) parts.kind_is
+    ∙ ap (λ n. packet_bytes (header_of channel (packet_len (length body)) (length body) version sequence 0 kind n) body) parts.counter_is))))
 
 -- the filler, out of three zero bytes
 pub filler_is : (data_len len : ℕ) → len ≡ packet_len data_len → take {A = ℕ} (len - 24 - data_len) (0 ∷ 0 ∷ 0 ∷ []) ≡ packet_filler data_len

@@ -43,7 +43,7 @@ piece_bytes (OfEnd channel counter offered kept) =
 abbrev pub piece_header : PieceData → (version sequence : ℕ) → HeaderData
 piece_header piece version sequence =
     header_of (packet_channel piece) (packet_len (length (piece_bytes piece)))
-        (length (piece_bytes piece)) version sequence 0 (packet_kind piece) (packet_counter piece)
+    (length (piece_bytes piece)) version sequence 0 (packet_kind piece) (packet_counter piece)
 
 -- its packet
 abbrev pub packet_of : PieceData → (version sequence : ℕ) → List ℕ

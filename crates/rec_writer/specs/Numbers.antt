@@ -27,4 +27,4 @@ abbrev pub with_packet : List Numbered → ℕ → List Numbered
 with_packet numbers at =
     let number = get_or numbers at (record { channel = 0; next = 0 }) in
     slice_set numbers at
-        (record { channel = number.channel; next = (number.next + 1) % 256 })
+    (record { channel = number.channel; next = (number.next + 1) % 256 })

@@ -3,8 +3,7 @@ use Rattle.std.specs.Prelude.{ℕ, ◌≡◌, ◌==◌, Bool, List, All}
 use Rattle.std.specs.List.{filter, Any}
 use Rattle.eth_frame.specs.Frame.{FrameData}
 use Rattle.rec_channel.specs.History.{Version}
-use Rattle.rec_lane.specs.Pieces.{LaneSettings, PieceData, ArePieces}
-use Rattle.rec_lane.specs.Pieces.PieceData.{OfProgram, OfFrames, OfEnd}
+use Rattle.rec_lane.specs.Pieces.{LaneSettings, PieceData, channel_of, ArePieces}
 use Rattle.rec_writer.specs.Encoding.{writer_output}
 
 -- a channel as it was recorded: what its lane was set to, the frames that were offered, and the
@@ -14,12 +13,7 @@ pub record RecordedChannel : Type 0 where
   pub frames : List FrameData
   pub history : List Version
 
--- the channel that a piece is of
-abbrev pub channel_of : PieceData → ℕ
-channel_of (OfProgram channel counter version first program) = channel
-channel_of (OfFrames channel body) = channel
-channel_of (OfEnd channel counter offered kept) = channel
-
+-- a piece is of this channel
 abbrev pub is_of : ℕ → PieceData → Bool
 is_of channel piece = channel_of piece == channel
 

@@ -11,7 +11,9 @@ use crate::fault::WriteFault;
 use crate::numbers::Numbered;
 use crate::output::write_packet;
 use arrayvec::ArrayVec;
-use ch11_packet::{COMPUTER_GENERATED_DATA, ETHERNET_DATA, HEADER_LEN, Header, end_body, packet_len, program_body};
+use ch11_packet::{
+    COMPUTER_GENERATED_DATA, ETHERNET_DATA, HEADER_LEN, Header, end_body, packet_len, program_body,
+};
 use rec_lane::Piece;
 use std::io::Write;
 use std::marker::Model;
@@ -46,12 +48,12 @@ impl<W: Write> Model for Writer<W> {
     ghost Value = { WriterState };
 
     ghost view = { λ w. record {
-        held = W.contents w.out;
-        version = w.version;
-        numbers = w.numbers.items;
-        whole = w.whole;
-        bytes = w.bytes;
-        failed = w.failed;
+      held = W.contents w.out;
+      version = w.version;
+      numbers = w.numbers.items;
+      whole = w.whole;
+      bytes = w.bytes;
+      failed = w.failed;
     } };
 
     ghost invariant = { λ w. IsWriter w.numbers.items w.bytes w.failed };
@@ -59,9 +61,8 @@ impl<W: Write> Model for Writer<W> {
 
 impl<W: Write> Writer<W> {
     ghost use Rattle.rec_lane.specs.Views.{piece_data};
-    ghost use Rattle.rec_writer.specs.Recording.{channel_of};
+    ghost use Rattle.rec_lane.specs.Pieces.{PieceData, channel_of};
     ghost use Rattle.rec_writer.specs.Numbers.{AreDistinct};
-    ghost use Rattle.rec_lane.specs.Pieces.{PieceData};
     ghost use Rattle.rec_writer.specs.Writers.{Knows, HasWritten, HasParts, PutsWhole, PutFails, FinishFails};
 
     /// A writer that has written nothing, of 1 to [`MAX_CHANNELS`] channels. Its packets have this
@@ -142,7 +143,12 @@ impl<W: Write> Writer<W> {
                     program.first,
                     &program.program,
                 );
-                self.put_body(RECORDS, COMPUTER_GENERATED_DATA, program.counter, body.as_slice())
+                self.put_body(
+                    RECORDS,
+                    COMPUTER_GENERATED_DATA,
+                    program.counter,
+                    body.as_slice(),
+                )
             }
             Piece::Data(data) => self.put_body(
                 data.channel,
@@ -247,7 +253,16 @@ fn packet_header(
 {
     let data_len = body.len();
     let len = packet_len(data_len) as u32;
-    match Header::new(channel, len, data_len as u32, version, sequence, FLAGS, kind, counter) {
+    match Header::new(
+        channel,
+        len,
+        data_len as u32,
+        version,
+        sequence,
+        FLAGS,
+        kind,
+        counter,
+    ) {
         Some(header) => header.encode(),
         None => unreachable!(),
     }

@@ -22,8 +22,8 @@ returns-in-Err-write_bytes-clause-part g c =
     let part = c.in-Err-write_bytes.ensures.part in (
       (let e = part.0 in omega (arith, e)),
       subst (λ bytes. Appends (g.W.Write.contents c.args.out.now) (g.W.Write.contents c.write_bytes-2.new.out) bytes)
-        (second_part c.args.header.now c.args.body.now c.args.filler.now c.in-Err-write_bytes.written part.0)
-        (Appends-trans _ _ _ _ _ c.in-Ok.ensures.whole part.1),
+          (second_part c.args.header.now c.args.body.now c.args.filler.now c.in-Err-write_bytes.written part.0)
+          (Appends-trans _ _ _ _ _ c.in-Ok.ensures.whole part.1),
     )
 
 pub returns-in-Err-write_bytes-2-clause-part : goal.returns-in-Err-write_bytes-2-clause-part
@@ -31,6 +31,6 @@ returns-in-Err-write_bytes-2-clause-part g c =
     let part = c.in-Err-write_bytes-2.ensures.part in (
       (let e = part.0 in omega (arith, e)),
       subst (λ bytes. Appends (g.W.Write.contents c.args.out.now) (g.W.Write.contents c.write_bytes-3.new.out) bytes)
-        (third_part c.args.header.now c.args.body.now c.args.filler.now c.in-Err-write_bytes-2.written)
-        (Appends-trans _ _ _ _ _ (Appends-trans _ _ _ _ _ c.in-Ok.ensures.whole c.in-Ok-write_bytes.ensures.whole) part.1),
+          (third_part c.args.header.now c.args.body.now c.args.filler.now c.in-Err-write_bytes-2.written)
+          (Appends-trans _ _ _ _ _ (Appends-trans _ _ _ _ _ c.in-Ok.ensures.whole c.in-Ok-write_bytes.ensures.whole) part.1),
     )

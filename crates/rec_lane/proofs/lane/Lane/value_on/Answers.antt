@@ -12,7 +12,8 @@ pub returns : goal.returns
 returns c =
     let seen = view (frame_data c.args.frame.now) in
     rw (← c.self.view_is) (
-    subst (λ (current : Option Current). RunsAs (current_of current) seen c.run.result.value) (sym c.in-Some.is)
-    (c.run.result.steps,
-        subst (λ bytes. Runs (arc_value c.in-Some.current.program) bytes c.run.result.steps c.run.result.value) c.view.ensures.view (
-        subst (λ program. Runs program c.view.result.now c.run.result.steps c.run.result.value) c.deref.ensures c.run.ensures.runs)))
+    subst (λ (current : Option Current). RunsAs (current_of current) seen c.run.result.value) (sym c.in-Some.is) (
+      c.run.result.steps,
+      subst (λ bytes. Runs (arc_value c.in-Some.current.program) bytes c.run.result.steps c.run.result.value) c.view.ensures.view (
+          subst (λ program. Runs program c.view.result.now c.run.result.steps c.run.result.value) c.deref.ensures c.run.ensures.runs),
+    ))

@@ -24,23 +24,26 @@ returns-in-Ok-clause-whole g c = rw (← c.self.view_is) (λ piece parts.
       works = c.if-self.false;
       stands = put_whole _ _ piece c.in-Some.at c.self.invariant.distinct there refl c.saturating_add-self-inside.ensures refl c.count_packet.ensures
           (subst (λ bytes. Appends (g.W.Write.contents c.self.inside.out) (g.W.Write.contents c.write_packet.new.out) bytes) (parts_are piece c.self.inside.version (number_at c.self.inside.numbers.items c.in-Some.at).next c.args.channel c.args.kind c.args.counter c.args.body.now _ _ parts
-            (c.packet_header-header.ensures ∙ ap (λ ns. header_bytes (header_of c.args.channel (packet_len (length c.args.body.now)) (length c.args.body.now) c.self.inside.version (number_at ns c.in-Some.at).next 0 c.args.kind c.args.counter)) c.deref.ensures.0)
-            (filler_is (length c.args.body.now) c.packet_len.result c.packet_len.ensures)) c.in-Ok.ensures.whole);
+          (c.packet_header-header.ensures ∙ ap (λ ns. header_bytes (header_of c.args.channel (packet_len (length c.args.body.now)) (length c.args.body.now) c.self.inside.version (number_at ns c.in-Some.at).next 0 c.args.kind c.args.counter)) c.deref.ensures.0)
+          (filler_is (length c.args.body.now) c.packet_len.result c.packet_len.ensures)) c.in-Ok.ensures.whole);
     })
 
 pub returns-in-Err-clause-fault : goal.returns-in-Err-clause-fault
 returns-in-Err-clause-fault g c = rw (← c.self.view_is) (λ piece parts.
     let there = ap (λ ns. slice_get (channels_in ns) c.in-Some.at) (sym c.as_slice.ensures.value) ∙ (c.in-Some.ensures.found ∙ ap (λ n. Some n) (sym parts.channel_is)) in
     let packet = parts_are piece c.self.inside.version (number_at c.self.inside.numbers.items c.in-Some.at).next c.args.channel c.args.kind c.args.counter c.args.body.now _ _ parts
-            (c.packet_header-header.ensures ∙ ap (λ ns. header_bytes (header_of c.args.channel (packet_len (length c.args.body.now)) (length c.args.body.now) c.self.inside.version (number_at ns c.in-Some.at).next 0 c.args.kind c.args.counter)) c.deref.ensures.0)
-            (filler_is (length c.args.body.now) c.packet_len.result c.packet_len.ensures) in
-    (record {
-      worked = c.if-self.false;
-      fails = refl;
-      stands = put_part _ _ piece c.in-Some.at c.in-Err.written there refl refl refl refl
-          (below_packet _ _ _ _ c.in-Err.written packet c.in-Err.ensures.part.0)
-          (subst (λ bytes. Appends (g.W.Write.contents c.self.inside.out) (g.W.Write.contents c.write_packet.new.out) (take c.in-Err.written bytes)) packet c.in-Err.ensures.part.1);
-    }, refl, refl))
+    (c.packet_header-header.ensures ∙ ap (λ ns. header_bytes (header_of c.args.channel (packet_len (length c.args.body.now)) (length c.args.body.now) c.self.inside.version (number_at ns c.in-Some.at).next 0 c.args.kind c.args.counter)) c.deref.ensures.0)
+    (filler_is (length c.args.body.now) c.packet_len.result c.packet_len.ensures) in (
+      record {
+        worked = c.if-self.false;
+        fails = refl;
+        stands = put_part _ _ piece c.in-Some.at c.in-Err.written there refl refl refl refl
+            (below_packet _ _ _ _ c.in-Err.written packet c.in-Err.ensures.part.0)
+            (subst (λ bytes. Appends (g.W.Write.contents c.self.inside.out) (g.W.Write.contents c.write_packet.new.out) (take c.in-Err.written bytes)) packet c.in-Err.ensures.part.1);
+      },
+      refl,
+      refl,
+    ))
 
 pub unreachable-requires : goal.unreachable-requires
 unreachable-requires g c =

@@ -1,0 +1,274 @@
+//! Tests, and the pieces and outputs that they share.
+use super::*;
+use bpf_insn::parse_listing;
+use bpf_verify::{Verified, verify};
+use ch11_packet::{DataBody, DataBuilder, Limit};
+use eth_frame::Frame;
+use rec_lane::{DataPiece, EndPiece, Piece, ProgramPiece};
+use std::alloc::Global;
+use std::io;
+use std::io::{ErrorKind, Write};
+use std::sync::Arc;
+use std::test::Fail;
+
+/// A broadcast ARP frame without a payload, with its check sequence.
+const ARP: &str = "ffffffffffff 020000000001 0806 a1b2c3d4";
+
+/// The packets of a channel that kept the second of two frames: a program that keeps nothing, one
+/// that keeps all, the frame, and the channel's end.
+const REJECTING: &str = "25eb 0000 3c000000 24000000 08 00 00 00 100000000000 9deb \
+    00000000 43425052 0100 0100 00000000 0000000000000000 0100 0000 0600000000000000";
+
+const ACCEPTING: &str = "25eb 0000 3c000000 24000000 08 01 00 00 200000000000 adec \
+    00000000 43425052 0100 0100 01000000 0100000000000000 0100 0000 0600000001000000";
+
+const FRAMES: &str = "25eb 0100 3c000000 22000000 08 00 00 68 200000000000 ac53 \
+    01000000 200000000000 0000 12000003 ffffffffffff 020000000001 0806 a1b2c3d4 0000";
+
+const END: &str = "25eb 0000 34000000 1c000000 08 02 00 00 200000000000 9ded \
+    00000000 43425052 0200 0100 0200000000000000 0100000000000000";
+
+/// All bytes of hexadecimal texts, in which spaces may stand.
+fn bytes(alloc: Global, texts: &[&str]) -> Result<Vec<u8>, Fail> {
+    let mut all = Vec::new(alloc);
+    for text in texts {
+        let digits = text.replace(alloc, " ", "")?;
+        all.extend_from_slice(hex::decode(alloc, digits.as_str())?.as_slice())?;
+    }
+    Ok(all)
+}
+
+fn program(alloc: Global, listing: &str) -> Result<Arc<Verified, Global>, Fail> {
+    Ok(Arc::new(alloc, verify(parse_listing(alloc, listing)?)?)?)
+}
+
+/// The body of the ARP frame alone.
+fn body(alloc: Global, counter: u64) -> Result<DataBody, Fail> {
+    let arp = bytes(alloc, &[ARP])?;
+    let frame = Frame::new(counter, false, false, arp.as_slice()).ok_or("a frame")?;
+    let limit = Limit::new(16_424).ok_or("a limit")?;
+    let mut builder = DataBuilder::with_limit(alloc, limit, 0, 3)?;
+    builder.push(&frame);
+    Ok(builder.seal())
+}
+
+/// The program of a version of channel 1, from the frame with the same number on.
+fn version(alloc: Global, number: u32, counter: u64, listing: &str) -> Result<Piece, Fail> {
+    if counter >> 48 != 0 {
+        return Err("a counter of 48 bits")?;
+    }
+    Ok(Piece::Program(ProgramPiece {
+        channel: 1,
+        counter,
+        version: number,
+        first: u64::from(number),
+        program: program(alloc, listing)?,
+    }))
+}
+
+/// The four pieces of a channel that kept the second of two frames.
+fn pieces(alloc: Global) -> Result<[Piece; 4], Fail> {
+    Ok([
+        version(alloc, 0, 16, "1,6 0 0 0,")?,
+        version(alloc, 1, 32, "1,6 0 0 1,")?,
+        Piece::Data(DataPiece {
+            channel: 1,
+            body: body(alloc, 32)?,
+        }),
+        Piece::End(EndPiece {
+            channel: 1,
+            counter: 32,
+            offered: 2,
+            kept: 1,
+        }),
+    ])
+}
+
+/// What an output does once it has taken all that it has room for.
+#[derive(Clone, Copy, Debug, PartialEq, Eq)]
+enum Then {
+    /// It fails.
+    Fails,
+    /// It takes no byte.
+    TakesNone,
+    /// It fails once, and has room for all after it.
+    FailsOnce(ErrorKind),
+}
+
+/// An output with room for some bytes, of which it takes at most `at_once` a call. It counts calls.
+#[derive(Debug, Drop)]
+struct Output {
+    bytes: Vec<u8>,
+    room: usize,
+    at_once: usize,
+    then: Then,
+    flushes_fail: bool,
+    writes: u32,
+    flushes: u32,
+}
+
+impl Output {
+    fn new(alloc: Global, room: usize, at_once: usize, then: Then) -> Output {
+        Output {
+            bytes: Vec::new(alloc),
+            room,
+            at_once,
+            then,
+            flushes_fail: false,
+            writes: 0,
+            flushes: 0,
+        }
+    }
+}
+
+impl Write for Output {
+    fn write(&mut self, buf: &[u8]) -> io::Result<usize> {
+        self.writes = self.writes.saturating_add(1);
+        if self.room == 0 && !buf.is_empty() {
+            return match self.then {
+                Then::Fails => Err(io::Error::from(ErrorKind::StorageFull)),
+                Then::TakesNone => Ok(0),
+                Then::FailsOnce(kind) => {
+                    self.room = usize::MAX;
+                    Err(io::Error::from(kind))
+                }
+            };
+        }
+        let count = self.room.min(self.at_once).min(buf.len());
+        self.bytes
+            .extend_from_slice(&buf[..count])
+            .map_err(|_| io::Error::from(ErrorKind::OutOfMemory))?;
+        self.room -= count;
+        Ok(count)
+    }
+
+    fn flush(&mut self) -> io::Result<()> {
+        self.flushes = self.flushes.saturating_add(1);
+        if self.flushes_fail {
+            return Err(io::Error::from(ErrorKind::StorageFull));
+        }
+        Ok(())
+    }
+}
+
+/// Puts a piece of a channel that the writer knows.
+fn put<W: Write>(writer: &mut Writer<W>, piece: &Piece) -> Result<Result<(), WriteFault>, Fail> {
+    if !writer.knows(piece.channel()) {
+        return Err("a channel that the writer knows")?;
+    }
+    Ok(writer.put(piece))
+}
+
+#[test]
+fn each_piece_is_its_packet(rt: HostRuntime) -> Result<(), Fail> {
+    let want = bytes(rt.alloc(), &[REJECTING, ACCEPTING, FRAMES, END])?;
+    for at_once in [usize::MAX, 1] {
+        let out = Output::new(rt.alloc(), usize::MAX, at_once, Then::Fails);
+        let mut writer = Writer::new(out, &[1], 8);
+        let ends = [(60, 60), (60, 120), (60, 180), (52, 232)];
+        for (piece, (len, end)) in pieces(rt.alloc())?.iter().zip(ends) {
+            assert_eq!(rt; put(&mut writer, piece)?, Ok(()));
+            assert_eq!(rt; packet_len(piece), len);
+            assert_eq!(rt; Some(writer.out().bytes.as_slice()), want.get(..end));
+            assert_eq!(rt; writer.bytes(), 0);
+        }
+        assert_eq!(rt; (writer.whole(), writer.out().flushes), (4, 0));
+        let Ok(out) = writer.finish() else {
+            return Err("a finished recording")?;
+        };
+        assert_eq!(rt; (out.bytes.as_slice(), out.flushes), (want.as_slice(), 1));
+    }
+    Ok(())
+}
+
+#[test]
+fn sequence_numbers_go_on_from_255_with_0(rt: HostRuntime) -> Result<(), Fail> {
+    let mut writer = Writer::new(Vec::new(rt.alloc()), &[2, 1], 8);
+    let piece = Piece::Data(DataPiece {
+        channel: 1,
+        body: body(rt.alloc(), 16)?,
+    });
+    let end = Piece::End(EndPiece {
+        channel: 2,
+        counter: 0,
+        offered: 0,
+        kept: 0,
+    });
+    for number in 0..257 {
+        put(&mut writer, &piece)??;
+        let Some(packet) = writer.out().get(number * 60..) else {
+            return Err("a packet")?;
+        };
+        assert_eq!(rt; packet.get(13), Some(&((number % 256) as u8)));
+    }
+    put(&mut writer, &end)??;
+    let Some(packet) = writer.out().get(257 * 60..) else {
+        return Err("the end's packet")?;
+    };
+    assert_eq!(rt; (packet.len(), packet.get(13)), (52, Some(&0)));
+    assert_eq!(rt; writer.whole(), 258);
+    Ok(())
+}
+
+#[test]
+fn after_a_fault_nothing_is_written(rt: HostRuntime) -> Result<(), Fail> {
+    let want = bytes(rt.alloc(), &[REJECTING, ACCEPTING])?;
+    for then in [
+        Then::Fails,
+        Then::TakesNone,
+        Then::FailsOnce(ErrorKind::StorageFull),
+        Then::FailsOnce(ErrorKind::Interrupted),
+    ] {
+        let mut writer = Writer::new(Output::new(rt.alloc(), 70, 7, then), &[1], 8);
+        let [first, second, ..] = pieces(rt.alloc())?;
+        assert_eq!(rt; put(&mut writer, &first)?, Ok(()));
+        let output = WriteFault::Output {
+            whole: 1,
+            bytes: 10,
+        };
+        assert_eq!(rt; put(&mut writer, &second)?, Err(output), "{then:?}");
+        let writes = writer.out().writes;
+        let failed = WriteFault::Failed {
+            whole: 1,
+            bytes: 10,
+        };
+        assert_eq!(rt; put(&mut writer, &second)?, Err(failed));
+        assert_eq!(rt; (writer.whole(), writer.bytes()), (1, 10));
+        let Err((fault, out)) = writer.finish() else {
+            return Err("a fault")?;
+        };
+        assert_eq!(rt; fault, failed);
+        assert_eq!(rt; (out.writes, out.flushes), (writes, 0));
+        assert_eq!(rt; Some(out.bytes.as_slice()), want.get(..70));
+    }
+    Ok(())
+}
+
+#[test]
+fn a_flush_that_fails_is_a_fault_with_no_bytes(rt: HostRuntime) -> Result<(), Fail> {
+    let mut out = Output::new(rt.alloc(), usize::MAX, usize::MAX, Then::Fails);
+    out.flushes_fail = true;
+    let mut writer = Writer::new(out, &[1], 8);
+    for piece in &pieces(rt.alloc())? {
+        put(&mut writer, piece)??;
+    }
+    let Err((fault, out)) = writer.finish() else {
+        return Err("a fault")?;
+    };
+    assert_eq!(rt; fault, WriteFault::Output { whole: 4, bytes: 0 });
+    assert_eq!(rt; (out.bytes.len(), out.flushes), (232, 1));
+    Ok(())
+}
+
+#[test]
+fn a_writer_knows_its_channels(rt: HostRuntime) -> Result<(), Fail> {
+    let channels = [7, 65_535, 1, 300];
+    let writer = Writer::new(Vec::new(rt.alloc()), &channels, 255);
+    for channel in channels {
+        assert!(rt; writer.knows(channel));
+    }
+    for other in [0, 2, 6, 8, 301, 65_534] {
+        assert!(rt; !writer.knows(other));
+    }
+    Ok(())
+}
