@@ -220,19 +220,20 @@ fn after_a_fault_nothing_is_written(rt: HostRuntime) -> Result<(), Fail> {
         Then::FailsOnce(ErrorKind::Interrupted),
     ] {
         let mut writer = Writer::new(Output::new(rt.alloc(), 70, 7, then), &[1], 8);
-        let [first, second, ..] = pieces(rt.alloc())?;
-        assert_eq!(rt; put(&mut writer, &first)?, Ok(()));
+        let all = pieces(rt.alloc())?;
+        let (first, second) = (&all[0], &all[1]);
+        assert_eq!(rt; put(&mut writer, first)?, Ok(()));
         let output = WriteFault::Output {
             whole: 1,
             bytes: 10,
         };
-        assert_eq!(rt; put(&mut writer, &second)?, Err(output), "{then:?}");
+        assert_eq!(rt; put(&mut writer, second)?, Err(output), "{then:?}");
         let writes = writer.out().writes;
         let failed = WriteFault::Failed {
             whole: 1,
             bytes: 10,
         };
-        assert_eq!(rt; put(&mut writer, &second)?, Err(failed));
+        assert_eq!(rt; put(&mut writer, second)?, Err(failed));
         assert_eq!(rt; (writer.whole(), writer.bytes()), (1, 10));
         let Err((fault, out)) = writer.finish() else {
             return Err("a fault")?;
