@@ -18,7 +18,7 @@ use Rattle.bpf_asm.specs.Denotes.{Label, labels_from, index_after}
 use Rattle.bpf_asm.specs.FirstFault.{in_line, names_of, Once, LabelsOnce, LineBreaks, AreFollowed, IsEmpty, Unfollowed}
 use Rattle.bpf_asm.specs.FirstFault.LineBreaks.{InTokens, InLabels, InInsn, InLength}
 use Rattle.bpf_asm.specs.Drafts.{Ends}
-use Rattle.bpf_asm.proofs.Readings.{shape_is, shape_read}
+use Rattle.bpf_asm.proofs.Readings.{shape_is, shape_read, fault_read, fault_is}
 use Rattle.bpf_asm.proofs.ShapeLists.{label_at, count, count_append, labels_more}
 
 -- a name stands in front, or nowhere: whether names stand once can be decided
@@ -112,7 +112,7 @@ label_cases shapes line number reading r size (inr twice) = inr (LabelTwice numb
 
 reading_cases : (shapes : List Shape) (line : List ℕ) (number : ℕ) (r : Result Reading LineFault) → reading_of line ≡ r → count shapes ≤ MAX_INSNS
     → NextOrBreaks shapes line number
-reading_cases shapes line number (Err fault) e size = inr (in_line number fault, InTokens fault e)
+reading_cases shapes line number (Err fault) e size = inr (in_line number fault, InTokens fault (fault_is line fault e))
 reading_cases shapes line number (Ok reading) e size = label_cases shapes line number reading e size (once_or_not (names_of shapes ++ reading.labels))
 
 pub next_step : (shapes : List Shape) (line : List ℕ) (number : ℕ) → count shapes ≤ MAX_INSNS → NextOrBreaks shapes line number
@@ -122,7 +122,10 @@ next_step shapes line number size = reading_cases shapes line number (reading_of
 pub shape_well : (shapes : List Shape) (line : List ℕ) (number : ℕ) (shape : Shape) (fault : AsmFault) → HasShape line shape
     → Once (names_of shapes ++ shape.labels) → count (shapes ++ shape ∷ []) ≤ MAX_INSNS
     → LineBreaks shapes line number fault → ⊥
-shape_well shapes line number shape fault shaped once size (InTokens f e) = let read = shape_read line shape shaped in cc
+shape_well shapes line number shape fault shaped once size (InTokens f e) =
+    let read = shape_read line shape shaped in
+    let broken = fault_read line f e in
+    cc
 shape_well shapes line number shape fault shaped once size (InLabels reading e twice) =
     let read : Ok (record { labels = shape.labels; insn = Ok shape.insn }) ≡ Ok reading = sym (shape_read line shape shaped) ∙ e in
     let same : record { labels = shape.labels; insn = Ok shape.insn } ≡ reading = cc in

@@ -11,6 +11,7 @@ use Rattle.bpf_asm.specs.declared.fault.AsmFault.{AsmFault}
 use Rattle.bpf_asm.specs.declared.fault.AsmFault.TheVariants.{Syntax}
 use Rattle.bpf_asm.specs.declared.fault.LineFault.{LineFault}
 use Rattle.bpf_asm.specs.Blanked.{without_comments, lines_of}
+use Rattle.bpf_asm.specs.Tokens.{line_tokens}
 use Rattle.bpf_asm.specs.Templates.{Template}
 use Rattle.bpf_asm.specs.Lines.{Reading, reading_of}
 use Rattle.bpf_asm.specs.Grammar.{Shape}
@@ -19,6 +20,7 @@ use Rattle.bpf_asm.specs.FirstFault.{in_line, names_of, Once, AreWell, LabelsOnc
 use Rattle.bpf_asm.specs.FirstFault.LineBreaks.{InTokens, InLabels, InInsn, InLength}
 use Rattle.bpf_asm.specs.Drafts.{Ends}
 use Rattle.bpf_asm.proofs.Programs.{one_shapes}
+use Rattle.bpf_asm.proofs.Readings.{fault_read}
 use Rattle.bpf_asm.proofs.ShapeLists.{Same, Later, two_places, cut_shapes, one_more_shape, label_at, count, count_append, labels_append, templates_append, names_more, once_names, LabelledOnce, labels_once, names_once, insns_length, insn_within, insns_more}
 use Rattle.bpf_asm.proofs.JumpFaults.{insn_well, one_jump_fault, insn_step}
 use Rattle.bpf_asm.proofs.Drafting.{NextLine, NextOrBreaks, next_step, shape_well, ends_insn, ends_labels, ends_empty}
@@ -146,23 +148,27 @@ insn_so line r s e e' = ap (λ (x : Reading). x.insn) (same_reading line r s e e
 same_fault : {A : Type 0} (r : Result A LineFault) (x y : LineFault) → r ≡ Err x → r ≡ Err y → x ≡ y
 same_fault {A} r x y e e' = cc
 
+-- a line whose tokens have a fault is not read
+read_well : (line : List ℕ) (fault : LineFault) (r : Reading) → line_tokens line ≡ Err fault → reading_of line ≡ Ok r → ⊥
+read_well line fault r e e' = let broken = fault_read line fault e in cc
+
 -- a line has one first fault
 one_line_fault : (shapes : List Shape) (line : List ℕ) (number : ℕ) (f g : AsmFault) → LineBreaks shapes line number f → LineBreaks shapes line number g
     → f ≡ g
-one_line_fault shapes line number f g (InTokens x e) (InTokens y e') = ap (in_line number) (same_fault (reading_of line) x y e e')
-one_line_fault shapes line number f g (InTokens x e) (InLabels s e' twice) = cc
-one_line_fault shapes line number f g (InTokens x e) (InInsn s y e' once i) = cc
-one_line_fault shapes line number f g (InTokens x e) (InLength s t e' once i full) = cc
-one_line_fault shapes line number f g (InLabels r e twice) (InTokens y e') = cc
+one_line_fault shapes line number f g (InTokens x e) (InTokens y e') = ap (in_line number) (same_fault (line_tokens line) x y e e')
+one_line_fault shapes line number f g (InTokens x e) (InLabels s e' twice) = absurd (read_well line x s e e')
+one_line_fault shapes line number f g (InTokens x e) (InInsn s y e' once i) = absurd (read_well line x s e e')
+one_line_fault shapes line number f g (InTokens x e) (InLength s t e' once i full) = absurd (read_well line x s e e')
+one_line_fault shapes line number f g (InLabels r e twice) (InTokens y e') = absurd (read_well line y r e' e)
 one_line_fault shapes line number f g (InLabels r e twice) (InLabels s e' twice') = refl
 one_line_fault shapes line number f g (InLabels r e twice) (InInsn s y e' once i) = absurd (twice (once_so shapes line s r e' e once))
 one_line_fault shapes line number f g (InLabels r e twice) (InLength s t e' once i full) = absurd (twice (once_so shapes line s r e' e once))
-one_line_fault shapes line number f g (InInsn r x e once i) (InTokens y e') = cc
+one_line_fault shapes line number f g (InInsn r x e once i) (InTokens y e') = absurd (read_well line y r e' e)
 one_line_fault shapes line number f g (InInsn r x e once i) (InLabels s e' twice) = absurd (twice (once_so shapes line r s e e' once))
 one_line_fault shapes line number f g (InInsn r x e once i) (InInsn s y e' once' i') =
     ap (in_line number) (same_fault r.insn x y i (insn_so line r s e e' ∙ i'))
 one_line_fault shapes line number f g (InInsn r x e once i) (InLength s t e' once' i' full) = let same = insn_so line r s e e' in cc
-one_line_fault shapes line number f g (InLength r t e once i full) (InTokens y e') = cc
+one_line_fault shapes line number f g (InLength r t e once i full) (InTokens y e') = absurd (read_well line y r e' e)
 one_line_fault shapes line number f g (InLength r t e once i full) (InLabels s e' twice) = absurd (twice (once_so shapes line r s e e' once))
 one_line_fault shapes line number f g (InLength r t e once i full) (InInsn s y e' once' i') = let same = insn_so line r s e e' in cc
 one_line_fault shapes line number f g (InLength r t e once i full) (InLength s u e' once' i' full') = refl

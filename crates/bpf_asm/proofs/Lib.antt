@@ -5,7 +5,9 @@ pub mod Lexemes
 pub mod LineEnds
 pub mod Programs
 pub mod Shapes
+pub mod FormFits
 pub mod Readings
+pub mod InsnFaults
 pub mod BlankedTexts
 pub mod Lexings
 pub mod Arp

@@ -18,7 +18,7 @@ label_cases name c ts rest (inl e) = rw e (ap (λ b. NameToken name ∷ SignToke
 label_cases name c ts rest (inr e) = rw e refl
 
 -- the tokens of a line are those of its labels and those after them
-labels_split : (ts : List Token) → ts ≡ label_tokens (labels_of ts) ++ after_labels ts
+pub labels_split : (ts : List Token) → ts ≡ label_tokens (labels_of ts) ++ after_labels ts
 labels_split [] = refl
 labels_split (NumberToken k ∷ ts) = refl
 labels_split (SignToken c ∷ ts) = refl
@@ -28,10 +28,11 @@ labels_split (NameToken name ∷ NumberToken k ∷ ts) = refl
 labels_split (NameToken name ∷ SignToken c ∷ ts) = label_cases name c ts (labels_split ts) (cases_Bool (eqb c 58))
 
 -- no label stands in front
-NoLabel : List Token → Type 0
+unfoldable pub NoLabel : List Token → Type 0
 NoLabel ts = (labels_of ts ≡ []) × (after_labels ts ≡ ts)
 
-labels_back : (names : List (List ℕ)) (rest : List Token) → NoLabel rest
+-- and the other way round
+pub labels_back : (names : List (List ℕ)) (rest : List Token) → NoLabel rest
     → (labels_of (label_tokens names ++ rest) ≡ names) × (after_labels (label_tokens names ++ rest) ≡ rest)
 unfolding NoLabel
 labels_back [] rest none = none
@@ -104,7 +105,8 @@ insn_read (Some template) ts h =
     ap insn_of h.tokens ∙ (ap (λ m. with_mnemonic m h.operand_tokens) h.known ∙
     (ap (with_shape h.mnemonic) (operand_read h.operand h.operand_tokens h.written) ∙ ap insn_or_fault h.taken))
 
-read_as : List Token → Reading
+-- what a line with these tokens reads as
+unfoldable pub read_as : List Token → Reading
 read_as tokens = record { labels = labels_of tokens; insn = insn_of (after_labels tokens) }
 
 reading_cases : (line : List ℕ) (shape : Shape) (r : Result (List Token) LineFault) → line_tokens line ≡ r
@@ -135,6 +137,22 @@ shape_read line shape h =
     ap (λ (r : Result (List Token) LineFault). r >>= λ tokens. Ok (record { labels = labels_of tokens; insn = insn_of (after_labels tokens) })) h.1
     ∙ (ap (λ ns. Ok (record { labels = ns; insn = insn_of (after_labels (label_tokens shape.labels ++ h.0)) })) both.0
     ∙ ap (λ i. Ok (record { labels = shape.labels; insn = i })) (ap insn_of both.1 ∙ insn_read shape.insn h.0 h.2))
+
+-- a fault of a line's tokens is what the line reads as
+pub fault_read : (line : List ℕ) (fault : LineFault) → line_tokens line ≡ Err fault → reading_of line ≡ Err fault
+unfolding read_as
+fault_read line fault e = ap (λ (r : Result (List Token) LineFault). r >>= λ tokens. Ok (read_as tokens)) e
+
+fault_cases : (line : List ℕ) (fault : LineFault) (r : Result (List Token) LineFault) → line_tokens line ≡ r
+    → (r >>= λ tokens. Ok (read_as tokens)) ≡ Err fault → line_tokens line ≡ Err fault
+unfolding read_as
+fault_cases line fault (Err other) r e = let same : other ≡ fault = cc in r ∙ ap Err same
+fault_cases line fault (Ok tokens) r e = cc
+
+-- and the other way round
+pub fault_is : (line : List ℕ) (fault : LineFault) → reading_of line ≡ Err fault → line_tokens line ≡ Err fault
+unfolding read_as
+fault_is line fault e = fault_cases line fault (line_tokens line) refl e
 
 labels_in : Result Reading LineFault → List (List ℕ)
 labels_in (Ok reading) = reading.labels

@@ -11,6 +11,7 @@ use Rattle.bpf_asm.specs.declared.fault.LineFault.TheVariants as line
 use Rattle.bpf_asm.specs.declared.fault.AsmFault.{AsmFault}
 use Rattle.bpf_asm.specs.declared.fault.AsmFault.TheVariants.{Syntax, Number, UnknownMnemonic, OperandNotAllowed, LabelMissing, LabelTwice, Backward, TooFar, TooLong}
 use Rattle.bpf_asm.specs.Blanked.{without_comments, lines_of}
+use Rattle.bpf_asm.specs.Tokens.{line_tokens}
 use Rattle.bpf_asm.specs.Templates.{Template, Jump}
 use Rattle.bpf_asm.specs.Templates.Jump.{NoJump, Always, Branch}
 use Rattle.bpf_asm.specs.Lines.{Reading, reading_of}
@@ -46,7 +47,7 @@ LabelsOnce shapes reading = Once (names_of shapes ++ reading.labels)
 -- the first fault of the line with this number, which stands after lines with these shapes
 pub data LineBreaks (shapes : List Shape) (line : List ℕ) (number : ℕ) : AsmFault → Type 0 where
   -- a fault of its tokens
-  InTokens : (fault : LineFault) → reading_of line ≡ Err fault
+  InTokens : (fault : LineFault) → line_tokens line ≡ Err fault
       → LineBreaks shapes line number (in_line number fault)
   -- one of its labels is the second of its name
   InLabels : (reading : Reading) → reading_of line ≡ Ok reading → ¬ LabelsOnce shapes reading

@@ -8,6 +8,7 @@ pub mod Mnemonics
 pub mod Templates
 pub mod Lines
 pub mod Grammar
+pub mod InsnFaults
 pub mod Denotes
 pub mod FirstFault
 pub mod Drafts

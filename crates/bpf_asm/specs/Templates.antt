@@ -1,11 +1,12 @@
 -- What instruction a mnemonic with an operand stands for, its labels left open.
-use Rattle.std.specs.Prelude.{ℕ, ◌==◌, ◌&&◌, codes, if◌then◌else◌, List, Option, None, Some}
+use Rattle.std.specs.Prelude.{ℕ, ◌==◌, ◌&&◌, ◌≡◌, false, codes, if◌then◌else◌, List, Option, None, Some}
 use Rattle.bpf_insn.specs.declared.form.Form.{Form}
 use Rattle.bpf_insn.specs.declared.form.Form.TheVariants as form
 use Rattle.bpf_insn.specs.declared.form.Size.TheVariants.{W, H, B}
 use Rattle.bpf_insn.specs.declared.form.Src.{Src}
 use Rattle.bpf_insn.specs.declared.form.Src.TheVariants.{K, X}
 use Rattle.bpf_insn.specs.declared.form.Cond.{Cond}
+use Rattle.bpf_insn.specs.Uses.{uses_k}
 use Rattle.bpf_asm.specs.declared.mnemonic.Mnemonic.{Mnemonic}
 use Rattle.bpf_asm.specs.declared.mnemonic.Mnemonic.TheVariants.{Ld, Ldi, Ldh, Ldb, Ldx, Ldxi, Ldxb, St, Stx, Jmp, Test, Inverted, Alu, Neg, Tax, Txa, Ret}
 use Rattle.bpf_asm.specs.Operands.{Operand, is_name}
@@ -83,3 +84,21 @@ with_operand mnemonic operand = None
 abbrev pub template_of : Mnemonic → Operand → Option Template
 template_of Jmp (Word name) = Some (record { form = form.Ja; k = 0; jump = Always name })
 template_of mnemonic operand = with_operand mnemonic (meaning_of operand)
+
+-- one at least of the labels of a test is named
+abbrev pub NamesOne : Option (List ℕ) → Option (List ℕ) → Type 0
+NamesOne None None = ⊥
+NamesOne holds fails = Unit {0}
+
+-- the labels that an instruction of this form names: a jump names one, a test one or two, each other none
+abbrev pub NamesLabels : Form → Jump → Type 0
+NamesLabels form.Ja jump = (name : List ℕ) × (jump ≡ Always name)
+NamesLabels (form.Test cond src) jump =
+    (holds : Option (List ℕ)) × (fails : Option (List ℕ)) × (jump ≡ Branch holds fails)
+    × NamesOne holds fails
+NamesLabels form jump = jump ≡ NoJump
+
+-- an instruction has the labels of its form, and a constant that its form doesn't use is 0
+pub record FitsForm (template : Template) : Type 0 where
+  pub labels : NamesLabels template.form template.jump
+  pub unused : uses_k template.form ≡ false → template.k ≡ 0

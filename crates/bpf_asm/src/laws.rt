@@ -1,6 +1,6 @@
 //! Laws of the definitions, with nothing to run.
 
-ghost use Rattle.std.specs.Prelude.{◌≡◌, ◌↔◌, ◌⊎◌, ℕ, List, Some, Ok};
+ghost use Rattle.std.specs.Prelude.{◌≡◌, ◌↔◌, ◌⊎◌, ℕ, List, Some, Ok, Err};
 ghost use Rattle.bpf_insn.specs.declared.insn.Insn.{Insn};
 ghost use Rattle.bpf_insn.specs.declared.form.Op.{Op};
 ghost use Rattle.bpf_insn.specs.declared.form.Cond.{Cond};
@@ -12,8 +12,11 @@ ghost use Rattle.bpf_asm.specs.Comments.{Blanks};
 ghost use Rattle.bpf_asm.specs.Lexing.{Spells};
 ghost use Rattle.bpf_asm.specs.Tokens.{Token, lexemes};
 ghost use Rattle.bpf_asm.specs.Operands.{Operand, operand_of};
-ghost use Rattle.bpf_asm.specs.Lines.{reading_of};
-ghost use Rattle.bpf_asm.specs.Grammar.{IsOperand, Shape, HasShape, shape_reading};
+ghost use Rattle.bpf_asm.specs.Lines.{insn_of, reading_of};
+ghost use Rattle.bpf_asm.specs.Templates.{Template, FitsForm};
+ghost use Rattle.bpf_asm.specs.Grammar.{IsOperand, WritesInsn, Shape, HasShape, shape_reading};
+ghost use Rattle.bpf_asm.specs.InsnFaults.{InsnBreaks, HasInsnFault, fault_reading};
+ghost use Rattle.bpf_asm.specs.declared.fault.LineFault.{LineFault};
 ghost use Rattle.bpf_asm.specs.Denotes.{Denotes, DenotesSome};
 ghost use Rattle.bpf_asm.specs.FirstFault.{FirstFault, HasFirstFault};
 ghost use Rattle.bpf_asm.specs.declared.fault.AsmFault.{AsmFault};
@@ -44,12 +47,28 @@ pub fn operands_are_read_by_the_grammar()
         (operand_of tokens ≡ Some operand) ↔ IsOperand operand tokens }
 {}
 
+/// Law: the instruction of a line has the labels of its form, and a constant that its form doesn't
+/// use is 0.
+pub fn the_instruction_of_a_line_fits_its_form()
+    ensures { (template : Template) (tokens : List Token) →
+        WritesInsn template tokens → FitsForm template }
+{}
+
 /// Law: a line is read without a fault exactly where the grammar has it, and it has one shape.
 pub fn lines_are_read_by_the_grammar()
     ensures grammar { (line : List ℕ) (shape : Shape) →
         (reading_of line ≡ Ok (shape_reading shape)) ↔ HasShape line shape }
     ensures once { (line : List ℕ) (first second : Shape) →
         HasShape line first → HasShape line second → first ≡ second }
+{}
+
+/// Law: the fault that is read of an instruction, and of a line after its labels, is exactly the
+/// one that the grammar has.
+pub fn faults_of_instructions_are_those_of_the_grammar()
+    ensures insn { (tokens : List Token) (fault : LineFault) →
+        (insn_of tokens ≡ Err fault) ↔ InsnBreaks tokens fault }
+    ensures line { (line : List ℕ) (labels : List (List ℕ)) (fault : LineFault) →
+        (reading_of line ≡ Ok (fault_reading labels fault)) ↔ HasInsnFault line labels fault }
 {}
 
 /// Law: a text denotes at most one program.
