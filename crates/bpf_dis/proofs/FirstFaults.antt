@@ -23,7 +23,8 @@ here_said program at insn stands said =
     let P : Insn → Type 0 = λ i. FormIsSaid (form i.code) i in
     subst P (same_insn program at said.0 insn said.1 stands) said.2
 
-here_out : (program : List Insn) (at : ℕ) (insn : Insn) → slice_get program at ≡ Some insn → JumpsOut program at
+-- so is a jump out
+pub here_out : (program : List Insn) (at : ℕ) (insn : Insn) → slice_get program at ≡ Some insn → JumpsOut program at
     → FormJumpsOut (length program) (form insn.code) insn at
 here_out program at insn stands out =
     let P : Insn → Type 0 = λ i. FormJumpsOut (length program) (form i.code) i at in

@@ -6,5 +6,6 @@ pub mod Lines
 pub mod Rows
 pub mod ProgramTexts
 pub mod FirstFaults
+pub mod TextPrograms
 pub mod LabelledTargets
 pub mod Targets

@@ -10,7 +10,10 @@ mod line;
 mod text;
 
 pub use fault::DisFault;
-pub use laws::{labels_stand_where_jumps_lead, text_denotes_program};
+pub use laws::{
+    labels_stand_where_jumps_lead, text_denotes_program, the_program_of_a_text_has_a_text,
+    the_text_of_a_program_is_assembled_to_it,
+};
 pub use text::text_of;
 
 #[cfg(test)]
