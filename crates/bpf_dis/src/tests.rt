@@ -2,7 +2,8 @@
 
 use crate::{DisFault, text_of};
 use bpf_asm::assemble;
-use bpf_insn::parse_listing;
+use bpf_insn::{Insn, parse_listing};
+use std::alloc::{AllocError, Global};
 use std::test::Fail;
 
 /// What is printed for a listing: its program's text, or the fault.
@@ -115,6 +116,53 @@ fn every_jump_has_its_labels(rt: HostRuntime) -> Result<(), Fail> {
         assert_eq!(rt; answer.as_str(), text, "{insn}");
         assert!(rt; is_read_again(&rt, text, listing.as_str())?, "{insn}");
     }
+    Ok(())
+}
+
+/// A program of this many tests, a jump and a return, in which each instruction but the first has
+/// a label, and its text.
+fn chain(alloc: Global, tests: u16) -> Result<(Vec<Insn>, String), AllocError> {
+    let mut program = Vec::new(alloc);
+    let mut text = String::new(alloc);
+    for at in 0..u32::from(tests) {
+        program.push(Insn {
+            code: 0x15,
+            jt: 0,
+            jf: 1,
+            k: at,
+        })?;
+        let (next, last) = (at + 1, at + 2);
+        write!(&mut text, "jeq #{at},L{next},L{last}\nL{next}: ")?;
+    }
+    program.push(Insn {
+        code: 0x05,
+        jt: 0,
+        jf: 0,
+        k: 0,
+    })?;
+    program.push(Insn {
+        code: 0x06,
+        jt: 0,
+        jf: 0,
+        k: 0,
+    })?;
+    let last = u32::from(tests) + 1;
+    write!(&mut text, "jmp L{last}\nL{last}: ret #0\n")?;
+    Ok((program, text))
+}
+
+#[test]
+fn programs_of_512_and_of_4000_instructions_have_labels_throughout(
+    rt: HostRuntime,
+) -> Result<(), Fail> {
+    for tests in [510, 3_998] {
+        let (program, text) = chain(rt.alloc(), tests)?;
+        let printed = text_of(rt.alloc(), program.as_slice())?;
+        assert_eq!(rt; printed.as_str(), text.as_str(), "{tests}");
+    }
+    let (program, text) = chain(rt.alloc(), 510)?;
+    let assembled = assemble(rt.alloc(), text.as_str())?;
+    assert_eq!(rt; assembled.as_slice(), program.as_slice());
     Ok(())
 }
 

@@ -145,6 +145,8 @@ fn comments_are_blanks_and_a_line_feed_ends_a_line(rt: HostRuntime) {
         ("ret #0x10 /* a\n b */ ; c", Ok(Some(ret)), Ok(None)),
         ("ret #16\r\nret #16\r\n", Ok(Some(ret)), Ok(Some(ret))),
         ("ret #16 ; /* a\nret #16", Ok(Some(ret)), Ok(Some(ret))),
+        ("ret #16 ; */ a\nret #16", Ok(Some(ret)), Ok(Some(ret))),
+        ("/* ;\n; */ ret #16", Ok(None), Ok(Some(ret))),
         ("/* ; */ ret #16 ; \u{e9}\n", Ok(Some(ret)), Ok(None)),
         ("/* \u{e9} **/ret/**/#16\n\n", Ok(Some(ret)), Ok(None)),
         ("/* \n * / */ ret #16", Ok(None), Ok(Some(ret))),

@@ -39,7 +39,7 @@ fn texts_are_assembled(rt: HostRuntime) -> Result<(), Fail> {
     Ok(())
 }
 
-const ASM_FAULTS: [(&str, AsmFault); 20] = [
+const ASM_FAULTS: [(&str, AsmFault); 23] = [
     ("top: ld #1\njmp top", AsmFault::Backward { line: 2 }),
     ("ld #1\na: jmp a", AsmFault::Backward { line: 2 }),
     ("ld #proto", AsmFault::OperandNotAllowed { line: 1 }),
@@ -51,7 +51,10 @@ const ASM_FAULTS: [(&str, AsmFault); 20] = [
     ("x:\nx: ret 08", AsmFault::Number { line: 2 }),
     ("/* ret #0", AsmFault::Syntax { line: 1 }),
     ("ret #0\na:\nb:\n\n; c", AsmFault::Syntax { line: 3 }),
+    ("a:", AsmFault::Syntax { line: 1 }),
     ("a:\nfoo", AsmFault::UnknownMnemonic { line: 2 }),
+    ("a:\n$", AsmFault::Syntax { line: 2 }),
+    ("a:\nb:\na:", AsmFault::LabelTwice { line: 3 }),
     ("jmp b\na:", AsmFault::Syntax { line: 2 }),
     ("ret #0\n\njmp x", AsmFault::LabelMissing { line: 3 }),
     ("jmp x\nret 08", AsmFault::Number { line: 2 }),
@@ -117,10 +120,57 @@ fn a_program_has_at_most_512_instructions(rt: HostRuntime) -> Result<(), Fail> {
         ("ret #1", AsmFault::TooLong),
         ("ret #1\nret 08", AsmFault::TooLong),
         ("ret 08", AsmFault::Number { line: 513 }),
+        ("x: x: ret #1", AsmFault::LabelTwice { line: 513 }),
+        ("ret 5", AsmFault::OperandNotAllowed { line: 513 }),
+        ("ret #1 #2", AsmFault::Syntax { line: 513 }),
     ];
     for (last, fault) in table {
         let text = padded(rt.alloc(), "", 512, last)?;
         assert_eq!(rt; assembled_first(rt.alloc(), &text), Err(fault));
+    }
+    Ok(())
+}
+
+#[test]
+fn labels_of_300_bytes_are_told_apart_by_their_last(rt: HostRuntime) -> Result<(), Fail> {
+    let mut name = String::new(rt.alloc());
+    for _ in 0..299 {
+        name.push('n')?;
+    }
+    let text = format!(in rt.alloc();
+        "jeq #7,{name}a,{name}b\nneg\n{name}b: ret #1\n{name}a: ret #2"
+    )?;
+    let program = assemble(rt.alloc(), &text)?;
+    let expected = [
+        insn(21, 2, 1, 7),
+        insn(132, 0, 0, 0),
+        insn(6, 0, 0, 1),
+        insn(6, 0, 0, 2),
+    ];
+    assert_eq!(rt; program.as_slice(), expected.as_slice());
+    let text = format!(in rt.alloc(); "jmp {name}\n{name}c: ret #1")?;
+    let missing = AsmFault::LabelMissing { line: 1 };
+    assert_eq!(rt; assemble(rt.alloc(), &text).err(), Some(missing));
+    Ok(())
+}
+
+#[test]
+fn lines_past_1000_are_counted(rt: HostRuntime) -> Result<(), Fail> {
+    let mut lines = String::new(rt.alloc());
+    for _ in 0..1_200 {
+        lines.push_str(" ; no instruction\n")?;
+    }
+    let text = format!(in rt.alloc(); "jmp far\n{lines}neg\n{lines}far: ret #1")?;
+    let program = assemble(rt.alloc(), &text)?;
+    let expected = [insn(5, 0, 0, 1), insn(132, 0, 0, 0), insn(6, 0, 0, 1)];
+    assert_eq!(rt; program.as_slice(), expected.as_slice());
+    let table = [
+        ("jmp far", AsmFault::LabelMissing { line: 1_201 }),
+        ("ret 08", AsmFault::Number { line: 1_201 }),
+    ];
+    for (last, fault) in table {
+        let text = format!(in rt.alloc(); "{lines}{last}")?;
+        assert_eq!(rt; assemble(rt.alloc(), &text).err(), Some(fault));
     }
     Ok(())
 }
