@@ -34,7 +34,8 @@ pub data InsnBreaks : List Token → LineFault → Type 0 where
 
 -- no label, a name and a colon, stands in front
 abbrev pub BeginsWithNoLabel : List Token → Type 0
-BeginsWithNoLabel ts = (name : List ℕ) (rest : List Token) → ts ≢ NameToken name ∷ SignToken 58 ∷ rest
+BeginsWithNoLabel ts =
+    (name : List ℕ) (rest : List Token) → ts ≢ NameToken name ∷ SignToken 58 ∷ rest
 
 -- a line whose tokens have no fault, with these labels and with this fault of what follows them
 abbrev pub HasInsnFault : List ℕ → List (List ℕ) → LineFault → Type 0
