@@ -1,6 +1,5 @@
 -- The conditions of single instructions, form by form.
-use Rattle.std.proofs.Common.{ℕ, ◌≤◌, ◌≡◌, ◌⊎◌, ◌↔◌, inl, inr, List, length, None, Some, sym, subst, true, leb}
-use Rattle.std.proofs.lemmas.Bool.{leb-true, le-leb}
+use Rattle.std.proofs.Common.{ℕ, ◌≤◌, ◌≡◌, ◌⊎◌, inl, inr, List, length, None, Some, sym, subst}
 use Rattle.bpf_insn.specs.declared.insn.Insn.{Insn}
 use Rattle.bpf_insn.specs.declared.insn.TheConstants.{SCRATCH_WORDS}
 use Rattle.bpf_insn.specs.declared.form.Form.{Form}
@@ -15,28 +14,6 @@ use Rattle.bpf_verify.specs.declared.fault.VerifyFault.TheVariants.{BadOpcode, B
 use Rattle.bpf_verify.specs.Refusals.{BreaksAt, BreaksAs, HasLength, NoneBreaksBelow, Refuses}
 use Rattle.bpf_verify.proofs.Places.{here, there}
 
--- an instruction that breaks no condition by its form breaks none
-pub no_break : (p : List Insn) (at : ℕ) (i : Insn) (f : Form) → IsAt p at f i
-    → (FormUsesWordPastScratch f i → ⊥) → (FormDividesByZero (Some f) i → ⊥) → (FormJumpsOut (length p) (Some f) i at → ⊥) → BreaksAt p at → ⊥
-no_break p at i f stands uses divides jumps (inl (inl lacks)) =
-    let none : Some f ≡ None = here (λ o _. o ≡ None) p at i f lacks.0 stands lacks.1 lacks.2 in cc
-no_break p at i f stands uses divides jumps (inl (inr (word, inl reads, past))) =
-    uses (word, inl (here (λ o j. FormReadsWord o j word) p at i f reads.0 stands reads.1 reads.2), past)
-no_break p at i f stands uses divides jumps (inl (inr (word, inr writes, past))) =
-    uses (word, inr (here (λ o j. FormWritesWord o j word) p at i f writes.0 stands writes.1 writes.2), past)
-no_break p at i f stands uses divides jumps (inr (inl zero)) = divides (here FormDividesByZero p at i f zero.0 stands zero.1 zero.2)
-no_break p at i f stands uses divides jumps (inr (inr out)) = jumps (here (λ o j. FormJumpsOut (length p) o j at) p at i f out.0 stands out.1 out.2)
-
-pub uses_word_past_scratch : (p : List Insn) (at : ℕ) (i : Insn) (f : Form) → IsAt p at f i → FormUsesWordPastScratch f i → UsesWordPastScratch p at
-uses_word_past_scratch p at i f stands uses = (
-  uses.0,
-  elim uses.1 as (λ _. ReadsWord p at uses.0 ⊎ WritesWord p at uses.0) [
-    | inl reads ↦ inl (i, stands.0, there (λ o j. FormReadsWord o j uses.0) i f stands.1 reads)
-    | inr writes ↦ inr (i, stands.0, there (λ o j. FormWritesWord o j uses.0) i f stands.1 writes)
-  ],
-  uses.2,
-)
-
 pub read_is_k : (f : Form) (i : Insn) (word : ℕ) → FormReadsWord (Some f) i word → i.k ≡ word
 read_is_k LdMem i word reads = reads
 read_is_k LdxMem i word reads = reads
@@ -47,13 +24,38 @@ written_is_k St i word writes = writes
 written_is_k Stx i word writes = writes
 written_is_k _ i word writes = absurd writes
 
-used_is_k : (f : Form) (i : Insn) (word : ℕ) → (FormReadsWord (Some f) i word ⊎ FormWritesWord (Some f) i word) → i.k ≡ word
-used_is_k f i word (inl reads) = read_is_k f i word reads
-used_is_k f i word (inr writes) = written_is_k f i word writes
+-- the scratch word that an instruction uses is the word k
+reads_past : (f : Form) (i : Insn) (word : ℕ) → FormReadsWord (Some f) i word → SCRATCH_WORDS ≤ word → FormUsesWordPastScratch f i
+reads_past f i word reads past =
+    let k = sym (read_is_k f i word reads) in
+    (inl (subst (λ w. FormReadsWord (Some f) i w) k reads), subst (λ w. SCRATCH_WORDS ≤ w) k past)
 
--- the scratch word that an instruction uses is past the last where k is
-pub past_by_k : (f : Form) (i : Insn) → (FormReadsWord (Some f) i i.k ⊎ FormWritesWord (Some f) i i.k) → (leb SCRATCH_WORDS i.k ≡ true) ↔ FormUsesWordPastScratch f i
-past_by_k f i used = (λ far. (i.k, used, leb-true SCRATCH_WORDS i.k far), λ uses. le-leb SCRATCH_WORDS i.k (subst (λ n. SCRATCH_WORDS ≤ n) (sym (used_is_k f i uses.0 uses.1)) uses.2))
+writes_past : (f : Form) (i : Insn) (word : ℕ) → FormWritesWord (Some f) i word → SCRATCH_WORDS ≤ word → FormUsesWordPastScratch f i
+writes_past f i word writes past =
+    let k = sym (written_is_k f i word writes) in
+    (inr (subst (λ w. FormWritesWord (Some f) i w) k writes), subst (λ w. SCRATCH_WORDS ≤ w) k past)
+
+-- an instruction that breaks no condition by its form breaks none
+pub no_break : (p : List Insn) (at : ℕ) (i : Insn) (f : Form) → IsAt p at f i
+    → (FormUsesWordPastScratch f i → ⊥) → (FormDividesByZero (Some f) i → ⊥) → (FormJumpsOut (length p) (Some f) i at → ⊥) → BreaksAt p at → ⊥
+no_break p at i f stands uses divides jumps (inl (inl lacks)) =
+    let none : Some f ≡ None = here (λ o _. o ≡ None) p at i f lacks.0 stands lacks.1 lacks.2 in cc
+no_break p at i f stands uses divides jumps (inl (inr (word, inl reads, past))) =
+    uses (reads_past f i word (here (λ o j. FormReadsWord o j word) p at i f reads.0 stands reads.1 reads.2) past)
+no_break p at i f stands uses divides jumps (inl (inr (word, inr writes, past))) =
+    uses (writes_past f i word (here (λ o j. FormWritesWord o j word) p at i f writes.0 stands writes.1 writes.2) past)
+no_break p at i f stands uses divides jumps (inr (inl zero)) = divides (here FormDividesByZero p at i f zero.0 stands zero.1 zero.2)
+no_break p at i f stands uses divides jumps (inr (inr out)) = jumps (here (λ o j. FormJumpsOut (length p) o j at) p at i f out.0 stands out.1 out.2)
+
+pub uses_word_past_scratch : (p : List Insn) (at : ℕ) (i : Insn) (f : Form) → IsAt p at f i → FormUsesWordPastScratch f i → UsesWordPastScratch p at
+uses_word_past_scratch p at i f stands uses = (
+  i.k,
+  elim uses.0 as (λ _. ReadsWord p at i.k ⊎ WritesWord p at i.k) [
+    | inl reads ↦ inl (i, stands.0, there (λ o j. FormReadsWord o j i.k) i f stands.1 reads)
+    | inr writes ↦ inr (i, stands.0, there (λ o j. FormWritesWord o j i.k) i f stands.1 writes)
+  ],
+  uses.1,
+)
 
 -- the first condition that an instruction breaks, where none before it breaks one, is the refusal
 pub breaks_first : (p : List Insn) (at : ℕ) (fault : VerifyFault) → HasLength p → NoneBreaksBelow p at → BreaksAs p at fault → Refuses p fault

@@ -10,8 +10,8 @@ use Rattle.bpf_insn.specs.Uses.{FormReadsWord, FormWritesWord}
 abbrev pub IsAt : List Insn → ℕ → Form → Insn → Type 0
 IsAt program at f insn = (slice_get program at ≡ Some insn) × (form insn.code ≡ Some f)
 
--- an instruction of this form reads or writes a scratch word past the last
+-- an instruction of this form reads or writes the scratch word k, which is past the last
 abbrev pub FormUsesWordPastScratch : Form → Insn → Type 0
 FormUsesWordPastScratch f insn =
-    (word : ℕ) × (FormReadsWord (Some f) insn word ⊎ FormWritesWord (Some f) insn word)
-    × (SCRATCH_WORDS ≤ word)
+    (FormReadsWord (Some f) insn insn.k ⊎ FormWritesWord (Some f) insn insn.k)
+    × (SCRATCH_WORDS ≤ insn.k)

@@ -81,10 +81,19 @@ fn mask_after(mask: u16, form: Form, insn: Insn) -> u16
     ensures { MaskAfter form insn mask result }
 {
     if writes_scratch(form) {
-        mask | 1 << insn.k
+        with_word(mask, insn.k)
     } else {
         mask
     }
+}
+
+/// The mask with a word's bit set.
+#[tactic(auto, using(crate::proofs::Bits::clear_set))]
+fn with_word(mask: u16, word: u32) -> u16
+    requires { word < SCRATCH_WORDS }
+    ensures { (other : ℕ) → IsClear result other ↔ (IsClear mask other × (other ≢ word)) }
+{
+    mask | 1 << word
 }
 
 /// At each index to which the instruction leads, no more words are written than the mask says.
@@ -104,6 +113,7 @@ fn pass_mask(masks: &mut [u16; MAX_INSNS], form: Form, insn: Insn, at: usize, ma
 }
 
 /// At an index, no more words are written than the mask says.
+#[tactic(auto, using(crate::proofs::Bits::narrowed))]
 fn narrow(masks: &mut [u16; MAX_INSNS], to: usize, mask: u16)
     requires { to < MAX_INSNS }
     ensures same { (at : ℕ) → at ≢ to → slice_index masks.new at ≡ slice_index masks.old at }

@@ -58,6 +58,13 @@ impl Verified {
     pub fn same(&self, other: &Verified) -> bool
         ensures decides { IsTrue result ↔ (self.now ≡ other.now) }
     {
-        self.insns() == other.insns()
+        are_same(self.insns(), other.insns())
     }
+}
+
+/// Whether two lists of instructions are the same.
+fn are_same(insns: &[Insn], others: &[Insn]) -> bool
+    ensures decides { IsTrue result ↔ (insns.now ≡ others.now) }
+{
+    insns == others
 }
