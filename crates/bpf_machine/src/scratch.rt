@@ -35,6 +35,7 @@ impl Scratch {
 
     /// A word that is set.
     #[inline(always)]
+    #[tactic(auto, using(crate::proofs::Words::set_words_read))]
     pub(crate) fn recall(&self, at: usize) -> u32
         requires room { at < SCRATCH_WORDS }
         requires set { IsSet self.now at }
@@ -45,6 +46,7 @@ impl Scratch {
 
     /// Sets a word.
     #[inline(always)]
+    #[tactic(auto, using(crate::proofs::Words::set_words_set))]
     pub(crate) fn store(&mut self, at: usize, word: u32)
         requires room { at < SCRATCH_WORDS }
         ensures set { self.new ≡ slice_set self.old at (Some word) }
