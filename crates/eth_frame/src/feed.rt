@@ -3,5 +3,6 @@ mod head;
 mod source;
 mod write;
 
+pub(crate) use head::{HEAD_LEN, MAX_MARKS};
 pub use source::FeedSource;
 pub use write::{FeedWriteFault, write_feed};

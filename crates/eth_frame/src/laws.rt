@@ -8,6 +8,7 @@ ghost use Rattle.eth_frame.specs.FeedRecord.{feed_record};
 ghost use Rattle.eth_frame.specs.Feed.{Feed, left_of_feed};
 
 use crate::counter::COUNTER_BITS;
+use crate::feed::{HEAD_LEN, MAX_MARKS};
 use crate::frame::{CHECK_SEQUENCE_LEN, MAX_FRAME_LEN, MIN_FRAME_LEN};
 
 /// Law: bytes are the feed of one list of frames with one ending at most, and those are what a
@@ -34,4 +35,10 @@ pub fn the_limits_of_a_frame()
     ensures most { MAX_FRAME_LEN ≡ 16383 }
     ensures check_sequence { CHECK_SEQUENCE_LEN ≡ 4 }
     ensures counter { COUNTER_BITS ≡ 48 }
+{}
+
+/// Law: a record of a feed has 9 bytes before its frame's, and marks of at most 3.
+pub fn the_limits_of_a_record()
+    ensures head { HEAD_LEN ≡ 9 }
+    ensures marks { MAX_MARKS ≡ 3 }
 {}

@@ -14,7 +14,7 @@ pub use buffer::FrameBuf;
 pub use counter::{COUNTER_BITS, COUNTER_LEN, counter_bytes, counter_of};
 pub use feed::{FeedSource, FeedWriteFault, write_feed};
 pub use frame::{CHECK_SEQUENCE_LEN, Frame, MAX_FRAME_LEN, MIN_FRAME_LEN};
-pub use laws::{feed_has_one_reading, the_limits_of_a_frame};
+pub use laws::{feed_has_one_reading, the_limits_of_a_frame, the_limits_of_a_record};
 pub use owned::OwnedFrame;
 pub use source::{FrameSource, Next, SourceEnding, SourceFault};
 

@@ -1,6 +1,7 @@
 //! Tests, and the bytes, readers and outputs that they share.
 use super::*;
 use std::alloc::Global;
+use std::cell::Cell;
 use std::io;
 use std::io::{ErrorKind, Read, Write};
 use std::test::Fail;
@@ -24,6 +25,12 @@ fn bytes<const N: usize>(alloc: Global, text: &str) -> Result<[u8; N], Fail> {
     let mut bytes = [0; N];
     hex::decode_to_slice(digits.as_str(), &mut bytes)?;
     Ok(bytes)
+}
+
+/// All bytes of a hexadecimal text, in which spaces may stand.
+fn all_bytes(alloc: Global, text: &str) -> Result<Vec<u8>, Fail> {
+    let digits = text.replace(alloc, " ", "")?;
+    Ok(hex::decode(alloc, digits.as_str())?)
 }
 
 /// Gives bytes in pieces of at most `most`, and fails at one of the calls, counted from 1.
@@ -69,6 +76,20 @@ impl Read for Pieces<'_> {
         buf[..count].copy_from_slice(front);
         self.rest = rest;
         Ok(count)
+    }
+}
+
+/// A reader that counts its calls.
+#[derive(Drop)]
+struct Counted<'a> {
+    reader: Pieces<'a>,
+    calls: &'a Cell<u32>,
+}
+
+impl Read for Counted<'_> {
+    fn read(&mut self, buf: &mut [u8]) -> io::Result<usize> {
+        self.calls.set(self.calls.get().saturating_add(1));
+        self.reader.read(buf)
     }
 }
 

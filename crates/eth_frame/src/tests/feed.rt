@@ -93,6 +93,45 @@ fn a_failing_reader_is_a_fault_of_the_device(rt: HostRuntime) -> Result<(), Fail
 }
 
 #[test]
+fn a_source_that_has_ended_reads_no_more(rt: HostRuntime) -> Result<(), Fail> {
+    let mut buffer = FrameBuf::new();
+    // a feed of one frame at most, the call at which its reader fails, and the ending
+    for (text, fails_at, ending) in [
+        ("", None, Ok(Next::End)),
+        (RECORD, None, Ok(Next::End)),
+        ("100000000000 00", None, Err(SourceFault::Truncated)),
+        (
+            "100000000000 00 1200 ffff",
+            None,
+            Err(SourceFault::Truncated),
+        ),
+        ("100000000000 00 1100 ffff", None, Err(SourceFault::Length)),
+        ("100000000000 04 1200 ffff", None, Err(SourceFault::Marks)),
+        (TWO_RECORDS, Some(1), Err(SourceFault::Device)),
+        (TWO_RECORDS, Some(2), Err(SourceFault::Device)),
+        (TWO_RECORDS, Some(3), Err(SourceFault::Device)),
+    ] {
+        let feed = all_bytes(rt.alloc(), text)?;
+        let calls = Cell::new(0);
+        let mut reader = Pieces::of(&feed, usize::MAX);
+        reader.fails_at = fails_at;
+        let mut source = FeedSource::new(Counted {
+            reader,
+            calls: &calls,
+        });
+        let mut answer = source.next(&mut buffer);
+        if answer == Ok(Next::Frame) {
+            answer = source.next(&mut buffer);
+        }
+        assert_eq!(rt; answer, ending, "{text}");
+        let reads = calls.get();
+        assert_eq!(rt; answers(&mut source, &mut buffer), [ending; 3]);
+        assert_eq!(rt; calls.get(), reads, "{text}");
+    }
+    Ok(())
+}
+
+#[test]
 fn a_failing_output_is_a_fault_of_the_device(rt: HostRuntime) -> Result<(), Fail> {
     let arp: [u8; 18] = bytes(rt.alloc(), ARP)?;
     let frame = Frame::new(16, false, false, &arp).ok_or("a frame")?;
