@@ -3,6 +3,7 @@
 ghost use Rattle.std.specs.Prelude.{ℕ, ◌≡◌, ◌<◌, ◌++◌, List, All};
 ghost use Rattle.rec_channel.specs.History.{Version, IsHistory, InForce, version_at};
 
+use crate::front::Front;
 use crate::limits::MAX_VERSIONS;
 
 /// Law: at each frame exactly one version is in force, and `version_at` is that one.
@@ -30,4 +31,9 @@ pub fn later_versions_leave_the_past()
 /// Law: a channel has at most 1,024 versions.
 pub fn the_most_versions()
     ensures { MAX_VERSIONS ≡ 1024 }
+{}
+
+/// Law: whoever has seen nothing yet knows of no version and of no frame.
+pub fn the_first_front()
+    ensures { Front.START ≡ record { versions = 0; offered = 0 } }
 {}

@@ -18,7 +18,9 @@ pub use drawn::Drawn;
 pub use fault::{DrawFault, InstallFault};
 pub use front::Front;
 pub use installed::Installed;
-pub use laws::{later_versions_leave_the_past, one_version_is_in_force, the_most_versions};
+pub use laws::{
+    later_versions_leave_the_past, one_version_is_in_force, the_first_front, the_most_versions,
+};
 pub use limits::MAX_VERSIONS;
 pub use parts::Parts;
 pub use shared::SharedSlot;
