@@ -95,7 +95,7 @@ Holds-push frames frame net speed counter first old new holds is added first_is 
   first = first_is;
 }
 
-data_len-push : (frames : List FrameData) (frame : FrameData) → data_len (frames ++ frame ∷ []) ≡ data_len frames + frame_len (length frame.bytes)
+pub data_len-push : (frames : List FrameData) (frame : FrameData) → data_len (frames ++ frame ∷ []) ≡ data_len frames + frame_len (length frame.bytes)
 data_len-push frames frame = omega (arith, sum_by_push (λ (f : FrameData). frame_len (length f.bytes)) frames frame)
 
 pub IsOpen-push : (count net speed counter first limit room more : ℕ) (old new : List ℕ) (frame : FrameData) → IsOpen count net speed counter limit room old → IsFrame frame

@@ -1,6 +1,6 @@
 -- A header's bytes say its fields, and 24 bytes with the sync pattern and their checksum are those of
 -- the fields that they say.
-use Rattle.std.proofs.Common.{◌≡◌, ℕ, List, [], ◌∷◌, ◌++◌, length, get_or, take, Option, None, Some, refl, sym, ap, ◌∙◌, arith}
+use Rattle.std.proofs.Common.{◌≡◌, ℕ, List, [], ◌∷◌, ◌++◌, length, get_or, take, Option, None, Some, refl, sym, ap, subst, ◌∙◌, arith}
 use Rattle.std.specs.Prelude.{IsSome, IfSome, IfOk, IsOkAnd}
 use Rattle.std.specs.Option.{ok_or}
 use Rattle.std.specs.Int.{w16, w32, to_le_bytes, bytes_low_first}
@@ -36,6 +36,10 @@ pub HasHeaderSum-header_bytes : (header : HeaderData) → HasHeaderSum (header_b
 unfolding header_bytes
 HasHeaderSum-header_bytes header =
     from_le_bytes-to_le_bytes_2 (header_sum (checked_bytes header)) (omega arith)
+
+-- a header's bytes have the sync pattern and the sum of their words
+pub header_checks : (bytes : List ℕ) (header : HeaderData) → bytes ≡ header_bytes header → HasSync bytes × HasHeaderSum bytes
+header_checks bytes header e = (subst HasSync (sym e) (HasSync-header_bytes header), subst HasHeaderSum (sym e) (HasHeaderSum-header_bytes header))
 
 -- 24 bytes, one by one
 cells : (bytes : List ℕ) → length bytes ≡ HEADER_LEN → bytes ≡

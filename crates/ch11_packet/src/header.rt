@@ -127,6 +127,7 @@ impl Header {
 
     /// The header of these bytes, or the first fault: the sync pattern, then the checksum, then the
     /// lengths.
+    #[tactic(auto, using(crate::proofs::Headers::header_checks))]
     pub fn decode(bytes: &[u8; HEADER_LEN]) -> Result<Header, HeaderFault>
         // At Ok.
         ensures spelled { IfOk result (λ header. bytes.now ≡ header_bytes (header_data header)) }

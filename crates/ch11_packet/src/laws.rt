@@ -1,5 +1,5 @@
 //! Laws of packets, which run nothing.
-ghost use Rattle.std.specs.Prelude.{◌≡◌, ◌+◌, ◌*◌, ◌%◌, ◌^◌, ◌<◌, ◌++◌, List, ℕ, length, map, take, drop};
+ghost use Rattle.std.specs.Prelude.{◌≡◌, ◌+◌, ◌*◌, ◌%◌, ◌^◌, ◌<◌, ◌≤◌, ◌↔◌, [], ◌∷◌, ◌++◌, List, ℕ, length, map, take, drop};
 ghost use Rattle.std.specs.Int.{w16, w32, to_le_bytes};
 ghost use Rattle.bpf_insn.specs.declared.insn.Insn.{Insn};
 ghost use Rattle.eth_frame.specs.Bytes.{AreBytes};
@@ -9,15 +9,21 @@ ghost use Rattle.ch11_packet.specs.Packet.{packet_bytes};
 ghost use Rattle.ch11_packet.specs.Frames.{data_bytes, data_len, frame_len};
 ghost use Rattle.eth_frame.specs.Frame.{FrameData};
 ghost use Rattle.ch11_packet.specs.FramesRead.{ReadFrameData, body_frame, SpellsFrame, SpellsBody, HasSameCount};
-ghost use Rattle.ch11_packet.specs.Building.{EthernetBody, IsEthernetBody};
+ghost use Rattle.ch11_packet.specs.Building.{EthernetBody, IsEthernetBody, OpenBody, Fits};
 ghost use Rattle.ch11_packet.specs.Records.{EndData, IsEndRecord, program_bytes, end_bytes};
 ghost use Rattle.ch11_packet.specs.RecordsRead.{RecordData, SpellsRecord, IsProgramRecord, with_unused};
 ghost use Rattle.ch11_packet.specs.RecordsRead.RecordData.{OfProgram, OfEnd};
 
-use crate::frames::BODY_WORD_LEN;
-use crate::header::{HEADER_LEN, MAX_ETHERNET_PACKET_LEN};
+use crate::frames::{BODY_WORD_LEN, FRAME_HEADER_LEN, MAX_SPEED};
+use crate::header::{
+    CHECKED_LEN, COMPUTER_GENERATED_DATA, ETHERNET_DATA, HEADER_LEN, MAX_ETHERNET_PACKET_LEN,
+    SYNC_PATTERN,
+};
 use crate::limit::MIN_LIMIT;
-use crate::records::{END_RECORD_LEN, INSN_LEN, MAX_PROGRAM_RECORD_LEN, PROGRAM_HEAD_LEN};
+use crate::records::{
+    END_RECORD, END_RECORD_LEN, INSN_LEN, MAX_PROGRAM_RECORD_LEN, PROGRAM_HEAD_LEN, PROGRAM_RECORD,
+    RECORD_HEAD_LEN,
+};
 use eth_frame::MAX_FRAME_LEN;
 
 /// Law: bytes begin with those of one header at most; a header's bytes say its fields; and 24 bytes
@@ -50,17 +56,50 @@ pub fn packets_have_their_lengths()
         → length (packet_bytes header body) ≡ packet_len (length body) }
     ensures frames { (net speed : ℕ) (frames : List FrameData)
         → length (data_bytes net speed frames) ≡ data_len frames }
+    ensures packet_of_frames { (header : HeaderData) (net speed : ℕ) (frames : List FrameData)
+        → length (packet_bytes header (data_bytes net speed frames))
+        ≡ packet_len (data_len frames) }
     ensures program { (channel version first : ℕ) (insns : List Insn)
         → length (program_bytes channel version first insns)
         ≡ PROGRAM_HEAD_LEN + INSN_LEN * length insns }
     ensures ending { (end : EndData) → length (end_bytes end) ≡ END_RECORD_LEN }
 {}
 
-/// Law: a packet of frames has at most 524,288 bytes, and a record of a program at most 4,124.
+/// Law: the packet of a builder's frames and a further one isn't longer than the limit exactly if
+/// that frame fits, whatever the packet's header says.
+pub fn a_frame_fits_if_its_packet_does()
+    ensures { (header : HeaderData) (body : OpenBody) (frame : FrameData)
+        → Fits body (length frame.bytes) ↔ (length (packet_bytes header
+        (data_bytes body.net body.speed (body.frames ++ frame ∷ []))) ≤ body.limit) }
+{}
+
+/// Law: a packet of frames has at most 524,288 bytes, and a speed of at most 15; a record of a
+/// program has at most 4,124 bytes.
 pub fn the_limits_of_a_packet()
     ensures ethernet { MAX_ETHERNET_PACKET_LEN ≡ 524288 }
-    ensures header { HEADER_LEN ≡ 24 }
+    ensures speed { MAX_SPEED ≡ 15 }
     ensures program { MAX_PROGRAM_RECORD_LEN ≡ 4124 }
+{}
+
+/// Law: a header begins with 0xEB25 and has 24 bytes, 22 of them before its checksum; the two data
+/// types of Format 0 are 0x68 for Ethernet data and 0x00 for computer-generated data.
+pub fn the_numbers_of_a_header()
+    ensures sync { SYNC_PATTERN ≡ 60197 }
+    ensures len { HEADER_LEN ≡ 24 }
+    ensures checked { CHECKED_LEN ≡ 22 }
+    ensures ethernet { ETHERNET_DATA ≡ 104 }
+    ensures computer_generated { COMPUTER_GENERATED_DATA ≡ 0 }
+{}
+
+/// Law: a body of frames has a word of 4 bytes, and 12 bytes before each frame's; a record has 12
+/// bytes before what it says, that of a program is of kind 1 and has 28 bytes before its
+/// instructions of 8 bytes, and that of an end is of kind 2.
+pub fn the_numbers_of_a_body()
+    ensures word { BODY_WORD_LEN ≡ 4 }
+    ensures frame { FRAME_HEADER_LEN ≡ 12 }
+    ensures record_head { RECORD_HEAD_LEN ≡ 12 }
+    ensures program { (PROGRAM_RECORD ≡ 1) × (PROGRAM_HEAD_LEN ≡ 28) × (INSN_LEN ≡ 8) }
+    ensures ending { END_RECORD ≡ 2 }
 {}
 
 /// Law: bytes are the body of one list of frames at most; a body that is written is one of its

@@ -17,8 +17,9 @@ pub use header::{
     MAX_ETHERNET_PACKET_LEN, SYNC_PATTERN,
 };
 pub use laws::{
-    body_has_one_reading, header_has_one_spelling, least_limit_holds_the_longest_frame,
-    packets_have_their_lengths, record_has_one_reading, the_limits_of_a_packet,
+    a_frame_fits_if_its_packet_does, body_has_one_reading, header_has_one_spelling,
+    least_limit_holds_the_longest_frame, packets_have_their_lengths, record_has_one_reading,
+    the_limits_of_a_packet, the_numbers_of_a_body, the_numbers_of_a_header,
 };
 pub use length::packet_len;
 pub use limit::{Limit, MIN_LIMIT};

@@ -137,6 +137,7 @@ pub(crate) fn split_frame(body: &[u8]) -> Option<(ReadFrame<'_>, &[u8])>
 
 /// What comes after the filler of a frame of `len` bytes: one byte of any value if `len` is odd,
 /// which may be missing at the end.
+#[tactic(auto, using(crate::proofs::SplitFrame::one_filler))]
 fn after_filler(len: usize, after: &[u8]) -> &[u8]
     ensures filler { (filler : List ℕ) × (after.now ≡ filler ++ result.now)
         × IsFiller len filler result.now }

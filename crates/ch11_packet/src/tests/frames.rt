@@ -113,6 +113,30 @@ fn a_body_of_one_frame_is_read(rt: HostRuntime) -> Result<(), Fail> {
 }
 
 #[test]
+fn a_body_of_65535_frames_is_read(rt: HostRuntime) -> Result<(), Fail> {
+    let mut body = all_bytes(rt.alloc(), "ffff0000")?;
+    for counter in 0..65_535u16 {
+        let [low, high] = counter.to_le_bytes();
+        body.extend_from_slice(&[low, high, 0, 0, 0, 0, 0, 0, 0, 0, 7, 3])?;
+    }
+    let frames = decode_frames(&body)?;
+    assert_eq!(rt; frames.count(), 65_535);
+    for (at, frame) in frames.walk().enumerate() {
+        assert_eq!(rt; frame.counter, at as u64);
+    }
+    let last = frames.walk().last().ok_or("the last frame")?;
+    assert_eq!(rt; (last.counter, last.net, last.speed), (65_534, 7, 3));
+    assert_eq!(rt; last.bytes.len(), 0);
+    assert_eq!(rt; frames.frame_at(65_534), Some(last));
+    assert_eq!(rt; frames.frame_at(65_535), None);
+    body.push(0)?;
+    assert!(rt; has_fault(&body, BodyFault::LeftOver));
+    body.truncate(4 + 12 * 65_534);
+    assert!(rt; has_fault(&body, BodyFault::Short));
+    Ok(())
+}
+
+#[test]
 fn unused_bits_of_a_body_make_no_difference(rt: HostRuntime) -> Result<(), Fail> {
     let odd: [u8; 36] = bytes(rt.alloc(), ODD_BODY)?;
     for (at, value) in [

@@ -45,6 +45,57 @@ fn the_record_of_a_program_is_read(rt: HostRuntime) -> Result<(), Fail> {
     Ok(())
 }
 
+/// A return of this constant.
+fn returns(k: u32) -> Insn {
+    Insn {
+        code: 6,
+        jt: 0,
+        jf: 0,
+        k,
+    }
+}
+
+#[test]
+fn the_record_of_the_longest_program_is_written_and_read(rt: HostRuntime) -> Result<(), Fail> {
+    let mut insns = Vec::new(rt.alloc());
+    for k in 0..512 {
+        insns.push(returns(k))?;
+    }
+    let body = program_body(1, 0, 0, &verify(insns)?);
+    assert_eq!(rt; body.len(), 4_124);
+    let head = "00000000 43425052 0100 0100 00000000 0000000000000000 0002 0000";
+    let head = all_bytes(rt.alloc(), head)?;
+    assert_eq!(rt; body.get(..28), Some(head.as_slice()));
+    let last = "06000000 ff010000";
+    let last = all_bytes(rt.alloc(), last)?;
+    assert_eq!(rt; body.get(4_116..), Some(last.as_slice()));
+    let Some(Record::Program(program)) = decode_record(&body)? else {
+        return Err("a program's record")?;
+    };
+    assert_eq!(rt; program.count, 512);
+    assert_eq!(rt; program.insn_at(511), Some(returns(511)));
+    assert_eq!(rt; program.insn_at(512), None);
+    Ok(())
+}
+
+#[test]
+fn a_record_of_65535_instructions_is_read(rt: HostRuntime) -> Result<(), Fail> {
+    let head = "00000000 43425052 0100 0100 00000000 0000000000000000 ffff 0000";
+    let mut body = all_bytes(rt.alloc(), head)?;
+    for k in 0..65_535 {
+        body.extend_from_slice(&returns(k).to_bytes())?;
+    }
+    let Some(Record::Program(program)) = decode_record(&body)? else {
+        return Err("a program's record")?;
+    };
+    assert_eq!(rt; program.count, 65_535);
+    assert_eq!(rt; program.insn_at(65_534), Some(returns(65_534)));
+    assert_eq!(rt; program.insn_at(65_535), None);
+    body.push(0)?;
+    assert_eq!(rt; decode_record(&body), Err(RecordFault::Length));
+    Ok(())
+}
+
 #[test]
 fn the_record_of_an_end_is_read(rt: HostRuntime) -> Result<(), Fail> {
     let body: [u8; END_RECORD_LEN] = bytes(rt.alloc(), END)?;

@@ -1,19 +1,8 @@
 use Rattle.std.proofs.Common.{ap, subst, sym, ◌∙◌}
 use Rattle.std.specs.Prelude.{IsSome}
-use Rattle.ch11_packet.specs.Header.{IsHeader, header_bytes, header_at, HasSync, HasHeaderSum}
-use Rattle.ch11_packet.proofs.Headers.{same_header, header_at-header_bytes, header_bytes-header_at, HasSync-header_bytes, HasHeaderSum-header_bytes, spelled_by, read_as}
+use Rattle.ch11_packet.specs.Header.{IsHeader, header_bytes, header_at}
+use Rattle.ch11_packet.proofs.Headers.{same_header, header_at-header_bytes, header_bytes-header_at, spelled_by, read_as}
 use Rattle.ch11_packet.proofs.header.Header.decode.Goals as goal
-
-pub returns-then-from_le_bytes-clause-read_back : goal.returns-then-from_le_bytes-clause-read_back
-returns-then-from_le_bytes-clause-read_back c = λ header is e.
-    let sync : HasSync c.args.bytes.now = subst HasSync (sym e) (HasSync-header_bytes header) in
-    absurd (c.if-from_le_bytes.true (c.from_le_bytes.ensures ∙ sync))
-
-pub returns-then-sum-header_sum-clause-read_back :
-    goal.returns-then-sum-header_sum-clause-read_back
-returns-then-sum-header_sum-clause-read_back c = λ header is e.
-    let sum : HasHeaderSum c.args.bytes.now = subst HasHeaderSum (sym e) (HasHeaderSum-header_bytes header) in
-    absurd (c.if-sum-header_sum.true (c.from_le_bytes-sum.ensures ∙ sum ∙ sym c.header_sum.ensures.sum))
 
 pub returns-clause-spelled : goal.returns-clause-spelled
 returns-clause-spelled c =
