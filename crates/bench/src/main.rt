@@ -1,15 +1,17 @@
-//! Times the machine, the assembler, the feed's reader, packets and the slot. The first word names
-//! the part, and the others say how much of it is timed; `bench/README.md` has them. Without words
+//! Times the machine, the assembler, the feed's reader, packets, the slot, the lane and the writer.
+//! The first word names the part, and the others say how much of it is timed; `bench/README.md` has them. Without words
 //! it runs a little of each part, and prints what each loop came to.
 #![tactic(auto)]
 
 mod assembler;
 mod clock;
 mod feed;
+mod lane;
 mod machine;
 mod packets;
 mod slot;
 mod words;
+mod writer;
 
 use anyhow::{Result, bail};
 use std::env;
@@ -48,7 +50,13 @@ fn measure<R: Wait>(rt: &HostRuntime, waits: &R, part: &str, words: &[String]) -
     if part == "slot" {
         return slot::measure(rt, waits, words);
     }
-    bail!("no such part: machine, assembler, feed, packets and slot are there");
+    if part == "lane" {
+        return lane::measure(rt, words);
+    }
+    if part == "writer" {
+        return writer::measure(rt, words);
+    }
+    bail!("no such part: machine, assembler, feed, packets, slot, lane and writer are there");
 }
 
 /// Runs a little of each part, and prints what each loop came to.
@@ -58,5 +66,7 @@ fn self_check<R: Wait>(rt: &HostRuntime, waits: &R) -> Result<()> {
     println!(rt; "feed {}", feed::self_check(rt)?)?;
     println!(rt; "packets {}", packets::self_check(rt)?)?;
     println!(rt; "slot {}", slot::self_check(rt, waits)?)?;
+    println!(rt; "lane {}", lane::self_check(rt)?)?;
+    println!(rt; "writer {}", writer::self_check(rt)?)?;
     Ok(())
 }

@@ -45,38 +45,57 @@ abbrev ComparesRight : Operand → Type 0
 ComparesRight (Targets src k first second) = src ≡ X → k ≡ 0
 ComparesRight operand = Unit {0}
 
--- a row of the table
-row : (mnemonic : Mnemonic) (operand : Operand) (template : Template) → with_operand mnemonic operand ≡ Some template → ComparesRight operand → FitsForm template
-row Ld (Absolute k) template e right = plain (form.LdAbs W) k template e refl (λ used. cc)
-row Ld (Indexed k) template e right = plain (form.LdInd W) k template e refl (λ used. cc)
-row Ld (Scratch k) template e right = plain form.LdMem k template e refl (λ used. cc)
-row Ld (Immediate k) template e right = plain form.LdImm k template e refl (λ used. cc)
-row Ld Length template e right = plain form.LdLen 0 template e refl (λ _. refl)
-row Ldi (Immediate k) template e right = plain form.LdImm k template e refl (λ used. cc)
-row Ldi (Bare k) template e right = plain form.LdImm k template e refl (λ used. cc)
-row Ldh (Absolute k) template e right = plain (form.LdAbs H) k template e refl (λ used. cc)
-row Ldh (Indexed k) template e right = plain (form.LdInd H) k template e refl (λ used. cc)
-row Ldb (Absolute k) template e right = plain (form.LdAbs B) k template e refl (λ used. cc)
-row Ldb (Indexed k) template e right = plain (form.LdInd B) k template e refl (λ used. cc)
-row Ldx (Scratch k) template e right = plain form.LdxMem k template e refl (λ used. cc)
-row Ldx (Immediate k) template e right = plain form.LdxImm k template e refl (λ used. cc)
-row Ldx (HeaderLength m k n) template e right = header_length (eqb m 4 && eqb n 15) k template e
-row Ldx Length template e right = plain form.LdxLen 0 template e refl (λ _. refl)
-row Ldxi (Immediate k) template e right = plain form.LdxImm k template e refl (λ used. cc)
-row Ldxi (Bare k) template e right = plain form.LdxImm k template e refl (λ used. cc)
-row Ldxb (HeaderLength m k n) template e right = header_length (eqb m 4 && eqb n 15) k template e
-row St (Scratch k) template e right = plain form.St k template e refl (λ used. cc)
-row Stx (Scratch k) template e right = plain form.Stx k template e refl (λ used. cc)
-row (Test cond) (Targets src k holds fails) template e right = by_test cond src k (Some holds) fails template e right (one_named holds fails)
-row (Inverted cond) (Targets src k fails None) template e right = by_test cond src k None (Some fails) template e right tt
-row (Alu op) (Immediate k) template e right = plain (form.Alu op K) k template e refl (λ used. cc)
-row (Alu op) IndexRegister template e right = plain (form.Alu op X) 0 template e refl (λ _. refl)
-row Neg Nothing template e right = plain form.Neg 0 template e refl (λ _. refl)
-row Tax Nothing template e right = plain form.Tax 0 template e refl (λ _. refl)
-row Txa Nothing template e right = plain form.Txa 0 template e refl (λ _. refl)
-row Ret (Immediate k) template e right = plain form.RetK k template e refl (λ used. cc)
-row Ret Accumulator template e right = plain form.RetA 0 template e refl (λ _. refl)
-row mnemonic operand template e right = cc
+-- what a row makes, if it makes anything
+abbrev MakesFitting : Option Template → Type 0
+MakesFitting None = Unit {0}
+MakesFitting (Some made) = FitsForm made
+
+-- a form that uses its constant may have any
+used : (k : ℕ) → true ≡ false → k ≡ 0
+used k e = cc
+
+header_fits : (is : Bool) (k : ℕ) → MakesFitting (cond is (plain_template form.LdxMsh k) None)
+header_fits true k = record { labels = refl; unused = used k }
+header_fits false k = tt
+
+fitting_test : (test : Cond) (src : Src) (k : ℕ) (holds fails : Option (List ℕ)) → (src ≡ X → k ≡ 0) → NamesOne holds fails → MakesFitting (test_template test src k holds fails)
+fitting_test test src k holds fails zero named = record { labels = (holds, fails, refl, named); unused = test_unused test src k zero }
+
+-- the rows of the table by operand: each text is checked for each mnemonic
+row : (mnemonic : Mnemonic) (operand : Operand) → ComparesRight operand → MakesFitting (with_operand mnemonic operand)
+row (Test test) (Targets src k holds fails) right = fitting_test test src k (Some holds) fails right (one_named holds fails)
+row (Inverted test) (Targets src k fails None) right = fitting_test test src k None (Some fails) right tt
+row (Inverted test) (Targets src k fails (Some more)) right = tt
+row Ldx (HeaderLength m k n) right = header_fits (eqb m 4 && eqb n 15) k
+row Ldxb (HeaderLength m k n) right = header_fits (eqb m 4 && eqb n 15) k
+row Neg Nothing right = search (used)
+row mnemonic Nothing right = search (used)
+row Ld (Absolute k) right = search (used)
+row mnemonic (Absolute k) right = search (used)
+row Ld (Indexed k) right = search (used)
+row mnemonic (Indexed k) right = search (used)
+row Ld (Scratch k) right = search (used)
+row mnemonic (Scratch k) right = search (used)
+row Ld (Immediate k) right = search (used)
+row mnemonic (Immediate k) right = search (used)
+row Ldi (Bare k) right = search (used)
+row mnemonic (Bare k) right = search (used)
+row Ld (Word name) right = tt
+row mnemonic (Word name) right = search (used)
+row Ld (HashWord name) right = tt
+row mnemonic (HashWord name) right = search (used)
+row (Alu op) IndexRegister right = search (used)
+row mnemonic IndexRegister right = search (used)
+row Ret Accumulator right = search (used)
+row mnemonic Accumulator right = search (used)
+row Ld Length right = search (used)
+row mnemonic Length right = search (used)
+row mnemonic (HeaderLength m k n) right = search (used)
+row mnemonic (Targets src k holds fails) right = search (used)
+
+fits_made : (made : Option Template) (template : Template) → made ≡ Some template → MakesFitting made → FitsForm template
+fits_made None template e h = cc
+fits_made (Some made) template e h = fits_so made template e h
 
 either_right : (b : Bool) (x y : Operand) → ComparesRight x → ComparesRight y → ComparesRight (cond b x y)
 either_right true x y hx hy = hx
@@ -96,7 +115,7 @@ template_fits : (mnemonic : Mnemonic) (operand : Operand) (ts : List Token) (tem
     → template_of mnemonic operand ≡ Some template → FitsForm template
 template_fits Jmp (Word name) ts template h e =
     fits_so (record { form = form.Ja; k = 0; jump = Always name }) template e (record { labels = (name, refl); unused = λ _. refl })
-template_fits mnemonic operand ts template h e = row mnemonic (meaning_of operand) template e (meaning_right operand ts h)
+template_fits mnemonic operand ts template h e = fits_made (with_operand mnemonic (meaning_of operand)) template e (row mnemonic (meaning_of operand) (meaning_right operand ts h))
 
 -- what the grammar has fits its form
 pub insn_fits : (template : Template) (ts : List Token) → WritesInsn template ts → FitsForm template

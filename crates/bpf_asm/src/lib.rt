@@ -24,6 +24,3 @@ pub use laws::{
     operands_are_read_by_the_grammar, the_arp_text_denotes_the_arp_filter,
     the_instruction_of_a_line_fits_its_form,
 };
-
-#[cfg(test)]
-mod tests;

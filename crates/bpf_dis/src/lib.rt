@@ -15,6 +15,3 @@ pub use laws::{
     the_text_of_a_program_is_assembled_to_it,
 };
 pub use text::text_of;
-
-#[cfg(test)]
-mod tests;

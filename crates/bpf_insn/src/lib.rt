@@ -23,6 +23,3 @@ pub use mnemonics::{cond_mnemonic, load_mnemonic, op_mnemonic};
 pub use parse::{ListingFault, parse_listing};
 pub use print::print_listing;
 pub use uses::{reads_scratch, uses_distances, uses_k, writes_scratch};
-
-#[cfg(test)]
-mod tests;

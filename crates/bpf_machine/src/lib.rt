@@ -10,6 +10,3 @@ mod scratch;
 
 pub use laws::{a_valid_program_returns, runs_once, the_longest_view};
 pub use machine::{MAX_VIEW, Outcome, run};
-
-#[cfg(test)]
-mod tests;

@@ -13,6 +13,3 @@ pub use fault::{Refused, VerifyFault};
 pub use path::check_path;
 pub use verified::Verified;
 pub use verifier::verify;
-
-#[cfg(test)]
-mod tests;

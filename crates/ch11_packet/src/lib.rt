@@ -27,6 +27,3 @@ pub use records::{
     END_RECORD_LEN, INSN_LEN, MAX_PROGRAM_RECORD_LEN, PROGRAM_HEAD_LEN, ProgramRecord, Record,
     RecordFault, decode_record, end_body, program_body,
 };
-
-#[cfg(test)]
-mod tests;

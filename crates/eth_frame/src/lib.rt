@@ -17,6 +17,3 @@ pub use frame::{CHECK_SEQUENCE_LEN, Frame, MAX_FRAME_LEN, MIN_FRAME_LEN};
 pub use laws::{feed_has_one_reading, the_limits_of_a_frame, the_limits_of_a_record};
 pub use owned::OwnedFrame;
 pub use source::{FrameSource, Next, SourceEnding, SourceFault};
-
-#[cfg(test)]
-mod tests;

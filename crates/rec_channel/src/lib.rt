@@ -25,6 +25,3 @@ pub use limits::MAX_VERSIONS;
 pub use parts::Parts;
 pub use shared::SharedSlot;
 pub use slot::Slot;
-
-#[cfg(test)]
-mod tests;

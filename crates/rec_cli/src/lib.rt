@@ -13,6 +13,3 @@ mod words;
 pub use entry::{program, words_unread};
 pub use view::{ViewFault, view_of};
 pub use words::{Words, WordsFault, words_of};
-
-#[cfg(test)]
-mod tests;

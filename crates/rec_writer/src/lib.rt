@@ -11,6 +11,3 @@ mod writer;
 pub use fault::WriteFault;
 pub use packet::packet_len;
 pub use writer::{MAX_CHANNELS, Writer};
-
-#[cfg(test)]
-mod tests;

@@ -1,5 +1,5 @@
 //! Tests, and the bytes that they share.
-use super::*;
+use ch11_packet::*;
 use bpf_insn::{Insn, parse_listing};
 use bpf_verify::verify;
 use eth_frame::Frame;

@@ -1,6 +1,6 @@
 //! Runs without words, and what is printed of them.
 
-use super::*;
+use rec_cli::program;
 use std::io;
 use std::io::{ErrorKind, Read, Write};
 use std::process::Abort;

@@ -1,5 +1,5 @@
 //! Tests, and the bytes, readers and outputs that they share.
-use super::*;
+use eth_frame::*;
 use std::alloc::Global;
 use std::cell::Cell;
 use std::io;

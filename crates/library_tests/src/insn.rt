@@ -1,5 +1,5 @@
 //! Instructions as they are stored, read and printed.
-use super::*;
+use bpf_insn::*;
 use std::test::Fail;
 
 /// The ARP filter as tcpdump prints it: accepts frames whose EtherType is 0x0806.

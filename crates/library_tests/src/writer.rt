@@ -1,5 +1,5 @@
 //! Tests, and the pieces and outputs that they share.
-use super::*;
+use rec_writer::*;
 use bpf_insn::parse_listing;
 use bpf_verify::{Verified, verify};
 use ch11_packet::{DataBody, DataBuilder, Limit};

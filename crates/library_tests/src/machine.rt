@@ -1,5 +1,5 @@
 //! Programs with the value that they return on a view and the number of steps, worked by hand.
-use super::*;
+use bpf_machine::*;
 use bpf_insn::parse_listing;
 use bpf_verify::verify;
 use std::test::Fail;

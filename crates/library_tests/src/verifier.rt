@@ -1,5 +1,5 @@
 //! Programs that are valid and programs that are not, each with its first fault.
-use super::*;
+use bpf_verify::*;
 use bpf_insn::{Insn, SCRATCH_WORDS, parse_listing};
 use std::alloc::AllocError;
 use std::test::Fail;

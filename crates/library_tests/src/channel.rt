@@ -1,4 +1,4 @@
-use super::*;
+use rec_channel::*;
 use bpf_insn::parse_listing;
 use bpf_verify::{Verified, verify};
 use std::alloc::Global;

@@ -1,13 +1,7 @@
 //! Whole programs: worked examples, faults in their order, and limits.
 
-use crate::{AsmFault, assemble};
-use bpf_insn::Insn;
+use super::*;
 use std::alloc::{AllocError, Global};
-use std::test::Fail;
-
-fn insn(code: u16, jt: u8, jf: u8, k: u32) -> Insn {
-    Insn { code, jt, jf, k }
-}
 
 #[test]
 fn texts_are_assembled(rt: HostRuntime) -> Result<(), Fail> {

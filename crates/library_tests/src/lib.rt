@@ -1,0 +1,24 @@
+//! The tests of the libraries, by their public calls. They stand in one crate, since a crate with
+//! tests of its own is proved twice.
+#![tactic(auto)]
+
+#[cfg(test)]
+mod assembler;
+#[cfg(test)]
+mod channel;
+#[cfg(test)]
+mod command_line;
+#[cfg(test)]
+mod disassembler;
+#[cfg(test)]
+mod frame_and_feed;
+#[cfg(test)]
+mod insn;
+#[cfg(test)]
+mod machine;
+#[cfg(test)]
+mod packet;
+#[cfg(test)]
+mod verifier;
+#[cfg(test)]
+mod writer;
