@@ -1,18 +1,14 @@
 -- The pieces that are certain begin all pieces, however many frames follow.
-use Rattle.std.proofs.Common.{ℕ, ◌≡◌, Bool, true, false, ◌⊎◌, inl, inr, List, [], ◌∷◌, ◌++◌, refl, sym, ◌∙◌, ap, subst, map}
-use Rattle.std.specs.Prelude.{if◌then◌else◌}
+use Rattle.std.proofs.Common.{◌≡◌, Bool, inl, inr, List, [], ◌∷◌, ◌++◌, refl, sym, ◌∙◌, ap, subst, map}
 use Rattle.std.specs.List.{flat_map}
 use Rattle.std.proofs.lemmas.Bool.{cases_Bool}
 use Rattle.std.proofs.lemmas.List.{append_assoc, append-nil, map-append}
 use Rattle.std.proofs.lemmas.Grind.{flat_map-append}
-use Rattle.eth_frame.specs.Frame.{FrameData}
-use Rattle.rec_channel.specs.History.{Version}
-use Rattle.rec_lane.specs.Offered.{OfferedFrame, AllMet, frames_of, accepted, is_accepted}
-use Rattle.rec_lane.specs.Parts.{ended_from, last_from, as_part, Begins}
-use Rattle.rec_lane.specs.Packets.{has_room, full_packets, last_packet, packets}
-use Rattle.rec_lane.specs.Pieces.{LaneSettings, PieceData, has_version, groups, ended_groups, last_group, program_piece, data_piece, end_piece, open_group_pieces, group_pieces, pieces_so_far, channel_pieces, frames_in, ArePieces, ArePiecesSoFar}
-use Rattle.rec_lane.specs.Lanes.{MarkedFrom}
-use Rattle.rec_lane.proofs.Parted.{ended_on, last_on, ended_off, last_off, whole_from}
+use Rattle.rec_lane.specs.Offered.{OfferedFrame, accepted}
+use Rattle.rec_lane.specs.Parts.{ended_from, as_part, Begins}
+use Rattle.rec_lane.specs.Packets.{has_room, full_packets, last_packet}
+use Rattle.rec_lane.specs.Pieces.{LaneSettings, has_version, ended_groups, last_group, program_piece, data_piece, end_piece, open_group_pieces, group_pieces, pieces_so_far, channel_pieces}
+use Rattle.rec_lane.proofs.Parted.{ended_on, last_on, ended_off}
 use Rattle.rec_lane.proofs.Offering.{accepted_more, group_closed}
 
 begins_same : {X : Type 0} (xs : List X) → Begins xs xs

@@ -1,15 +1,13 @@
 -- What is in a channel's pieces: its accepted frames, and groups of one version each.
-use Rattle.std.proofs.Common.{ℕ, suc, zero, ◌+◌, ◌≡◌, ◌≢◌, ◌<◌, Bool, true, false, ◌⊎◌, inl, inr, List, [], ◌∷◌, ◌++◌, length, refl, sym, ◌∙◌, ap, subst, map, arith}
-use Rattle.std.specs.Prelude.{if◌then◌else◌, ◌==◌}
-use Rattle.std.specs.List.{flat_map, AllByRecursion}
-use Rattle.std.proofs.lemmas.Bool.{cases_Bool}
-use Rattle.std.proofs.lemmas.List.{append_assoc, append-nil, map-append}
+use Rattle.std.proofs.Common.{◌≡◌, Bool, List, [], ◌∷◌, ◌++◌, refl, sym, ◌∙◌, ap, map}
+use Rattle.std.specs.List.{flat_map}
+use Rattle.std.proofs.lemmas.List.{append-nil}
 use Rattle.std.proofs.lemmas.Grind.{flat_map-append}
 use Rattle.eth_frame.specs.Frame.{FrameData}
-use Rattle.rec_lane.specs.Offered.{OfferedFrame, frames_of, accepted, is_accepted}
-use Rattle.rec_lane.specs.Parts.{ended_from, last_from, ended_parts, last_part, as_part, parts}
+use Rattle.rec_lane.specs.Offered.{OfferedFrame, accepted}
+use Rattle.rec_lane.specs.Parts.{ended_parts, last_part, as_part, parts}
 use Rattle.rec_lane.specs.Packets.{has_room, packets}
-use Rattle.rec_lane.specs.Pieces.{LaneSettings, PieceData, has_version, groups, program_piece, data_piece, end_piece, group_pieces, channel_pieces, frames_in}
+use Rattle.rec_lane.specs.Pieces.{LaneSettings, has_version, groups, program_piece, data_piece, end_piece, group_pieces, channel_pieces, frames_in}
 use Rattle.rec_lane.proofs.Parted.{whole_from}
 use Rattle.rec_lane.proofs.Offering.{accepted_more}
 

@@ -4,3 +4,5 @@ pub mod Meeting
 pub mod Beginnings
 pub mod Contents
 pub mod Longer
+pub mod Fronts
+pub mod Groups

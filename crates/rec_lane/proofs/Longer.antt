@@ -1,9 +1,9 @@
 -- The same of frames and a history.
-use Rattle.std.proofs.Common.{ℕ, ◌+◌, ◌≡◌, List, [], ◌∷◌, ◌++◌, length, take, drop, refl, sym, ◌∙◌, ap, subst, map, arith}
-use Rattle.std.proofs.lemmas.List.{length-map, take-append-drop}
+use Rattle.std.proofs.Common.{◌≡◌, List, [], ◌∷◌, ◌++◌, length, drop, refl, sym, ◌∙◌, ap, subst, arith}
+use Rattle.std.proofs.lemmas.List.{length-map}
 use Rattle.eth_frame.specs.Frame.{FrameData}
 use Rattle.rec_channel.specs.History.{Version}
-use Rattle.rec_lane.specs.Offered.{OfferedFrame, AllMet, MetFrom, frames_of}
+use Rattle.rec_lane.specs.Offered.{OfferedFrame, AllMet, frames_of}
 use Rattle.rec_lane.specs.Parts.{Begins}
 use Rattle.rec_lane.specs.Pieces.{LaneSettings, PieceData, pieces_so_far, channel_pieces, ArePieces, ArePiecesSoFar}
 use Rattle.rec_lane.specs.Lanes.{MarkedFrom}

@@ -1,9 +1,9 @@
 -- What frames meet in a history: it is one list, and later versions leave it.
-use Rattle.std.proofs.Common.{ℕ, suc, zero, ◌+◌, ◌≡◌, ◌≤◌, ◌<◌, ◌⊎◌, inl, inr, Bool, true, false, List, [], ◌∷◌, ◌++◌, length, drop, Option, None, Some, refl, sym, ◌∙◌, ap, subst, arith, map, All}
+use Rattle.std.proofs.Common.{ℕ, suc, zero, ◌+◌, ◌≡◌, ◌≤◌, ◌<◌, inl, inr, List, [], ◌∷◌, ◌++◌, length, drop, Option, Some, refl, sym, ◌∙◌, ap, subst, arith, All}
 use Rattle.std.specs.List.{AllByRecursion}
 use Rattle.std.specs.Prelude.{if◌then◌else◌, ◌==◌, slice_get, option_map, unwrap_or}
-use Rattle.std.proofs.lemmas.Bool.{cases_Bool, both_ways, eqb-true}
-use Rattle.std.proofs.lemmas.List.{append_assoc, append-nil, map-append, length-append, length-map}
+use Rattle.std.proofs.lemmas.Bool.{cases_Bool, eqb-true}
+use Rattle.std.proofs.lemmas.List.{map-append, length-map}
 use Rattle.std.proofs.lemmas.Option.{slice_get-map, slice_get_within, get_or_from_slice_get}
 use Rattle.std.proofs.lemmas.List.Elements.{All-get_or}
 use Rattle.bpf_insn.specs.declared.insn.Insn.{Insn}
@@ -14,8 +14,8 @@ use Rattle.rec_channel.specs.History.{Version, IsHistory, InForce, version_at}
 use Rattle.rec_channel.specs.Slots.{programs_in}
 use Rattle.rec_lane.specs.Offered.{OfferedFrame, Met, MetFrom, AllMet, frames_of, accepted, AreAccepted}
 use Rattle.rec_lane.specs.Parts.{last_from}
-use Rattle.rec_lane.specs.Pieces.{LaneSettings, PieceData, has_version, last_group, pieces_so_far, channel_pieces, ArePieces, ArePiecesSoFar}
-use Rattle.rec_lane.specs.Lanes.{LaneState, HasMet, StandsFor, VersionProgram, version_of, is_current, running, offered_now, MarkedFrom, IsDrawn, TakesFrame, Ends}
+use Rattle.rec_lane.specs.Pieces.{PieceData, has_version, last_group, pieces_so_far, channel_pieces}
+use Rattle.rec_lane.specs.Lanes.{LaneState, HasMet, VersionProgram, version_of, running, offered_now, MarkedFrom, TakesFrame, Ends}
 
 -- ---- one list
 
@@ -27,7 +27,7 @@ same_offered f g number frame version program value =
     ∙ (ap (λ p. record { number = g.number; frame = g.frame; version = g.version; program = p; value = f.value }) program
     ∙ ap (λ v. record { number = g.number; frame = g.frame; version = g.version; program = g.program; value = v }) value)))
 
-some_is : {X : Type 0} (x y : X) → Some x ≡ Some y → x ≡ y
+pub some_is : {X : Type 0} (x y : X) → Some x ≡ Some y → x ≡ y
 some_is x y e = ap (λ o. unwrap_or o x) e
 
 -- at most one version is in force at a number, and a program returns one value at most
@@ -47,7 +47,7 @@ one_met one run history f g number frame m n =
 pub heads : {X : Type 0} (x y : X) (xs ys : List X) → x ∷ xs ≡ y ∷ ys → x ≡ y
 heads x y xs ys e = some_is x y (ap (λ zs. slice_get zs 0) e)
 
-tails : {X : Type 0} (x y : X) (xs ys : List X) → x ∷ xs ≡ y ∷ ys → xs ≡ ys
+pub tails : {X : Type 0} (x y : X) (xs ys : List X) → x ∷ xs ≡ y ∷ ys → xs ≡ ys
 tails x y xs ys e = ap (λ zs. drop 1 zs) e
 
 one_from : OneInForce → OneRun → (history : List Version) (number : ℕ) (fs gs : List OfferedFrame) → MetFrom history number fs → MetFrom history number gs → frames_of fs ≡ frames_of gs → fs ≡ gs

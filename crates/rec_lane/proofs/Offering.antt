@@ -1,6 +1,6 @@
 -- What a lane stands for after a frame more, and the pieces that became certain.
-use Rattle.std.proofs.Common.{ℕ, suc, zero, ◌+◌, ◌≡◌, ◌≤◌, ◌<◌, ◌⊎◌, inl, inr, Bool, true, false, List, [], ◌∷◌, ◌++◌, length, Option, None, Some, refl, sym, ◌∙◌, ap, subst, arith, map}
-use Rattle.std.specs.Prelude.{if◌then◌else◌, ◌==◌, nat_le, not}
+use Rattle.std.proofs.Common.{ℕ, ◌+◌, ◌≡◌, ◌⊎◌, inl, inr, true, false, List, [], ◌∷◌, ◌++◌, length, Option, None, Some, refl, sym, ◌∙◌, ap, subst, arith, map}
+use Rattle.std.specs.Prelude.{if◌then◌else◌, ◌==◌}
 use Rattle.std.specs.List.{flat_map, filter}
 use Rattle.std.proofs.lemmas.Bool.{cases_Bool, both_ways}
 use Rattle.std.proofs.lemmas.List.{append_assoc, append-nil, map-append, length-append}
@@ -9,9 +9,9 @@ use Rattle.std.proofs.lemmas.Grind.{flat_map-append}
 use Rattle.bpf_insn.specs.declared.insn.Insn.{Insn}
 use Rattle.eth_frame.specs.Frame.{FrameData}
 use Rattle.rec_lane.specs.Offered.{OfferedFrame, accepted, frames_of, is_accepted}
-use Rattle.rec_lane.specs.Parts.{ended_from, last_from, as_part}
+use Rattle.rec_lane.specs.Parts.{as_part}
 use Rattle.rec_lane.specs.Packets.{has_room, full_packets, last_packet}
-use Rattle.rec_lane.specs.Pieces.{LaneSettings, PieceData, has_version, ended_groups, last_group, program_piece, data_piece, open_group_pieces, group_pieces, pieces_so_far, last_counter_from, last_counter, has_no_packet}
+use Rattle.rec_lane.specs.Pieces.{LaneSettings, PieceData, has_version, ended_groups, last_group, program_piece, data_piece, open_group_pieces, group_pieces, pieces_so_far, last_counter_from, has_no_packet}
 use Rattle.rec_lane.specs.Pieces.PieceData.{OfProgram}
 use Rattle.rec_lane.specs.Lanes.{LaneState, HasMet, VersionProgram, version_of, is_current, running, offered_now}
 use Rattle.rec_lane.specs.Steps.{packet_closed, closed_pieces, frame_added, frame_kept, kept_pieces, frame_judged, judged_pieces, frame_counted, frame_of_new_version, begun_pieces, begun_piece, RunsAs, is_none}

@@ -1,10 +1,9 @@
 -- An element more at the end of a list in parts.
-use Rattle.std.proofs.Common.{◌≡◌, ◌⊎◌, inl, inr, Bool, true, false, List, [], ◌∷◌, ◌++◌, refl, sym, ◌∙◌, ap}
-use Rattle.std.specs.Prelude.{if◌then◌else◌}
+use Rattle.std.proofs.Common.{◌≡◌, inl, inr, Bool, true, false, List, [], ◌∷◌, ◌++◌, refl, sym, ◌∙◌, ap}
 use Rattle.std.specs.List.{flat_map}
 use Rattle.std.proofs.lemmas.Bool.{cases_Bool}
 use Rattle.std.proofs.lemmas.List.{append_assoc, append-nil}
-use Rattle.rec_lane.specs.Parts.{ended_from, last_from, as_part}
+use Rattle.rec_lane.specs.Parts.{ended_from, last_from}
 
 -- the last part goes on
 pub ended_on : {X : Type 0} (goes_on : List X → X → Bool) (part xs : List X) (x : X)

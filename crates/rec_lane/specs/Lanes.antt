@@ -44,7 +44,8 @@ abbrev pub version_of : List OfferedFrame → Option VersionProgram
 version_of [] = None
 version_of (f ∷ fs) = Some (record { version = f.version; program = f.program })
 
--- the lane holds what is left to say of these frames
+-- these are the frames that the lane has met: its counts, its last counter, its version with the
+-- program that ran, and its open packet are theirs
 pub record HasMet (lane : LaneState) (offered : List OfferedFrame) : Type 0 where
   pub offered_is : lane.offered ≡ length offered
   pub kept_is : lane.kept ≡ length (accepted offered)

@@ -1,6 +1,5 @@
 -- A list in parts, one after the other: a part goes on as long as a test of the part so far and the
--- next element says so. An element that begins a part is always in it if the test holds of no
--- elements and any one.
+-- next element says so. No part is empty where the test holds of no elements and each next one.
 use Rattle.std.specs.Prelude.{◌≡◌, Bool, if◌then◌else◌, List, [], ◌∷◌, ◌++◌}
 
 module _ {X : Type 0} (goes_on : List X → X → Bool) where

@@ -1,6 +1,6 @@
 -- The pieces of a channel, in the order in which they are written: for each version that some frame
 -- met its program, and then its accepted frames in packets; last the channel's end.
-use Rattle.std.specs.Prelude.{ℕ, ◌≡◌, ◌==◌, Bool, true, false, List, [], ◌∷◌, ◌++◌, length, map}
+use Rattle.std.specs.Prelude.{ℕ, ◌≡◌, ◌≢◌, ◌==◌, Bool, true, false, List, [], ◌∷◌, ◌++◌, length, map, All, Some, slice_get}
 use Rattle.std.specs.List.{flat_map}
 use Rattle.bpf_insn.specs.declared.insn.Insn.{Insn}
 use Rattle.eth_frame.specs.Frame.{FrameData}
@@ -40,6 +40,21 @@ ended_groups offered = ended_parts has_version offered
 
 abbrev pub last_group : List OfferedFrame → List OfferedFrame
 last_group offered = last_part has_version offered
+
+-- the group is the frames of one version from the first frame on, as far as they go, and these are
+-- left
+pub record IsFirstGroup (frames group rest : List OfferedFrame) : Type 0 where
+  pub front : frames ≡ group ++ rest
+  pub some : group ≢ []
+  pub version : ℕ
+  pub same : All (λ (f : OfferedFrame). f.version ≡ version) group
+  pub ended : (f : OfferedFrame) → slice_get rest 0 ≡ Some f → f.version ≢ version
+
+-- the frames are in these groups, each of one version, and neighbours differ in version
+abbrev pub AreGroups : List OfferedFrame → List (List OfferedFrame) → Type 0
+AreGroups frames [] = frames ≡ []
+AreGroups frames (group ∷ more) =
+    (rest : List OfferedFrame) × IsFirstGroup frames group rest × AreGroups rest more
 
 -- ---- their pieces
 

@@ -1,6 +1,6 @@
 //! A lane: the frames of one channel, filtered and packed.
 
-ghost use Rattle.std.specs.Prelude.{ℕ, ◌≡◌, ◌+◌, ◌-◌, ◌^◌, ◌<◌, ◌≤◌, ◌==◌, true, false, List, [], ◌∷◌, ◌++◌, length, Option, None, Some, map, IsSome, IsNone, IfSome, IfNone, ◌↔◌, IfOk, OnErr};
+ghost use Rattle.std.specs.Prelude.{ℕ, ◌≡◌, ◌+◌, ◌-◌, ◌^◌, ◌<◌, ◌≤◌, ◌==◌, true, false, List, [], ◌∷◌, ◌++◌, length, Option, None, Some, map, IsSome, IsNone, IfSome, IfNone, ◌↔◌, IsOk, IfOk, OnErr};
 
 use crate::laws::a_lane_stands_for_frames_and_a_history;
 use crate::offered::Offered;
@@ -94,6 +94,7 @@ impl Lane {
     /// [`AllocError`] if there is no memory for it; the lane is as it was.
     pub fn ready(&mut self) -> Result<(), AllocError>
         ensures ready { IfOk result (λ _. self.new ≡ record self.old { ready = true }) }
+        ensures again { (self.old.ready ≡ true) → IsOk result }
         ensures refused { OnErr result (self.new ≡ self.old) }
     {
         if self.spare.is_none() {

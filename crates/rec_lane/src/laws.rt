@@ -1,16 +1,18 @@
 //! Laws of a channel's pieces, which run nothing.
 
-ghost use Rattle.std.specs.Prelude.{ℕ, ◌≡◌, ◌-◌, ◌≤◌, ◌++◌, ◌∷◌, [], List, length};
+ghost use Rattle.std.specs.Prelude.{ℕ, ◌≡◌, ◌-◌, ◌≤◌, ◌++◌, ◌∷◌, [], List, length, All};
 ghost use Rattle.std.specs.List.{flat_map};
 ghost use Rattle.eth_frame.specs.declared.frame.TheConstants.{MAX_FRAME_LEN, CHECK_SEQUENCE_LEN};
 ghost use Rattle.bpf_machine.specs.declared.machine.TheConstants.{MAX_VIEW};
 ghost use Rattle.bpf_insn.specs.declared.insn.Insn.{Insn};
 ghost use Rattle.bpf_machine.specs.Machine.{Runs};
-ghost use Rattle.eth_frame.specs.Frame.{FrameData, view};
+ghost use Rattle.ch11_packet.specs.declared.limit.TheConstants.{MIN_LIMIT};
+ghost use Rattle.eth_frame.specs.Frame.{FrameData, IsFrame, view};
 ghost use Rattle.rec_channel.specs.History.{Version, IsHistory};
 ghost use Rattle.rec_lane.specs.Offered.{OfferedFrame, AllMet, AreAccepted, frames_of, accepted};
 ghost use Rattle.rec_lane.specs.Parts.{Begins};
-ghost use Rattle.rec_lane.specs.Pieces.{LaneSettings, PieceData, groups, frames_in, pieces_so_far, channel_pieces, ArePieces, ArePiecesSoFar};
+ghost use Rattle.rec_lane.specs.Packets.{packets, AreLongestFronts};
+ghost use Rattle.rec_lane.specs.Pieces.{LaneSettings, PieceData, groups, AreGroups, frames_in, pieces_so_far, channel_pieces, ArePieces, ArePiecesSoFar};
 ghost use Rattle.rec_lane.specs.Lanes.{LaneState, HasMet, MarkedFrom, running, offered_now, TakesFrame, Ends};
 
 use bpf_machine::{a_valid_program_returns, runs_once};
@@ -37,6 +39,24 @@ pub fn accepted_frames_are_one_list()
     runs_once();
     a_valid_program_returns();
 }
+
+/// Law: the groups of frames are the frames in order, each group is of one version, and neighbours
+/// differ in version; no other groups are so.
+pub fn groups_are_frames_of_one_version()
+    ensures groups { (offered : List OfferedFrame) → AreGroups offered (groups offered) }
+    ensures one { (offered : List OfferedFrame) (some other : List (List OfferedFrame))
+        → AreGroups offered some → AreGroups offered other → some ≡ other }
+{}
+
+/// Law: each packet of accepted frames is the longest beginning of the frames that are left which
+/// fits the limit; no other packets are so.
+pub fn packets_are_longest_fronts()
+    ensures packets { (limit : ℕ) (frames : List FrameData) → MIN_LIMIT ≤ limit
+        → All IsFrame frames → AreLongestFronts limit frames (packets limit frames) }
+    ensures one { (limit : ℕ) (frames : List FrameData) (some other : List (List FrameData))
+        → AreLongestFronts limit frames some → AreLongestFronts limit frames other
+        → some ≡ other }
+{}
 
 /// Law: versions that are installed after frames leave what the frames met.
 pub fn later_versions_leave_the_frames()

@@ -1,6 +1,6 @@
 //! The pieces of a channel's recording.
 
-ghost use Rattle.std.specs.Prelude.{◌<◌, ◌^◌};
+ghost use Rattle.std.specs.Prelude.{◌≡◌, ◌<◌, ◌^◌};
 
 use bpf_verify::Verified;
 use ch11_packet::DataBody;
@@ -79,8 +79,13 @@ impl Piece {
 }
 
 impl Default for Piece {
+    ghost use Rattle.rec_lane.specs.Pieces.PieceData.{OfEnd};
+    ghost use Rattle.rec_lane.specs.Views.{piece_data};
+
     /// The end of channel 1 with no frame: it stands in the free places of an `ArrayVec`.
-    fn default() -> Piece {
+    fn default() -> Piece
+        ensures end { piece_data result ≡ OfEnd 1 0 0 0 }
+    {
         Piece::End(EndPiece {
             channel: 1,
             counter: 0,

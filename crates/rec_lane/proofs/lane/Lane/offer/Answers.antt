@@ -1,4 +1,4 @@
-use Rattle.std.proofs.Common.{◌∙◌, ap, subst, sym, refl, ◌≡◌, ◌++◌, ◌∷◌, []}
+use Rattle.std.proofs.Common.{◌∙◌, ap, subst, sym, ◌++◌, ◌∷◌, []}
 use Rattle.rec_lane.specs.Pieces.{pieces_so_far, has_no_packet}
 use Rattle.rec_lane.specs.Lanes.{LaneState, HasMet, offered_now}
 use Rattle.std.specs.Arc.{arc_value}

@@ -1,4 +1,4 @@
-use Rattle.std.proofs.Common.{ℕ, List, ◌∙◌, ap, subst, sym, refl, ◌≡◌, Option, Some}
+use Rattle.std.proofs.Common.{subst, sym, Option}
 use Rattle.std.specs.Arc.{arc_value}
 use Rattle.bpf_machine.specs.Machine.{Runs}
 use Rattle.eth_frame.specs.Frame.{view}
