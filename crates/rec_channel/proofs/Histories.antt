@@ -4,10 +4,11 @@ use Rattle.std.specs.Prelude.{slice_get}
 use Rattle.std.proofs.lemmas.List.{length-append}
 use Rattle.std.proofs.lemmas.List.Elements.{All-append, All-cons, All-nil}
 use Rattle.std.proofs.lemmas.List.Quantifiers.{all_pairs_push}
-use Rattle.std.proofs.lemmas.Option.{slice_get_within, slice_get-get_or}
+use Rattle.std.proofs.lemmas.Option.{slice_get_within, slice_get-get_or, slice_get-map, slice_get_read}
 use Rattle.bpf_insn.specs.Bytes.{AreInRange}
 use Rattle.bpf_verify.specs.Validity.{Valid}
 use Rattle.rec_channel.specs.History.{Version, IsHistory, InForce}
+use Rattle.rec_channel.proofs.Versions.{rows}
 
 abbrev pub IsValid : Version → Type 0
 IsValid v = Valid v.program
@@ -47,3 +48,6 @@ last_is_in_force history offered h =
       begun = h.past (length history - 1) v last;
       last = λ other w is begun. let e = slice_get_within history other w is in omega (arith, e);
     }
+
+-- the last version, its program, and that it is in force
+pub ruleset last_version = (rows, slice_get-map, slice_get_read, last_is_in_force)

@@ -63,3 +63,9 @@ lengths_grown programs marks mark program more_programs more_marks pushed noted 
     let before = length-map programs.items arc_value in
     let more = ap (λ (ps : List (Arc Verified Global)). length ps) pushed ∙ length-append programs.items (program ∷ []) in
     (omega (arith, mapped, before, more), ap (λ (ms : List ℕ). length ms) noted ∙ length-append marks.items (mark ∷ []))
+
+-- the rows of programs and marks are those of their versions
+pub ruleset rows = (count_of, count_back, programs_back, marks_back)
+
+-- and with a version more
+pub ruleset longer_rows = (rows, grown, lengths_grown)

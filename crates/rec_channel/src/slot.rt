@@ -70,6 +70,7 @@ impl Slot {
     /// [`DrawFault::CountFull`] exactly where as many frames were drawn as the channel may have;
     /// [`DrawFault::Memory`] where the program has too many shares. It is never
     /// [`DrawFault::Stale`].
+    #[tactic(auto, using(crate::proofs::Histories::last_version))]
     pub fn draw(&mut self) -> Result<Drawn, DrawFault>
         // The frame drawn: its number, and the version in force at it.
         ensures number { IfOk result (λ d. d.number ≡ self.old.offered) }
@@ -109,6 +110,7 @@ impl Slot {
     ///
     /// [`InstallFault::VersionsFull`] exactly where the history has [`MAX_VERSIONS`] versions. It
     /// is never [`InstallFault::Stale`].
+    #[tactic(auto, using(crate::proofs::Versions::longer_rows))]
     pub fn install(&mut self, program: Arc<Verified, Global>) -> Result<Installed, InstallFault>
         // The version installed, and the slot after it: there was room for it, and it is added.
         ensures place { IfOk result (λ i.
@@ -137,6 +139,7 @@ impl Slot {
     }
 
     /// The program of each version, in the order in which they were installed.
+    #[tactic(auto, using(crate::proofs::Versions::rows))]
     pub fn versions(&self) -> &[Arc<Verified, Global>]
         ensures programs { map arc_value result.now ≡ programs_in self.now.history }
     {
@@ -144,6 +147,7 @@ impl Slot {
     }
 
     /// The mark of each version: the number of the first frame that it may meet.
+    #[tactic(auto, using(crate::proofs::Versions::rows))]
     pub fn marks(&self) -> &[u64]
         ensures marks { result.now ≡ marks_in self.now.history }
     {
@@ -151,6 +155,7 @@ impl Slot {
     }
 
     /// How many frames were drawn.
+    #[tactic(auto, using(crate::proofs::Versions::rows))]
     pub fn offered(&self) -> u64
         ensures offered { result ≡ self.now.offered }
         ensures history { IsHistory self.now.offered self.now.history }
@@ -161,6 +166,7 @@ impl Slot {
     }
 
     /// The history and the count of frames.
+    #[tactic(auto, using(crate::proofs::Versions::rows))]
     pub fn into_parts(self) -> Parts
         // The parts are the history, as rows and as one list.
         ensures versions { map arc_value result.versions.items ≡ programs_in self.history }
@@ -187,6 +193,7 @@ impl Slot {
     }
 
     /// How many versions and frames there are.
+    #[tactic(auto, using(crate::proofs::Versions::rows))]
     pub(crate) fn front(&self) -> Front
         ensures versions { result.versions ≡ length self.now.history }
         ensures offered { result.offered ≡ self.now.offered }

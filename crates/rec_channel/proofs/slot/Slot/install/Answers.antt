@@ -1,25 +1,8 @@
-use Rattle.std.proofs.Common.{sym, ◌∙◌, ap, arith, length, subst, refl}
-use Rattle.rec_channel.specs.Slots.{SlotState}
+use Rattle.std.proofs.Common.{sym, arith, subst, refl}
 use Rattle.rec_channel.proofs.Versions.{count_of, count_back, grown, lengths_grown}
 use Rattle.rec_channel.proofs.Histories.{one_version_more}
 use Rattle.rec_channel.specs.History.{IsHistory}
 use Rattle.rec_channel.proofs.slot.Slot.install.Goals as goal
-
-pub returns-then-version-eq-MAX_VERSIONS-clause-full : goal.returns-then-version-eq-MAX_VERSIONS-clause-full
-returns-then-version-eq-MAX_VERSIONS-clause-full c = rw (← c.self.view_is) (let e = count_of c.self.inside.programs _ c.self.invariant.paired in omega (arith, e, c.len-version.ensures, c.if-version-eq-MAX_VERSIONS.true))
-
-pub returns-clause-room : goal.returns-clause-room
-returns-clause-room c = rw (← c.self.view_is) (
-    let e = count_of c.self.inside.programs _ c.self.invariant.paired in
-    let n = count_back _ _ c.self.invariant.paired in
-    let few = c.self.invariant.few in
-    omega (arith, e, n, few, c.len-version.ensures, c.if-version-eq-MAX_VERSIONS.false))
-
-pub returns-clause-place : goal.returns-clause-place
-returns-clause-place c = (c.len-version.ensures ∙ sym (ap (λ (s : SlotState). length s.history) (sym c.self.view_is) ∙ count_of c.self.inside.programs _ c.self.invariant.paired), ap (λ (s : SlotState). s.offered) c.self.view_is)
-
-pub returns-clause-added : goal.returns-clause-added
-returns-clause-added c = rw (← c.self.view_is) (ap (λ h. record { history = h; offered = c.self.inside.offered; max = c.self.inside.max }) (grown c.self.inside.programs c.self.inside.marks c.self.inside.offered c.args.program c.push_reserved.new.self c.push_reserved-2.new.self c.self.invariant.paired c.push_reserved.ensures.items c.push_reserved-2.ensures.items))
 
 pub invariant_of-self : goal.invariant_of-self
 invariant_of-self c =
