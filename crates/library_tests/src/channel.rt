@@ -1,6 +1,6 @@
-use rec_channel::*;
 use bpf_insn::parse_listing;
 use bpf_verify::{Verified, verify};
+use rec_channel::*;
 use std::alloc::Global;
 use std::sync::{Arc, Wait};
 use std::test::Fail;

@@ -1,7 +1,7 @@
 //! Tests of what is printed of a program, and that the assembler reads it as that program.
 
-use bpf_dis::{DisFault, text_of};
 use bpf_asm::assemble;
+use bpf_dis::{DisFault, text_of};
 use bpf_insn::{Insn, parse_listing};
 use std::alloc::{AllocError, Global};
 use std::test::Fail;

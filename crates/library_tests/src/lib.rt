@@ -15,6 +15,8 @@ mod frame_and_feed;
 #[cfg(test)]
 mod insn;
 #[cfg(test)]
+mod lane;
+#[cfg(test)]
 mod machine;
 #[cfg(test)]
 mod packet;

@@ -1,6 +1,6 @@
 //! Programs with the value that they return on a view and the number of steps, worked by hand.
-use bpf_machine::*;
 use bpf_insn::parse_listing;
+use bpf_machine::*;
 use bpf_verify::verify;
 use std::test::Fail;
 

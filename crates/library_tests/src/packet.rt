@@ -1,7 +1,7 @@
 //! Tests, and the bytes that they share.
-use ch11_packet::*;
 use bpf_insn::{Insn, parse_listing};
 use bpf_verify::verify;
+use ch11_packet::*;
 use eth_frame::Frame;
 use std::alloc::Global;
 use std::test::Fail;

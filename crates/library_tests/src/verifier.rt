@@ -1,6 +1,6 @@
 //! Programs that are valid and programs that are not, each with its first fault.
-use bpf_verify::*;
 use bpf_insn::{Insn, SCRATCH_WORDS, parse_listing};
+use bpf_verify::*;
 use std::alloc::AllocError;
 use std::test::Fail;
 

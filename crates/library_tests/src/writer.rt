@@ -1,10 +1,10 @@
 //! Tests, and the pieces and outputs that they share.
-use rec_writer::*;
 use bpf_insn::parse_listing;
 use bpf_verify::{Verified, verify};
 use ch11_packet::{DataBody, DataBuilder, Limit};
 use eth_frame::Frame;
 use rec_lane::{DataPiece, EndPiece, Piece, ProgramPiece};
+use rec_writer::*;
 use std::alloc::Global;
 use std::io;
 use std::io::{ErrorKind, Write};

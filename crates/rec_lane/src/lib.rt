@@ -8,8 +8,6 @@ mod laws;
 mod offered;
 mod piece;
 mod spec;
-#[cfg(test)]
-mod tests;
 mod version;
 
 pub use lane::Lane;

@@ -57,7 +57,11 @@ const OPERANDS: [(&str, u16, u32); 49] = [
 fn every_mnemonic_takes_each_of_its_operands(rt: HostRuntime) -> Result<(), Fail> {
     for (text, code, k) in OPERANDS {
         let program = assemble(rt.alloc(), text)?;
-        assert_eq!(rt; program.as_slice(), [insn(code, 0, 0, k)].as_slice(), "{text}");
+        assert_eq!(rt;
+            program.as_slice(),
+            [insn(code, 0, 0, k)].as_slice(),
+            "{text}"
+        );
     }
     Ok(())
 }

@@ -22,7 +22,11 @@ fn each_spelling_of_a_number_is_read_at_its_limits(rt: HostRuntime) -> Result<()
     ];
     for (text, k) in table {
         let program = assemble(rt.alloc(), text)?;
-        assert_eq!(rt; program.as_slice(), [insn(0x00, 0, 0, k)].as_slice(), "{text}");
+        assert_eq!(rt;
+            program.as_slice(),
+            [insn(0x00, 0, 0, k)].as_slice(),
+            "{text}"
+        );
     }
     Ok(())
 }
@@ -36,7 +40,10 @@ const TOKEN_FAULTS: [(&str, AsmFault); 21] = [
     ("ldi 0x100000000", AsmFault::Number { line: 1 }),
     ("ldi 0b", AsmFault::Number { line: 1 }),
     ("ldi 0b2", AsmFault::Number { line: 1 }),
-    ("ldi 0b100000000000000000000000000000000", AsmFault::Number { line: 1 }),
+    (
+        "ldi 0b100000000000000000000000000000000",
+        AsmFault::Number { line: 1 },
+    ),
     ("ldi 040000000000", AsmFault::Number { line: 1 }),
     ("ldi 1_000", AsmFault::Number { line: 1 }),
     ("foo 08 $", AsmFault::Number { line: 1 }),

@@ -1,4 +1,4 @@
-//! Small programs drawn from a seed.
+//! Numbers and small programs drawn from a seed.
 
 ghost use Rattle.std.specs.Prelude.{◌<◌};
 
@@ -29,7 +29,7 @@ impl Draws {
     }
 
     /// A number below `bound`.
-    fn below(&mut self, bound: u8) -> u8
+    pub(crate) fn below(&mut self, bound: u8) -> u8
         requires { 0 < bound }
         ensures { result < bound }
     {

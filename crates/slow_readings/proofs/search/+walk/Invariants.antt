@@ -1,5 +1,5 @@
 -- Each further place of a path uses up one step.
-use Rattle.verify_by_search.proofs.search.+walk.Given as goal
+use Rattle.slow_readings.proofs.search.+walk.Given as goal
 
 abbrev pub decreases-walk : goal.decreases-walk
 decreases-walk l = l.steps

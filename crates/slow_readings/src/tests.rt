@@ -1,0 +1,4 @@
+//! The code beside its slow readings.
+
+mod lane;
+mod verifier;
