@@ -192,3 +192,6 @@ pub length-first_reads : (count : ℕ) (bytes : List ℕ) → length (first_read
 unfolding first_reads
 length-first_reads zero bytes = refl
 length-first_reads (suc count) bytes = ap suc (length-first_reads count _)
+
+-- for an attribute, which takes no name with a dash
+pub ruleset reads_counted = (length-first_reads)

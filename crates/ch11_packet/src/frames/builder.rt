@@ -136,6 +136,7 @@ impl DataBuilder {
 
 /// Adds a frame for which there is room: its header, its bytes, and one of filler if their number
 /// is odd.
+#[tactic(auto, using(crate::proofs::FrameBytes::added_odd, crate::proofs::FrameBytes::added_even))]
 fn append_frame(body: &mut Vec<u8>, frame: &Frame<'_>, net: u8, speed: u8)
     requires speed { speed ≤ MAX_SPEED }
     requires room { vec_len body.old + frame_len (length frame.now.bytes.now)
@@ -152,6 +153,7 @@ fn append_frame(body: &mut Vec<u8>, frame: &Frame<'_>, net: u8, speed: u8)
 }
 
 /// The 12 bytes of a body before the bytes of a frame: counter (6), zero (2) and the frame's word.
+#[tactic(auto, using(crate::proofs::FrameBytes::word_bytes))]
 fn frame_header(frame: &Frame<'_>, net: u8, speed: u8) -> [u8; FRAME_HEADER_LEN]
     requires { speed ≤ MAX_SPEED }
     ensures bytes { result ≡ frame_header net speed (frame_data frame.now) }

@@ -54,6 +54,7 @@ impl<'a> Frames<'a> {
     ghost use Rattle.ch11_packet.specs.Views.{read_frame_data};
 
     /// The number of the frames.
+    #[tactic(auto, using(crate::proofs::FirstFrames::reads_counted))]
     pub fn count(&self) -> u16
         ensures count { result ≡ length self.now }
     {
