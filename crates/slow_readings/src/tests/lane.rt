@@ -1,4 +1,6 @@
-//! The lane beside the slow reader, on drawn frames and ten versions, half of which meet none.
+//! The lane beside the slow reader, on drawn frames and ten versions.
+
+ghost use Rattle.std.specs.Prelude.{◌<◌};
 
 use crate::draws::Draws;
 use crate::pieces::{
@@ -15,8 +17,10 @@ use std::process::Abort;
 use std::sync::Arc;
 use std::test::Fail;
 
-/// How many frames are drawn.
+/// How many frames of all lengths are drawn, and how many short ones.
 const FRAMES: usize = 96;
+
+const SHORT_FRAMES: usize = 700;
 /// The seed that they are drawn from.
 const SEED: u64 = 20260502;
 /// How long a frame may be: the least and the greatest lengths, and odd and even ones between.
@@ -34,14 +38,9 @@ const CHANNEL: u16 = 300;
 fn pieces_agree(rt: HostRuntime) -> Result<(), Fail> {
     let alloc = rt.alloc();
     let mut draws = Draws::from_seed(SEED);
-    let frames = drawn_frames(alloc, &mut draws)?;
+    let frames = drawn_frames(alloc, &mut draws, FRAMES, &LENGTHS)?;
     for limit in [16_424, 20_001, 65_536, 524_288] {
-        let settings = Settings {
-            net: 255,
-            speed: 15,
-            limit,
-        };
-        let pieces = compare_pieces(&rt, alloc, settings, frames.as_slice())?;
+        let pieces = compare_pieces(&rt, alloc, settings(limit), frames.as_slice(), 1)?;
         assert!(rt;
             pieces >= FEWEST,
             "{pieces} pieces of packets up to {limit} bytes"
@@ -50,8 +49,31 @@ fn pieces_agree(rt: HostRuntime) -> Result<(), Fail> {
     Ok(())
 }
 
+/// Frames that fill a packet to the last few bytes: of 19 bytes, 512 fit the least limit, as each
+/// has a filler byte; of 18 bytes, 546 fit a limit of 16,438, since 547 fit only before the packet
+/// is rounded up.
+#[test]
+fn pieces_of_short_frames_agree(rt: HostRuntime) -> Result<(), Fail> {
+    let alloc = rt.alloc();
+    let mut draws = Draws::from_seed(SEED);
+    for (len, limit) in [(19, 16_424), (18, 16_438)] {
+        let frames = drawn_frames(alloc, &mut draws, SHORT_FRAMES, &[len; 12])?;
+        compare_pieces(&rt, alloc, settings(limit), frames.as_slice(), 200)?;
+    }
+    Ok(())
+}
+
+/// The settings of a lane with this limit.
+fn settings(limit: usize) -> Settings {
+    Settings {
+        net: 255,
+        speed: 15,
+        limit,
+    }
+}
+
 /// The versions. The first, third, fourth and seventh meet no frame, since the next one has their
-/// mark, nor does the last, which comes after all frames. The fifth and the eighth look at bytes
+/// mark, nor does the last, which comes after all frames but the short ones. The fifth and the eighth look at bytes
 /// that are in the check sequence of the least frame, the sixth drops each frame, and the eighth
 /// and the ninth are equal.
 fn versions() -> [PlainVersion; 10] {
@@ -89,11 +111,16 @@ fn verified(alloc: Global, filter: Filter) -> Result<Arc<Verified, Global>, Fail
     Ok(Arc::new(alloc, verify(program(alloc, filter)?)?)?)
 }
 
-/// Frames of drawn lengths and bytes, with drawn marks and counters.
-fn drawn_frames(alloc: Global, draws: &mut Draws) -> Result<Vec<PlainFrame>, AllocError> {
+/// Frames whose length is drawn from twelve, with drawn bytes, marks and counters.
+fn drawn_frames(
+    alloc: Global,
+    draws: &mut Draws,
+    count: usize,
+    lengths: &[usize; 12],
+) -> Result<Vec<PlainFrame>, AllocError> {
     let mut frames = Vec::new(alloc);
-    for _ in 0..FRAMES {
-        let len = LENGTHS[usize::from(draws.below(12))];
+    for _ in 0..count {
+        let len = lengths[usize::from(draws.below(12))];
         let mut byte = draws.below(255);
         let step = draws.below(255);
         let mut bytes = Vec::new(alloc);
@@ -111,14 +138,17 @@ fn drawn_frames(alloc: Global, draws: &mut Draws) -> Result<Vec<PlainFrame>, All
     Ok(frames)
 }
 
-/// Stops unless a lane gives the pieces that are read, after each frame and at the end; how many
-/// there are in all.
+/// Stops unless a lane gives the pieces that are read, after the first frame and each `every`
+/// further ones and at the end; how many there are in all.
 fn compare_pieces(
     rt: &impl Abort,
     alloc: Global,
     settings: Settings,
     frames: &[PlainFrame],
-) -> Result<usize, Fail> {
+    every: usize,
+) -> Result<usize, Fail>
+    requires { 0 < every }
+{
     let versions = versions();
     let versions = versions.as_slice();
     let first = versions.first().ok_or("a first version")?;
@@ -131,11 +161,13 @@ fn compare_pieces(
         for piece in offered.pieces {
             given.push(piece)?;
         }
-        let before = frames.get(..=number).unwrap_or(frames);
-        let read = pieces_so_far(alloc, settings, before, versions)?;
-        let equal = equal_pieces(alloc, versions, given.as_slice(), read.as_slice())?;
-        let lengths = (given.len(), equal);
-        assert_eq!(rt; lengths, (read.len(), read.len()), "after frame {number}");
+        if number % every == 0 {
+            let before = frames.get(..=number).unwrap_or(frames);
+            let read = pieces_so_far(alloc, settings, before, versions)?;
+            let equal = equal_pieces(alloc, versions, given.as_slice(), read.as_slice())?;
+            let lengths = (given.len(), equal);
+            assert_eq!(rt; lengths, (read.len(), read.len()), "after frame {number}");
+        }
     }
     install_after(alloc, &mut slot, versions, frames.len())?;
     for piece in lane.end() {
