@@ -1,5 +1,6 @@
-use bpf_insn::parse_listing;
-use bpf_verify::{Verified, verify};
+//! A slot, alone and shared.
+use crate::shared::program;
+use bpf_verify::Verified;
 use rec_channel::*;
 use std::alloc::Global;
 use std::sync::{Arc, Wait};
@@ -14,10 +15,6 @@ const REJECT: &str = "1,6 0 0 0,";
 /// The constant that a program of one instruction returns.
 fn returned(program: &Verified) -> Option<u32> {
     Some(program.insns().first()?.k)
-}
-
-fn program(alloc: Global, listing: &str) -> Result<Arc<Verified, Global>, Fail> {
-    Ok(Arc::new(alloc, verify(parse_listing(alloc, listing)?)?)?)
 }
 
 #[test]

@@ -1,4 +1,5 @@
 //! Tests, and the bytes, readers and outputs that they share.
+use crate::shared::{all_bytes, bytes};
 use eth_frame::*;
 use std::alloc::Global;
 use std::cell::Cell;
@@ -18,20 +19,6 @@ const RECORD: &str = "100000000000 00 1200 ffffffffffff 020000000001 0806 a1b2c3
 /// A feed of two such records.
 const TWO_RECORDS: &str = "100000000000 00 1200 ffffffffffff 020000000001 0806 a1b2c3d4 \
     100000000000 00 1200 ffffffffffff 020000000001 0806 a1b2c3d4";
-
-/// The bytes of a hexadecimal text, in which spaces may stand.
-fn bytes<const N: usize>(alloc: Global, text: &str) -> Result<[u8; N], Fail> {
-    let digits = text.replace(alloc, " ", "")?;
-    let mut bytes = [0; N];
-    hex::decode_to_slice(digits.as_str(), &mut bytes)?;
-    Ok(bytes)
-}
-
-/// All bytes of a hexadecimal text, in which spaces may stand.
-fn all_bytes(alloc: Global, text: &str) -> Result<Vec<u8>, Fail> {
-    let digits = text.replace(alloc, " ", "")?;
-    Ok(hex::decode(alloc, digits.as_str())?)
-}
 
 /// Gives bytes in pieces of at most `most`, and fails at one of the calls, counted from 1.
 #[derive(Drop)]

@@ -1,12 +1,10 @@
 //! A lane beside a slot, piece by piece.
-use bpf_insn::parse_listing;
-use bpf_verify::{Verified, verify};
+use crate::shared::{all_bytes, program};
 use ch11_packet::{Blank, Limit};
 use eth_frame::Frame;
 use rec_channel::Slot;
 use rec_lane::*;
 use std::alloc::Global;
-use std::sync::Arc;
 use std::test::Fail;
 
 /// Accepts each frame.
@@ -20,16 +18,6 @@ const ARP: &str = "ffffffffffff 020000000001 0806 a1b2c3d4";
 
 /// The least limit, which the longest frame fills.
 const LEAST: u32 = 16_424;
-
-/// The bytes of a hexadecimal text, in which spaces may stand.
-fn bytes(alloc: Global, text: &str) -> Result<Vec<u8>, Fail> {
-    let digits = text.replace(alloc, " ", "")?;
-    Ok(hex::decode(alloc, digits.as_str())?)
-}
-
-fn program(alloc: Global, listing: &str) -> Result<Arc<Verified, Global>, Fail> {
-    Ok(Arc::new(alloc, verify(parse_listing(alloc, listing)?)?)?)
-}
 
 /// A lane of channel 1 with network identifier 7 and speed 3.
 fn lane(alloc: Global, limit: u32) -> Result<Lane, Fail> {
@@ -190,8 +178,8 @@ fn a_frame_is_packed_with_the_settings_of_its_lane(rt: HostRuntime) -> Result<()
     let body = "02000000 \
         100000000000 0000 12000743 ffffffffffff 020000000001 0806 a1b2c3d4 \
         200000000000 0000 13000783 ffffffffffff 020000000001 0806 a1b2c3d4 e5 00";
-    let arp = bytes(rt.alloc(), ARP)?;
-    let odd = bytes(rt.alloc(), "ffffffffffff 020000000001 0806 a1b2c3d4 e5")?;
+    let arp = all_bytes(rt.alloc(), ARP)?;
+    let odd = all_bytes(rt.alloc(), "ffffffffffff 020000000001 0806 a1b2c3d4 e5")?;
     let first = Frame::new(16, false, true, arp.as_slice()).ok_or("a frame in range")?;
     let second = Frame::new(32, true, false, odd.as_slice()).ok_or("a frame in range")?;
     let mut slot = Slot::new(rt.alloc(), program(rt.alloc(), ACCEPT)?, 2)?;
@@ -210,7 +198,7 @@ fn a_frame_is_packed_with_the_settings_of_its_lane(rt: HostRuntime) -> Result<()
     let Some(Piece::Data(data)) = pieces.as_slice().first() else {
         return Err(Fail::from("the open packet goes out before the end"));
     };
-    assert_eq!(rt; data.body.bytes(), bytes(rt.alloc(), body)?.as_slice());
+    assert_eq!(rt; data.body.bytes(), all_bytes(rt.alloc(), body)?.as_slice());
     Ok(())
 }
 
@@ -221,7 +209,7 @@ fn the_filter_sees_the_frame_without_its_check_sequence(rt: HostRuntime) -> Resu
         ("2,128 0 0 0,22 0 0 0,", 14, 1),
         ("2,48 0 0 14,22 0 0 0,", 0, 0),
     ] {
-        let arp = bytes(rt.alloc(), ARP)?;
+        let arp = all_bytes(rt.alloc(), ARP)?;
         let frame = Frame::new(16, false, false, arp.as_slice()).ok_or("a frame in range")?;
         let mut slot = Slot::new(rt.alloc(), program(rt.alloc(), listing)?, 1)?;
         let mut lane = lane(rt.alloc(), LEAST)?;

@@ -1,4 +1,5 @@
 //! Tests, and the bytes that they share.
+use crate::shared::{all_bytes, bytes};
 use bpf_insn::{Insn, parse_listing};
 use bpf_verify::verify;
 use ch11_packet::*;
@@ -19,20 +20,6 @@ const BODY: &str = "01000000 100000000000 0000 12000003 ffffffffffff 02000000000
 /// The body of the frame of 19 bytes, with its filler.
 const ODD_BODY: &str =
     "01000000 100000000000 0000 13000003 ffffffffffff 020000000001 0806 a1b2c3d4 e5 00";
-
-/// The `N` bytes of a hexadecimal text, in which spaces may stand.
-fn bytes<const N: usize>(alloc: Global, text: &str) -> Result<[u8; N], Fail> {
-    let digits = text.replace(alloc, " ", "")?;
-    let mut bytes = [0; N];
-    hex::decode_to_slice(digits.as_str(), &mut bytes)?;
-    Ok(bytes)
-}
-
-/// All bytes of a hexadecimal text, in which spaces may stand.
-fn all_bytes(alloc: Global, text: &str) -> Result<Vec<u8>, Fail> {
-    let digits = text.replace(alloc, " ", "")?;
-    Ok(hex::decode(alloc, digits.as_str())?)
-}
 
 /// Replaces a byte.
 fn put(body: &mut [u8], at: usize, value: u8) {

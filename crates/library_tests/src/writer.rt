@@ -1,6 +1,5 @@
 //! Tests, and the pieces and outputs that they share.
-use bpf_insn::parse_listing;
-use bpf_verify::{Verified, verify};
+use crate::shared::{all_bytes, program};
 use ch11_packet::{DataBody, DataBuilder, Limit};
 use eth_frame::Frame;
 use rec_lane::{DataPiece, EndPiece, Piece, ProgramPiece};
@@ -8,7 +7,6 @@ use rec_writer::*;
 use std::alloc::Global;
 use std::io;
 use std::io::{ErrorKind, Write};
-use std::sync::Arc;
 use std::test::Fail;
 
 /// A broadcast ARP frame without a payload, with its check sequence.
@@ -32,14 +30,9 @@ const END: &str = "25eb 0000 34000000 1c000000 08 02 00 00 200000000000 9ded \
 fn bytes(alloc: Global, texts: &[&str]) -> Result<Vec<u8>, Fail> {
     let mut all = Vec::new(alloc);
     for text in texts {
-        let digits = text.replace(alloc, " ", "")?;
-        all.extend_from_slice(hex::decode(alloc, digits.as_str())?.as_slice())?;
+        all.extend_from_slice(all_bytes(alloc, text)?.as_slice())?;
     }
     Ok(all)
-}
-
-fn program(alloc: Global, listing: &str) -> Result<Arc<Verified, Global>, Fail> {
-    Ok(Arc::new(alloc, verify(parse_listing(alloc, listing)?)?)?)
 }
 
 /// The body of the ARP frame alone.
