@@ -1,12 +1,14 @@
 -- What a lane holds, and the frames that it stands for.
 use Rattle.std.specs.Prelude.{ℕ, ◌≡◌, ◌≤◌, ◌==◌, Bool, false, if◌then◌else◌, List, [], ◌∷◌, ◌++◌, length, All, Option, None, Some, slice_get}
 use Rattle.bpf_insn.specs.declared.insn.Insn.{Insn}
-use Rattle.eth_frame.specs.Frame.{FrameData}
+use Rattle.bpf_machine.specs.Machine.{Runs}
+use Rattle.eth_frame.specs.Frame.{FrameData, view}
 use Rattle.rec_channel.specs.History.{Version, InForce}
 use Rattle.rec_channel.specs.Slots.{programs_in}
 use Rattle.rec_lane.specs.Offered.{OfferedFrame, accepted, frames_of, AllMet}
+use Rattle.rec_lane.specs.Parts.{Begins}
 use Rattle.rec_lane.specs.Packets.{last_packet}
-use Rattle.rec_lane.specs.Pieces.{LaneSettings, PieceData, last_group, last_counter, ArePieces, ArePiecesSoFar}
+use Rattle.rec_lane.specs.Pieces.{LaneSettings, PieceData, last_group, last_counter, pieces_so_far, channel_pieces, ArePieces, ArePiecesSoFar}
 
 -- a version and its program
 pub record VersionProgram : Type 0 where
@@ -91,6 +93,23 @@ pub record IsDrawn (history : List Version) (number version : ℕ) (program : Li
   pub in_force : InForce history number version
   pub program_is : slice_get (programs_in history) version ≡ Some program
 
+-- whatever frames the lane had met, it has met this one after them
+abbrev pub Meets : LaneState → LaneState → OfferedFrame → Type 0
+Meets old new f =
+    (before : List OfferedFrame) → HasMet old before → HasMet new (before ++ f ∷ [])
+
+-- the pieces are those that this frame makes certain, whatever frames the lane had met
+abbrev pub MakesCertain : LaneState → OfferedFrame → List PieceData → Type 0
+MakesCertain old f given =
+    (before : List OfferedFrame) → HasMet old before
+    → pieces_so_far old.settings (before ++ f ∷ []) ≡ pieces_so_far old.settings before ++ given
+
+-- the pieces are those that are left of all, whatever frames the lane has met
+abbrev pub AreLeft : LaneState → List PieceData → Type 0
+AreLeft lane given =
+    (offered : List OfferedFrame) → HasMet lane offered
+    → channel_pieces lane.settings offered ≡ pieces_so_far lane.settings offered ++ given
+
 -- after this frame the lane stands for the frames with it, and these pieces became certain: whatever
 -- frames and history it stood for, with versions installed since
 abbrev pub TakesFrame :
@@ -109,3 +128,25 @@ Ends lane given =
     (frames : List FrameData) (history : List Version) (before : List PieceData)
     → StandsFor lane frames history → ArePiecesSoFar lane.settings frames history before
     → ArePieces lane.settings frames history (before ++ given)
+
+-- the pieces begin all pieces, whatever frames follow and whatever versions are installed later
+abbrev pub AreCertain :
+    LaneSettings → List FrameData → List Version → List PieceData → Type 0
+AreCertain settings frames history so_far =
+    (more : List FrameData) (later : List Version) (all : List PieceData)
+    → MarkedFrom (length frames) later
+    → ArePieces settings (frames ++ more) (history ++ later) all → Begins so_far all
+
+-- what an offer does to offered frames it does to frames and a history
+abbrev pub OffersTakeFrames : Type 0
+OffersTakeFrames =
+    (old new : LaneState) (frame : FrameData) (version : ℕ) (program : List Insn) (value : ℕ)
+    (given : List PieceData)
+    → ((steps : ℕ) × Runs (running old.current version program) (view frame) steps value)
+    → Meets old new (offered_now old version program frame value)
+    → MakesCertain old (offered_now old version program frame value) given
+    → TakesFrame old new frame version program given
+
+-- and so does an end
+abbrev pub EndsAreEnds : Type 0
+EndsAreEnds = (lane : LaneState) (given : List PieceData) → AreLeft lane given → Ends lane given

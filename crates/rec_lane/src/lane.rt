@@ -54,18 +54,13 @@ impl Model for Lane {
 
 impl Lane {
     ghost use Rattle.std.specs.Arc.{arc_value};
-    ghost use Rattle.bpf_insn.specs.declared.insn.Insn.{Insn};
     ghost use Rattle.bpf_machine.specs.Machine.{Runs};
-    ghost use Rattle.eth_frame.specs.Frame.{FrameData, view};
+    ghost use Rattle.eth_frame.specs.Frame.{view};
     ghost use Rattle.eth_frame.specs.Views.{frame_data};
-    ghost use Rattle.rec_channel.specs.History.{Version};
-    ghost use Rattle.rec_lane.specs.Offered.{OfferedFrame};
-    ghost use Rattle.rec_lane.specs.Parts.{as_part};
     ghost use Rattle.rec_lane.specs.Packets.{has_room};
-    ghost use Rattle.rec_lane.specs.Pieces.{pieces_so_far, channel_pieces, has_no_packet};
+    ghost use Rattle.rec_lane.specs.Pieces.{has_no_packet};
     ghost use Rattle.rec_lane.specs.Settings.{spec_data};
-    ghost use Rattle.rec_lane.specs.Lanes.{LaneState, HasMet, StandsFor, running, offered_now, new_lane, TakesFrame, Ends};
-    ghost use Rattle.rec_lane.specs.Lanes.{is_current};
+    ghost use Rattle.rec_lane.specs.Lanes.{HasMet, is_current, running, offered_now, new_lane, Meets, MakesCertain, AreLeft, TakesFrame, Ends};
     ghost use Rattle.rec_lane.specs.Steps.{RunsAs, option_items, packet_closed, closed_pieces, frame_added, frame_kept, kept_pieces, frame_judged, judged_pieces, frame_counted, frame_of_new_version, version_begun, begun_piece, begun_pieces};
     ghost use Rattle.rec_lane.specs.Views.{piece_data, pieces_data};
 
@@ -156,13 +151,11 @@ impl Lane {
             (running self.old.current drawn.version (arc_value drawn.program))
             (view (frame_data frame.now)) steps result.value }
         // The lane stands for one frame more, and the pieces are those that became certain.
-        ensures met { (before : List OfferedFrame) → HasMet self.old before
-            → HasMet self.new (before ++ offered_now self.old drawn.version
-            (arc_value drawn.program) (frame_data frame.now) result.value ∷ []) }
-        ensures pieces { (before : List OfferedFrame) → HasMet self.old before
-            → pieces_so_far self.old.settings (before ++ offered_now self.old drawn.version
-            (arc_value drawn.program) (frame_data frame.now) result.value ∷ [])
-            ≡ pieces_so_far self.old.settings before ++ pieces_data result.pieces.items }
+        ensures met { Meets self.old self.new (offered_now self.old drawn.version
+            (arc_value drawn.program) (frame_data frame.now) result.value) }
+        ensures pieces { MakesCertain self.old (offered_now self.old drawn.version
+            (arc_value drawn.program) (frame_data frame.now) result.value)
+            (pieces_data result.pieces.items) }
         ensures settings { self.new.settings ≡ self.old.settings }
         // The lane is ready again unless a packet is among the pieces.
         ensures ready { self.new.ready ≡ has_no_packet (pieces_data result.pieces.items) }
@@ -180,9 +173,7 @@ impl Lane {
 
     /// The last pieces: the open packet, if it has frames, and the channel's end.
     pub fn end(self) -> ArrayVec<Piece, 2>
-        ensures pieces { (offered : List OfferedFrame) → HasMet self offered
-            → channel_pieces self.settings offered
-            ≡ pieces_so_far self.settings offered ++ pieces_data result.items }
+        ensures pieces { AreLeft self (pieces_data result.items) }
         ensures in_history { Ends self (pieces_data result.items) }
     {
         a_lane_stands_for_frames_and_a_history();
@@ -191,9 +182,7 @@ impl Lane {
 
     /// What [`Lane::end`] gives.
     fn last_pieces(self) -> ArrayVec<Piece, 2>
-        ensures { (offered : List OfferedFrame) → HasMet self offered
-            → channel_pieces self.settings offered
-            ≡ pieces_so_far self.settings offered ++ pieces_data result.items }
+        ensures { AreLeft self (pieces_data result.items) }
     {
         let Lane {
             spec,

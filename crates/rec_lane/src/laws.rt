@@ -4,16 +4,14 @@ ghost use Rattle.std.specs.Prelude.{ℕ, ◌≡◌, ◌-◌, ◌≤◌, ◌++◌
 ghost use Rattle.std.specs.List.{flat_map};
 ghost use Rattle.eth_frame.specs.declared.frame.TheConstants.{MAX_FRAME_LEN, CHECK_SEQUENCE_LEN};
 ghost use Rattle.bpf_machine.specs.declared.machine.TheConstants.{MAX_VIEW};
-ghost use Rattle.bpf_insn.specs.declared.insn.Insn.{Insn};
-ghost use Rattle.bpf_machine.specs.Machine.{Runs};
 ghost use Rattle.ch11_packet.specs.declared.limit.TheConstants.{MIN_LIMIT};
-ghost use Rattle.eth_frame.specs.Frame.{FrameData, IsFrame, view};
+ghost use Rattle.eth_frame.specs.Frame.{FrameData, IsFrame};
 ghost use Rattle.rec_channel.specs.History.{Version, IsHistory};
 ghost use Rattle.rec_lane.specs.Offered.{OfferedFrame, AllMet, AreAccepted, frames_of, accepted};
 ghost use Rattle.rec_lane.specs.Parts.{Begins};
 ghost use Rattle.rec_lane.specs.Packets.{packets, AreLongestFronts};
-ghost use Rattle.rec_lane.specs.Pieces.{LaneSettings, PieceData, groups, AreGroups, frames_in, pieces_so_far, channel_pieces, ArePieces, ArePiecesSoFar};
-ghost use Rattle.rec_lane.specs.Lanes.{LaneState, HasMet, MarkedFrom, running, offered_now, TakesFrame, Ends};
+ghost use Rattle.rec_lane.specs.Pieces.{LaneSettings, PieceData, groups, AreGroups, frames_in, pieces_so_far, channel_pieces, ArePiecesSoFar};
+ghost use Rattle.rec_lane.specs.Lanes.{MarkedFrom, AreCertain, OffersTakeFrames, EndsAreEnds};
 
 use bpf_machine::{a_valid_program_returns, runs_once};
 use rec_channel::{later_versions_leave_the_past, one_version_is_in_force};
@@ -75,10 +73,9 @@ pub fn later_versions_leave_the_frames()
 pub fn pieces_so_far_begin_all_pieces()
     ensures frames { (settings : LaneSettings) (offered more : List OfferedFrame)
         → Begins (pieces_so_far settings offered) (channel_pieces settings (offered ++ more)) }
-    ensures history { (settings : LaneSettings) (frames more : List FrameData)
-        (history later : List Version) (so_far all : List PieceData)
-        → MarkedFrom (length frames) later → ArePiecesSoFar settings frames history so_far
-        → ArePieces settings (frames ++ more) (history ++ later) all → Begins so_far all }
+    ensures history { (settings : LaneSettings) (frames : List FrameData)
+        (history : List Version) (so_far : List PieceData) → ArePiecesSoFar settings frames
+        history so_far → AreCertain settings frames history so_far }
 {
     one_version_is_in_force();
     runs_once();
@@ -93,19 +90,8 @@ pub fn pieces_hold_the_accepted_frames()
 
 /// Law: what a lane says of the frames that it has met, it says of frames and a history.
 pub(crate) fn a_lane_stands_for_frames_and_a_history()
-    ensures takes { (old new : LaneState) (f : FrameData) (version : ℕ) (program : List Insn)
-        (value : ℕ) (given : List PieceData)
-        → ((steps : ℕ) × Runs (running old.current version program) (view f) steps value)
-        → ((before : List OfferedFrame) → HasMet old before
-        → HasMet new (before ++ offered_now old version program f value ∷ []))
-        → ((before : List OfferedFrame) → HasMet old before
-        → pieces_so_far old.settings (before ++ offered_now old version program f value ∷ [])
-        ≡ pieces_so_far old.settings before ++ given)
-        → TakesFrame old new f version program given }
-    ensures ends { (lane : LaneState) (given : List PieceData)
-        → ((offered : List OfferedFrame) → HasMet lane offered
-        → channel_pieces lane.settings offered ≡ pieces_so_far lane.settings offered ++ given)
-        → Ends lane given }
+    ensures takes { OffersTakeFrames }
+    ensures ends { EndsAreEnds }
 {
     one_version_is_in_force();
     runs_once();
