@@ -1,0 +1,93 @@
+-- A frame more in a worker's lane.
+use Rattle.std.proofs.Common.{◌≡◌, ℕ, ◌+◌, ◌==◌, Bool, true, false, List, [], ◌∷◌, ◌++◌, length, map, Option, None, Some, refl, sym, ap, subst, ◌∙◌, arith, inl, inr}
+use Rattle.std.specs.Prelude.{if◌then◌else◌}
+use Rattle.std.proofs.lemmas.Bool.{both_ways, cases_Bool, eqb-true}
+use Rattle.std.proofs.lemmas.List.{length-append, map-append}
+use Rattle.bpf_insn.specs.declared.insn.Insn.{Insn}
+use Rattle.bpf_machine.specs.Machine.{Runs}
+use Rattle.eth_frame.specs.Frame.{FrameData, view}
+use Rattle.rec_lane.specs.declared.piece.Piece.{Piece}
+use Rattle.rec_lane.specs.Offered.{OfferedFrame}
+use Rattle.rec_lane.specs.Parts.{Begins}
+use Rattle.rec_lane.specs.Pieces.{PieceData, has_version as same_version_as, last_group, pieces_so_far}
+use Rattle.rec_lane.specs.Lanes.{LaneState, VersionProgram, HasMet, version_of, is_current, running, offered_now, Meets, MakesCertain}
+use Rattle.rec_lane.specs.Views.{piece_data, pieces_data}
+use Rattle.rec_lane.proofs.Parted.{last_on}
+use Rattle.rec_lane.proofs.Offering.{same_version, version_stays, first_last}
+use Rattle.rec_run.specs.Served.{VersionMet}
+use Rattle.rec_run.specs.Growing.{met_after}
+use Rattle.rec_run.specs.Working.{IsLast, AreKnown, Stands, TakesOne}
+use Rattle.rec_run.proofs.Serving.{known_more, last_more}
+
+-- ---- the version that the lane met last
+
+runs_current : (current : Option VersionProgram) (version : ℕ) (program : List Insn) → is_current current version ≡ true → current ≡ Some (record { version = version; program = running current version program })
+runs_current None version program so = absurd (both_ways false refl so)
+runs_current (Some c) version program so =
+    ap (λ v. Some (record { version = v; program = c.program })) (eqb-true c.version version so)
+    ∙ ap (λ b. Some (record { version = version; program = if b then c.program else program })) (sym so)
+
+current_after : (old : LaneState) (offered : List OfferedFrame) (version value : ℕ) (program : List Insn) (frame : FrameData) → old.current ≡ version_of (last_group offered)
+    → version_of (last_group (offered ++ offered_now old version program frame value ∷ [])) ≡ Some (record { version = version; program = running old.current version program })
+current_after old offered version value program frame is =
+    let f = offered_now old version program frame value in
+    elim (cases_Bool (is_current old.current version)) as (λ _. version_of (last_group (offered ++ f ∷ [])) ≡ Some (record { version = version; program = running old.current version program })) [
+      | inl same ↦
+          ap (λ g. version_of g) (last_on same_version_as [] offered f (same_version (last_group offered) old.current f is same))
+          ∙ version_stays (last_group offered) old.current f is same ∙ sym is ∙ runs_current old.current version program same
+      | inr other ↦ ap (λ g. version_of g) (first_last old offered f is other)
+    ]
+
+-- ---- what the worker stands for
+
+pub stands_more : (old new : LaneState) (met : List VersionMet) (offered : List OfferedFrame) (version value number : ℕ) (program : List Insn) (frame : FrameData)
+    → Stands old met offered → number ≡ old.offered → ((steps : ℕ) × Runs (running old.current version program) (view frame) steps value)
+    → Meets old new (offered_now old version program frame value)
+    → Stands new (met_after met version number program) (offered ++ offered_now old version program frame value ∷ [])
+stands_more old new met offered version value number program frame stands same ran meets =
+    let f = offered_now old version program frame value in
+    let count : old.offered ≡ length offered = stands.has_met.offered_is in
+    let last : IsLast old.current old.offered met = subst (λ n. IsLast old.current n met) (sym count) stands.last in
+    let n : old.offered + 1 ≡ length (offered ++ f ∷ []) = (let l : length (offered ++ f ∷ []) ≡ length offered + 1 = length-append offered (f ∷ []) in omega (arith, l, count)) in
+    let then_met : HasMet new (offered ++ f ∷ []) = meets offered stands.has_met in
+    let current : Some (record { version = version; program = running old.current version program }) ≡ new.current = sym (then_met.current_is ∙ current_after old offered version value program frame stands.has_met.current_is) in
+    subst (λ k. Stands new (met_after met version k program) (offered ++ f ∷ [])) (sym same) (record {
+      has_met = then_met;
+      known = known_more old.current met offered frame version value old.offered program count last ran stands.known;
+      last = subst (λ c. IsLast c (length (offered ++ f ∷ [])) (met_after met version old.offered program)) current (subst (λ k. IsLast (Some (record { version = version; program = running old.current version program })) k (met_after met version old.offered program)) n (last_more old.current old.offered met version program last));
+    })
+
+-- ---- what it sent
+
+pieces_then : (old new : LaneState) (offered : List OfferedFrame) (f : OfferedFrame) (sent : List PieceData) (given : List PieceData)
+    → HasMet old offered → new.settings ≡ old.settings → sent ≡ pieces_so_far old.settings offered → MakesCertain old f given
+    → sent ++ given ≡ pieces_so_far new.settings (offered ++ f ∷ [])
+pieces_then old new offered f sent given met settings is makes =
+    ap (λ ps. ps ++ given) is ∙ sym (makes offered met) ∙ ap (λ s. pieces_so_far s (offered ++ f ∷ [])) (sym settings)
+
+module _ (old new : LaneState) (met met_then : List VersionMet) (version value number : ℕ) (program : List Insn) (frame : FrameData) (sent sent_then given : List Piece) where
+  pub takes_whole : met_then ≡ met_after met version number program → number ≡ old.offered → ((steps : ℕ) × Runs (running old.current version program) (view frame) steps value)
+      → Meets old new (offered_now old version program frame value) → MakesCertain old (offered_now old version program frame value) (pieces_data given)
+      → new.settings ≡ old.settings → sent_then ≡ sent ++ given
+      → TakesOne old new met met_then (pieces_data sent) (pieces_data sent_then) frame (λ some all. some ≡ all)
+  takes_whole grown same ran meets makes settings went = λ offered stands is. (
+    offered_now old version program frame value,
+    refl,
+    subst (λ ms. Stands new ms (offered ++ offered_now old version program frame value ∷ [])) (sym grown) (stands_more old new met offered version value number program frame stands same ran meets),
+    ap (λ ps. pieces_data ps) went ∙ map-append piece_data sent given ∙ pieces_then old new offered (offered_now old version program frame value) (pieces_data sent) (pieces_data given) stands.has_met settings is makes,
+  )
+
+  pub takes_part : met_then ≡ met_after met version number program → number ≡ old.offered → ((steps : ℕ) × Runs (running old.current version program) (view frame) steps value)
+      → Meets old new (offered_now old version program frame value) → MakesCertain old (offered_now old version program frame value) (pieces_data given)
+      → new.settings ≡ old.settings → Begins sent_then (sent ++ given)
+      → TakesOne old new met met_then (pieces_data sent) (pieces_data sent_then) frame Begins
+  takes_part grown same ran meets makes settings part = λ offered stands is. (
+    offered_now old version program frame value,
+    refl,
+    subst (λ ms. Stands new ms (offered ++ offered_now old version program frame value ∷ [])) (sym grown) (stands_more old new met offered version value number program frame stands same ran meets),
+    (
+      pieces_data part.0,
+      sym (map-append piece_data sent_then part.0) ∙ ap (λ ps. pieces_data ps) part.1 ∙ map-append piece_data sent given
+      ∙ pieces_then old new offered (offered_now old version program frame value) (pieces_data sent) (pieces_data given) stands.has_met settings is makes,
+    ),
+  )

@@ -1,0 +1,52 @@
+-- What the ending of a channel says of its source, and of the frames that were taken from it.
+use Rattle.std.specs.Prelude.{ℕ, ◌≡◌, ◌<◌, ◌⊎◌, List, ◌++◌, length, Option, IfSome, IsSomeAnd}
+use Rattle.eth_frame.specs.Frame.{FrameData}
+use Rattle.eth_frame.specs.Source.{Left}
+use Rattle.eth_frame.specs.declared.source.SourceEnding.{SourceEnding}
+use Rattle.eth_frame.specs.declared.source.SourceEnding.TheVariants.{End, Fault}
+use Rattle.eth_frame.specs.declared.source.SourceFault.TheVariants.{Device}
+use Rattle.rec_lane.specs.Parts.{Begins}
+use Rattle.rec_run.specs.declared.ending.Ending.{Ending}
+use Rattle.rec_run.specs.declared.ending.Ending.TheVariants.{SourceEnd, SourceFault, Memory, CountFull, Stopped}
+
+-- nothing is left to record
+abbrev pub IsOver : Ending → Type 0
+IsOver SourceEnd = Unit {0}
+IsOver (SourceFault fault) = Unit {0}
+IsOver Memory = ⊥
+IsOver CountFull = Unit {0}
+IsOver Stopped = ⊥
+
+-- Of a source that says its frames (of another one nothing is said): ..
+
+-- .. it said these frames first
+abbrev pub AreFirst : Option Left → List FrameData → Type 0
+AreFirst before frames = IfSome before (λ l. Begins frames l.frames)
+
+-- .. it said these frames, and then what it says now
+abbrev pub AreTaken : Option Left → List FrameData → Option Left → Type 0
+AreTaken before frames after =
+    IfSome before (λ l. IsSomeAnd after (λ rest.
+    (l.frames ≡ frames ++ rest.frames) × (l.ending ≡ rest.ending)))
+
+-- .. it said these frames and no others, and then this ending
+abbrev pub AreAll : Option Left → List FrameData → SourceEnding → Type 0
+AreAll before frames ending =
+    IfSome before (λ l. (l.frames ≡ frames) × (l.ending ≡ ending))
+
+module _ {S : Type 0} (left : S → Option Left) (failures : S → ℕ) where
+  -- the device failed since then, after these frames
+  pub record HasFailed (before after : S) (frames : List FrameData) : Type 0 where
+    pub first : AreFirst (left before) frames
+    pub more : failures before < failures after
+
+  -- from the source as it was before, these frames were taken, at most `max`, and this is how it ended
+  abbrev pub EndsAs : Ending → (before after : S) → List FrameData → (max : ℕ) → Type 0
+  EndsAs SourceEnd before after frames max = AreAll (left before) frames End
+  EndsAs (SourceFault fault) before after frames max =
+      AreAll (left before) frames (Fault fault)
+      ⊎ ((fault ≡ Device) × HasFailed before after frames)
+  EndsAs Memory before after frames max = AreTaken (left before) frames (left after)
+  EndsAs CountFull before after frames max =
+      (length frames ≡ max) × AreTaken (left before) frames (left after)
+  EndsAs Stopped before after frames max = AreFirst (left before) frames

@@ -1,0 +1,12 @@
+pub mod Changes
+pub mod Counting
+pub mod Endings
+pub mod Keeping
+pub mod Served
+pub mod Setup
+pub mod Finishing
+pub mod Growing
+pub mod Waits
+pub mod Working
+pub mod Workers
+pub mod Writing

@@ -1,0 +1,45 @@
+//! How a channel's recording ended.
+
+use eth_frame::SourceFault;
+
+/// How a channel's recording ended.
+#[derive(Clone, Copy, Debug, PartialEq, Eq)]
+pub enum Ending {
+    /// The source is at its end.
+    SourceEnd,
+    /// The source came to a fault.
+    SourceFault(SourceFault),
+    /// There was no memory for the next packet. It is not answered: the buffers are made before the
+    /// first frame.
+    Memory,
+    /// As many frames were taken as the channel may have.
+    CountFull,
+    /// The recording was given up, since the output failed.
+    Stopped,
+}
+
+impl Ending {
+    ghost use Rattle.std.specs.Prelude.{◌↔◌, IsTrue};
+    ghost use Rattle.rec_run.specs.Endings.{IsOver};
+
+    /// Whether all was recorded that the source gave and the channel may have.
+    pub fn is_over(self) -> bool
+        ensures { IsTrue result ↔ IsOver self }
+    {
+        match self {
+            Ending::SourceEnd | Ending::SourceFault(_) | Ending::CountFull => true,
+            Ending::Memory | Ending::Stopped => false,
+        }
+    }
+}
+
+/// How a worker ended.
+#[derive(Clone, Copy, Debug, PartialEq, Eq)]
+pub(crate) enum WorkerEnd {
+    /// With this ending of its channel.
+    Ended(Ending),
+    /// A buffer that came back was not one of its lane.
+    Link,
+    /// The slot gave what it can't have.
+    History,
+}

@@ -1,0 +1,121 @@
+//! What a worker waits for: room in its ring, an empty buffer, a draw.
+
+ghost use Rattle.std.specs.Prelude.{◌≡◌, ◌<◌, ◌^◌, ◌-◌, ◌∷◌, ◌++◌, [], true, false, IsNone, IfNone, IfSome, IfOk, IfErr};
+ghost use Rattle.rtrb.specs.Ring.{sent, SameProducer};
+ghost use Rattle.rec_lane.specs.Parts.{Begins};
+ghost use Rattle.rec_lane.specs.Views.{piece_data, pieces_data};
+ghost use Rattle.rec_run.specs.Waits.{IsStop, HasBuffer};
+
+use crate::ending::{Ending, WorkerEnd};
+use crate::pause::Pause;
+use arrayvec::ArrayVec;
+use ch11_packet::Blank;
+use rec_channel::{DrawFault, Drawn, Front, SharedSlot};
+use rec_lane::{Lane, Piece};
+use rtrb::{Consumer, Producer, PushError};
+use std::sync::Wait;
+use std::sync::atomic::{AtomicU64, Ordering};
+
+/// Whether the stop word is set: then what is not yet written stays unwritten.
+pub(crate) fn is_stopped(stop: &AtomicU64) -> bool {
+    stop.load(Ordering::SeqCst) != 0
+}
+
+/// Sets the stop word.
+pub(crate) fn set_stop(stop: &AtomicU64) {
+    stop.store(1, Ordering::SeqCst);
+}
+
+/// Sends a piece, as soon as there is room for it; `false` if the recording stopped before.
+fn send<R: Wait>(rt: &R, stop: &AtomicU64, ring: &mut Producer<Piece>, piece: Piece) -> bool
+    ensures ring { SameProducer ring.old ring.new }
+    ensures went { result ≡ true → sent ring.new ≡ sent ring.old ++ piece ∷ [] }
+    ensures kept { result ≡ false → sent ring.new ≡ sent ring.old }
+{
+    let mut piece = piece;
+    let mut pause = Pause::new();
+    for _ in rt.forever() {
+        match ring.push(piece) {
+            Ok(()) => return true,
+            Err(PushError::Full(back)) => piece = back,
+        }
+        if is_stopped(stop) {
+            return false;
+        }
+        pause.wait(rt);
+    }
+    unreachable!()
+}
+
+/// Sends pieces one after the other; `false` if the recording stopped before all went.
+pub(crate) fn send_all<R: Wait>(
+    rt: &R,
+    stop: &AtomicU64,
+    ring: &mut Producer<Piece>,
+    pieces: ArrayVec<Piece, 2>,
+) -> bool
+    ensures ring { SameProducer ring.old ring.new }
+    ensures went { result ≡ true → sent ring.new ≡ sent ring.old ++ pieces.items }
+    ensures part { Begins (sent ring.new) (sent ring.old ++ pieces.items) }
+{
+    for piece in pieces {
+        if !send(rt, stop, ring, piece) {
+            return false;
+        }
+    }
+    true
+}
+
+/// Waits until the lane has the buffer of its next packet. `Some` tells why it has none.
+pub(crate) fn make_ready<R: Wait>(
+    rt: &R,
+    stop: &AtomicU64,
+    blanks: &mut Consumer<Blank>,
+    lane: &mut Lane,
+) -> Option<WorkerEnd>
+    ensures ready { IfNone result (HasBuffer lane.old lane.new) }
+    ensures stopped { IfSome result (λ end. IsStop end × (lane.new ≡ lane.old)) }
+{
+    if lane.is_ready() {
+        return None;
+    }
+    let mut pause = Pause::new();
+    for _ in rt.forever() {
+        if let Ok(blank) = blanks.pop() {
+            return match lane.give(blank) {
+                None => None,
+                Some(_) => Some(WorkerEnd::Link),
+            };
+        }
+        if is_stopped(stop) {
+            return Some(WorkerEnd::Ended(Ending::Stopped));
+        }
+        pause.wait(rt);
+    }
+    unreachable!()
+}
+
+/// Draws the next frame's number and program, as soon as there are shares of the program.
+pub(crate) fn draw<R: Wait>(
+    rt: &R,
+    stop: &AtomicU64,
+    slot: &SharedSlot,
+    known: &Front,
+) -> Result<(Drawn, Front), WorkerEnd>
+    ensures few { IfOk result (λ r. r.0.number < 2 ^ 64 - 1) }
+    ensures stopped { IfErr result IsStop }
+{
+    let mut pause = Pause::new();
+    for _ in rt.forever() {
+        match slot.draw(rt, known) {
+            Ok(drawn) => return Ok(drawn),
+            Err(DrawFault::Memory) => {}
+            Err(_) => return Err(WorkerEnd::History),
+        }
+        if is_stopped(stop) {
+            return Err(WorkerEnd::Ended(Ending::Stopped));
+        }
+        pause.wait(rt);
+    }
+    unreachable!()
+}
