@@ -1,6 +1,5 @@
 -- What a worker did in all.
-use Rattle.std.proofs.Common.{◌≡◌, ℕ, List, [], ◌∷◌, ◌++◌, length, Option, None, Some, refl, sym, ap, subst, ◌∙◌, arith, inl, inr}
-use Rattle.std.specs.Prelude.{◌⊎◌}
+use Rattle.std.proofs.Common.{◌≡◌, ℕ, List, [], ◌++◌, Option, None, Some, refl, sym, ap, subst, ◌∙◌, arith, inl, inr}
 use Rattle.std.proofs.lemmas.List.{append-nil, append_assoc, map-append}
 use Rattle.eth_frame.specs.Frame.{FrameData}
 use Rattle.eth_frame.specs.Source.{Left}
@@ -15,7 +14,8 @@ use Rattle.rec_lane.proofs.Beginnings.{begin_all}
 use Rattle.rec_run.specs.Served.{VersionMet}
 use Rattle.rec_run.specs.Endings.{AreFirst, AreAll, AreTaken, EndsAs, IsOver}
 use Rattle.rec_run.specs.Working.{Going, Stopping, Ran, StopsAs, RanAs}
-use Rattle.rec_run.specs.Finishing.{IsOverThen, SendsLast}
+use Rattle.rec_run.specs.Ends.{IsOverThen}
+use Rattle.rec_run.specs.Finishing.{SendsLast}
 use Rattle.rec_run.specs.declared.ending.Ending.{Ending}
 use Rattle.rec_run.specs.declared.ending.Ending.TheVariants.{SourceEnd, SourceFault, Memory, CountFull, Stopped}
 use Rattle.rec_run.specs.declared.ending.WorkerEnd.{WorkerEnd}
@@ -27,7 +27,7 @@ all_first : (before : Option Left) (frames : List FrameData) (ending : SourceEnd
 all_first None frames ending all = tt
 all_first (Some l) frames ending all = ([], append-nil frames ∙ sym all.0)
 
-begins_trans : {X : Type 0} (xs ys zs : List X) → Begins xs ys → Begins ys zs → Begins xs zs
+pub begins_trans : {X : Type 0} (xs ys zs : List X) → Begins xs ys → Begins ys zs → Begins xs zs
 begins_trans xs ys zs b c = (b.0 ++ c.0, sym (append_assoc xs b.0 c.0) ∙ ap (λ l. l ++ c.0) b.1 ∙ c.1)
 
 module _ {S : Type 0} (left : S → Option Left) (failures : S → ℕ) (before after : S) (max : ℕ) where
@@ -127,11 +127,15 @@ last_whole lane stop ending sent sent_then given is over left went =
 pub last_part : (lane : LaneState) (stop : WorkerEnd) (ending : Ending) (sent sent_then given : List Piece) → stop ≡ Ended ending → IsOver ending → AreLeft lane (pieces_data given) → Begins sent_then (sent ++ given)
     → SendsLast lane stop (Ended Stopped) (pieces_data sent) (pieces_data sent_then)
 last_part lane stop ending sent sent_then given is over left part =
-    inr (inl (subst (λ e. IsOverThen e) (sym is) over, refl, record {
-      given = pieces_data given;
-      left = left;
-      part = (pieces_data part.0, sym (map-append piece_data sent_then part.0) ∙ ap (λ ps. pieces_data ps) part.1 ∙ map-append piece_data sent given);
-    }))
+    inr (inl (
+      subst (λ e. IsOverThen e) (sym is) over,
+      refl,
+      record {
+        given = pieces_data given;
+        left = left;
+        part = (pieces_data part.0, sym (map-append piece_data sent_then part.0) ∙ ap (λ ps. pieces_data ps) part.1 ∙ map-append piece_data sent given);
+      },
+    ))
 
 -- ---- the start
 

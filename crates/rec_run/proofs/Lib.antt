@@ -5,3 +5,10 @@ pub mod Stepping
 pub mod Finishes
 pub mod Starts
 pub mod Writes
+pub mod JoinSteps
+pub mod Rows
+pub mod Following
+pub mod Running
+pub mod Concluding
+pub mod Answered
+pub mod Judging

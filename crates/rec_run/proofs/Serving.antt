@@ -1,5 +1,5 @@
 -- The versions met beside histories: a frame more.
-use Rattle.std.proofs.Common.{◌≡◌, ℕ, ◌+◌, ◌<◌, ◌≤◌, ◌==◌, Bool, true, false, List, [], ◌∷◌, ◌++◌, length, map, Option, None, Some, refl, sym, ap, subst, ◌∙◌, arith, inl, inr}
+use Rattle.std.proofs.Common.{◌≡◌, ℕ, ◌+◌, ◌<◌, ◌≤◌, ◌==◌, true, false, List, [], ◌∷◌, ◌++◌, length, Option, None, Some, refl, sym, ap, subst, ◌∙◌, arith, inl, inr}
 use Rattle.std.specs.Prelude.{slice_get, if◌then◌else◌, ◌-◌}
 use Rattle.std.proofs.lemmas.Bool.{cases_Bool, cases_lt, eqb-true}
 use Rattle.std.proofs.lemmas.List.{length-append}
@@ -10,9 +10,9 @@ use Rattle.bpf_machine.specs.Machine.{Runs}
 use Rattle.eth_frame.specs.Frame.{FrameData, view}
 use Rattle.rec_channel.specs.History.{Version, InForce}
 use Rattle.rec_channel.specs.Slots.{programs_in}
-use Rattle.rec_lane.specs.Offered.{OfferedFrame, Met, MetFrom, AllMet}
+use Rattle.rec_lane.specs.Offered.{OfferedFrame, Met, MetFrom}
 use Rattle.rec_lane.specs.Lanes.{VersionProgram, is_current, running}
-use Rattle.rec_run.specs.Served.{VersionMet, IsServed, first_met, AreServed}
+use Rattle.rec_run.specs.Served.{VersionMet, IsServed, AreServed}
 use Rattle.rec_run.specs.Growing.{is_last_met, has_version, met_after}
 use Rattle.rec_run.specs.Working.{IsLast, AreKnown}
 
@@ -76,8 +76,8 @@ last_is_current None number met version last = rw last refl
 last_is_current (Some c) number met version last =
     let m = last.1 in
     let at : slice_get (last.0 ++ m ∷ []) (length (last.0 ++ m ∷ []) - 1) ≡ Some m =
-      let n : length (last.0 ++ m ∷ []) - 1 ≡ length last.0 = (let l : length (last.0 ++ m ∷ []) ≡ length last.0 + 1 = length-append last.0 (m ∷ []) in omega (arith, l)) in
-      ap (λ i. slice_get (last.0 ++ m ∷ []) i) n ∙ get_push last.0 m
+    let n : length (last.0 ++ m ∷ []) - 1 ≡ length last.0 = (let l : length (last.0 ++ m ∷ []) ≡ length last.0 + 1 = length-append last.0 (m ∷ []) in omega (arith, l)) in
+    ap (λ i. slice_get (last.0 ++ m ∷ []) i) n ∙ get_push last.0 m
     in
     ap (λ ms. is_last_met ms version) last.2 ∙ ap (λ o. has_version o version) at ∙ ap (λ v. v == version) last.3
 
@@ -88,7 +88,7 @@ one_more : (current : Option VersionProgram) (met : List VersionMet) (offered : 
     → AreServed history number met × Met history (record { number = number; frame = frame; version = version; program = running current version program; value = value })
 one_more None met offered frame version value number program count last ran history served =
     let served_one : AreServed history (number + 1) (met ++ record { version = version; first = number; program = program } ∷ []) =
-      subst (λ b. AreServed history (number + 1) (if b then met else met ++ record { version = version; first = number; program = program } ∷ [])) (last_is_current None number met version last) served
+    subst (λ b. AreServed history (number + 1) (if b then met else met ++ record { version = version; first = number; program = program } ∷ [])) (last_is_current None number met version last) served
     in
     let two = served_last history (number + 1) met (record { version = version; first = number; program = program }) served_one in (
       two.0,
@@ -103,7 +103,7 @@ one_more (Some c) met offered frame version value number program count last ran 
       let m = last.1 in
       let is : is_last_met met version ≡ true = last_is_current (Some c) number met version last ∙ same in
       let all : AreServed history (number + 1) met =
-        subst (λ b. AreServed history (number + 1) (if b then met else met ++ record { version = version; first = number; program = program } ∷ [])) is served
+      subst (λ b. AreServed history (number + 1) (if b then met else met ++ record { version = version; first = number; program = program } ∷ [])) is served
       in
       let two = served_last history (number + 1) last.0 m (subst (λ ms. AreServed history (number + 1) ms) last.2 all) in
       let version_is : m.version ≡ version = last.3 ∙ eqb-true c.version version same in
@@ -115,12 +115,12 @@ one_more (Some c) met offered frame version value number program count last ran 
           ran = ran;
         },
       )
-    )
+      )
   | inr other ↦ (
       let e : VersionMet = record { version = version; first = number; program = program } in
       let is : is_last_met met version ≡ false = last_is_current (Some c) number met version last ∙ other in
       let all : AreServed history (number + 1) (met ++ e ∷ []) =
-        subst (λ b. AreServed history (number + 1) (if b then met else met ++ e ∷ [])) is served
+      subst (λ b. AreServed history (number + 1) (if b then met else met ++ e ∷ [])) is served
       in
       let two = served_last history (number + 1) met e all in
       let program_is : program ≡ running (Some c) version program = sym (ap (λ b. if b then c.program else program) other) in (
@@ -131,7 +131,7 @@ one_more (Some c) met offered frame version value number program count last ran 
           ran = ran;
         },
       )
-    )
+      )
 ]
 
 pub known_more : (current : Option VersionProgram) (met : List VersionMet) (offered : List OfferedFrame) (frame : FrameData) (version value number : ℕ) (program : List Insn)
@@ -162,11 +162,11 @@ last_more (Some c) number met version program last = elim (cases_Bool (c.version
         program_is,
         omega (arith, le),
       )
-    )
+      )
   | inr other ↦ (
       let e : VersionMet = record { version = version; first = number; program = program } in
       let is : is_last_met met version ≡ false = last_is_current (Some c) number met version last ∙ other in
       let program_is : program ≡ running (Some c) version program = sym (ap (λ b. if b then c.program else program) other) in
       (met, e, ap (λ b. if b then met else met ++ e ∷ []) is, refl, program_is, omega arith)
-    )
+      )
 ]

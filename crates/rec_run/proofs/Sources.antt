@@ -1,11 +1,11 @@
 -- What one more answer of a source makes of what was taken from it.
-use Rattle.std.proofs.Common.{◌≡◌, ℕ, ◌<◌, ◌≤◌, List, [], ◌∷◌, ◌++◌, Option, None, Some, refl, sym, ap, ◌∙◌, arith, inl, inr}
+use Rattle.std.proofs.Common.{◌≡◌, ℕ, ◌≤◌, List, [], ◌∷◌, ◌++◌, Option, None, Some, refl, sym, ap, ◌∙◌, arith, inl, inr}
 use Rattle.std.specs.Prelude.{◌⊎◌}
 use Rattle.std.proofs.lemmas.List.{append_assoc, append-nil}
 use Rattle.eth_frame.specs.Frame.{FrameData}
 use Rattle.eth_frame.specs.Source.{Left, GivesFirst, GivesEnding, Fails}
 use Rattle.eth_frame.specs.declared.source.SourceEnding.{SourceEnding}
-use Rattle.eth_frame.specs.declared.source.SourceEnding.TheVariants.{End, Fault}
+use Rattle.eth_frame.specs.declared.source.SourceEnding.TheVariants.{Fault}
 use Rattle.eth_frame.specs.declared.source.SourceFault.TheVariants.{Device}
 use Rattle.rec_run.specs.Endings.{AreFirst, AreTaken, AreAll, HasFailed}
 

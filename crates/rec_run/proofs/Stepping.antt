@@ -1,17 +1,16 @@
 -- A step of a worker that goes on.
-use Rattle.std.proofs.Common.{◌≡◌, ◌≢◌, ℕ, ◌+◌, ◌≤◌, true, Bool, List, [], ◌∷◌, ◌++◌, length, map, Option, None, Some, refl, sym, ap, subst, ◌∙◌, arith, inl, inr}
+use Rattle.std.proofs.Common.{◌≡◌, ◌≢◌, ℕ, ◌+◌, ◌≤◌, true, List, [], ◌∷◌, ◌++◌, length, Option, None, Some, sym, ap, subst, ◌∙◌, arith, inl, inr}
 use Rattle.std.specs.Prelude.{◌⊎◌, MatchOption}
 use Rattle.std.proofs.lemmas.List.{length-append, map-append, append-nil}
 use Rattle.eth_frame.specs.Frame.{FrameData}
 use Rattle.eth_frame.specs.Source.{Left, GivesFirst}
 use Rattle.rec_lane.specs.Offered.{OfferedFrame, frames_of}
 use Rattle.rec_lane.specs.Parts.{Begins}
-use Rattle.rec_lane.specs.Pieces.{PieceData, pieces_so_far}
+use Rattle.rec_lane.specs.Pieces.{pieces_so_far}
 use Rattle.rec_lane.specs.Lanes.{LaneState}
 use Rattle.rec_run.specs.Served.{VersionMet}
-use Rattle.rec_run.specs.Endings.{AreFirst, AreTaken, IsOver}
-use Rattle.rec_run.specs.Waits.{IsStop}
-use Rattle.rec_run.specs.Working.{Stands, Going, Stopping, StopsAs, TakesOne}
+use Rattle.rec_run.specs.Endings.{AreTaken}
+use Rattle.rec_run.specs.Working.{Stands, Stopping, TakesOne}
 use Rattle.rec_run.specs.Workers.{met_by, sent_by, RecordsFrame, GoesOn, ComesTo}
 use Rattle.rec_run.specs.declared.ending.Ending.TheVariants.{SourceEnd, SourceFault, Memory, CountFull, Stopped}
 use Rattle.rec_run.specs.declared.ending.WorkerEnd.{WorkerEnd}
@@ -44,7 +43,6 @@ module _ {S : Type 0} (left : S → Option Left) (failures : S → ℕ) (before 
     (goes : GoesOn left failures before old) (ready : mid.lane ≡ record old.lane { ready = true })
     (met_same : met_by mid ≡ met_by old) (sent_same : sent_by mid ≡ sent_by old) (max_same : new.max ≡ old.max)
     (more : old.lane.offered ≢ old.max) (gives : GivesFirst (left old.source) (Some frame) (left new.source)) (failed : failures old.source ≤ failures new.source) where
-
   stands_mid : Stands mid.lane (met_by mid) goes.offered
   stands_mid = subst (λ ms. Stands mid.lane ms goes.offered) (sym met_same) (stands_ready old.lane mid.lane (met_by old) goes.offered ready goes.stands)
 
@@ -79,7 +77,7 @@ module _ {S : Type 0} (left : S → Option Left) (failures : S → ℕ) (before 
       }
 
   gave_up : (TakesOne mid.lane new.lane (met_by mid) (met_by new) (sent_by mid) (sent_by new) frame Begins
-        ⊎ ((new.lane ≡ mid.lane) × (met_by new ≡ met_by mid) × (sent_by new ≡ sent_by mid)))
+      ⊎ ((new.lane ≡ mid.lane) × (met_by new ≡ met_by mid) × (sent_by new ≡ sent_by mid)))
       → Stopping left failures Stopped new.max before new.source new.lane (met_by new) (sent_by new)
   gave_up (inl takes) =
       let t = takes goes.offered stands_mid sent_mid in

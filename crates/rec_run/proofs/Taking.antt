@@ -1,5 +1,5 @@
 -- A frame more in a worker's lane.
-use Rattle.std.proofs.Common.{◌≡◌, ℕ, ◌+◌, ◌==◌, Bool, true, false, List, [], ◌∷◌, ◌++◌, length, map, Option, None, Some, refl, sym, ap, subst, ◌∙◌, arith, inl, inr}
+use Rattle.std.proofs.Common.{◌≡◌, ℕ, ◌+◌, true, false, List, [], ◌∷◌, ◌++◌, length, Option, None, Some, refl, sym, ap, subst, ◌∙◌, arith, inl, inr}
 use Rattle.std.specs.Prelude.{if◌then◌else◌}
 use Rattle.std.proofs.lemmas.Bool.{both_ways, cases_Bool, eqb-true}
 use Rattle.std.proofs.lemmas.List.{length-append, map-append}
@@ -16,7 +16,7 @@ use Rattle.rec_lane.proofs.Parted.{last_on}
 use Rattle.rec_lane.proofs.Offering.{same_version, version_stays, first_last}
 use Rattle.rec_run.specs.Served.{VersionMet}
 use Rattle.rec_run.specs.Growing.{met_after}
-use Rattle.rec_run.specs.Working.{IsLast, AreKnown, Stands, TakesOne}
+use Rattle.rec_run.specs.Working.{IsLast, Stands, TakesOne}
 use Rattle.rec_run.proofs.Serving.{known_more, last_more}
 
 -- ---- the version that the lane met last
@@ -88,6 +88,6 @@ module _ (old new : LaneState) (met met_then : List VersionMet) (version value n
     (
       pieces_data part.0,
       sym (map-append piece_data sent_then part.0) ∙ ap (λ ps. pieces_data ps) part.1 ∙ map-append piece_data sent given
-      ∙ pieces_then old new offered (offered_now old version program frame value) (pieces_data sent) (pieces_data given) stands.has_met settings is makes,
+          ∙ pieces_then old new offered (offered_now old version program frame value) (pieces_data sent) (pieces_data given) stands.has_met settings is makes,
     ),
   )

@@ -1,9 +1,9 @@
 -- A piece of one line is written.
-use Rattle.std.proofs.Common.{◌≡◌, ◌≢◌, ℕ, suc, ◌+◌, ◌<◌, ◌==◌, Bool, true, false, if◌then◌else◌, List, [], ◌∷◌, ◌++◌, length, map, get_or, Option, All, arith, refl, ◌∙◌, ap, sym, subst, inl, inr}
+use Rattle.std.proofs.Common.{◌≡◌, ◌≢◌, ℕ, suc, ◌+◌, ◌<◌, ◌==◌, if◌then◌else◌, List, [], ◌∷◌, ◌++◌, length, map, get_or, Option, All, arith, ◌∙◌, ap, sym, subst, inl, inr}
 use Rattle.std.specs.Prelude.{count_by, Contains, min, ◌^◌, ◌-◌}
 use Rattle.std.specs.List.{filter}
 use Rattle.std.proofs.Math.ListN.{set, length-set}
-use Rattle.std.proofs.lemmas.List.{append_assoc, append-nil, length-append, get_or-map, get_or-set_same, get_or-set_other, length-map, map-append}
+use Rattle.std.proofs.lemmas.List.{append-nil, length-append, get_or-map, get_or-set_same, get_or-set_other, length-map, map-append}
 use Rattle.std.proofs.lemmas.List.Elements.{All-push, filter-append}
 use Rattle.std.proofs.lemmas.List.Sums.{sum_by-append}
 use Rattle.std.proofs.lemmas.Bool.{cases_Bool, cases_eq, cases_lt, eq-eqb, eqb-true, both_ways}
@@ -12,17 +12,16 @@ use Rattle.rec_lane.specs.declared.piece.Piece.{Piece}
 use Rattle.rec_lane.specs.Pieces.{PieceData, channel_of}
 use Rattle.rec_lane.specs.Views.{piece_data, pieces_data}
 use Rattle.rec_writer.specs.Encoding.{packet_of, packet_channel, next_sequence, writer_output}
-use Rattle.rec_writer.specs.Numbers.{channels_in, AreDistinct}
+use Rattle.rec_writer.specs.Numbers.{AreDistinct}
 use Rattle.rec_writer.specs.Recording.{is_of}
-use Rattle.rec_writer.specs.Writers.{WriterState, HasWritten, IsCut, PutsWhole, PutFails}
+use Rattle.rec_writer.specs.Writers.{WriterState, IsCut}
 use Rattle.rec_writer.proofs.Putting.{output_more}
-use Rattle.rec_writer.specs.declared.fault.WriteFault.{WriteFault}
 use Rattle.rec_writer.specs.declared.fault.WriteFault.TheVariants.{Output, Failed as FailedBefore}
-use Rattle.rec_run.specs.Counting.{shown, bytes_of, CountsPacket}
+use Rattle.rec_run.specs.Counting.{bytes_of, CountsPacket}
 use Rattle.rec_run.specs.declared.line.Line.{Line}
 use Rattle.rec_run.specs.declared.writing.Wrote.{Wrote}
 use Rattle.rec_run.specs.declared.writing.Wrote.TheVariants.{Nothing, Piece as PieceWent, Failed, Link}
-use Rattle.rec_run.specs.Writing.{has_buffer, buffers_in, channel_at, channels, IsReady, IsGood, CameFrom, GaveBack, IsOfLines, Writes, WritesPart, WroteSo, TakesPiece, WritesOne, FailsAtOne, WritesNone, WroteOne}
+use Rattle.rec_run.specs.Writing.{has_buffer, buffers_in, channel_at, channels, IsGood, CameFrom, GaveBack, IsOfLines, Writes, WroteSo, TakesPiece, WroteOne}
 
 -- ---- the count of bytes
 
@@ -30,7 +29,7 @@ pub bytes_more : (version bytes bytes_after : ℕ) (pieces : List PieceData) (p 
 bytes_more version bytes bytes_after pieces p is counts =
     let n = next_sequence ([] ++ pieces) (packet_channel p) in
     let l : length (writer_output version (pieces ++ p ∷ [])) ≡ length (writer_output version pieces) + length (packet_of p version n) =
-      ap (λ bs. length bs) (output_more version [] pieces p) ∙ length-append (writer_output version pieces) (packet_of p version n)
+    ap (λ bs. length bs) (output_more version [] pieces p) ∙ length-append (writer_output version pieces) (packet_of p version n)
     in
     let c : bytes_after ≡ min (bytes + length (packet_of p version n)) (2 ^ 64 - 1) = counts version n in
     let b : bytes ≡ min (length (writer_output version pieces)) (2 ^ 64 - 1) = is in
@@ -80,11 +79,11 @@ module _ {S : Type 0} (ls : List (Line S)) (k : ℕ) (e l' : Line S) (low : k < 
     came_more came =
         all_set (CameFrom pieces) (CameFrom (pieces ++ piece_data p ∷ [])) came
         (
-          of_same pieces (piece_data p) l'.channel (takes.channel_is ∙ sym same)
-          ∙ ap (λ c. filter (is_of c) pieces ++ piece_data p ∷ []) same
-          ∙ ap (λ ps. ps ++ piece_data p ∷ []) (came k e low)
-          ∙ sym (map-append piece_data (received (get_or ls k e).pieces) (p ∷ []))
-          ∙ ap (λ ps. pieces_data ps) (sym takes.received_is)
+        of_same pieces (piece_data p) l'.channel (takes.channel_is ∙ sym same)
+        ∙ ap (λ c. filter (is_of c) pieces ++ piece_data p ∷ []) same
+        ∙ ap (λ ps. ps ++ piece_data p ∷ []) (came k e low)
+        ∙ sym (map-append piece_data (received (get_or ls k e).pieces) (p ∷ []))
+        ∙ ap (λ ps. pieces_data ps) (sym takes.received_is)
         )
         (λ j d lj ne c. of_other pieces (piece_data p) (get_or ls j d).channel (λ is. others_apart distinct j d lj ne (sym takes.channel_is ∙ is)) ∙ c)
 
@@ -92,11 +91,11 @@ module _ {S : Type 0} (ls : List (Line S)) (k : ℕ) (e l' : Line S) (low : k < 
     gave_more gave more =
         all_set GaveBack GaveBack gave
         (
-          let old : length (sent (get_or ls k e).returns) ≡ (get_or ls k e).buffers + count_by has_buffer (received (get_or ls k e).pieces) = gave k e low in
-          let counted : count_by has_buffer (received l'.pieces) ≡ count_by has_buffer (received (get_or ls k e).pieces) + buffers_in p =
-            ap (λ ps. count_by has_buffer ps) takes.received_is ∙ sum_by-append (λ (x : Piece). if has_buffer x then 1 else 0) (received (get_or ls k e).pieces) (p ∷ []) ∙ omega arith
-          in
-          omega (arith, old, counted, more, takes.buffers_same)
+        let old : length (sent (get_or ls k e).returns) ≡ (get_or ls k e).buffers + count_by has_buffer (received (get_or ls k e).pieces) = gave k e low in
+        let counted : count_by has_buffer (received l'.pieces) ≡ count_by has_buffer (received (get_or ls k e).pieces) + buffers_in p =
+        ap (λ ps. count_by has_buffer ps) takes.received_is ∙ sum_by-append (λ (x : Piece). if has_buffer x then 1 else 0) (received (get_or ls k e).pieces) (p ∷ []) ∙ omega arith
+        in
+        omega (arith, old, counted, more, takes.buffers_same)
         )
         (λ j d lj ne g. g)
 
@@ -121,11 +120,11 @@ module _ {S : Type 0} (ls : List (Line S)) (k : ℕ) (e l' : Line S) (low : k < 
         named = named_more channels_same w.pieces w.named;
         came = all_set (CameFrom w.pieces) (CameFrom w.pieces) w.came (ap (λ c. filter (is_of c) w.pieces) same ∙ w.came k e low ∙ ap (λ ps. pieces_data ps) (sym n.received_is)) (λ j d lj ne c. c);
         gave = all_set GaveBack GaveBack w.gave (
-          let old : length (sent (get_or ls k e).returns) ≡ (get_or ls k e).buffers + count_by has_buffer (received (get_or ls k e).pieces) = w.gave k e low in
-          let r : length (sent l'.returns) ≡ length (sent (get_or ls k e).returns) = ap (λ r. length (sent r)) n.returns_same in
-          let c : count_by has_buffer (received l'.pieces) ≡ count_by has_buffer (received (get_or ls k e).pieces) = ap (λ ps. count_by has_buffer ps) n.received_is in
-          omega (arith, old, r, c, n.buffers_same)
-        ) (λ j d lj ne g. g);
+            let old : length (sent (get_or ls k e).returns) ≡ (get_or ls k e).buffers + count_by has_buffer (received (get_or ls k e).pieces) = w.gave k e low in
+            let r : length (sent l'.returns) ≡ length (sent (get_or ls k e).returns) = ap (λ r. length (sent r)) n.returns_same in
+            let c : count_by has_buffer (received l'.pieces) ≡ count_by has_buffer (received (get_or ls k e).pieces) = ap (λ ps. count_by has_buffer ps) n.received_is in
+            omega (arith, old, r, c, n.buffers_same)
+            ) (λ j d lj ne g. g);
       }))
   wrote_so distinct same channels_same PieceWent first writer after bytes bytes_after version one w = record {
     pieces = w.pieces ++ piece_data one.p ∷ [];

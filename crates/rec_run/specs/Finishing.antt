@@ -4,10 +4,10 @@ use Rattle.rtrb.specs.Ring.{sent}
 use Rattle.rec_lane.specs.Parts.{Begins}
 use Rattle.rec_lane.specs.Pieces.{LaneSettings, PieceData}
 use Rattle.rec_lane.specs.Lanes.{LaneState, new_lane, AreLeft}
-use Rattle.rec_run.specs.Endings.{IsOver}
+use Rattle.rec_run.specs.Ends.{IsOverThen}
 use Rattle.rec_run.specs.declared.ending.Ending.TheVariants.{Stopped}
 use Rattle.rec_run.specs.declared.ending.WorkerEnd.{WorkerEnd}
-use Rattle.rec_run.specs.declared.ending.WorkerEnd.TheVariants.{Ended, Link, History}
+use Rattle.rec_run.specs.declared.ending.WorkerEnd.TheVariants.{Ended}
 use Rattle.rec_run.specs.declared.finish.Tools.{Tools}
 
 -- a lane of no frames, of these settings; nothing was sent yet, and no version met
@@ -15,12 +15,6 @@ pub record StartsWith (tools : Tools) (settings : LaneSettings) : Type 0 where
   pub lane_is : tools.lane ≡ new_lane settings
   pub none_sent : sent tools.ring ≡ []
   pub none_met : tools.met.items ≡ []
-
--- nothing is left to record
-abbrev pub IsOverThen : WorkerEnd → Type 0
-IsOverThen (Ended ending) = IsOver ending
-IsOverThen Link = ⊥
-IsOverThen History = ⊥
 
 -- all pieces that were left of the lane were sent
 pub record SendsAll (lane : LaneState) (before after : List PieceData) : Type 0 where
@@ -40,4 +34,4 @@ abbrev pub SendsLast : LaneState → (stop end : WorkerEnd) → (before after : 
 SendsLast lane stop end before after =
     (IsOverThen stop × (end ≡ stop) × SendsAll lane before after)
     ⊎ ((IsOverThen stop × (end ≡ Ended Stopped) × SendsSome lane before after)
-      ⊎ ((¬ IsOverThen stop) × (end ≡ stop) × (after ≡ before)))
+    ⊎ ((¬ IsOverThen stop) × (end ≡ stop) × (after ≡ before)))

@@ -1,5 +1,5 @@
 -- The jobs, as they are prepared and as their workers run.
-use Rattle.std.specs.Prelude.{ℕ, ◌≡◌, List, [], length, map, All}
+use Rattle.std.specs.Prelude.{◌≡◌, List, [], length, map, All}
 use Rattle.rtrb.specs.Ring.{received, sent}
 use Rattle.rec_run.specs.declared.job.Job.{Job}
 use Rattle.rec_run.specs.declared.line.Line.{Line}

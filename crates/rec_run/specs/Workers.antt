@@ -25,11 +25,11 @@ module _ {S : Type 0} where
   RecordsFrame old new frame result =
       MatchOption result
       (TakesOne old.lane new.lane (met_by old) (met_by new) (sent_by old) (sent_by new) frame
-        (λ some all. some ≡ all))
+      (λ some all. some ≡ all))
       (λ end. IsStop end
-        × (TakesOne old.lane new.lane (met_by old) (met_by new) (sent_by old) (sent_by new) frame
-            Begins
-          ⊎ ((new.lane ≡ old.lane) × (met_by new ≡ met_by old) × (sent_by new ≡ sent_by old))))
+      × (TakesOne old.lane new.lane (met_by old) (met_by new) (sent_by old) (sent_by new) frame
+      Begins
+      ⊎ ((new.lane ≡ old.lane) × (met_by new ≡ met_by old) × (sent_by new ≡ sent_by old))))
 
 module _ {S : Type 0} (left : S → Option Left) (failures : S → ℕ) where
   -- the worker goes on, since its source was as before

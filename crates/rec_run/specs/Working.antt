@@ -1,5 +1,5 @@
 -- What a worker did with the frames of its source.
-use Rattle.std.specs.Prelude.{ℕ, ◌≡◌, ◌≤◌, List, [], ◌∷◌, ◌++◌, length, map, Option, None, Some, IfSome}
+use Rattle.std.specs.Prelude.{ℕ, ◌≡◌, ◌≤◌, List, [], ◌∷◌, ◌++◌, length, map, Option, None, Some}
 use Rattle.std.specs.Arc.{arc_value}
 use Rattle.eth_frame.specs.Frame.{FrameData}
 use Rattle.eth_frame.specs.Source.{Left}
@@ -104,4 +104,3 @@ TakesOne old new met met_then sent sent_then frame AreSent =
     → sent ≡ pieces_so_far old.settings offered
     → (f : OfferedFrame) × (f.frame ≡ frame) × Stands new met_then (offered ++ f ∷ [])
     × AreSent sent_then (pieces_so_far new.settings (offered ++ f ∷ []))
-

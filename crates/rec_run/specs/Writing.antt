@@ -61,6 +61,9 @@ module _ {S : Type 0} where
   abbrev pub CameFrom : List PieceData → Line S → Type 0
   CameFrom pieces l = filter (is_of l.channel) pieces ≡ pieces_data (received l.pieces)
 
+  abbrev pub AllCame : List PieceData → List (Line S) → Type 0
+  AllCame pieces ls = All (CameFrom pieces) ls
+
   -- as many buffers went back as there were at the start and packets of frames came since
   abbrev pub GaveBack : Line S → Type 0
   GaveBack l = length (sent l.returns) ≡ l.buffers + count_by has_buffer (received l.pieces)
@@ -79,7 +82,7 @@ module _ {S : Type 0} where
     pub written : HasWritten first pieces [] writer
     pub counted : bytes ≡ bytes_of writer.version pieces
     pub named : All (IsOfLines ls) pieces
-    pub came : All (CameFrom pieces) ls
+    pub came : AllCame pieces ls
     pub gave : All GaveBack ls
 
   -- the same as far as the output went: the last piece that was taken is cut
@@ -94,7 +97,7 @@ module _ {S : Type 0} where
     pub fault_is : fault ≡ Output writer.whole writer.bytes
     pub counted : bytes ≡ bytes_of writer.version pieces
     pub named : All (IsOfLines ls) (pieces ++ piece ∷ [])
-    pub came : All (CameFrom (pieces ++ piece ∷ [])) ls
+    pub came : AllCame (pieces ++ piece ∷ []) ls
 
   -- what was done is so
   abbrev pub WroteSo :

@@ -43,3 +43,38 @@ pub(crate) enum WorkerEnd {
     /// The slot gave what it can't have.
     History,
 }
+
+impl WorkerEnd {
+    ghost use Rattle.std.specs.Prelude.{◌≡◌, ◌↔◌, IsTrue};
+    ghost use Rattle.rec_run.specs.Ends.{IsOverThen, IsEnded, ending_of};
+
+    /// Whether the channel is over.
+    pub(crate) fn is_over(self) -> bool
+        ensures { IsTrue result ↔ IsOverThen self }
+    {
+        match self {
+            WorkerEnd::Ended(ending) => ending.is_over(),
+            WorkerEnd::Link | WorkerEnd::History => false,
+        }
+    }
+
+    /// Whether the channel has an ending.
+    pub(crate) fn is_ended(self) -> bool
+        ensures { IsTrue result ↔ IsEnded self }
+    {
+        match self {
+            WorkerEnd::Ended(_) => true,
+            WorkerEnd::Link | WorkerEnd::History => false,
+        }
+    }
+
+    /// The channel's ending; [`Ending::Stopped`] where it has none.
+    pub(crate) fn ending(self) -> Ending
+        ensures { result ≡ ending_of self }
+    {
+        match self {
+            WorkerEnd::Ended(ending) => ending,
+            WorkerEnd::Link | WorkerEnd::History => Ending::Stopped,
+        }
+    }
+}

@@ -2,18 +2,30 @@
 //! filters, and the writer on the caller's.
 #![tactic(auto)]
 
+mod agreement;
 mod change;
 mod control;
+mod control_promise;
+mod controller;
 mod ending;
 mod finish;
 mod job;
+mod jobs;
+mod joined;
+mod joining;
 mod line;
 mod met;
+mod outcome;
 mod pause;
 mod prepared;
 mod promise;
+mod recording;
+mod report;
+mod reporting;
+mod served;
 mod setup;
 mod tape;
+mod threads;
 mod waiting;
 mod worker;
 mod writing;
@@ -22,3 +34,6 @@ pub use change::{Answer, Change, Told};
 pub use control::Control;
 pub use ending::Ending;
 pub use job::Job;
+pub use jobs::{MAX_RING, jobs_ok};
+pub use recording::record;
+pub use report::{ChannelReport, Done, Report, RunFault};

@@ -1,4 +1,4 @@
-use Rattle.std.proofs.Common.{◌≡◌, ℕ, ◌≤◌, rules, refl, ◌∙◌, sym, ap, subst, Some}
+use Rattle.std.proofs.Common.{◌≡◌, ◌≤◌, rules, refl, ◌∙◌, sym, ap, subst, Some}
 use Rattle.eth_frame.specs.Source.{GivesFirst}
 use Rattle.eth_frame.specs.Views.{frame_data}
 use Rattle.rec_lane.specs.Lanes.{LaneState}

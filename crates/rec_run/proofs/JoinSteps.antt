@@ -1,0 +1,45 @@
+-- One worker more has ended.
+use Rattle.std.proofs.Common.{◌≡◌, ℕ, List, [], ◌∷◌, ◌++◌, Option, ◌∙◌, ap, sym, subst}
+use Rattle.std.specs.List.{AllZip}
+use Rattle.std.proofs.lemmas.List.{append_assoc, append-nil, map-append}
+use Rattle.std.proofs.lemmas.List.Elements.{All-rest, All-head}
+use Rattle.eth_frame.specs.Source.{Left}
+use Rattle.rec_lane.specs.Parts.{Begins}
+use Rattle.rec_lane.specs.Pieces.{PieceData}
+use Rattle.rec_lane.specs.Views.{piece_data, pieces_data}
+use Rattle.rec_lane.specs.declared.piece.Piece.{Piece}
+use Rattle.rec_run.specs.Setup.{jobs_of, job_at}
+use Rattle.rec_run.specs.Writing.{CameFrom, AllCame}
+use Rattle.rec_run.specs.Joins.{JoinedOf}
+use Rattle.rec_run.specs.declared.line.Line.{Line}
+use Rattle.rec_run.specs.declared.job.Job.{Job}
+use Rattle.rec_run.specs.declared.joined.Joined.{Joined}
+
+module _ {S : Type 0} (l : Line S) (rest now : List (Line S)) (is : now ≡ l ∷ rest) where
+  pub came_rest : (pieces : List PieceData) → AllCame pieces now → AllCame pieces rest
+  came_rest pieces all = All-rest (λ x. CameFrom pieces x) l rest now is all
+
+  pub came_head : (pieces : List PieceData) → AllCame pieces now → CameFrom pieces l
+  came_head pieces all = All-head (λ x. CameFrom pieces x) l rest (let P : List (Line S) → Type 0 = λ x. AllCame pieces x in subst P is all)
+
+  pub jobs_step : (all : List (Line S)) (js : List (Job S)) → jobs_of all ≡ js ++ jobs_of now → jobs_of all ≡ (js ++ job_at l ∷ []) ++ jobs_of rest
+  jobs_step all js e = e ∙ ap (λ v. js ++ jobs_of v) is ∙ sym (append_assoc js (job_at l ∷ []) (jobs_of rest))
+
+-- std's own is for two lists of one type
+pub zip_push : {A B : Type 0} (R : A → B → Type 0) (xs : List A) (ys : List B) (x : A) (y : B) → AllZip R xs ys → R x y → AllZip R (xs ++ x ∷ []) (ys ++ y ∷ [])
+zip_push R [] [] x y all one = (one, tt)
+zip_push R [] (b ∷ ys) x y all one = absurd all
+zip_push R (a ∷ xs) [] x y all one = absurd all
+zip_push R (a ∷ xs) (b ∷ ys) x y all one = (all.0, zip_push R xs ys x y all.1 one)
+
+pub joined_push : {S : Type 0} (left : S → Option Left) (failures : S → ℕ) (pieces : List PieceData) (js : List (Job S)) (done done' : List (Joined S)) (job : Job S) (j : Joined S)
+    → done' ≡ done ++ j ∷ [] → AllZip (JoinedOf left failures pieces) js done → JoinedOf left failures pieces job j → AllZip (JoinedOf left failures pieces) (js ++ job ∷ []) done'
+joined_push left failures pieces js done done' job j e all one =
+    subst (λ x. AllZip (JoinedOf left failures pieces) (js ++ job ∷ []) x) (sym e) (zip_push (JoinedOf left failures pieces) js done job j all one)
+
+-- what was received of a ring begins what was sent, and is all of it where nothing is left
+pub received_begins : (received known sent : List Piece) → received ++ known ≡ sent → Begins (pieces_data received) (pieces_data sent)
+received_begins received known sent is = (pieces_data known, sym (map-append piece_data received known) ∙ ap (λ ps. pieces_data ps) is)
+
+pub received_all : (received known sent : List Piece) → received ++ known ≡ sent → known ≡ [] → pieces_data received ≡ pieces_data sent
+received_all received known sent is none = ap (λ ps. pieces_data ps) (sym (append-nil received) ∙ ap (λ ks. received ++ ks) (sym none) ∙ is)

@@ -1,0 +1,62 @@
+-- What the report of a channel says of its job.
+use Rattle.std.specs.Prelude.{ℕ, ◌≡◌, ◌≤◌, List, [], ◌∷◌, length, Option}
+use Rattle.std.specs.Arc.{arc_value}
+use Rattle.eth_frame.specs.Frame.{FrameData}
+use Rattle.eth_frame.specs.Source.{Left}
+use Rattle.rec_channel.specs.History.{Version, IsHistory}
+use Rattle.rec_channel.specs.declared.limits.TheConstants.{MAX_VERSIONS}
+use Rattle.rec_lane.specs.Offered.{AreAccepted}
+use Rattle.rec_lane.specs.Settings.{spec_data}
+use Rattle.rec_writer.specs.Recording.{RecordedChannel}
+use Rattle.rec_run.specs.Histories.{history_in}
+use Rattle.rec_run.specs.Endings.{EndsAs}
+use Rattle.rec_run.specs.Ends.{ending_of}
+use Rattle.rec_run.specs.Logs.{AreAnswered}
+use Rattle.rec_run.specs.Served.{AreServed}
+use Rattle.rec_run.specs.Working.{versions_met}
+use Rattle.rec_run.specs.declared.change.Logged.{Logged}
+use Rattle.rec_run.specs.declared.job.Job.{Job}
+use Rattle.rec_run.specs.declared.joined.Joined.{Joined}
+use Rattle.rec_run.specs.declared.report.ChannelReport.{ChannelReport}
+
+module _ {S : Type 0} where
+  -- the history that a report gives
+  abbrev pub history_of : ChannelReport S → List Version
+  history_of r = history_in r.versions.items r.marks.items
+
+  -- the report tells what the worker has left, with a history that served the versions which the
+  -- worker met and that agrees with the log
+  pub record Tells (joined : Joined S) (log : List Logged) (r : ChannelReport S) : Type 0 where
+    pub channel_is : r.channel ≡ joined.channel
+    pub offered_is : r.offered ≡ joined.offered
+    pub kept_is : r.kept ≡ joined.kept
+    pub ending_is : r.ending ≡ ending_of joined.end
+    pub source_is : r.source ≡ joined.source
+    pub history : IsHistory r.offered (history_of r)
+    pub few : length (history_of r) ≤ MAX_VERSIONS
+    pub served : AreServed (history_of r) r.offered (versions_met joined.met.items)
+    pub answered : AreAnswered r.channel (arc_value joined.program) (history_of r) log
+
+module _ {S : Type 0} (left : S → Option Left) (failures : S → ℕ) where
+  -- the channel of this report, as it was recorded: its settings are the job's, its frames were
+  -- taken from the job's source, and its history is the one that the report gives
+  pub record IsReport (job : Job S) (r : ChannelReport S) (channel : RecordedChannel) : Type 0 where
+    pub settings_are : channel.settings ≡ spec_data job.spec
+    pub history_is : channel.history ≡ history_of r
+    pub history : IsHistory r.offered channel.history
+    pub channel_is : r.channel ≡ job.spec.channel
+    pub offered_is : r.offered ≡ length channel.frames
+    pub within : r.offered ≤ job.max
+    pub kept : List FrameData
+    pub accepted : AreAccepted channel.history channel.frames kept
+    pub kept_is : r.kept ≡ length kept
+    pub ends : EndsAs left failures r.ending job.source r.source channel.frames job.max
+
+  -- the reports are those of these channels, job by job
+  abbrev pub AreReports : List (Job S) → List (ChannelReport S) → List RecordedChannel → Type 0
+  AreReports [] [] [] = Unit {0}
+  AreReports [] [] (c ∷ cs) = ⊥
+  AreReports [] (r ∷ rs) cs = ⊥
+  AreReports (j ∷ js) [] cs = ⊥
+  AreReports (j ∷ js) (r ∷ rs) [] = ⊥
+  AreReports (j ∷ js) (r ∷ rs) (c ∷ cs) = IsReport j r c × AreReports js rs cs

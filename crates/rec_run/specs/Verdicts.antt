@@ -1,0 +1,71 @@
+-- What a recording comes to, once its threads have ended.
+use Rattle.std.specs.Prelude.{ℕ, ◌≡◌, Bool, List, Option}
+use Rattle.std.specs.Io.KnownBytes.{Keeps}
+use Rattle.eth_frame.specs.Source.{Left}
+use Rattle.rec_writer.specs.Writers.{WriterState, FinishFails}
+use Rattle.rec_run.specs.Changes.{Given, Answered}
+use Rattle.rec_run.specs.Controlling.{EndsControl}
+use Rattle.rec_run.specs.Jobs.{channels_of_jobs}
+use Rattle.rec_run.specs.Outcomes.{WroteIn}
+use Rattle.rec_run.specs.Recorded.{IsRecorded, IsCutShort, IsControlled}
+use Rattle.rec_run.specs.Reports.{Tells}
+use Rattle.rec_run.specs.declared.change.Logged.{Logged}
+use Rattle.rec_run.specs.declared.job.Job.{Job}
+use Rattle.rec_run.specs.declared.joined.Joined.{Joined}
+use Rattle.rec_run.specs.declared.outcome.Outcome.{Outcome}
+use Rattle.rec_run.specs.declared.report.ChannelReport.{ChannelReport}
+use Rattle.rec_run.specs.declared.report.Done.{Done}
+use Rattle.rec_run.specs.declared.report.Report.{Report}
+use Rattle.rec_run.specs.declared.report.RunFault.{RunFault}
+use Rattle.rec_run.specs.declared.report.RunFault.TheVariants.{Memory, Write, Link, History}
+
+abbrev pub TellsOf : {S : Type 0} → List Logged → Joined S → ChannelReport S → Type 0
+TellsOf log joined report = Tells joined log report
+
+module _ {S C W : Type 0} (left : S → Option Left) (failures : S → ℕ) (contents : W → Option (List ℕ)) where
+  -- where the output failed, the recording was cut short
+  abbrev pub CutsShort :
+      List (Job S) → (version : ℕ) → Option (List ℕ) → RunFault S C W → Type 0
+  CutsShort jobs version first Memory = Unit {0}
+  CutsShort jobs version first (Write fault report control out) =
+      IsCutShort left failures jobs version first (contents out) fault report
+  CutsShort jobs version first Link = Unit {0}
+  CutsShort jobs version first History = Unit {0}
+
+  -- whatever the jobs were, and whatever the output held before
+  abbrev pub Concludes : Outcome S C W → Done S C W → Type 0
+  Concludes o done =
+      (jobs : List (Job S)) (first : Option (List ℕ))
+      → WroteIn left failures first o.wrote jobs o.joined.items o.tape.writer o.tape.bytes
+      → IsRecorded left failures jobs o.tape.writer.version first (contents done.out) done.report
+
+  abbrev pub ConcludesCut : Outcome S C W → RunFault S C W → Type 0
+  ConcludesCut o fault =
+      (jobs : List (Job S)) (first : Option (List ℕ))
+      → WroteIn left failures first o.wrote jobs o.joined.items o.tape.writer o.tape.bytes
+      → CutsShort jobs o.tape.writer.version first fault
+
+module _ {S C W : Type 0} (left : S → Option Left) (failures : S → ℕ) (given : C → List Given) (answered : C → List Answered) (ended : C → Bool) where
+  abbrev pub ConcludesControl : Outcome S C W → List ℕ → Done S C W → Type 0
+  ConcludesControl o channels done =
+      (jobs : List (Job S)) (first : Option (List ℕ)) (before : C)
+      → WroteIn left failures first o.wrote jobs o.joined.items o.tape.writer o.tape.bytes
+      → channels ≡ channels_of_jobs jobs
+      → EndsControl given answered ended before o.controlled
+      → IsControlled given answered ended before done.control jobs done.report.channels.items
+
+module _ {S C W : Type 0} (contents : W → Option (List ℕ)) where
+  -- the output was flushed
+  pub record EndsWell (writer : WriterState) (report : Report S) (control : C) (done : Done S C W)
+      : Type 0 where
+    pub report_is : done.report ≡ report
+    pub control_is : done.control ≡ control
+    pub kept : Keeps writer.held (contents done.out)
+
+  -- the flush failed
+  abbrev pub EndsAtFlush : WriterState → Report S → RunFault S C W → Type 0
+  EndsAtFlush writer report Memory = Unit {0}
+  EndsAtFlush writer report (Write fault told control out) =
+      FinishFails writer fault × (told ≡ report) × Keeps writer.held (contents out)
+  EndsAtFlush writer report Link = Unit {0}
+  EndsAtFlush writer report History = Unit {0}

@@ -1,0 +1,123 @@
+//! The threads of a recording: their start, the writing, and their end.
+
+ghost use Rattle.std.specs.Prelude.{◌≡◌, List, Option, ℕ, IfOk};
+ghost use Rattle.rec_run.specs.Setup.{jobs_in};
+ghost use Rattle.rec_run.specs.Changes.{MayBeAsked};
+ghost use Rattle.rec_run.specs.Controlling.{EndsControl};
+ghost use Rattle.rec_run.specs.Outcomes.{IsPrepared, MayStart, IsOutcome};
+
+use crate::change::Logged;
+use crate::control::Control;
+use crate::control_promise::start_control;
+use crate::joined::Joined;
+use crate::joining::join_all;
+use crate::line::Line;
+use crate::outcome::Outcome;
+use crate::prepared::Prepared;
+use crate::setup::start_all;
+use crate::tape::Tape;
+use crate::waiting::set_stop;
+use crate::writing::write_all;
+use eth_frame::FrameSource;
+use rec_channel::SharedSlot;
+use std::alloc::AllocError;
+use std::io::Write;
+use std::sync::Wait;
+use std::sync::atomic::AtomicU64;
+use std::thread::{self, Scope, Threads};
+
+/// Runs the threads of a recording until all have ended. `Err` tells that one did not start.
+pub(crate) fn run_threads<
+    S: FrameSource + Send + Drop,
+    C: Control + Send + Drop,
+    W: Write + Drop,
+    R: Threads + Wait + Sync,
+>(
+    rt: &R,
+    slots: &[SharedSlot],
+    stop: &AtomicU64,
+    prepared: Vec<Prepared<S>>,
+    room: (Vec<Line<S>>, Vec<Joined<S>>),
+    control: C,
+    channels: &[u16],
+    log: Vec<Logged>,
+    tape: Tape<W>,
+) -> Result<Outcome<S, C, W>, AllocError>
+    requires { IsPrepared slots.now prepared room tape
+        × MayStart C.given C.answered C.ended control log }
+    ensures joined { IfOk result (λ o. (first : Option (List ℕ))
+        → IsOutcome S.left S.failures first tape (jobs_in prepared.items) o) }
+    ensures control { IfOk result (λ o.
+        EndsControl C.given C.answered C.ended control o.controlled) }
+{
+    thread::scope(
+        thread::scope_env(),
+        rt,
+        move |scope| -> Result<Outcome<S, C, W>, AllocError>
+            requires { IsPrepared slots.now prepared room tape
+                × MayStart C.given C.answered C.ended control log }
+            ensures joined { IfOk result (λ o. (first : Option (List ℕ))
+                → IsOutcome S.left S.failures first tape (jobs_in prepared.items) o) }
+            ensures control { IfOk result (λ o.
+                EndsControl C.given C.answered C.ended control o.controlled) }
+        {
+            run_in(
+                scope, rt, slots, stop, prepared, room, control, channels, log, tape,
+            )
+        },
+    )
+}
+
+/// Starts the workers and then the control, writes what the workers send, and waits for all.
+fn run_in<
+    's,
+    E,
+    S: FrameSource + Send + Drop + 's,
+    C: Control + Send + Drop + 's,
+    W: Write + Drop,
+    R: Threads + Wait + Sync,
+>(
+    scope: &Scope<'s, E>,
+    rt: &'s R,
+    slots: &'s [SharedSlot],
+    stop: &'s AtomicU64,
+    prepared: Vec<Prepared<S>>,
+    room: (Vec<Line<S>>, Vec<Joined<S>>),
+    control: C,
+    channels: &'s [u16],
+    log: Vec<Logged>,
+    tape: Tape<W>,
+) -> Result<Outcome<S, C, W>, AllocError>
+    requires { IsPrepared slots.now prepared room tape
+        × MayStart C.given C.answered C.ended control log }
+    ensures joined { IfOk result (λ o. (first : Option (List ℕ))
+        → IsOutcome S.left S.failures first tape (jobs_in prepared.items) o) }
+    ensures control { IfOk result (λ o.
+        EndsControl C.given C.answered C.ended control o.controlled) }
+{
+    let (lines, joined) = room;
+    let mut lines = match start_all(scope, rt, slots, stop, prepared, lines) {
+        Ok(lines) => lines,
+        Err(refused) => {
+            set_stop(stop);
+            return Err(refused);
+        }
+    };
+    let controller = match start_control(scope, rt, control, slots, channels, stop, log) {
+        Ok(controller) => controller,
+        Err(refused) => {
+            set_stop(stop);
+            return Err(refused);
+        }
+    };
+    let mut tape = tape;
+    let wrote = write_all(rt, stop, &mut lines, &mut tape);
+    let joined = join_all(rt, lines, joined);
+    let controlled = controller.join(rt);
+    Ok(Outcome {
+        joined,
+        controlled,
+        tape,
+        wrote,
+    })
+}
