@@ -1,0 +1,238 @@
+//! The parts of a recording that the tests watch: marks, sources, controls and outputs.
+
+ghost use Rattle.library_tests.specs.Scripts.{IsFresh};
+
+use super::script::Script;
+use crate::shared::{all_bytes, program};
+use ch11_packet::Limit;
+use eth_frame::FeedSource;
+use rec_lane::LaneSpec;
+use rec_run::*;
+use std::alloc::Global;
+use std::io::{ErrorKind, Read, Write};
+use std::sync::Arc;
+use std::sync::atomic::{AtomicU64, Ordering};
+use std::test::Fail;
+use std::{io, thread};
+
+/// How many turns a wait takes at most.
+const TURNS: u32 = 10_000_000;
+
+/// How many marks there are.
+const MARKS: usize = 8;
+
+/// The mark that is never waited for and means nothing.
+pub(super) const NONE: usize = 7;
+
+/// Marks that threads set and wait for.
+#[derive(Drop)]
+pub(super) struct Marks {
+    marks: [AtomicU64; MARKS],
+}
+
+pub(super) type Shared = Arc<Marks, Global>;
+
+/// Marks of which only [`NONE`] is set.
+pub(super) fn fresh_marks(alloc: Global) -> Result<Shared, Fail> {
+    Ok(Arc::new(
+        alloc,
+        Marks {
+            marks: [
+                AtomicU64::new(0),
+                AtomicU64::new(0),
+                AtomicU64::new(0),
+                AtomicU64::new(0),
+                AtomicU64::new(0),
+                AtomicU64::new(0),
+                AtomicU64::new(0),
+                AtomicU64::new(1),
+            ],
+        },
+    )?)
+}
+
+impl Marks {
+    pub(super) fn set(&self, mark: usize) {
+        if let Some(mark) = self.marks.get(mark) {
+            mark.store(1, Ordering::SeqCst);
+        }
+    }
+
+    /// Waits until a mark is set; `false` if it isn't after many turns.
+    pub(super) fn wait(&self, mark: usize) -> bool {
+        let Some(mark) = self.marks.get(mark) else {
+            return false;
+        };
+        for _turn in 0..TURNS {
+            if mark.load(Ordering::SeqCst) != 0 {
+                return true;
+            }
+            thread::yield_now();
+        }
+        false
+    }
+}
+
+/// What a source gives at a call: bytes, or none at its end. It says that the call began, waits for
+/// two marks, and says that it gave.
+#[derive(Drop)]
+pub(super) struct Stage {
+    pub(super) bytes: Vec<u8>,
+    pub(super) began: usize,
+    pub(super) needs: [usize; 2],
+    pub(super) gave: usize,
+}
+
+/// A reader of stages, one after the other.
+#[derive(Drop)]
+pub(super) struct Stages {
+    pub(super) marks: Shared,
+    pub(super) stages: Vec<Stage>,
+    at: usize,
+    within: usize,
+}
+
+/// A source over stages.
+pub(super) fn source(marks: Shared, stages: Vec<Stage>) -> FeedSource<Stages> {
+    FeedSource::new(Stages {
+        marks,
+        stages,
+        at: 0,
+        within: 0,
+    })
+}
+
+impl Read for Stages {
+    fn read(&mut self, buf: &mut [u8]) -> io::Result<usize> {
+        let Some(stage) = self.stages.get(self.at) else {
+            return Ok(0);
+        };
+        if self.within == 0 {
+            self.marks.set(stage.began);
+            if !self.marks.wait(stage.needs[0]) || !self.marks.wait(stage.needs[1]) {
+                return Err(io::Error::from(ErrorKind::TimedOut));
+            }
+        }
+        let Some(left) = stage.bytes.get(self.within..) else {
+            return Ok(0);
+        };
+        let count = left.len().min(buf.len());
+        buf[..count].copy_from_slice(&left[..count]);
+        self.within += count;
+        if self.within == stage.bytes.len() && count > 0 {
+            self.marks.set(stage.gave);
+            self.at += 1;
+            self.within = 0;
+        }
+        Ok(count)
+    }
+}
+
+/// What a control does when it is asked: it says that the call began, waits, and gives a change or
+/// ends.
+#[derive(Drop)]
+pub(super) struct Step {
+    pub(super) change: Option<Change>,
+    pub(super) began: usize,
+    pub(super) needs: usize,
+}
+
+/// A control with these steps, which has given and was told nothing.
+pub(super) fn fresh_script(
+    alloc: Global,
+    marks: Shared,
+    steps: Vec<Step>,
+    told_mark: usize,
+) -> Script
+    ensures { IsFresh result }
+{
+    Script {
+        marks,
+        steps,
+        given: Vec::new(alloc),
+        told: Vec::new(alloc),
+        told_mark,
+        ended: false,
+    }
+}
+
+/// An output that keeps its bytes. Its first write waits for a mark, and it sets one when it has so
+/// many bytes. It fails where it has no room.
+#[derive(Drop)]
+pub(super) struct Watched {
+    pub(super) bytes: Vec<u8>,
+    pub(super) marks: Shared,
+    pub(super) needs: usize,
+    pub(super) full: usize,
+    pub(super) full_mark: usize,
+    pub(super) room: usize,
+    pub(super) flushes_fail: bool,
+}
+
+impl Write for Watched {
+    fn write(&mut self, buf: &[u8]) -> io::Result<usize> {
+        if self.bytes.is_empty() && !self.marks.wait(self.needs) {
+            return Err(io::Error::from(ErrorKind::TimedOut));
+        }
+        if self.room == 0 && !buf.is_empty() {
+            return Err(io::Error::from(ErrorKind::StorageFull));
+        }
+        let count = self.room.min(buf.len());
+        self.bytes
+            .extend_from_slice(&buf[..count])
+            .map_err(|_| io::Error::from(ErrorKind::OutOfMemory))?;
+        self.room -= count;
+        if self.bytes.len() >= self.full {
+            self.marks.set(self.full_mark);
+        }
+        Ok(count)
+    }
+
+    fn flush(&mut self) -> io::Result<()> {
+        if self.flushes_fail {
+            return Err(io::Error::from(ErrorKind::StorageFull));
+        }
+        Ok(())
+    }
+}
+
+/// An output that waits for nothing and has room for so many bytes.
+pub(super) fn output(alloc: Global, marks: Shared, room: usize) -> Watched {
+    Watched {
+        bytes: Vec::new(alloc),
+        marks,
+        needs: NONE,
+        full: usize::MAX,
+        full_mark: NONE,
+        room,
+        flushes_fail: false,
+    }
+}
+
+/// A job of a channel with speed 3, whose packets are of the least limit.
+pub(super) fn job(
+    alloc: Global,
+    channel: u16,
+    listing: &str,
+    source: FeedSource<Stages>,
+) -> Result<Job<FeedSource<Stages>>, Fail> {
+    let limit = Limit::new(16_424).ok_or("a limit")?;
+    Ok(Job {
+        spec: LaneSpec::new(channel, 0, 3, limit).ok_or("settings in range")?,
+        program: program(alloc, listing)?,
+        max: u64::MAX,
+        source,
+    })
+}
+
+/// The feed record of the ARP frame with a counter.
+pub(super) fn record_of(alloc: Global, counter: u8) -> Result<Vec<u8>, Fail> {
+    let mut bytes = all_bytes(
+        alloc,
+        "000000000000 00 1200 ffffffffffff 020000000001 0806 a1b2c3d4",
+    )?;
+    if let Some(first) = bytes.first_mut() {
+        *first = counter;
+    }
+    Ok(bytes)
+}

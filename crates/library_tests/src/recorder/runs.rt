@@ -1,0 +1,328 @@
+//! Recordings of a few frames, whose sources, control and output wait for one another.
+use super::parts::*;
+use crate::shared::{all_bytes, program};
+use eth_frame::SourceFault;
+use rec_run::*;
+use rec_writer::WriteFault;
+use std::alloc::Global;
+use std::sync::{Arc, Wait};
+use std::test::Fail;
+use std::thread::Threads;
+
+const ACCEPT: &str = "1,6 0 0 1,";
+
+const REJECT: &str = "1,6 0 0 0,";
+
+/// The recording of a channel with speed 3 that keeps two frames: its program, a packet of both, and
+/// its end.
+const TWO_FRAMES: &str = "25eb 0000 3c000000 24000000 08 00 00 00 100000000000 9deb \
+    00000000 43425052 0100 0100 00000000 0000000000000000 0100 0000 0600000001000000 \
+    25eb 0100 58000000 40000000 08 00 00 68 100000000000 d653 02000000 \
+    100000000000 0000 12000003 ffffffffffff 020000000001 0806 a1b2c3d4 \
+    200000000000 0000 12000003 ffffffffffff 020000000001 0806 a1b2c3d4 \
+    25eb 0000 34000000 1c000000 08 01 00 00 200000000000 9dec \
+    00000000 43425052 0200 0100 0200000000000000 0200000000000000";
+
+/// The recording of a channel without a frame.
+const NO_FRAME: &str = "25eb 0000 34000000 1c000000 08 00 00 00 000000000000 7deb \
+    00000000 43425052 0200 0100 0000000000000000 0000000000000000";
+
+/// A stage that waits for nothing.
+fn plain(bytes: Vec<u8>) -> Stage {
+    Stage {
+        bytes,
+        began: NONE,
+        needs: [NONE, NONE],
+        gave: NONE,
+    }
+}
+
+/// What is told of a channel: versions, offered, kept and its ending.
+type Told4 = (usize, u64, u64, Ending);
+
+/// Records two frames of channel 1 into an output, with no change.
+fn two_frames<R: Threads + Wait + Sync>(
+    rt: &R,
+    alloc: Global,
+    frames: u8,
+    room: usize,
+    flushes_fail: bool,
+) -> Result<(Vec<u8>, Option<Told4>, Option<WriteFault>), Fail> {
+    let marks = fresh_marks(alloc)?;
+    let mut stages = Vec::new(alloc);
+    for k in 0..frames {
+        stages.push(plain(record_of(alloc, 16 + 16 * (k % 2))?))?;
+    }
+    let mut jobs = Vec::new(alloc);
+    let source = source(Arc::try_clone(&marks)?, stages);
+    jobs.push(job(alloc, 1, ACCEPT, source)?)?;
+    let control = fresh_script(alloc, Arc::try_clone(&marks)?, Vec::new(alloc), NONE);
+    let mut out = output(alloc, marks, room);
+    out.flushes_fail = flushes_fail;
+    if !jobs_ok(jobs.as_slice()) {
+        return Err("jobs that may be recorded")?;
+    }
+    match record(rt, alloc, jobs, 64, 8, control, out) {
+        Ok(Done { report, out, .. }) => Ok((
+            out.bytes,
+            first_told(report.channels.as_slice()),
+            None,
+        )),
+        Err(
+            RunFault::Write {
+                fault,
+                report,
+                out,
+                ..
+            },
+        ) => Ok((
+            out.bytes,
+            first_told(report.channels.as_slice()),
+            Some(fault),
+        )),
+        Err(_) => Err("a recording")?,
+    }
+}
+
+/// What is told of the first channel.
+fn first_told<S: Drop>(reports: &[ChannelReport<S>]) -> Option<Told4> {
+    let report = reports.first()?;
+    Some((
+        report.versions.len(),
+        report.offered,
+        report.kept,
+        report.ending,
+    ))
+}
+
+#[test]
+fn a_feed_is_recorded(rt: HostRuntime) -> Result<(), Fail> {
+    let (bytes, told, fault) = two_frames(&rt, rt.alloc(), 2, usize::MAX, false)?;
+    assert_eq!(rt; bytes, all_bytes(rt.alloc(), TWO_FRAMES)?);
+    assert_eq!(rt; told, Some((1, 2, 2, Ending::SourceEnd)));
+    assert_eq!(rt; fault, None);
+    let (bytes, told, _) = two_frames(&rt, rt.alloc(), 0, usize::MAX, false)?;
+    assert_eq!(rt; bytes, all_bytes(rt.alloc(), NO_FRAME)?);
+    assert_eq!(rt; told, Some((1, 0, 0, Ending::SourceEnd)));
+    Ok(())
+}
+
+#[test]
+fn an_output_that_fails_cuts_the_recording(rt: HostRuntime) -> Result<(), Fail> {
+    let all = all_bytes(rt.alloc(), TWO_FRAMES)?;
+    for room in 0..200usize {
+        let (bytes, told, fault) = two_frames(&rt, rt.alloc(), 2, room, false)?;
+        assert_eq!(rt; bytes.as_slice(), &all[..room.min(all.len())]);
+        assert!(rt; told.is_some());
+        let (whole, rest) = match room {
+            0..60 => (0, room),
+            60..148 => (1, room - 60),
+            _ => (2, room - 148),
+        };
+        let bytes = rest as u64;
+        assert_eq!(rt; fault, Some(WriteFault::Output { whole, bytes }));
+    }
+    let (bytes, _, fault) = two_frames(&rt, rt.alloc(), 2, usize::MAX, true)?;
+    assert_eq!(rt; bytes, all);
+    assert_eq!(rt; fault, Some(WriteFault::Output { whole: 3, bytes: 0 }));
+    Ok(())
+}
+
+/// What a job's channel is told, and the marks of its versions.
+fn told_of<S: Drop>(
+    alloc: Global,
+    reports: &[ChannelReport<S>],
+    at: usize,
+) -> Result<(Told4, Vec<u64>), Fail> {
+    let report = reports.get(at).ok_or("a report of each channel")?;
+    let mut marks = Vec::new(alloc);
+    marks.extend_from_slice(report.marks.as_slice())?;
+    let told = first_told(&reports[at..]).ok_or("a report of each channel")?;
+    Ok((told, marks))
+}
+
+/// Channel 2's source waits until the control was told of its change and channel 1's source is
+/// asked; channel 1's waits for that frame and for the control's second call, and then, at its end,
+/// until a whole packet went out; the output's first write waits for that. So sources are asked in
+/// threads of their own, beside the control and the writer, and no lock is held meanwhile.
+#[test]
+fn sources_control_and_output_wait_for_one_another(rt: HostRuntime) -> Result<(), Fail> {
+    const ASKED_1: usize = 0;
+    const GAVE_1: usize = 1;
+    const ASKED_1_AGAIN: usize = 2;
+    const GAVE_2: usize = 3;
+    const TOLD: usize = 4;
+    const ASKED_CONTROL_AGAIN: usize = 5;
+    const PACKET_OUT: usize = 6;
+    let alloc = rt.alloc();
+    let marks = fresh_marks(alloc)?;
+    let mut first = Vec::new(alloc);
+    first.push(Stage {
+        bytes: record_of(alloc, 16)?,
+        began: ASKED_1,
+        needs: [GAVE_2, ASKED_CONTROL_AGAIN],
+        gave: GAVE_1,
+    })?;
+    first.push(Stage {
+        bytes: Vec::new(alloc),
+        began: ASKED_1_AGAIN,
+        needs: [PACKET_OUT, NONE],
+        gave: NONE,
+    })?;
+    let mut second = Vec::new(alloc);
+    second.push(Stage {
+        bytes: record_of(alloc, 16)?,
+        began: NONE,
+        needs: [TOLD, ASKED_1],
+        gave: GAVE_2,
+    })?;
+    let mut steps = Vec::new(alloc);
+    steps.push(Step {
+        change: None,
+        began: ASKED_CONTROL_AGAIN,
+        needs: GAVE_1,
+    })?;
+    steps.push(Step {
+        change: Some(Change {
+            channel: 2,
+            program: program(alloc, ACCEPT)?,
+        }),
+        began: NONE,
+        needs: NONE,
+    })?;
+    let mut jobs = Vec::new(alloc);
+    let source_1 = source(Arc::try_clone(&marks)?, first);
+    jobs.push(job(alloc, 1, REJECT, source_1)?)?;
+    let source_2 = source(Arc::try_clone(&marks)?, second);
+    jobs.push(job(alloc, 2, REJECT, source_2)?)?;
+    let control = fresh_script(alloc, Arc::try_clone(&marks)?, steps, TOLD);
+    let mut out = output(alloc, marks, usize::MAX);
+    out.needs = ASKED_1_AGAIN;
+    out.full = 60;
+    out.full_mark = PACKET_OUT;
+    if !jobs_ok(jobs.as_slice()) {
+        return Err("jobs that may be recorded")?;
+    }
+    let Ok(done) = record(&rt, alloc, jobs, 1, 8, control, out) else {
+        return Err("a recording that ends")?;
+    };
+    let reports = done.report.channels.as_slice();
+    let (told, marks) = told_of(alloc, reports, 0)?;
+    assert_eq!(rt; told, (1, 1, 0, Ending::SourceEnd));
+    assert_eq!(rt; marks.as_slice(), [0].as_slice());
+    let (told, marks) = told_of(alloc, reports, 1)?;
+    assert_eq!(rt; told, (2, 1, 1, Ending::SourceEnd));
+    assert_eq!(rt; marks.as_slice(), [0, 0].as_slice());
+    assert_eq!(rt; done.report.bytes, done.out.bytes.len() as u64);
+    Ok(())
+}
+
+/// The change comes while the third frame is waited for: it is in force from that frame on.
+#[test]
+fn a_change_meets_the_frames_after_it(rt: HostRuntime) -> Result<(), Fail> {
+    const ASKED_THIRD: usize = 0;
+    const TOLD: usize = 1;
+    let alloc = rt.alloc();
+    let marks = fresh_marks(alloc)?;
+    let mut stages = Vec::new(alloc);
+    stages.push(plain(record_of(alloc, 16)?))?;
+    stages.push(plain(record_of(alloc, 32)?))?;
+    stages.push(Stage {
+        bytes: record_of(alloc, 48)?,
+        began: ASKED_THIRD,
+        needs: [TOLD, NONE],
+        gave: NONE,
+    })?;
+    let mut steps = Vec::new(alloc);
+    steps.push(Step {
+        change: Some(Change {
+            channel: 1,
+            program: program(alloc, ACCEPT)?,
+        }),
+        began: NONE,
+        needs: ASKED_THIRD,
+    })?;
+    let mut jobs = Vec::new(alloc);
+    let source = source(Arc::try_clone(&marks)?, stages);
+    jobs.push(job(alloc, 1, REJECT, source)?)?;
+    let control = fresh_script(alloc, Arc::try_clone(&marks)?, steps, TOLD);
+    let out = output(alloc, marks, usize::MAX);
+    if !jobs_ok(jobs.as_slice()) {
+        return Err("jobs that may be recorded")?;
+    }
+    let Ok(done) = record(&rt, alloc, jobs, 4, 8, control, out) else {
+        return Err("a recording that ends")?;
+    };
+    let (told, marks) = told_of(alloc, done.report.channels.as_slice(), 0)?;
+    assert_eq!(rt; told, (2, 3, 1, Ending::SourceEnd));
+    assert_eq!(rt; marks.as_slice(), [0, 2].as_slice());
+    let want = Answer::Installed {
+        version: 1,
+        mark: 2,
+    };
+    assert_eq!(rt;
+        done.control.told.first().map(|told| told.answer),
+        Some(want)
+    );
+    Ok(())
+}
+
+/// How a channel of these bytes ends that may have `max` frames.
+fn ending_of<R: Threads + Wait + Sync>(
+    rt: &R,
+    alloc: Global,
+    bytes: Vec<u8>,
+    max: u64,
+) -> Result<Option<Told4>, Fail> {
+    let marks = fresh_marks(alloc)?;
+    let mut stages = Vec::new(alloc);
+    stages.push(plain(bytes))?;
+    let mut one = job(alloc, 1, ACCEPT, source(Arc::try_clone(&marks)?, stages))?;
+    one.max = max;
+    let mut jobs = Vec::new(alloc);
+    jobs.push(one)?;
+    let control = fresh_script(alloc, Arc::try_clone(&marks)?, Vec::new(alloc), NONE);
+    let out = output(alloc, marks, usize::MAX);
+    if !jobs_ok(jobs.as_slice()) {
+        return Err("jobs that may be recorded")?;
+    }
+    match record(rt, alloc, jobs, 1, 8, control, out) {
+        Ok(done) => Ok(first_told(done.report.channels.as_slice())),
+        Err(_) => Err("a recording that ends")?,
+    }
+}
+
+/// Two frames, and then the beginning of another record.
+fn two_and(alloc: Global, rest: &str) -> Result<Vec<u8>, Fail> {
+    let mut bytes = record_of(alloc, 16)?;
+    bytes.extend_from_slice(record_of(alloc, 32)?.as_slice())?;
+    bytes.extend_from_slice(all_bytes(alloc, rest)?.as_slice())?;
+    Ok(bytes)
+}
+
+#[test]
+fn a_channel_ends_as_its_source_or_at_its_count(rt: HostRuntime) -> Result<(), Fail> {
+    let alloc = rt.alloc();
+    let cases = [
+        ("", 2, Ending::CountFull),
+        ("", 3, Ending::SourceEnd),
+        ("10", 9, Ending::SourceFault(SourceFault::Truncated)),
+        (
+            "100000000000 00 1100",
+            9,
+            Ending::SourceFault(SourceFault::Length),
+        ),
+        (
+            "100000000000 04 1200",
+            9,
+            Ending::SourceFault(SourceFault::Marks),
+        ),
+    ];
+    for (rest, max, ending) in cases {
+        let told = ending_of(&rt, alloc, two_and(alloc, rest)?, max)?;
+        assert_eq!(rt; told, Some((1, 2, 2, ending)));
+    }
+    let told = ending_of(&rt, alloc, two_and(alloc, "")?, 0)?;
+    assert_eq!(rt; told, Some((1, 0, 0, Ending::CountFull)));
+    Ok(())
+}
