@@ -1,17 +1,10 @@
 -- Where a channel ID stands among the numbers.
-use Rattle.std.proofs.Common.{ℕ, ◌≡◌, ◌≢◌, ◌<◌, ◌≤◌, List, [], ◌∷◌, length, map, Some, get_or, refl, sym, ◌∙◌, ap, arith}
-use Rattle.std.specs.Prelude.{slice_get, unwrap_or, Contains}
-use Rattle.std.specs.Option.{option_map}
-use Rattle.eth_frame.specs.Frame.{FrameData}
-use Rattle.ch11_packet.specs.Building.{first_counter}
-use Rattle.std.proofs.lemmas.List.{length-map}
-use Rattle.std.proofs.lemmas.Option.{slice_get-get_or, get_or_from_slice_get, slice_get_within}
+use Rattle.std.proofs.Common.{ℕ, ◌≡◌, ◌≢◌, ◌<◌, ◌≤◌, List, length, get_or, sym, ◌∙◌, ap, arith}
+use Rattle.std.specs.Prelude.{unwrap_or, Contains}
+use Rattle.std.proofs.lemmas.Option.{slice_get-get_or}
 use Rattle.std.proofs.Math.ListN.{get_or-map}
 use Rattle.rec_writer.specs.declared.numbers.Numbered.{Numbered}
 use Rattle.rec_writer.specs.Numbers.{channels_in}
-
-pub no_number : Numbered
-no_number = record { channel = 0; next = 0 }
 
 -- which value stands in for one past the end makes no difference within
 pub other_default : {X : Type 0} (xs : List X) (k : ℕ) (d e : X) → k < length xs → get_or xs k d ≡ get_or xs k e
@@ -22,11 +15,3 @@ channel_at numbers at = get_or-map (λ (n : Numbered). n.channel) numbers at (re
 
 pub not_contained : (channels : List ℕ) (channel at : ℕ) → length channels ≤ at → ((j : ℕ) → j < at → get_or channels j 0 ≢ channel) → ¬ Contains channels channel
 not_contained channels channel at past none found = none found.0 (let e = found.1 in omega (arith, e, past)) (other_default channels found.0 0 channel found.1 ∙ found.2)
-
-pub contained : {X : Type 0} (xs : List X) (at : ℕ) (x : X) → slice_get xs at ≡ Some x → Contains xs x
-contained xs at x is = (at, slice_get_within xs at x is, get_or_from_slice_get xs at x x is)
-
--- the counter of the first frame, where there is one
-pub first_is : (frames : List FrameData) (counter : ℕ) → option_map (λ (f : FrameData). f.counter) (slice_get frames 0) ≡ Some counter → first_counter frames ≡ counter
-first_is [] counter is = ap (λ o. unwrap_or o 0) is
-first_is (f ∷ fs) counter is = ap (λ o. unwrap_or o 0) is

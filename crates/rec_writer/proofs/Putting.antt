@@ -1,6 +1,6 @@
 -- What a writer stands for after a packet, and after a part of one.
-use Rattle.std.proofs.Common.{◌⊎◌, inl, inr, ℕ, zero, suc, ◌+◌, ◌≡◌, ◌≢◌, ◌<◌, ◌≤◌, List, [], ◌∷◌, ◌++◌, length, take, drop, map, All, Option, None, Some, get_or, refl, sym, ◌∙◌, ap, subst, arith, if◌then◌else◌}
-use Rattle.std.specs.Prelude.{slice_get, ◌-◌, replicate, slice_set, ◌%◌, ◌^◌, ◌==◌, min, count_by, Bool, true, false}
+use Rattle.std.proofs.Common.{inl, inr, Result, Ok, Err, OnOk, IfOk, IfErr, ℕ, zero, suc, ◌+◌, ◌≡◌, ◌≢◌, ◌<◌, List, [], ◌∷◌, ◌++◌, length, take, drop, map, All, Option, None, Some, get_or, refl, sym, ◌∙◌, ap, subst, arith, if◌then◌else◌}
+use Rattle.std.specs.Prelude.{slice_get, ◌-◌, slice_set, ◌%◌, ◌^◌, ◌==◌, min, count_by, Bool, true, false}
 use Rattle.std.specs.Io.KnownBytes.{Appends}
 use Rattle.std.proofs.KnownBytes.{Appends-trans}
 use Rattle.std.proofs.lemmas.List.{append_assoc, append-nil, length-append, length-map, length-set, length-drop, length-take-le, take-append-drop, get_or-set_other}
@@ -12,13 +12,11 @@ use Rattle.std.proofs.lemmas.Option.{slice_get_within, get_or_from_slice_get}
 use Rattle.rec_writer.proofs.Places.{channel_at, other_default}
 use Rattle.rec_lane.specs.Pieces.{PieceData}
 use Rattle.rec_writer.specs.declared.numbers.Numbered.{Numbered}
-use Rattle.rec_writer.specs.Encoding.{packet_of, packet_channel, packet_kind, packet_counter, has_channel, next_sequence, output_after, writer_output}
-use Rattle.rec_writer.specs.Numbers.{channels_in, AreNext, AreDistinct, with_packet, fresh_numbers}
+use Rattle.rec_writer.specs.Encoding.{packet_of, packet_channel, has_channel, next_sequence, output_after, writer_output}
+use Rattle.rec_writer.specs.Numbers.{channels_in, AreNext, AreDistinct, number_at, with_packet, fresh_numbers}
 use Rattle.std.proofs.lemmas.List.Elements.{All-map}
-use Rattle.rec_writer.specs.Writers.{WriterState, HasWritten, IsCut, IsWriter, HasParts}
-use Rattle.ch11_packet.specs.Header.{header_bytes, header_of}
-use Rattle.ch11_packet.specs.PacketLen.{packet_len}
-use Rattle.ch11_packet.specs.Packet.{packet_bytes, packet_filler}
+use Rattle.rec_writer.specs.declared.fault.WriteFault.{WriteFault}
+use Rattle.rec_writer.specs.Writers.{WriterState, HasWritten, IsCut, IsWriter, PutsWhole, PutFails, SendsWhole, SendsPart}
 
 -- the packet of a further piece goes behind the others
 pub output_more : (version : ℕ) (earlier pieces : List PieceData) (piece : PieceData)
@@ -30,10 +28,6 @@ output_more version earlier (p ∷ ps) piece =
     ∙ sym (append_assoc first (output_after version (earlier ++ p ∷ []) ps) (packet_of piece version (next_sequence (earlier ++ p ∷ ps) (packet_channel piece))))
 
 -- ---- the numbers
-
--- the number that stands at an index
-abbrev pub number_at : List Numbered → ℕ → Numbered
-number_at numbers at = get_or numbers at (record { channel = 0; next = 0 })
 
 counted_more : (pieces : List PieceData) (piece : PieceData) (channel : ℕ) → count_by (has_channel channel) (pieces ++ piece ∷ []) ≡ count_by (has_channel channel) pieces + (if packet_channel piece == channel then 1 else 0)
 counted_more pieces piece channel = sum_by-append (λ (p : PieceData). if has_channel channel p then 1 else 0) pieces (piece ∷ []) ∙ omega arith
@@ -94,6 +88,9 @@ same_channels numbers at =
     let number : Numbered = number_at numbers at in
     map-set_same (λ (n : Numbered). n.channel) numbers at (record { channel = number.channel; next = (number.next + 1) % 256 }) (record { channel = 0; next = 0 }) refl
 
+pub channels_after : (old new : List Numbered) (at : ℕ) → new ≡ with_packet old at → channels_in new ≡ channels_in old
+channels_after old new at counted = ap channels_in counted ∙ same_channels old at
+
 -- ---- a packet
 
 sequence_at : (pieces : List PieceData) (piece : PieceData) (numbers : List Numbered) (at : ℕ)
@@ -122,6 +119,21 @@ put_whole old new piece at distinct there version whole bytes numbers sent first
       subst (λ v. Appends first new.held (writer_output v (pieces ++ piece ∷ []) ++ [])) (sym version)
       (subst (λ bs. Appends first new.held bs) (sym all) (Appends-trans _ _ _ _ _ h.held_is sent));
   numbers_are = subst (λ ns. AreNext (pieces ++ piece ∷ []) ns) (sym numbers) (next_numbers pieces piece old.numbers at distinct there h.numbers_are);
+}
+
+pub puts_whole : (r : Result (Unit {0}) WriteFault) (old new : WriterState) (at channel : ℕ) (piece : PieceData)
+    → old.failed ≡ false → OnOk r (SendsWhole old new at piece)
+    → channel ≡ packet_channel piece → slice_get (channels_in old.numbers) at ≡ Some channel
+    → AreDistinct (channels_in old.numbers)
+    → IfOk r (λ _. PutsWhole old new piece)
+puts_whole (Err e) old new at channel piece worked sends channel_is there distinct = tt
+puts_whole (Ok x) old new at channel piece worked sends channel_is there distinct = record {
+  worked = worked;
+  works = ap (λ (w : WriterState). w.failed) sends.counted ∙ worked;
+  stands = λ first pieces h. put_whole old new piece at distinct (there ∙ ap (λ n. Some n) channel_is)
+      (ap (λ (w : WriterState). w.version) sends.counted) (ap (λ (w : WriterState). w.whole) sends.counted)
+      (ap (λ (w : WriterState). w.bytes) sends.counted) (ap (λ (w : WriterState). w.numbers) sends.counted)
+      sends.sent first pieces h;
 }
 
 -- ---- a part of one
@@ -155,9 +167,27 @@ put_part old new piece at n there version whole bytes numbers below sent first p
       },
     )
 
+pub puts_part : (r : Result (Unit {0}) WriteFault) (old new : WriterState) (at channel : ℕ) (piece : PieceData)
+    → old.failed ≡ false → IfErr r (SendsPart old new at piece)
+    → channel ≡ packet_channel piece → slice_get (channels_in old.numbers) at ≡ Some channel
+    → IfErr r (PutFails old new piece)
+puts_part (Ok x) old new at channel piece worked sends channel_is there = tt
+puts_part (Err e) old new at channel piece worked sends channel_is there =
+    subst (PutFails old new piece) (sym sends.fault_is) (
+      record {
+        worked = worked;
+        fails = ap (λ (w : WriterState). w.failed) sends.failed;
+        stands = λ first pieces h. put_part old new piece at new.bytes (there ∙ ap (λ n. Some n) channel_is)
+            (ap (λ (w : WriterState). w.version) sends.failed) (ap (λ (w : WriterState). w.whole) sends.failed) refl
+            (ap (λ (w : WriterState). w.numbers) sends.failed) sends.part sends.sent first pieces h;
+      },
+      refl,
+      refl,
+    )
+
 -- ---- a writer that has written nothing
 
-pub appends_none : (held : Option (List ℕ)) → Appends held held []
+appends_none : (held : Option (List ℕ)) → Appends held held []
 appends_none None = tt
 appends_none (Some bytes) = sym (append-nil bytes)
 
@@ -165,58 +195,46 @@ fresh_channels : (channels : List ℕ) → map (λ (n : Numbered). n.channel) (m
 fresh_channels [] = refl
 fresh_channels (c ∷ cs) = ap (λ xs. c ∷ xs) (fresh_channels cs)
 
-pub fresh_are : (channels : List ℕ) → channels_in (fresh_numbers channels) ≡ 0 ∷ channels
+fresh_are : (channels : List ℕ) → channels_in (fresh_numbers channels) ≡ 0 ∷ channels
 fresh_are channels = ap (λ xs. 0 ∷ xs) (fresh_channels channels)
 
-pub fresh_next : (channels : List ℕ) → AreNext [] (fresh_numbers channels)
+fresh_next : (channels : List ℕ) → AreNext [] (fresh_numbers channels)
 fresh_next channels = All-map (λ (n : Numbered). n.next ≡ next_sequence [] n.channel) (λ (channel : ℕ). record { channel = channel; next = 0 }) (0 ∷ channels) (λ k d within. refl)
 
-pub fresh_distinct : (channels : List ℕ) → All (λ (channel : ℕ). channel ≢ 0) channels → AreDistinct channels → AreDistinct (0 ∷ channels)
+fresh_distinct : (channels : List ℕ) → All (λ (channel : ℕ). channel ≢ 0) channels → AreDistinct channels → AreDistinct (0 ∷ channels)
 fresh_distinct channels named distinct zero (suc j) d before within = λ e. named j d (omega (arith, within)) (sym e)
 fresh_distinct channels named distinct (suc i) (suc j) d before within = distinct i j d (omega (arith, before)) (omega (arith, within))
 fresh_distinct channels named distinct zero zero d before within = absurd (omega (arith, before))
 fresh_distinct channels named distinct (suc i) zero d before within = absurd (omega (arith, before))
 
--- ---- what its fields hold
+pub new_channels : (numbers : List Numbered) (channels : List ℕ) → numbers ≡ fresh_numbers channels → channels_in numbers ≡ 0 ∷ channels
+new_channels numbers channels fresh = ap channels_in fresh ∙ fresh_are channels
 
-pub still_writer : (numbers : List Numbered) (at bytes : ℕ) (failed : Bool) → IsWriter numbers bytes failed → IsWriter (with_packet numbers at) bytes failed
-still_writer numbers at bytes failed w = record {
-  records = ap (λ cs. slice_get cs 0) (same_channels numbers at) ∙ w.records;
-  distinct = subst AreDistinct (sym (same_channels numbers at)) w.distinct;
-  none_cut = w.none_cut;
+pub new_writer : (numbers : List Numbered) (channels : List ℕ) → numbers ≡ fresh_numbers channels
+    → All (λ (channel : ℕ). channel ≢ 0) channels → AreDistinct channels → IsWriter numbers 0 false
+new_writer numbers channels fresh named distinct = record {
+  records = ap (λ cs. slice_get cs 0) (new_channels numbers channels fresh);
+  distinct = subst AreDistinct (sym (new_channels numbers channels fresh)) (fresh_distinct channels named distinct);
+  none_cut = λ _. refl;
 }
 
-pub zeros_taken : (k : ℕ) → k ≤ 3 → take {A = ℕ} k (0 ∷ 0 ∷ 0 ∷ []) ≡ replicate k 0
-zeros_taken zero few = refl
-zeros_taken (suc zero) few = refl
-zeros_taken (suc (suc zero)) few = refl
-zeros_taken (suc (suc (suc zero))) few = refl
-zeros_taken (suc (suc (suc (suc k)))) few = absurd (omega (arith, few))
+pub new_stands : (held : Option (List ℕ)) (writer : WriterState) (channels : List ℕ)
+    → writer.held ≡ held → writer.whole ≡ 0 → writer.bytes ≡ 0 → writer.numbers ≡ fresh_numbers channels
+    → HasWritten held [] [] writer
+new_stands held writer channels held_is whole bytes fresh = record {
+  whole_is = whole;
+  bytes_is = bytes;
+  held_is = subst (λ h. Appends held h []) (sym held_is) (appends_none held);
+  numbers_are = subst (λ ns. AreNext [] ns) (sym fresh) (fresh_next channels);
+}
 
--- the parts of a piece's packet, put together, are the packet
-pub parts_are : (piece : PieceData) (version sequence channel kind counter : ℕ) (body header filler : List ℕ)
-    → HasParts piece channel kind counter body
-    → header ≡ header_bytes (header_of channel (packet_len (length body)) (length body) version sequence 0 kind counter)
-    → filler ≡ packet_filler (length body)
-    → header ++ (body ++ filler) ≡ packet_of piece version sequence
-parts_are piece version sequence channel kind counter body header filler parts headed filled =
-    ap (λ h. h ++ (body ++ filler)) headed
-    ∙ (ap (λ f. header_bytes (header_of channel (packet_len (length body)) (length body) version sequence 0 kind counter) ++ (body ++ f)) filled
-    ∙ sym (
-    ap (λ b. packet_bytes (header_of (packet_channel piece) (packet_len (length b)) (length b) version sequence 0 (packet_kind piece) (packet_counter piece)) b) parts.body_is
-    ∙ (ap (λ n. packet_bytes (header_of n (packet_len (length body)) (length body) version sequence 0 (packet_kind piece) (packet_counter piece)) body) parts.channel_is
-    ∙ (ap (λ n. packet_bytes (header_of channel (packet_len (length body)) (length body) version sequence 0 n (packet_counter piece)) body) parts.kind_is
-    ∙ ap (λ n. packet_bytes (header_of channel (packet_len (length body)) (length body) version sequence 0 kind n) body) parts.counter_is))))
+-- ---- what its fields hold
 
--- the filler, out of three zero bytes
-pub filler_is : (data_len len : ℕ) → len ≡ packet_len data_len → take {A = ℕ} (len - 24 - data_len) (0 ∷ 0 ∷ 0 ∷ []) ≡ packet_filler data_len
-filler_is data_len len is =
-    let same : len - 24 - data_len ≡ packet_len data_len - (24 + data_len) = omega (arith, is) in
-    zeros_taken (len - 24 - data_len) (omega (arith, is)) ∙ ap (λ k. replicate k 0) same
-
-pub below_packet : (header body filler packet : List ℕ) (n : ℕ) → header ++ (body ++ filler) ≡ packet → n < length header + length body + length filler → n < length packet
-below_packet header body filler packet n same below =
-    let outer = length-append header (body ++ filler) in
-    let inner = length-append body filler in
-    let all = ap (λ (bs : List ℕ). length bs) same in
-    omega (arith, outer, inner, all, below)
+pub still_writer : (old new : List Numbered) (at bytes : ℕ) (failed : Bool) → new ≡ with_packet old at → IsWriter old bytes failed → IsWriter new bytes failed
+still_writer old new at bytes failed counted w =
+    let same = channels_after old new at counted in
+    record {
+      records = ap (λ cs. slice_get cs 0) same ∙ w.records;
+      distinct = subst AreDistinct (sym same) w.distinct;
+      none_cut = w.none_cut;
+    }

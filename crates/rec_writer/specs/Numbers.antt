@@ -1,5 +1,5 @@
 -- The sequence numbers of the packets to come, for each channel ID.
-use Rattle.std.specs.Prelude.{ℕ, ◌≡◌, ◌≢◌, ◌+◌, ◌%◌, List, [], ◌∷◌, map, get_or, slice_set, All, AllPairs}
+use Rattle.std.specs.Prelude.{ℕ, ◌≡◌, ◌≢◌, ◌+◌, ◌%◌, List, ◌∷◌, map, get_or, slice_set, All, AllPairs}
 use Rattle.rec_lane.specs.Pieces.{PieceData}
 use Rattle.rec_writer.specs.Encoding.{next_sequence}
 use Rattle.rec_writer.specs.declared.numbers.Numbered.{Numbered}
@@ -22,9 +22,13 @@ abbrev pub fresh_numbers : List ℕ → List Numbered
 fresh_numbers channels =
     map (λ (channel : ℕ). record { channel = channel; next = 0 }) (0 ∷ channels)
 
+-- the number that stands at an index
+abbrev pub number_at : List Numbered → ℕ → Numbered
+number_at numbers at = get_or numbers at (record { channel = 0; next = 0 })
+
 -- the numbers after a packet with the channel ID that stands there
 abbrev pub with_packet : List Numbered → ℕ → List Numbered
 with_packet numbers at =
-    let number = get_or numbers at (record { channel = 0; next = 0 }) in
+    let number = number_at numbers at in
     slice_set numbers at
     (record { channel = number.channel; next = (number.next + 1) % 256 })

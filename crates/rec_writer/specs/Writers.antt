@@ -1,9 +1,9 @@
 -- What a writer holds, and the pieces that it stands for.
-use Rattle.std.specs.Prelude.{ℕ, ◌≡◌, ◌≢◌, ◌+◌, ◌-◌, ◌^◌, ◌<◌, ◌≤◌, Bool, true, false, min, List, [], ◌∷◌, ◌++◌, length, Contains, Option, slice_get, Some}
+use Rattle.std.specs.Prelude.{ℕ, ◌≡◌, ◌≢◌, ◌+◌, ◌-◌, ◌^◌, ◌<◌, Bool, true, false, min, List, [], ◌∷◌, ◌++◌, length, Contains, Option, slice_get, Some, take}
 use Rattle.std.specs.Io.KnownBytes.{Appends}
 use Rattle.rec_lane.specs.Pieces.{PieceData}
-use Rattle.rec_writer.specs.Encoding.{writer_output, packet_of, packet_channel, packet_kind, packet_counter, piece_bytes, next_sequence}
-use Rattle.rec_writer.specs.Numbers.{AreNext, channels_in, AreDistinct}
+use Rattle.rec_writer.specs.Encoding.{writer_output, packet_of, packet_channel, next_sequence}
+use Rattle.rec_writer.specs.Numbers.{AreNext, channels_in, AreDistinct, number_at, with_packet}
 use Rattle.rec_writer.specs.declared.numbers.Numbered.{Numbered}
 use Rattle.rec_writer.specs.declared.fault.WriteFault.{WriteFault}
 use Rattle.rec_writer.specs.declared.fault.WriteFault.TheVariants.{Output, Failed}
@@ -73,12 +73,28 @@ FinishFails writer (Output whole bytes) =
 FinishFails writer (Failed whole bytes) =
     (writer.failed ≡ true) × (whole ≡ writer.whole) × (bytes ≡ writer.bytes)
 
--- the parts of a piece's packet
-pub record HasParts (piece : PieceData) (channel kind counter : ℕ) (body : List ℕ) : Type 0 where
-  pub channel_is : packet_channel piece ≡ channel
-  pub kind_is : packet_kind piece ≡ kind
-  pub counter_is : packet_counter piece ≡ counter
-  pub body_is : piece_bytes piece ≡ body
+-- ---- what a packet does to it
+
+-- the piece's packet with the sequence number that stands at an index
+abbrev pub packet_at : WriterState → (at : ℕ) → PieceData → List ℕ
+packet_at writer at piece = packet_of piece writer.version (number_at writer.numbers at).next
+
+-- the packet went out whole, and is counted
+pub record SendsWhole (old new : WriterState) (at : ℕ) (piece : PieceData) : Type 0 where
+  pub counted : new ≡ record old {
+    held = new.held;
+    numbers = with_packet old.numbers at;
+    whole = min (old.whole + 1) (2 ^ 64 - 1);
+  }
+  pub sent : Appends old.held new.held (packet_at old at piece)
+
+-- the output failed, and only a part of the packet went out
+pub record SendsPart (old new : WriterState) (at : ℕ) (piece : PieceData) (fault : WriteFault)
+    : Type 0 where
+  pub failed : new ≡ record old { held = new.held; bytes = new.bytes; failed = true }
+  pub part : new.bytes < length (packet_at old at piece)
+  pub sent : Appends old.held new.held (take new.bytes (packet_at old at piece))
+  pub fault_is : fault ≡ Output new.whole new.bytes
 
 -- ---- what its fields hold
 

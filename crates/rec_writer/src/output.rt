@@ -2,12 +2,35 @@
 
 ghost use Rattle.std.specs.Prelude.{◌≡◌, ◌+◌, ◌≤◌, ◌<◌, ◌^◌, ◌++◌, length, take, OnOk, IfErr, MatchResult};
 ghost use Rattle.std.specs.Io.KnownBytes.{Appends};
+ghost use Rattle.ch11_packet.specs.declared.header.TheConstants.{MAX_ETHERNET_PACKET_LEN};
+ghost use Rattle.ch11_packet.specs.PacketLen.{packet_len};
+ghost use Rattle.ch11_packet.specs.Packet.{packet_filler};
 
+use ch11_packet::{HEADER_LEN, packet_len};
 use std::io::Write;
 
-/// Writes the parts of a packet one after the other: its header, its body and its filler. At `Err`
-/// it tells how many bytes went out.
+/// Writes a packet: its header, its body and its filler. At `Err` it tells how many bytes went out.
+#[tactic(auto, using(crate::proofs::Sending::filler_is))]
 pub(crate) fn write_packet<W: Write>(
+    out: &mut W,
+    header: &[u8; HEADER_LEN],
+    body: &[u8],
+) -> Result<(), usize>
+    requires { packet_len (length body.now) ≤ MAX_ETHERNET_PACKET_LEN }
+    ensures whole { OnOk result (Appends (W.contents out.old) (W.contents out.new)
+        (header.now ++ (body.now ++ packet_filler (length body.now)))) }
+    ensures part { IfErr result (λ n.
+        (n < length (header.now ++ (body.now ++ packet_filler (length body.now))))
+        × Appends (W.contents out.old) (W.contents out.new)
+        (take n (header.now ++ (body.now ++ packet_filler (length body.now))))) }
+{
+    let filler_len = packet_len(body.len()) - HEADER_LEN - body.len();
+    write_parts(out, header, body, &[0; 3][..filler_len])
+}
+
+/// Writes the parts of a packet one after the other. At `Err` it tells how many bytes went out.
+#[tactic(auto, using(crate::proofs::Sending::second_part, crate::proofs::Sending::third_part))]
+fn write_parts<W: Write>(
     out: &mut W,
     header: &[u8],
     body: &[u8],
@@ -35,6 +58,7 @@ pub(crate) fn write_packet<W: Write>(
 }
 
 /// Writes bytes until all went out or the output failed. At `Err` it tells how many went out.
+#[tactic(auto, using(crate::proofs::Sending::more_taken))]
 fn write_bytes<W: Write>(out: &mut W, bytes: &[u8]) -> Result<(), usize>
     ensures whole { OnOk result (Appends (W.contents out.old) (W.contents out.new) bytes.now) }
     ensures part { IfErr result (λ n. (n < length bytes.now)

@@ -1,11 +1,23 @@
-//! How long the packet of a piece is.
+//! The packet of a piece: its channel ID, its header, and how long it is.
 
-ghost use Rattle.std.specs.Prelude.{ℕ, ◌≡◌, length};
+ghost use Rattle.std.specs.Prelude.{ℕ, ◌≡◌, ◌<◌, ◌≤◌, ◌^◌, length};
+ghost use Rattle.ch11_packet.specs.Header.{header_bytes};
+ghost use Rattle.ch11_packet.specs.PacketLen.{packet_len};
+ghost use Rattle.ch11_packet.specs.declared.header.TheConstants.{MAX_ETHERNET_PACKET_LEN};
 ghost use Rattle.rec_lane.specs.Views.{piece_data};
-ghost use Rattle.rec_writer.specs.Encoding.{packet_of};
+ghost use Rattle.rec_writer.specs.Encoding.{packet_of, packet_channel, packet_kind, packet_counter, piece_bytes, piece_header};
 
-use ch11_packet::{END_RECORD_LEN, INSN_LEN, PROGRAM_HEAD_LEN, packets_have_their_lengths};
+use ch11_packet::{
+    COMPUTER_GENERATED_DATA, END_RECORD_LEN, ETHERNET_DATA, HEADER_LEN, Header, INSN_LEN,
+    PROGRAM_HEAD_LEN, packets_have_their_lengths,
+};
 use rec_lane::Piece;
+
+/// The channel ID of the packets of records.
+pub(crate) const RECORDS: u16 = 0;
+
+/// The packet's flags: no secondary header, no data checksum.
+const FLAGS: u8 = 0;
 
 /// The length of a piece's packet in bytes, with its header and its filler.
 pub fn packet_len(piece: &Piece) -> u32
@@ -13,10 +25,72 @@ pub fn packet_len(piece: &Piece) -> u32
         → length (packet_of (piece_data piece.now) version sequence) ≡ result }
 {
     packets_have_their_lengths();
-    let data_len = match piece {
+    ch11_packet::packet_len(data_len(piece)) as u32
+}
+
+/// The length of a piece's body in bytes.
+fn data_len(piece: &Piece) -> usize
+    ensures len { result ≡ length (piece_bytes (piece_data piece.now)) }
+    ensures fits { packet_len result ≤ MAX_ETHERNET_PACKET_LEN }
+{
+    packets_have_their_lengths();
+    match piece {
         Piece::Program(program) => PROGRAM_HEAD_LEN + INSN_LEN * program.program.len(),
         Piece::Data(data) => data.body.bytes().len(),
         Piece::End(_) => END_RECORD_LEN,
-    };
-    ch11_packet::packet_len(data_len) as u32
+    }
+}
+
+/// The header's bytes of a piece's packet.
+pub(crate) fn packet_header(piece: &Piece, version: u8, sequence: u8) -> [u8; HEADER_LEN]
+    ensures bytes { result ≡ header_bytes (piece_header (piece_data piece.now) version sequence) }
+    ensures fits { packet_len (length (piece_bytes (piece_data piece.now)))
+        ≤ MAX_ETHERNET_PACKET_LEN }
+{
+    let data_len = data_len(piece);
+    match Header::new(
+        packet_channel(piece),
+        ch11_packet::packet_len(data_len) as u32,
+        data_len as u32,
+        version,
+        sequence,
+        FLAGS,
+        packet_kind(piece),
+        packet_counter(piece),
+    ) {
+        Some(header) => header.encode(),
+        None => unreachable!(),
+    }
+}
+
+/// The channel ID of a piece's packet.
+pub(crate) fn packet_channel(piece: &Piece) -> u16
+    ensures { result ≡ packet_channel (piece_data piece.now) }
+{
+    match piece {
+        Piece::Data(data) => data.channel,
+        Piece::Program(_) | Piece::End(_) => RECORDS,
+    }
+}
+
+/// The data type of a piece's packet.
+fn packet_kind(piece: &Piece) -> u8
+    ensures { result ≡ packet_kind (piece_data piece.now) }
+{
+    match piece {
+        Piece::Data(_) => ETHERNET_DATA,
+        Piece::Program(_) | Piece::End(_) => COMPUTER_GENERATED_DATA,
+    }
+}
+
+/// The relative time counter of a piece's packet.
+fn packet_counter(piece: &Piece) -> u64
+    ensures counter { result ≡ packet_counter (piece_data piece.now) }
+    ensures fits { result < 2 ^ 48 }
+{
+    match piece {
+        Piece::Program(program) => program.counter,
+        Piece::Data(data) => data.body.counter(),
+        Piece::End(end) => end.counter,
+    }
 }

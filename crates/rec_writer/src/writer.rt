@@ -2,18 +2,14 @@
 
 ghost use Rattle.std.specs.Prelude.{ℕ, ◌≡◌, ◌≢◌, ◌+◌, ◌^◌, ◌<◌, ◌≤◌, ◌∷◌, ◌++◌, false, true, List, [], length, map, IsTrue, ◌↔◌, IfOk, IfErr, IfSome, IfNone, OnOk, OnErr, All, Contains, Some, slice_get};
 ghost use Rattle.std.specs.Io.KnownBytes.{Keeps};
-ghost use Rattle.ch11_packet.specs.PacketLen.{packet_len};
-ghost use Rattle.ch11_packet.specs.declared.header.TheConstants.{MAX_ETHERNET_PACKET_LEN};
-ghost use Rattle.ch11_packet.specs.Header.{header_bytes, header_of};
 ghost use Rattle.rec_writer.specs.Numbers.{channels_in, fresh_numbers, with_packet};
 
 use crate::fault::WriteFault;
 use crate::numbers::Numbered;
 use crate::output::write_packet;
+use crate::packet::{RECORDS, packet_channel, packet_header};
 use arrayvec::ArrayVec;
-use ch11_packet::{
-    COMPUTER_GENERATED_DATA, ETHERNET_DATA, HEADER_LEN, Header, end_body, packet_len, program_body,
-};
+use ch11_packet::{end_body, program_body};
 use rec_lane::Piece;
 use std::io::Write;
 use std::marker::Model;
@@ -23,12 +19,6 @@ pub const MAX_CHANNELS: usize = 64;
 
 /// How many channel IDs their packets may have: those of the channels, and that of records.
 const MAX_NUMBERS: usize = MAX_CHANNELS + 1;
-
-/// The channel ID of the packets of records.
-const RECORDS: u16 = 0;
-
-/// The packet's flags: no secondary header, no data checksum.
-const FLAGS: u8 = 0;
 
 /// Writes pieces to an output, each as one packet, which has gone out when the call returns. It
 /// takes no memory, and writes nothing after the output has failed.
@@ -62,11 +52,13 @@ impl<W: Write> Model for Writer<W> {
 impl<W: Write> Writer<W> {
     ghost use Rattle.rec_lane.specs.Views.{piece_data};
     ghost use Rattle.rec_lane.specs.Pieces.{PieceData, channel_of};
+    ghost use Rattle.rec_writer.specs.Encoding.{piece_bytes};
     ghost use Rattle.rec_writer.specs.Numbers.{AreDistinct};
-    ghost use Rattle.rec_writer.specs.Writers.{Knows, HasWritten, HasParts, PutsWhole, PutFails, FinishFails};
+    ghost use Rattle.rec_writer.specs.Writers.{Knows, HasWritten, PutsWhole, PutFails, SendsWhole, SendsPart, FinishFails};
 
     /// A writer that has written nothing, of 1 to [`MAX_CHANNELS`] channels. Its packets have this
     /// data type version.
+    #[tactic(auto, using(crate::proofs::Putting::new_channels, crate::proofs::Putting::new_writer, crate::proofs::Putting::new_stands))]
     pub fn new(out: W, channels: &[u16], version: u8) -> Writer<W>
         requires some { 0 < length channels.now }
         requires few { length channels.now ≤ MAX_CHANNELS }
@@ -143,22 +135,12 @@ impl<W: Write> Writer<W> {
                     program.first,
                     &program.program,
                 );
-                self.put_body(
-                    RECORDS,
-                    COMPUTER_GENERATED_DATA,
-                    program.counter,
-                    body.as_slice(),
-                )
+                self.put_body(piece, body.as_slice())
             }
-            Piece::Data(data) => self.put_body(
-                data.channel,
-                ETHERNET_DATA,
-                data.body.counter(),
-                data.body.bytes(),
-            ),
+            Piece::Data(data) => self.put_body(piece, data.body.bytes()),
             Piece::End(end) => {
                 let body = end_body(end.channel, end.offered, end.kept);
-                self.put_body(RECORDS, COMPUTER_GENERATED_DATA, end.counter, &body)
+                self.put_body(piece, &body)
             }
         }
     }
@@ -189,21 +171,13 @@ impl<W: Write> Writer<W> {
         }
     }
 
-    /// Writes a packet with this channel ID, data type, counter and body.
-    fn put_body(
-        &mut self,
-        channel: u16,
-        kind: u8,
-        counter: u64,
-        body: &[u8],
-    ) -> Result<(), WriteFault>
-        requires channel { channel ≢ 0 → Contains (channels_in self.old.numbers) channel }
-        requires counter { counter < 2 ^ 48 }
-        requires fits { packet_len (length body.now) ≤ MAX_ETHERNET_PACKET_LEN }
-        ensures whole { IfOk result (λ _. (piece : PieceData)
-            → HasParts piece channel kind counter body.now → PutsWhole self.old self.new piece) }
-        ensures fault { IfErr result (λ e. (piece : PieceData)
-            → HasParts piece channel kind counter body.now → PutFails self.old self.new piece e) }
+    /// Writes the packet of a piece with this body.
+    #[tactic(auto, using(crate::proofs::Putting::puts_whole, crate::proofs::Putting::puts_part))]
+    fn put_body(&mut self, piece: &Piece, body: &[u8]) -> Result<(), WriteFault>
+        requires known { Knows self.old (channel_of (piece_data piece.now)) }
+        requires body { body.now ≡ piece_bytes (piece_data piece.now) }
+        ensures whole { IfOk result (λ _. PutsWhole self.old self.new (piece_data piece.now)) }
+        ensures fault { IfErr result (PutFails self.old self.new (piece_data piece.now)) }
         ensures version { self.new.version ≡ self.old.version }
         ensures channels { channels_in self.new.numbers ≡ channels_in self.old.numbers }
     {
@@ -213,13 +187,36 @@ impl<W: Write> Writer<W> {
                 bytes: self.bytes,
             });
         }
+        let at = self.number_of(packet_channel(piece));
+        self.send(at, piece, body)
+    }
+
+    /// Where the number of a channel ID stands: that of records, or of a channel that the writer
+    /// has.
+    fn number_of(&self, channel: u16) -> usize
+        requires { channel ≢ 0 → Contains (channels_in self.now.numbers) channel }
+        ensures there { slice_get (channels_in self.now.numbers) result ≡ Some channel }
+        ensures within { result < length self.now.numbers }
+        ensures distinct { AreDistinct (channels_in self.now.numbers) }
+    {
         let Some(at) = position_of(self.numbers.as_slice(), channel) else {
             unreachable!()
         };
-        let sequence = self.numbers[at].next;
-        let header = packet_header(channel, self.version, sequence, kind, counter, body);
-        let filler = &[0; 3][..packet_len(body.len()) - HEADER_LEN - body.len()];
-        match write_packet(&mut self.out, &header, body, filler) {
+        at
+    }
+
+    /// Writes the packet of a piece with this body, whose number stands there, as the output works.
+    #[tactic(auto, using(crate::proofs::Putting::still_writer, crate::proofs::Putting::channels_after))]
+    fn send(&mut self, at: usize, piece: &Piece, body: &[u8]) -> Result<(), WriteFault>
+        requires works { self.old.failed ≡ false }
+        requires within { at < length self.old.numbers }
+        requires body { body.now ≡ piece_bytes (piece_data piece.now) }
+        ensures whole { OnOk result (SendsWhole self.old self.new at (piece_data piece.now)) }
+        ensures part { IfErr result (SendsPart self.old self.new at (piece_data piece.now)) }
+        ensures channels { channels_in self.new.numbers ≡ channels_in self.old.numbers }
+    {
+        let header = packet_header(piece, self.version, self.numbers[at].next);
+        match write_packet(&mut self.out, &header, body) {
             Ok(()) => {
                 count_packet(&mut self.numbers, at);
                 self.whole = self.whole.saturating_add(1);
@@ -234,37 +231,6 @@ impl<W: Write> Writer<W> {
                 })
             }
         }
-    }
-}
-
-/// The header's bytes of a packet with this body.
-fn packet_header(
-    channel: u16,
-    version: u8,
-    sequence: u8,
-    kind: u8,
-    counter: u64,
-    body: &[u8],
-) -> [u8; HEADER_LEN]
-    requires counter { counter < 2 ^ 48 }
-    requires fits { packet_len (length body.now) ≤ MAX_ETHERNET_PACKET_LEN }
-    ensures { result ≡ header_bytes (header_of channel (packet_len (length body.now))
-        (length body.now) version sequence 0 kind counter) }
-{
-    let data_len = body.len();
-    let len = packet_len(data_len) as u32;
-    match Header::new(
-        channel,
-        len,
-        data_len as u32,
-        version,
-        sequence,
-        FLAGS,
-        kind,
-        counter,
-    ) {
-        Some(header) => header.encode(),
-        None => unreachable!(),
     }
 }
 

@@ -1,4 +1,4 @@
-use Rattle.std.proofs.Common.{◌≡◌, ◌≢◌, ◌<◌, ℕ, length, get_or, arith, below_more, sym, ◌∙◌}
+use Rattle.std.proofs.Common.{◌≢◌, get_or, arith, below_more, sym, ◌∙◌}
 use Rattle.std.proofs.lemmas.List.{length-map}
 use Rattle.rec_writer.specs.declared.numbers.Numbered.{Numbered}
 use Rattle.rec_writer.specs.Numbers.{channels_in}
