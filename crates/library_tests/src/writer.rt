@@ -1,6 +1,9 @@
 //! Tests, and the pieces and outputs that they share.
+ghost use Rattle.std.specs.Prelude.{ℕ, ◌≢◌, All};
+ghost use Rattle.rec_writer.specs.Numbers.{AreDistinct};
+
 use crate::shared::{all_bytes, program};
-use ch11_packet::{DataBody, DataBuilder, Limit};
+use ch11_packet::{DataBody, DataBuilder, HEADER_LEN, Header, Limit};
 use eth_frame::Frame;
 use rec_lane::{DataPiece, EndPiece, Piece, ProgramPiece};
 use rec_writer::*;
@@ -263,6 +266,56 @@ fn a_writer_knows_its_channels(rt: HostRuntime) -> Result<(), Fail> {
     }
     for other in [0, 2, 6, 8, 301, 65_534] {
         assert!(rt; !writer.knows(other));
+    }
+    Ok(())
+}
+
+/// 64 channels: 1, 1,041 and so on up to 65,521.
+fn many_channels() -> [u16; MAX_CHANNELS]
+    ensures named { All (λ (channel : ℕ). channel ≢ 0) result }
+    ensures distinct { AreDistinct result }
+{
+    let mut channels = [0; MAX_CHANNELS];
+    'channels: for at in 0..MAX_CHANNELS {
+        channels[at] = at as u16 * 1_040 + 1;
+    }
+    channels
+}
+
+/// Puts a piece; the channel ID and the sequence number of its packet.
+fn number_of(writer: &mut Writer<Vec<u8>>, piece: &Piece) -> Result<(u16, u8), Fail> {
+    let at = writer.out().len();
+    put(writer, piece)??;
+    let packet = writer.out().get(at..).ok_or("what the piece is written as")?;
+    let header = packet.first_chunk::<HEADER_LEN>().ok_or("a header")?;
+    let header = Header::decode(header)?;
+    Ok((header.channel, header.sequence))
+}
+
+#[test]
+fn records_of_64_channels_have_one_sequence(rt: HostRuntime) -> Result<(), Fail> {
+    let channels = many_channels();
+    let mut writer = Writer::new(Vec::new(rt.alloc()), &channels, 8);
+    let mut records = 0u8;
+    for round in 0..4 {
+        for channel in channels {
+            if channel == 0 {
+                return Err("a channel ID")?;
+            }
+            let end = Piece::End(EndPiece {
+                channel,
+                counter: 16,
+                offered: 1,
+                kept: 1,
+            });
+            let data = Piece::Data(DataPiece {
+                channel,
+                body: body(rt.alloc(), 16)?,
+            });
+            let numbers = [number_of(&mut writer, &end)?, number_of(&mut writer, &data)?];
+            assert_eq!(rt; numbers, [(0, records), (channel, round)]);
+            records = records.wrapping_add(1);
+        }
     }
     Ok(())
 }

@@ -1,13 +1,15 @@
--- What is in a channel's pieces: its accepted frames, and groups of one version each.
-use Rattle.std.proofs.Common.{◌≡◌, Bool, List, [], ◌∷◌, ◌++◌, refl, sym, ◌∙◌, ap, map}
+-- What is in a channel's pieces: its accepted frames; and that each is of the channel.
+use Rattle.std.proofs.Common.{ℕ, ◌≡◌, Bool, List, [], ◌∷◌, ◌++◌, refl, sym, ◌∙◌, ap, map}
 use Rattle.std.specs.List.{flat_map}
+use Rattle.std.specs.Prelude.{All}
 use Rattle.std.proofs.lemmas.List.{append-nil}
+use Rattle.std.proofs.lemmas.List.Elements.{All-nil, All-cons, All-append}
 use Rattle.std.proofs.lemmas.Grind.{flat_map-append}
 use Rattle.eth_frame.specs.Frame.{FrameData}
 use Rattle.rec_lane.specs.Offered.{OfferedFrame, accepted}
 use Rattle.rec_lane.specs.Parts.{ended_parts, last_part, as_part, parts}
 use Rattle.rec_lane.specs.Packets.{has_room, packets}
-use Rattle.rec_lane.specs.Pieces.{LaneSettings, has_version, groups, program_piece, data_piece, end_piece, group_pieces, channel_pieces, frames_in}
+use Rattle.rec_lane.specs.Pieces.{LaneSettings, PieceData, channel_of, has_version, groups, program_piece, data_piece, end_piece, group_pieces, channel_pieces, frames_in}
 use Rattle.rec_lane.proofs.Parted.{whole_from}
 use Rattle.rec_lane.proofs.Offering.{accepted_more}
 
@@ -49,3 +51,29 @@ pieces_frames s offered =
     flat_map-append frames_in (flat_map (group_pieces s) (groups offered)) (end_piece s offered ∷ [])
     ∙ (append-nil (flat_map frames_in (flat_map (group_pieces s) (groups offered)))
     ∙ (groups_frames s (groups offered) ∙ ap accepted (parts_whole has_version offered)))
+
+-- ---- the channel that they are of
+
+abbrev IsOf : ℕ → PieceData → Type 0
+IsOf channel piece = channel_of piece ≡ channel
+
+program_of : (s : LaneSettings) (group : List OfferedFrame) → All (IsOf s.channel) (program_piece s group)
+program_of s [] = All-nil (IsOf s.channel)
+program_of s (g ∷ gs) = All-cons (IsOf s.channel) _ [] refl (All-nil (IsOf s.channel))
+
+packets_of : (s : LaneSettings) (ps : List (List FrameData)) → All (IsOf s.channel) (map (data_piece s) ps)
+packets_of s [] = All-nil (IsOf s.channel)
+packets_of s (p ∷ ps) = All-cons (IsOf s.channel) (data_piece s p) (map (data_piece s) ps) refl (packets_of s ps)
+
+groups_of : (s : LaneSettings) (gs : List (List OfferedFrame)) → All (IsOf s.channel) (flat_map (group_pieces s) gs)
+groups_of s [] = All-nil (IsOf s.channel)
+groups_of s (g ∷ gs) =
+    All-append (IsOf s.channel) (group_pieces s g) (flat_map (group_pieces s) gs)
+    (All-append (IsOf s.channel) (program_piece s g) (map (data_piece s) (packets s.limit (accepted g))) (program_of s g) (packets_of s (packets s.limit (accepted g))))
+    (groups_of s gs)
+
+pub pieces_of : (s : LaneSettings) (offered : List OfferedFrame) → All (IsOf s.channel) (channel_pieces s offered)
+pieces_of s offered =
+    All-append (IsOf s.channel) (flat_map (group_pieces s) (groups offered)) (end_piece s offered ∷ [])
+    (groups_of s (groups offered))
+    (All-cons (IsOf s.channel) (end_piece s offered) [] refl (All-nil (IsOf s.channel)))

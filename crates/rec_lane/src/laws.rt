@@ -10,7 +10,7 @@ ghost use Rattle.rec_channel.specs.History.{Version, IsHistory};
 ghost use Rattle.rec_lane.specs.Offered.{OfferedFrame, AllMet, AreAccepted, frames_of, accepted};
 ghost use Rattle.rec_lane.specs.Parts.{Begins};
 ghost use Rattle.rec_lane.specs.Packets.{packets, AreLongestFronts};
-ghost use Rattle.rec_lane.specs.Pieces.{LaneSettings, PieceData, groups, AreGroups, frames_in, pieces_so_far, channel_pieces, ArePiecesSoFar};
+ghost use Rattle.rec_lane.specs.Pieces.{LaneSettings, PieceData, channel_of, groups, AreGroups, frames_in, pieces_so_far, channel_pieces, ArePiecesSoFar};
 ghost use Rattle.rec_lane.specs.Lanes.{MarkedFrom, AreCertain, OffersTakeFrames, EndsAreEnds};
 
 use bpf_machine::{a_valid_program_returns, runs_once};
@@ -86,6 +86,13 @@ pub fn pieces_so_far_begin_all_pieces()
 pub fn pieces_hold_the_accepted_frames()
     ensures { (settings : LaneSettings) (offered : List OfferedFrame)
         → flat_map frames_in (channel_pieces settings offered) ≡ accepted offered }
+{}
+
+/// Law: each piece of a channel is of this channel.
+pub fn pieces_are_of_their_channel()
+    ensures { (settings : LaneSettings) (offered : List OfferedFrame)
+        → All (λ (piece : PieceData). channel_of piece ≡ settings.channel)
+        (channel_pieces settings offered) }
 {}
 
 /// Law: what a lane says of the frames that it has met, it says of frames and a history.

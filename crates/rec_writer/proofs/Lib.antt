@@ -1,3 +1,4 @@
 pub mod Places
 pub mod Putting
+pub mod Recordings
 pub mod Sending

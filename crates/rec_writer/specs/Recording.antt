@@ -29,3 +29,10 @@ abbrev pub IsRecording : (version : ℕ) → List RecordedChannel → List ℕ �
 IsRecording version channels bytes =
     (pieces : List PieceData)
     × (bytes ≡ writer_output version pieces) × AreOfChannels channels pieces
+
+-- the bytes are what is written of all pieces of this channel alone
+abbrev pub IsOutputOf : (version : ℕ) → RecordedChannel → List ℕ → Type 0
+IsOutputOf version channel bytes =
+    (pieces : List PieceData)
+    × ArePieces channel.settings channel.frames channel.history pieces
+    × (bytes ≡ writer_output version pieces)

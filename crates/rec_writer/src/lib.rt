@@ -3,11 +3,16 @@
 #![tactic(auto)]
 
 mod fault;
+mod laws;
 mod numbers;
 mod output;
 mod packet;
 mod writer;
 
 pub use fault::WriteFault;
+pub use laws::{
+    a_channel_of_no_frames_is_recorded_as_its_end, a_recording_of_one_channel_is_of_its_pieces,
+    what_a_writer_put_is_a_recording,
+};
 pub use packet::packet_len;
 pub use writer::{MAX_CHANNELS, Writer};

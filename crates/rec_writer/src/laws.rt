@@ -1,0 +1,39 @@
+//! Laws of what is written, which run nothing.
+
+ghost use Rattle.std.specs.Prelude.{ℕ, ◌≡◌, ◌↔◌, List, [], ◌∷◌, Some};
+ghost use Rattle.rec_channel.specs.History.{Version};
+ghost use Rattle.rec_lane.specs.Pieces.{LaneSettings, PieceData, ArePieces};
+ghost use Rattle.rec_lane.specs.Pieces.PieceData.{OfEnd};
+ghost use Rattle.rec_writer.specs.Encoding.{packet_of, writer_output};
+ghost use Rattle.rec_writer.specs.Recording.{RecordedChannel, AreOfChannels, IsRecording, IsOutputOf};
+ghost use Rattle.rec_writer.specs.Writers.{WriterState, HasWritten};
+
+use rec_lane::pieces_are_of_their_channel;
+
+/// Law: what a writer put, since its output held nothing, is a recording of the channels whose
+/// pieces it put.
+pub fn what_a_writer_put_is_a_recording()
+    ensures { (writer : WriterState) (channels : List RecordedChannel) (pieces : List PieceData)
+        (bytes : List ℕ) → HasWritten (Some []) pieces [] writer → writer.held ≡ Some bytes
+        → AreOfChannels channels pieces → IsRecording writer.version channels bytes }
+{}
+
+/// Law: a recording of one channel is what is written of its pieces, and nothing else.
+pub fn a_recording_of_one_channel_is_of_its_pieces()
+    ensures recording { (version : ℕ) (channel : RecordedChannel) (bytes : List ℕ)
+        → IsOutputOf version channel bytes → IsRecording version (channel ∷ []) bytes }
+    ensures nothing_else { (version : ℕ) (channel : RecordedChannel) (bytes : List ℕ)
+        → IsRecording version (channel ∷ []) bytes → IsOutputOf version channel bytes }
+{
+    pieces_are_of_their_channel();
+}
+
+/// Law: the recording of a channel to which no frame was offered is the packet of its end.
+pub fn a_channel_of_no_frames_is_recorded_as_its_end()
+    ensures { (version : ℕ) (settings : LaneSettings) (history : List Version) (bytes : List ℕ)
+        → IsRecording version
+        (record { settings = settings; frames = []; history = history } ∷ []) bytes
+        ↔ (bytes ≡ packet_of (OfEnd settings.channel 0 0 0) version 0) }
+{
+    pieces_are_of_their_channel();
+}
