@@ -286,7 +286,10 @@ fn many_channels() -> [u16; MAX_CHANNELS]
 fn number_of(writer: &mut Writer<Vec<u8>>, piece: &Piece) -> Result<(u16, u8), Fail> {
     let at = writer.out().len();
     put(writer, piece)??;
-    let packet = writer.out().get(at..).ok_or("what the piece is written as")?;
+    let packet = writer
+        .out()
+        .get(at..)
+        .ok_or("what the piece is written as")?;
     let header = packet.first_chunk::<HEADER_LEN>().ok_or("a header")?;
     let header = Header::decode(header)?;
     Ok((header.channel, header.sequence))
@@ -312,7 +315,10 @@ fn records_of_64_channels_have_one_sequence(rt: HostRuntime) -> Result<(), Fail>
                 channel,
                 body: body(rt.alloc(), 16)?,
             });
-            let numbers = [number_of(&mut writer, &end)?, number_of(&mut writer, &data)?];
+            let numbers = [
+                number_of(&mut writer, &end)?,
+                number_of(&mut writer, &data)?,
+            ];
             assert_eq!(rt; numbers, [(0, records), (channel, round)]);
             records = records.wrapping_add(1);
         }
