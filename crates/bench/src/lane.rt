@@ -90,7 +90,11 @@ fn offer_all(rt: &HostRuntime, listing: &str, frame: &Frame<'_>, frames: u64) ->
         if drawn.number != lane.offered() {
             bail!("a frame of another number");
         }
-        for piece in lane.offer(frame, drawn).pieces {
+        let offered = lane.offer(frame, drawn);
+        if offered.pieces.is_empty() {
+            continue;
+        }
+        for piece in offered.pieces {
             if let Piece::Data(data) = piece {
                 lane.give(data.body.reuse());
             }

@@ -16,6 +16,9 @@ use Rattle.rec_lane.specs.Pieces.PieceData.{OfProgram}
 use Rattle.rec_lane.specs.Lanes.{LaneState, HasMet, VersionProgram, version_of, is_current, running, offered_now}
 use Rattle.rec_lane.specs.Steps.{packet_closed, closed_pieces, frame_added, frame_kept, kept_pieces, frame_judged, judged_pieces, frame_counted, frame_of_new_version, begun_pieces, begun_piece, RunsAs, is_none}
 use Rattle.bpf_machine.specs.Machine.{Runs}
+use Rattle.std.specs.Arc.{arc_value}
+use Rattle.rec_lane.specs.declared.version.Current.{Current}
+use Rattle.rec_lane.specs.Currents.{current_of}
 use Rattle.rec_lane.proofs.Parted.{ended_on, last_on, ended_off, last_off}
 
 -- ---- lists of offered frames
@@ -332,3 +335,15 @@ next_ready old f value ready = elim (cases_Bool (value == 0)) as (λ _. (frame_j
     | inr none ↦ rw none (closed_ready old ready)
   ])
 ]
+
+-- ---- a run
+
+-- a run of the version's program on the bytes of a view
+pub runs_as : (current : Option Current) (c : Current) (program : List Insn) (bytes seen : List ℕ) (steps value : ℕ)
+    → current ≡ Some c → program ≡ arc_value c.program → bytes ≡ seen → Runs program bytes steps value
+    → RunsAs (current_of current) seen value
+runs_as current c program bytes seen steps value is program_is seen_is ran =
+    subst (λ (o : Option Current). RunsAs (current_of o) seen value) (sym is) (
+      steps,
+      subst (λ (bs : List ℕ). Runs (arc_value c.program) bs steps value) seen_is (subst (λ (p : List Insn). Runs p bytes steps value) program_is ran),
+    )

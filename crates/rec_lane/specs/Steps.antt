@@ -88,11 +88,6 @@ abbrev pub RunsAs : Option VersionProgram → List ℕ → ℕ → Type 0
 RunsAs None view value = ⊥
 RunsAs (Some current) view value = (steps : ℕ) × Runs current.program view steps value
 
--- the one item or none
-abbrev pub option_items : {X : Type 0} → Option X → List X
-option_items None = []
-option_items (Some x) = x ∷ []
-
 -- ---- what a lane's fields hold
 
 -- the builders are those of the settings, and the spare one has no frames

@@ -1,6 +1,6 @@
 //! A lane: the frames of one channel, filtered and packed.
 
-ghost use Rattle.std.specs.Prelude.{ℕ, ◌≡◌, ◌+◌, ◌-◌, ◌^◌, ◌<◌, ◌≤◌, ◌==◌, true, false, List, [], ◌∷◌, ◌++◌, length, Option, None, Some, map, IsSome, IsNone, IfSome, IfNone, ◌↔◌, IsOk, IfOk, OnErr};
+ghost use Rattle.std.specs.Prelude.{ℕ, if◌then◌else◌, ◌≡◌, ◌+◌, ◌-◌, ◌^◌, ◌<◌, ◌≤◌, ◌==◌, true, false, List, [], ◌∷◌, ◌++◌, length, Option, None, Some, IsSome, IsNone, IfSome, IfNone, ◌↔◌, IsOk, IfOk, OnErr};
 
 use crate::laws::a_lane_stands_for_frames_and_a_history;
 use crate::offered::Offered;
@@ -53,6 +53,7 @@ impl Model for Lane {
 }
 
 impl Lane {
+    ghost use Rattle.arrayvec.specs.ArrayVec.{array_vec_len};
     ghost use Rattle.std.specs.Arc.{arc_value};
     ghost use Rattle.bpf_machine.specs.Machine.{Runs};
     ghost use Rattle.eth_frame.specs.Frame.{view};
@@ -61,7 +62,7 @@ impl Lane {
     ghost use Rattle.rec_lane.specs.Pieces.{has_no_packet};
     ghost use Rattle.rec_lane.specs.Settings.{spec_data};
     ghost use Rattle.rec_lane.specs.Lanes.{HasMet, is_current, running, offered_now, new_lane, Meets, MakesCertain, AreLeft, TakesFrame, Ends};
-    ghost use Rattle.rec_lane.specs.Steps.{RunsAs, option_items, packet_closed, closed_pieces, frame_added, frame_kept, kept_pieces, frame_judged, judged_pieces, frame_counted, frame_of_new_version, version_begun, begun_piece, begun_pieces};
+    ghost use Rattle.rec_lane.specs.Steps.{RunsAs, packet_closed, closed_pieces, frame_added, frame_judged, judged_pieces, frame_counted, frame_of_new_version, version_begun, begun_piece, begun_pieces};
     ghost use Rattle.rec_lane.specs.Views.{piece_data, pieces_data};
 
     /// A lane of no frames, which isn't ready.
@@ -223,16 +224,19 @@ impl Lane {
     {
         self.count(frame);
         let value = self.value_on(frame);
-        let mut pieces = ArrayVec::new();
-        if value != 0 {
-            if let Some(full) = self.keep(frame) {
-                pieces.push(full);
-            }
+        if value != 0 && !self.keep(frame) {
+            let pieces = self.keep_in_next(frame);
+            return Offered { value, pieces };
         }
-        Offered { value, pieces }
+        Offered {
+            value,
+            pieces: ArrayVec::new(),
+        }
     }
 
     /// The first frame of a version.
+    #[cold]
+    #[inline(never)]
     fn offer_first(&mut self, frame: &Frame<'_>, drawn: Drawn) -> Offered
         requires ready { self.old.ready ≡ true }
         requires few { self.old.offered < 2 ^ 64 - 1 }
@@ -246,10 +250,7 @@ impl Lane {
             (frame_data frame.now) }
         ensures roomy { has_room self.old.settings.limit [] (frame_data frame.now) ≡ true }
     {
-        let mut pieces = ArrayVec::new();
-        if let Some(full) = self.close_packet() {
-            pieces.push(full);
-        }
+        let mut pieces = self.close_packet();
         pieces.push(self.begin_version(frame, drawn));
         self.count(frame);
         let value = self.value_on(frame);
@@ -318,22 +319,35 @@ impl Lane {
         })
     }
 
-    /// Adds an accepted frame to the open packet, or to the next one if it doesn't fit; gives the
-    /// packet that is full then.
-    fn keep(&mut self, frame: &Frame<'_>) -> Option<Piece>
+    /// Adds an accepted frame to the open packet, if it fits.
+    fn keep(&mut self, frame: &Frame<'_>) -> bool
+        requires { self.old.kept < self.old.offered }
+        ensures fits { result
+            ≡ has_room self.old.settings.limit self.old.pending (frame_data frame.now) }
+        ensures lane { self.new
+            ≡ (if result then frame_added self.old (frame_data frame.now) else self.old) }
+        ensures roomy { has_room self.old.settings.limit [] (frame_data frame.now) ≡ true }
+    {
+        let fits = self.packet.fits(frame.bytes.len());
+        if fits {
+            self.add(frame);
+        }
+        fits
+    }
+
+    /// Adds an accepted frame to the next packet; gives the open one.
+    #[cold]
+    #[inline(never)]
+    fn keep_in_next(&mut self, frame: &Frame<'_>) -> ArrayVec<Piece, 2>
         requires ready { self.old.ready ≡ true }
         requires counted { self.old.kept < self.old.offered }
-        ensures lane { self.new ≡ frame_kept self.old (frame_data frame.now) }
-        ensures piece { map piece_data (option_items result)
-            ≡ kept_pieces self.old (frame_data frame.now) }
+        requires roomy { has_room self.old.settings.limit [] (frame_data frame.now) ≡ true }
+        ensures lane { self.new ≡ frame_added (packet_closed self.old) (frame_data frame.now) }
+        ensures pieces { pieces_data result.items ≡ closed_pieces self.old }
     {
-        if self.packet.fits(frame.bytes.len()) {
-            self.add(frame);
-            return None;
-        }
-        let full = self.close_packet();
+        let pieces = self.close_packet();
         self.add(frame);
-        full
+        pieces
     }
 
     /// Adds an accepted frame to the open packet, where it fits.
@@ -348,21 +362,24 @@ impl Lane {
     }
 
     /// The open packet as a piece, if it has frames.
-    fn close_packet(&mut self) -> Option<Piece>
+    fn close_packet(&mut self) -> ArrayVec<Piece, 2>
         requires { self.old.ready ≡ true }
         ensures lane { self.new ≡ packet_closed self.old }
-        ensures piece { map piece_data (option_items result) ≡ closed_pieces self.old }
+        ensures pieces { pieces_data result.items ≡ closed_pieces self.old }
+        ensures few { array_vec_len result < 2 }
     {
+        let mut pieces = ArrayVec::new();
         if self.packet.is_empty() {
-            return None;
+            return pieces;
         }
         let Some(next) = self.spare.take() else {
             unreachable!()
         };
         let packet = mem::replace(&mut self.packet, next);
-        Some(Piece::Data(DataPiece {
+        pieces.push(Piece::Data(DataPiece {
             channel: self.spec.channel,
             body: packet.seal(),
-        }))
+        }));
+        pieces
     }
 }

@@ -8,8 +8,8 @@ use std::marker::Model;
 #[derive(Debug, Drop)]
 pub struct DataBody {
     bytes: Vec<u8>,
-    count: u16,
     first_counter: u64,
+    count: u16,
     net: u8,
     speed: u8,
     limit: Limit,
