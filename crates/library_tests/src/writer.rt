@@ -158,7 +158,7 @@ fn put<W: Write>(writer: &mut Writer<W>, piece: &Piece) -> Result<Result<(), Wri
 #[test]
 fn each_piece_is_its_packet(rt: HostRuntime) -> Result<(), Fail> {
     let want = bytes(rt.alloc(), &[REJECTING, ACCEPTING, FRAMES, END])?;
-    for at_once in [usize::MAX, 1] {
+    for (at_once, writes) in [(usize::MAX, 9), (1, 232)] {
         let out = Output::new(rt.alloc(), usize::MAX, at_once, Then::Fails);
         let mut writer = Writer::new(out, &[1], 8);
         let ends = [(60, 60), (60, 120), (60, 180), (52, 232)];
@@ -169,6 +169,7 @@ fn each_piece_is_its_packet(rt: HostRuntime) -> Result<(), Fail> {
             assert_eq!(rt; writer.bytes(), 0);
         }
         assert_eq!(rt; (writer.whole(), writer.out().flushes), (4, 0));
+        assert_eq!(rt; writer.out().writes, writes);
         let Ok(out) = writer.finish() else {
             return Err("a finished recording")?;
         };

@@ -1,26 +1,43 @@
 -- Recordings of one channel, and of one to which no frame was offered.
-use Rattle.std.proofs.Common.{ℕ, zero, suc, ◌≡◌, ◌<◌, true, Bool, List, [], ◌∷◌, ◌++◌, map, All, Option, Some, refl, sym, ◌∙◌, ap, subst, arith, lit<, cond, eq-eqb}
-use Rattle.std.specs.Prelude.{◌==◌}
+use Rattle.std.proofs.Common.{ℕ, zero, suc, ◌≡◌, true, Bool, List, [], ◌∷◌, ◌++◌, All, Option, None, Some, refl, sym, ◌∙◌, ap, subst, arith, cond, eq-eqb}
 use Rattle.std.specs.List.{filter, Any}
 use Rattle.std.specs.Io.KnownBytes.{Appends}
-use Rattle.std.proofs.lemmas.List.{append-nil}
+use Rattle.std.proofs.lemmas.List.{append-nil, append_assoc}
 use Rattle.std.proofs.lemmas.List.Elements.{All-nil, All-cons, All-tail, All-weaker}
 use Rattle.rec_channel.specs.History.{Version}
-use Rattle.rec_lane.specs.Offered.{OfferedFrame, AllMet, frames_of}
+use Rattle.rec_lane.specs.Offered.{OfferedFrame, frames_of}
 use Rattle.rec_lane.specs.Pieces.{LaneSettings, PieceData, channel_of, channel_pieces, ArePieces}
 use Rattle.rec_lane.specs.Pieces.PieceData.{OfEnd}
-use Rattle.rec_writer.specs.Encoding.{packet_of, writer_output}
+use Rattle.rec_writer.specs.Encoding.{packet_of, packet_channel, next_sequence, writer_output, output_after}
 use Rattle.rec_writer.specs.Recording.{RecordedChannel, AreOfChannels, IsRecording, IsOutputOf, is_of}
-use Rattle.rec_writer.specs.Writers.{WriterState, HasWritten}
+use Rattle.rec_writer.specs.Writers.{WriterState, HasWritten, HoldsRecording}
 
 -- ---- what a writer put
 
-pub put_recording : (writer : WriterState) (channels : List RecordedChannel) (pieces : List PieceData) (bytes : List ℕ)
-    → HasWritten (Some []) pieces [] writer → writer.held ≡ Some bytes → AreOfChannels channels pieces
-    → IsRecording writer.version channels bytes
-put_recording writer channels pieces bytes h held of =
-    let same : bytes ≡ writer_output writer.version pieces ++ [] = subst (λ o. Appends (Some []) o (writer_output writer.version pieces ++ [])) held h.held_is in
-    (pieces, same ∙ append-nil (writer_output writer.version pieces), of)
+held_after : (before sent : List ℕ) (held : Option (List ℕ)) → Appends (Some before) held sent → held ≡ Some (before ++ sent)
+held_after before sent None appends = absurd appends
+held_after before sent (Some held) appends = ap (λ bs. Some bs) appends
+
+pub put_recording : (writer : WriterState) (before : List ℕ) (pieces : List PieceData) (channels : List RecordedChannel)
+    → HasWritten (Some before) pieces [] writer → AreOfChannels channels pieces
+    → HoldsRecording before writer channels
+put_recording writer before pieces channels h of =
+    let sent = writer_output writer.version pieces in
+    (sent, held_after before (sent ++ []) writer.held h.held_is ∙ ap (λ bs. Some (before ++ bs)) (append-nil sent), (pieces, refl, of))
+
+-- ---- pieces and later ones
+
+output_split : (version : ℕ) (earlier pieces later : List PieceData)
+    → output_after version earlier (pieces ++ later) ≡ output_after version earlier pieces ++ output_after version (earlier ++ pieces) later
+output_split version earlier [] later = ap (λ ps. output_after version ps later) (sym (append-nil earlier))
+output_split version earlier (p ∷ ps) later =
+    let packet = packet_of p version (next_sequence earlier (packet_channel p)) in
+    let rest = output_split version (earlier ++ p ∷ []) ps later ∙ ap (λ qs. output_after version (earlier ++ p ∷ []) ps ++ output_after version qs later) (append_assoc earlier (p ∷ []) ps) in
+    ap (λ bs. packet ++ bs) rest ∙ sym (append_assoc packet (output_after version (earlier ++ p ∷ []) ps) (output_after version (earlier ++ p ∷ ps) later))
+
+pub written_later : (version : ℕ) (pieces later : List PieceData)
+    → writer_output version (pieces ++ later) ≡ writer_output version pieces ++ output_after version pieces later
+written_later version pieces later = output_split version [] pieces later
 
 -- ---- one channel
 
@@ -43,13 +60,16 @@ one_recorded theirs version c bytes o =
     let pieces = o.0 in
     let offered = o.1.0 in
     let all : All (λ (piece : PieceData). channel_of piece ≡ c.settings.channel) pieces = subst (λ ps. All (λ (piece : PieceData). channel_of piece ≡ c.settings.channel) ps) o.1.3 (theirs c.settings offered) in
-    let kept : filter (is_of c.settings.channel) pieces ≡ pieces = filter_all (is_of c.settings.channel) pieces (All-weaker (λ (piece : PieceData). channel_of piece ≡ c.settings.channel) (λ (piece : PieceData). is_of c.settings.channel piece ≡ true) (λ piece e. eq-eqb (channel_of piece) c.settings.channel e) pieces all) in
-    (pieces, o.2, record {
-      named = All-weaker (λ (piece : PieceData). channel_of piece ≡ c.settings.channel) (λ (piece : PieceData). Any (λ (d : RecordedChannel). d.settings.channel ≡ channel_of piece) (c ∷ [])) (λ piece e. (0, c, omega arith, refl, sym e)) pieces all;
-      each = All-cons (λ (d : RecordedChannel). ArePieces d.settings d.frames d.history (filter (is_of d.settings.channel) pieces)) c []
-          (subst (ArePieces c.settings c.frames c.history) (sym kept) o.1)
-          (All-nil (λ (d : RecordedChannel). ArePieces d.settings d.frames d.history (filter (is_of d.settings.channel) pieces)));
-    })
+    let kept : filter (is_of c.settings.channel) pieces ≡ pieces = filter_all (is_of c.settings.channel) pieces (All-weaker (λ (piece : PieceData). channel_of piece ≡ c.settings.channel) (λ (piece : PieceData). is_of c.settings.channel piece ≡ true) (λ piece e. eq-eqb (channel_of piece) c.settings.channel e) pieces all) in (
+      pieces,
+      o.2,
+      record {
+        named = All-weaker (λ (piece : PieceData). channel_of piece ≡ c.settings.channel) (λ (piece : PieceData). Any (λ (d : RecordedChannel). d.settings.channel ≡ channel_of piece) (c ∷ [])) (λ piece e. (0, c, omega arith, refl, sym e)) pieces all;
+        each = All-cons (λ (d : RecordedChannel). ArePieces d.settings d.frames d.history (filter (is_of d.settings.channel) pieces)) c []
+            (subst (ArePieces c.settings c.frames c.history) (sym kept) o.1)
+            (All-nil (λ (d : RecordedChannel). ArePieces d.settings d.frames d.history (filter (is_of d.settings.channel) pieces)));
+      },
+    )
 
 pub only_recorded : (version : ℕ) (c : RecordedChannel) (bytes : List ℕ) → IsRecording version (c ∷ []) bytes → IsOutputOf version c bytes
 only_recorded version c bytes r =

@@ -2,6 +2,7 @@
 use Rattle.std.specs.Prelude.{ℕ, ◌≡◌, ◌≢◌, ◌+◌, ◌-◌, ◌^◌, ◌<◌, Bool, true, false, min, List, [], ◌∷◌, ◌++◌, length, Contains, Option, slice_get, Some, take}
 use Rattle.std.specs.Io.KnownBytes.{Appends}
 use Rattle.rec_lane.specs.Pieces.{PieceData}
+use Rattle.rec_writer.specs.Recording.{RecordedChannel, IsRecording}
 use Rattle.rec_writer.specs.Encoding.{writer_output, packet_of, packet_channel, next_sequence}
 use Rattle.rec_writer.specs.Numbers.{AreNext, channels_in, AreDistinct, number_at, with_packet}
 use Rattle.rec_writer.specs.declared.numbers.Numbered.{Numbered}
@@ -41,6 +42,12 @@ pub record IsCut (version : ℕ) (pieces : List PieceData) (piece : PieceData) (
   pub some : rest ≢ []
   pub front : cut ++ rest
       ≡ packet_of piece version (next_sequence pieces (packet_channel piece))
+
+-- the output holds these bytes and then a recording of the channels
+abbrev pub HoldsRecording : List ℕ → WriterState → List RecordedChannel → Type 0
+HoldsRecording before writer channels =
+    (bytes : List ℕ)
+    × (writer.held ≡ Some (before ++ bytes)) × IsRecording writer.version channels bytes
 
 -- ---- what a call did
 

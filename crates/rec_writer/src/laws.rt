@@ -1,21 +1,35 @@
 //! Laws of what is written, which run nothing.
 
-ghost use Rattle.std.specs.Prelude.{ℕ, ◌≡◌, ◌↔◌, List, [], ◌∷◌, Some};
+ghost use Rattle.std.specs.Prelude.{ℕ, ◌≡◌, ◌↔◌, List, [], ◌∷◌, ◌++◌, Some};
 ghost use Rattle.rec_channel.specs.History.{Version};
-ghost use Rattle.rec_lane.specs.Pieces.{LaneSettings, PieceData, ArePieces};
+ghost use Rattle.rec_lane.specs.Pieces.{LaneSettings, PieceData};
 ghost use Rattle.rec_lane.specs.Pieces.PieceData.{OfEnd};
-ghost use Rattle.rec_writer.specs.Encoding.{packet_of, writer_output};
+ghost use Rattle.rec_writer.specs.Encoding.{packet_of, writer_output, output_after};
 ghost use Rattle.rec_writer.specs.Recording.{RecordedChannel, AreOfChannels, IsRecording, IsOutputOf};
-ghost use Rattle.rec_writer.specs.Writers.{WriterState, HasWritten};
+ghost use Rattle.rec_writer.specs.Writers.{WriterState, HasWritten, HoldsRecording};
+ghost use Rattle.rec_writer.specs.declared.writer.TheConstants.{MAX_CHANNELS};
 
 use rec_lane::pieces_are_of_their_channel;
 
-/// Law: what a writer put, since its output held nothing, is a recording of the channels whose
+/// Law: the greatest number of channels, as a number.
+pub fn a_recording_has_at_most_64_channels()
+    ensures { MAX_CHANNELS ≡ 64 }
+{}
+
+/// Law: what is written of pieces begins what is written of them and later ones, whose sequence
+/// numbers go on from theirs.
+pub fn later_pieces_are_written_after_the_others()
+    ensures { (version : ℕ) (pieces later : List PieceData)
+        → writer_output version (pieces ++ later)
+        ≡ writer_output version pieces ++ output_after version pieces later }
+{}
+
+/// Law: what a writer put, since its output held some bytes, is a recording of the channels whose
 /// pieces it put.
 pub fn what_a_writer_put_is_a_recording()
-    ensures { (writer : WriterState) (channels : List RecordedChannel) (pieces : List PieceData)
-        (bytes : List ℕ) → HasWritten (Some []) pieces [] writer → writer.held ≡ Some bytes
-        → AreOfChannels channels pieces → IsRecording writer.version channels bytes }
+    ensures { (writer : WriterState) (before : List ℕ) (pieces : List PieceData)
+        (channels : List RecordedChannel) → HasWritten (Some before) pieces [] writer
+        → AreOfChannels channels pieces → HoldsRecording before writer channels }
 {}
 
 /// Law: a recording of one channel is what is written of its pieces, and nothing else.

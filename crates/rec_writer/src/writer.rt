@@ -1,6 +1,6 @@
 //! The writer of a recording.
 
-ghost use Rattle.std.specs.Prelude.{ℕ, ◌≡◌, ◌≢◌, ◌+◌, ◌^◌, ◌<◌, ◌≤◌, ◌∷◌, ◌++◌, false, true, List, [], length, map, IsTrue, ◌↔◌, IfOk, IfErr, IfSome, IfNone, OnOk, OnErr, All, Contains, Some, slice_get};
+ghost use Rattle.std.specs.Prelude.{ℕ, ◌≡◌, ◌≢◌, ◌+◌, ◌<◌, ◌≤◌, ◌∷◌, false, true, [], length, IsTrue, ◌↔◌, IfOk, IfErr, IfSome, IfNone, OnOk, All, Contains, Some, slice_get};
 ghost use Rattle.std.specs.Io.KnownBytes.{Keeps};
 ghost use Rattle.rec_writer.specs.Numbers.{channels_in, fresh_numbers, with_packet};
 
@@ -51,7 +51,7 @@ impl<W: Write> Model for Writer<W> {
 
 impl<W: Write> Writer<W> {
     ghost use Rattle.rec_lane.specs.Views.{piece_data};
-    ghost use Rattle.rec_lane.specs.Pieces.{PieceData, channel_of};
+    ghost use Rattle.rec_lane.specs.Pieces.{channel_of};
     ghost use Rattle.rec_writer.specs.Encoding.{piece_bytes};
     ghost use Rattle.rec_writer.specs.Numbers.{AreDistinct};
     ghost use Rattle.rec_writer.specs.Writers.{Knows, HasWritten, PutsWhole, PutFails, SendsWhole, SendsPart, FinishFails};
@@ -205,7 +205,8 @@ impl<W: Write> Writer<W> {
         at
     }
 
-    /// Writes the packet of a piece with this body, whose number stands there, as the output works.
+    /// Writes the packet of a piece with this body to an output that has not failed. The packet's
+    /// number stands there.
     #[tactic(auto, using(crate::proofs::Putting::still_writer, crate::proofs::Putting::channels_after))]
     fn send(&mut self, at: usize, piece: &Piece, body: &[u8]) -> Result<(), WriteFault>
         requires works { self.old.failed ≡ false }

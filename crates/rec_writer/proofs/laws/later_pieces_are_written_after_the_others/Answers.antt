@@ -1,0 +1,5 @@
+use Rattle.rec_writer.proofs.Recordings.{written_later}
+use Rattle.rec_writer.proofs.laws.later_pieces_are_written_after_the_others.Goals as goal
+
+pub returns : goal.returns
+returns c = written_later
