@@ -1,6 +1,6 @@
 //! A lane: the frames of one channel, filtered and packed.
 
-ghost use Rattle.std.specs.Prelude.{ℕ, if◌then◌else◌, ◌≡◌, ◌+◌, ◌-◌, ◌^◌, ◌<◌, ◌≤◌, ◌==◌, true, false, List, [], ◌∷◌, ◌++◌, length, Option, None, Some, IsSome, IsNone, IfSome, IfNone, ◌↔◌, IsOk, IfOk, OnErr};
+ghost use Rattle.std.specs.Prelude.{ℕ, if◌then◌else◌, ◌≡◌, ◌+◌, ◌-◌, ◌^◌, ◌<◌, ◌==◌, true, false, [], Option, None, Some, IsSome, IsNone, IfSome, IfNone, ◌↔◌, IsOk, IfOk, OnErr};
 
 use crate::laws::a_lane_stands_for_frames_and_a_history;
 use crate::offered::Offered;
