@@ -235,6 +235,7 @@ impl Lane {
     }
 
     /// The first frame of a version.
+    // rare, and apart so that a frame that gives no piece pays nothing for it
     #[cold]
     #[inline(never)]
     fn offer_first(&mut self, frame: &Frame<'_>, drawn: Drawn) -> Offered
@@ -336,6 +337,7 @@ impl Lane {
     }
 
     /// Adds an accepted frame to the next packet; gives the open one.
+    // once a packet, and apart as the first frame of a version
     #[cold]
     #[inline(never)]
     fn keep_in_next(&mut self, frame: &Frame<'_>) -> ArrayVec<Piece, 2>
