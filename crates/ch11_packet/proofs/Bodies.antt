@@ -14,7 +14,7 @@ use Rattle.ch11_packet.specs.declared.frames.word.TheConstants.{MAX_SPEED, BODY_
 use Rattle.ch11_packet.specs.PacketLen.{packet_len}
 use Rattle.ch11_packet.specs.Frames.{frame_bytes, frame_len, data_bytes, data_len}
 use Rattle.ch11_packet.specs.FramesRead.{body_frame, frame_in, first_reads, SpellsBody}
-use Rattle.ch11_packet.specs.Building.{EthernetBody, IsEthernetBody, body_of, open_of, Fits, first_counter, frames_in, Holds, HasRoom, IsOpen, IsSealed}
+use Rattle.ch11_packet.specs.Building.{EthernetBody, IsEthernetBody, body_of, OpenBody, open_of, Fits, first_counter, frames_in, Holds, HasRoom, IsBlank, IsOpen, IsSealed}
 use Rattle.ch11_packet.proofs.FrameBytes.{length-frame_bytes, Begins-written, first_reads-flat_map}
 use Rattle.ch11_packet.proofs.FirstFrames.{length-first_reads}
 
@@ -42,32 +42,50 @@ few_frames (f ∷ fs) each =
 
 -- the frames that are found in the bytes are those that they hold
 pub frames_in-Holds : (word count : ℕ) (frames : List FrameData) (net speed counter : ℕ) (bytes : List ℕ) → Holds word frames net speed counter bytes → count ≡ length frames → frames_in count bytes ≡ frames
+unfolding frames_in
 frames_in-Holds word count frames net speed counter bytes holds many =
     ap (λ n. frames_in n bytes) many
     ∙ ap (λ l. map frame_in (first_reads (length frames) (drop BODY_WORD_LEN l))) holds.bytes_are
     ∙ first_reads-flat_map net speed frames (record { net_fits = holds.net_fits; speed_fits = holds.speed_fits }) holds.in_range
 
 pub length-frames_in : (count : ℕ) (bytes : List ℕ) → length (frames_in count bytes) ≡ count
+unfolding frames_in
 length-frames_in count bytes =
     length-map (first_reads count (drop BODY_WORD_LEN bytes)) frame_in ∙ length-first_reads count (drop BODY_WORD_LEN bytes)
+
+-- for an attribute, which takes no name with a dash
+pub ruleset frames_counted = (length-frames_in)
 
 -- ---- an open body
 
 pub length-IsOpen : (count net speed counter limit room : ℕ) (bytes : List ℕ) → IsOpen count net speed counter limit room bytes → length bytes ≡ data_len (frames_in count bytes)
 length-IsOpen count net speed counter limit room bytes is = length-Holds 0 (frames_in count bytes) net speed counter bytes is.holds
 
+-- the frames that contracts see take the bytes behind the word
+pub open_len : (count net speed counter limit room : ℕ) (bytes : List ℕ) (body : OpenBody) → IsOpen count net speed counter limit room bytes → open_of (frames_in count bytes) net speed limit ≡ body → data_len body.frames ≡ length bytes
+open_len count net speed counter limit room bytes body is e = subst (λ (b : OpenBody). data_len b.frames ≡ length bytes) e (sym (length-IsOpen count net speed counter limit room bytes is))
+
+pub open_count : (count net speed limit : ℕ) (bytes : List ℕ) (body : OpenBody) → open_of (frames_in count bytes) net speed limit ≡ body → length body.frames ≡ count
+open_count count net speed limit bytes body e = subst (λ (b : OpenBody). length b.frames ≡ count) e (length-frames_in count bytes)
+
 -- a body of no frames
 pub IsOpen-none : (net speed limit room : ℕ) (bytes : List ℕ) → bytes ≡ to_le_bytes w32 0 → net < 2 ^ 8 → speed ≤ MAX_SPEED → HasRoom limit room
     → IsOpen 0 net speed 0 limit room bytes
-unfolding first_reads
+unfolding first_reads frames_in
 IsOpen-none net speed limit room bytes e n s roomy = record {
   holds = record { bytes_are = e; in_range = All-nil IsFrame; net_fits = n; speed_fits = s; first = refl };
   fits = rw e (omega (arith, roomy.least));
   roomy = roomy;
 }
 
+-- the body of no frames in an empty buffer
+pub open_blank : (net speed limit room more : ℕ) (old new : List ℕ) → IsBlank limit room old → new ≡ old ++ to_le_bytes w32 0 → room ≤ more → net < 2 ^ 8 → speed ≤ MAX_SPEED → IsOpen 0 net speed 0 limit more new
+open_blank net speed limit room more old new is added roomy n s =
+    IsOpen-none net speed limit more new (added ∙ ap (λ l. l ++ to_le_bytes w32 0) is.empty) n s
+    (record { least = is.roomy.least; most = is.roomy.most; enough = omega (arith, is.roomy.enough) })
+
 pub frames_in-none : (bytes : List ℕ) → frames_in 0 bytes ≡ []
-unfolding first_reads
+unfolding first_reads frames_in
 frames_in-none bytes = refl
 
 -- a body of one frame more
@@ -230,3 +248,24 @@ SpellsBody-written body is =
       whole = ap (λ w. to_le_bytes w32 w ++ rest) word;
       held = Begins-written body.net body.speed body.frames (record { net_fits = is.net_fits; speed_fits = is.speed_fits }) is.in_range;
     }
+
+-- ---- what contracts see of a sealed body
+
+pub body_bytes : (count net speed counter limit room : ℕ) (bytes : List ℕ) (body : EthernetBody) → IsSealed count net speed counter limit room bytes → body_of (frames_in count bytes) net speed limit ≡ body → bytes ≡ data_bytes body.net body.speed body.frames
+body_bytes count net speed counter limit room bytes body is e = subst (λ (b : EthernetBody). bytes ≡ data_bytes b.net b.speed b.frames) e (bytes-IsSealed count net speed counter limit room bytes is)
+
+pub body_len : (count net speed counter limit room : ℕ) (bytes : List ℕ) (body : EthernetBody) → IsSealed count net speed counter limit room bytes → body_of (frames_in count bytes) net speed limit ≡ body → length bytes ≡ data_len body.frames
+body_len count net speed counter limit room bytes body is e = subst (λ (b : EthernetBody). length bytes ≡ data_len b.frames) e (length-Holds count (frames_in count bytes) net speed counter bytes is.holds)
+
+pub body_valid : (count net speed counter limit room : ℕ) (bytes : List ℕ) (body : EthernetBody) → IsSealed count net speed counter limit room bytes → body_of (frames_in count bytes) net speed limit ≡ body → IsEthernetBody body
+body_valid count net speed counter limit room bytes body is e = subst IsEthernetBody e (IsEthernetBody-IsSealed count net speed counter limit room bytes is)
+
+pub body_first : (count net speed counter limit room : ℕ) (bytes : List ℕ) (body : EthernetBody) → IsSealed count net speed counter limit room bytes → body_of (frames_in count bytes) net speed limit ≡ body
+    → option_map (λ (f : FrameData). f.counter) (slice_get body.frames 0) ≡ Some counter
+body_first count net speed counter limit room bytes body is e =
+    let some : 0 < length (frames_in count bytes) = omega (arith, length-frames_in count bytes, is.some) in
+    subst (λ (b : EthernetBody). option_map (λ (f : FrameData). f.counter) (slice_get b.frames 0) ≡ Some counter) e
+    (first-frame (frames_in count bytes) some ∙ ap (λ n. Some n) (sym is.holds.first))
+
+pub body_first_fits : (count net speed counter limit room : ℕ) (bytes : List ℕ) → IsSealed count net speed counter limit room bytes → counter < 2 ^ 48
+body_first_fits count net speed counter limit room bytes is = rw is.holds.first (first_counter-fits _ is.holds.in_range)

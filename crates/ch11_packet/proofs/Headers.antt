@@ -18,6 +18,11 @@ use Rattle.ch11_packet.specs.Views.{header_data}
 pub same_header : (c p d v s f k t c' p' d' t' : ℕ) → c ≡ c' → p ≡ p' → d ≡ d' → t ≡ t' → header_of c p d v s f k t ≡ header_of c' p' d' v s f k t'
 same_header c p d v s f k t c' p' d' t' ec ep ed et = cc
 
+-- the fields that were read are those that the bytes say
+pub fields_read : (bytes : List ℕ) (channel packet_len data_len counter : ℕ) → channel ≡ u16_at bytes 2 → packet_len ≡ u32_at bytes 4 → data_len ≡ u32_at bytes 8 → counter ≡ u48_at bytes 16
+    → header_of channel packet_len data_len (get_or bytes 12 0) (get_or bytes 13 0) (get_or bytes 14 0) (get_or bytes 15 0) counter ≡ header_at bytes
+fields_read bytes channel packet_len data_len counter ec ep ed et = same_header _ _ _ _ _ _ _ _ _ _ _ _ ec ep ed et
+
 -- a header's bytes say its fields
 pub header_at-header_bytes : (header : HeaderData) → IsHeader header → header_at (header_bytes header) ≡ header
 unfolding header_bytes

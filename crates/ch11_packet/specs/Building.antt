@@ -57,7 +57,7 @@ first_counter [] = 0
 first_counter (frame ∷ frames) = frame.counter
 
 -- the frames in the bytes of a body behind its word
-abbrev pub frames_in : (count : ℕ) (bytes : List ℕ) → List FrameData
+unfoldable pub frames_in : (count : ℕ) (bytes : List ℕ) → List FrameData
 frames_in count bytes = map frame_in (first_reads count (drop BODY_WORD_LEN bytes))
 
 -- the bytes are a word of this number and these frames, and this is their first counter

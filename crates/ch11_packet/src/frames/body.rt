@@ -80,6 +80,7 @@ impl DataBody {
     }
 
     /// The number of the body's frames.
+    #[tactic(auto, using(crate::proofs::Bodies::frames_counted))]
     pub fn count(&self) -> u16
         ensures count { result ≡ length self.now.frames }
         ensures some { 0 < result }

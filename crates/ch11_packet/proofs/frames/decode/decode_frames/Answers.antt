@@ -1,4 +1,4 @@
-use Rattle.std.proofs.Common.{◌≡◌, ◌%◌, ◌^◌, length, sym, ap, ◌∙◌, arith}
+use Rattle.std.proofs.Common.{rules, ◌≡◌, ◌%◌, ◌^◌, length, sym, ap, ◌∙◌, arith}
 use Rattle.std.proofs.lemmas.Bool.{eqb-true, eqb-false}
 use Rattle.std.proofs.lemmas.List.{nil_from_length}
 use Rattle.ch11_packet.specs.declared.frames.decode.BodyFault.TheVariants.{Short, LeftOver}
@@ -6,7 +6,7 @@ use Rattle.ch11_packet.proofs.ReadBodies.{no_fault, one_body, fault_answered, no
 use Rattle.ch11_packet.proofs.frames.decode.decode_frames.Goals as goal
 
 pub frames-preserved : goal.frames-preserved
-frames-preserved c = Passed-next c.frames.counter _ _ _ _ c.frames.invariant c.in-Some.ensures.first
+frames-preserved c = search (rules, Passed-next)
 
 pub returns-in_default-split_frame-clause-read : goal.returns-in_default-split_frame-clause-read
 returns-in_default-split_frame-clause-read c = λ frames spells.

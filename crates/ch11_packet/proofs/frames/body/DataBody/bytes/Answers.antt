@@ -1,20 +1,18 @@
-use Rattle.std.proofs.Common.{length, ap, subst, ◌∙◌}
-use Rattle.std.specs.Vec.{vec_capacity}
-use Rattle.ch11_packet.specs.Building.{IsEthernetBody}
-use Rattle.ch11_packet.proofs.Bodies.{bytes-IsSealed, IsEthernetBody-IsSealed, length-Holds}
+use Rattle.std.proofs.Common.{rules, arith}
+use Rattle.ch11_packet.proofs.Bodies.{body_bytes, body_len, body_valid}
 use Rattle.ch11_packet.proofs.frames.body.DataBody.bytes.Goals as goal
 
 pub returns-clause-bytes : goal.returns-clause-bytes
 returns-clause-bytes c =
-    let b = c.self.inside in
-    rw (← c.self.view_is) (c.as_slice.ensures.value ∙ bytes-IsSealed b.count b.net b.speed b.first_counter b.limit (vec_capacity b.bytes) b.bytes.items c.self.invariant)
+    let same = c.as_slice.ensures.value in
+    let known = body_bytes _ _ _ _ _ _ _ _ c.self.invariant c.self.view_is in
+    grind arith
 
 pub returns-clause-len : goal.returns-clause-len
 returns-clause-len c =
-    let b = c.self.inside in
-    rw (← c.self.view_is) (ap length c.as_slice.ensures.value ∙ length-Holds b.count _ b.net b.speed b.first_counter b.bytes.items c.self.invariant.holds)
+    let same = c.as_slice.ensures.value in
+    let known = body_len _ _ _ _ _ _ _ _ c.self.invariant c.self.view_is in
+    grind arith
 
 pub returns-clause-valid : goal.returns-clause-valid
-returns-clause-valid c =
-    let b = c.self.inside in
-    subst IsEthernetBody c.self.view_is (IsEthernetBody-IsSealed b.count b.net b.speed b.first_counter b.limit (vec_capacity b.bytes) b.bytes.items c.self.invariant)
+returns-clause-valid c = search (rules, body_valid)

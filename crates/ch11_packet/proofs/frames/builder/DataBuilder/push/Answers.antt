@@ -28,8 +28,8 @@ invariant_of-self c =
     let many = length-frames_in b.count b.bytes.items in
     let first : c.if-self-eq0.first_counter ≡ first_counter (frames ++ frame ∷ []) =
     elim c.if-self-eq0.branch [
-      | then-self-eq0 w ↦ w.first_counter-is ∙ sym (first_counter-push_first frames frame (many ∙ w.if-self-eq0.true))
-      | else-self-eq0 w ↦ w.first_counter-is ∙ c.self.invariant.holds.first ∙ sym (first_counter-push_next frames frame (λ none. w.if-self-eq0.false (sym many ∙ none)))
+      | then-self-eq0 w ↦ grind (arith, w.first_counter-is, first_counter-push_first frames frame (many ∙ w.if-self-eq0.true))
+      | else-self-eq0 w ↦ grind (arith, w.first_counter-is, c.self.invariant.holds.first, first_counter-push_next frames frame (λ none. w.if-self-eq0.false (sym many ∙ none)))
     ] in
     (IsOpen-push b.count b.net b.speed b.first_counter c.if-self-eq0.first_counter b.limit (vec_capacity b.bytes) (vec_capacity c.append_frame.new.body)
     b.bytes.items c.append_frame.new.body.items frame c.self.invariant c.args.frame.now.in_range

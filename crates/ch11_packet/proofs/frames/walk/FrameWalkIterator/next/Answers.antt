@@ -1,4 +1,4 @@
-use Rattle.std.proofs.Common.{ap, arith, length}
+use Rattle.std.proofs.Common.{rules, ap, arith, length}
 use Rattle.ch11_packet.specs.Views.{read_frame_data}
 use Rattle.ch11_packet.proofs.FirstFrames.{none_left, takes_first}
 use Rattle.ch11_packet.proofs.frames.walk.FrameWalkIterator.next.Goals as goal
@@ -15,12 +15,13 @@ overflow_sub-self c =
 
 pub invariant_of-self : goal.invariant_of-self
 invariant_of-self c =
-    (takes_first c.self.inside.left (read_frame_data c.in_ok-frame.frame) c.self.inside.bytes.now c.in_ok-frame.after.now c.self.invariant c.in_ok-frame.ensures.first).others
+    let first = takes_first c.self.inside.left (read_frame_data c.in_ok-frame.frame) c.self.inside.bytes.now c.in_ok-frame.after.now c.self.invariant c.in_ok-frame.ensures.first in
+    search (rules, first.others)
 
 pub returns-clause-steps : goal.returns-clause-steps
 returns-clause-steps c =
     let first = takes_first c.self.inside.left (read_frame_data c.in_ok-frame.frame) c.self.inside.bytes.now c.in_ok-frame.after.now c.self.invariant c.in_ok-frame.ensures.first in
-    rw (← c.self.view_is) first.whole
+    grind (arith, first.whole)
 
 pub returns-clause-goes : goal.returns-clause-goes
 returns-clause-goes c =
