@@ -2,13 +2,12 @@
 use Rattle.std.proofs.Common.{ℕ, ◌≡◌, ◌&&◌, Bool, true, false, cond, eqb, codes, List, Option, None, Some, refl, subst}
 use Rattle.bpf_insn.specs.declared.form.Form.{Form}
 use Rattle.bpf_insn.specs.declared.form.Form.TheVariants as form
-use Rattle.bpf_insn.specs.declared.form.Size.TheVariants.{W, H, B}
 use Rattle.bpf_insn.specs.declared.form.Src.{Src}
 use Rattle.bpf_insn.specs.declared.form.Src.TheVariants.{K, X}
 use Rattle.bpf_insn.specs.declared.form.Cond.{Cond}
 use Rattle.bpf_insn.specs.Uses.{uses_k}
 use Rattle.bpf_asm.specs.declared.mnemonic.Mnemonic.{Mnemonic}
-use Rattle.bpf_asm.specs.declared.mnemonic.Mnemonic.TheVariants.{Ld, Ldi, Ldh, Ldb, Ldx, Ldxi, Ldxb, St, Stx, Jmp, Test, Inverted, Alu, Neg, Tax, Txa, Ret}
+use Rattle.bpf_asm.specs.declared.mnemonic.Mnemonic.TheVariants.{Ld, Ldi, Ldx, Ldxb, Jmp, Test, Inverted, Alu, Neg, Ret}
 use Rattle.bpf_asm.specs.Tokens.{Token}
 use Rattle.bpf_asm.specs.Operands.{Operand, is_name}
 use Rattle.bpf_asm.specs.Operands.Operand.{Nothing, Absolute, Indexed, Scratch, Immediate, Bare, Word, HashWord, IndexRegister, Accumulator, Length, HeaderLength, Targets}

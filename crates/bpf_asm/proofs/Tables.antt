@@ -32,6 +32,10 @@ table_missing known table name is none = λ k d below e.
     let found = (is name l.at).1 (subst P e there) in
     cc
 
+-- the index of a label, by any number that it is
+pub label_there : (known : List Label) (name : List ℕ) (at same : ℕ) → Contains known (label_at at name) → at ≡ same → Contains known (label_at same name)
+label_there known name at same there e = let P : ℕ → Type 0 = λ p. Contains known (label_at p name) in subst P e there
+
 defined_here : (known : List Label) (old new : LabelTable) (name : List ℕ) (index : ℕ) (other : List ℕ) (p : ℕ) → IsTableOf known old
     → index_in new other ≡ (if bytes_eq name other then Some index else index_in old other) → (bytes_eq name other ≡ true) ⊎ (bytes_eq name other ≡ false)
     → index_in new other ≡ Some p → Contains (known ++ label_at index name ∷ []) (label_at p other)

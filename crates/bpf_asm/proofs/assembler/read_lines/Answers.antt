@@ -9,7 +9,7 @@ use Rattle.bpf_asm.proofs.Assembling.{well_so_far, next_number, line_breaks}
 use Rattle.bpf_asm.proofs.assembler.read_lines.Goals as goal
 
 pub lines-init : goal.lines-init
-lines-init c = record { before = []; whole = refl; number = refl; bytes = omega arith; shapes = []; shaped = tt; drafted = c.new-draft.ensures }
+lines-init c = record { before = []; whole = refl; number = omega arith; bytes = omega arith; shapes = []; shaped = tt; drafted = c.new-draft.ensures }
 
 pub returns-in_err-add_line-clause-lines : goal.returns-in_err-add_line-clause-lines
 returns-in_err-add_line-clause-lines c =

@@ -1,10 +1,12 @@
-use Rattle.std.proofs.Common.{◌≡◌, ◌+◌, vec_len, inr, refl, sym, ◌∙◌}
+use Rattle.std.proofs.Common.{◌≡◌, ◌+◌, vec_len, rules, refl, sym, ◌∙◌}
 use Rattle.bpf_asm.proofs.Tables.{draft_insn, draft_full}
 use Rattle.bpf_asm.proofs.draft.Draft.add_insn.Goals as goal
 
 pub returns-then-len-eq-MAX_INSNS : goal.returns-then-len-eq-MAX_INSNS
 returns-then-len-eq-MAX_INSNS c = record {
-  added = λ shapes names at h. inr (refl, draft_full shapes names c.args.self.now h (sym c.len.ensures ∙ c.if-len-eq-MAX_INSNS.true));
+  added = λ shapes names at h.
+      let full = draft_full shapes names c.args.self.now h (sym c.len.ensures ∙ c.if-len-eq-MAX_INSNS.true) in
+      search rules;
 }
 
 pub returns : goal.returns
