@@ -9,3 +9,4 @@ pub mod StoredInsns
 pub mod ReadRecords
 pub mod Unjudged
 pub mod Lengths
+pub mod Classing

@@ -7,3 +7,4 @@ pub mod Records
 pub mod RecordsRead
 pub mod Views
 pub mod Packet
+pub mod Classes

@@ -4,6 +4,8 @@ ghost use Rattle.std.specs.Int.{w16, w32, to_le_bytes};
 ghost use Rattle.bpf_insn.specs.declared.insn.Insn.{Insn};
 ghost use Rattle.eth_frame.specs.Bytes.{AreBytes};
 ghost use Rattle.ch11_packet.specs.Header.{HeaderData, IsHeader, header_bytes, header_at, HasSync, HasHeaderSum, HasLengths};
+ghost use Rattle.ch11_packet.specs.declared.class.What.{What};
+ghost use Rattle.ch11_packet.specs.Classes.{Holds, HoldsNothing, IsJudgedAs, data_in, said_frames};
 ghost use Rattle.ch11_packet.specs.PacketLen.{packet_len};
 ghost use Rattle.ch11_packet.specs.Packet.{packet_bytes};
 ghost use Rattle.ch11_packet.specs.Frames.{data_bytes, data_len, frame_len};
@@ -135,4 +137,19 @@ pub fn record_has_one_reading()
     ensures unused { (channel version first other : ℕ) (insns : List Insn) (bytes : List ℕ)
         → SpellsRecord (OfProgram channel version first insns) bytes
         → SpellsRecord (OfProgram channel version first insns) (with_unused other bytes) }
+{}
+
+/// Law: a packet holds one thing at most, and nothing where its body has a fault; what isn't judged
+/// of a header, and what follows the data, makes no difference; and the bytes of a body say its
+/// frames.
+pub fn a_packet_holds_one_thing()
+    ensures one { (header : HeaderData) (body : List ℕ) (what other : What)
+        → Holds header body what → Holds header body other → what ≡ other }
+    ensures valid { (header : HeaderData) (body : List ℕ) (what : What)
+        → Holds header body what → ¬ HoldsNothing header body }
+    ensures unjudged { (header other : HeaderData) (body more : List ℕ) (what : What)
+        → IsJudgedAs header other → data_in other more ≡ data_in header body
+        → Holds header body what → Holds other more what }
+    ensures frames { (frames : List ReadFrameData) (bytes : List ℕ)
+        → SpellsBody frames bytes → said_frames bytes ≡ frames }
 {}

@@ -2,6 +2,7 @@
 //! and the bodies that are written and read.
 #![tactic(auto)]
 
+mod class;
 mod frames;
 mod header;
 mod laws;
@@ -9,6 +10,7 @@ mod length;
 mod limit;
 mod records;
 
+pub use class::{What, classify};
 pub use frames::{
     Blank, BodyFault, DataBody, DataBuilder, FrameWalk, Frames, MAX_SPEED, ReadFrame, decode_frames,
 };
@@ -17,9 +19,9 @@ pub use header::{
     MAX_ETHERNET_PACKET_LEN, SYNC_PATTERN,
 };
 pub use laws::{
-    a_frame_fits_if_its_packet_does, body_has_one_reading, header_has_one_spelling,
-    least_limit_holds_the_longest_frame, packets_have_their_lengths, record_has_one_reading,
-    the_limits_of_a_packet, the_numbers_of_a_body, the_numbers_of_a_header,
+    a_frame_fits_if_its_packet_does, a_packet_holds_one_thing, body_has_one_reading,
+    header_has_one_spelling, least_limit_holds_the_longest_frame, packets_have_their_lengths,
+    record_has_one_reading, the_limits_of_a_packet, the_numbers_of_a_body, the_numbers_of_a_header,
 };
 pub use length::packet_len;
 pub use limit::{Limit, MIN_LIMIT};

@@ -7,6 +7,7 @@ use eth_frame::Frame;
 use std::alloc::Global;
 use std::test::Fail;
 
+mod class;
 mod frames;
 mod header;
 mod records;

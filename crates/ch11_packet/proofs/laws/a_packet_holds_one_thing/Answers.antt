@@ -1,0 +1,15 @@
+use Rattle.ch11_packet.specs.Classes.{data_in}
+use Rattle.ch11_packet.proofs.Classing.{one_class, class_or_fault, holds_again, said_by_body}
+use Rattle.ch11_packet.proofs.laws.a_packet_holds_one_thing.Goals as goal
+
+pub returns-clause-one : goal.returns-clause-one
+returns-clause-one c = λ header body what other a b. one_class header (data_in header body) what other a b
+
+pub returns-clause-valid : goal.returns-clause-valid
+returns-clause-valid c = λ header body what is none. class_or_fault header (data_in header body) what is none
+
+pub returns-clause-unjudged : goal.returns-clause-unjudged
+returns-clause-unjudged c = λ header other body more what same bytes is. holds_again header other body more what same bytes is
+
+pub returns-clause-frames : goal.returns-clause-frames
+returns-clause-frames c = λ frames bytes spells. said_by_body frames bytes spells
