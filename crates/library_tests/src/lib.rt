@@ -21,6 +21,8 @@ mod machine;
 #[cfg(test)]
 mod packet;
 #[cfg(test)]
+mod reader;
+#[cfg(test)]
 mod recorder;
 #[cfg(test)]
 mod shared;

@@ -2,7 +2,7 @@
 ghost use Rattle.std.specs.Prelude.{ℕ, ◌≢◌, All};
 ghost use Rattle.rec_writer.specs.Numbers.{AreDistinct};
 
-use crate::shared::{all_bytes, program};
+use crate::shared::{ACCEPTING, END, FRAMES, REJECTING, all_bytes, joined_bytes, program};
 use ch11_packet::{DataBody, DataBuilder, HEADER_LEN, Header, Limit};
 use eth_frame::Frame;
 use rec_lane::{DataPiece, EndPiece, Piece, ProgramPiece};
@@ -15,32 +15,9 @@ use std::test::Fail;
 /// A broadcast ARP frame without a payload, with its check sequence.
 const ARP: &str = "ffffffffffff 020000000001 0806 a1b2c3d4";
 
-/// The packets of a channel that kept the second of two frames: a program that keeps nothing, one
-/// that keeps all, the frame, and the channel's end.
-const REJECTING: &str = "25eb 0000 3c000000 24000000 08 00 00 00 100000000000 9deb \
-    00000000 43425052 0100 0100 00000000 0000000000000000 0100 0000 0600000000000000";
-
-const ACCEPTING: &str = "25eb 0000 3c000000 24000000 08 01 00 00 200000000000 adec \
-    00000000 43425052 0100 0100 01000000 0100000000000000 0100 0000 0600000001000000";
-
-const FRAMES: &str = "25eb 0100 3c000000 22000000 08 00 00 68 200000000000 ac53 \
-    01000000 200000000000 0000 12000003 ffffffffffff 020000000001 0806 a1b2c3d4 0000";
-
-const END: &str = "25eb 0000 34000000 1c000000 08 02 00 00 200000000000 9ded \
-    00000000 43425052 0200 0100 0200000000000000 0100000000000000";
-
-/// All bytes of hexadecimal texts, in which spaces may stand.
-fn bytes(alloc: Global, texts: &[&str]) -> Result<Vec<u8>, Fail> {
-    let mut all = Vec::new(alloc);
-    for text in texts {
-        all.extend_from_slice(all_bytes(alloc, text)?.as_slice())?;
-    }
-    Ok(all)
-}
-
 /// The body of the ARP frame alone.
 fn body(alloc: Global, counter: u64) -> Result<DataBody, Fail> {
-    let arp = bytes(alloc, &[ARP])?;
+    let arp = joined_bytes(alloc, &[ARP])?;
     let frame = Frame::new(counter, false, false, arp.as_slice()).ok_or("a frame")?;
     let limit = Limit::new(16_424).ok_or("a limit")?;
     let mut builder = DataBuilder::with_limit(alloc, limit, 0, 3)?;
@@ -157,7 +134,7 @@ fn put<W: Write>(writer: &mut Writer<W>, piece: &Piece) -> Result<Result<(), Wri
 
 #[test]
 fn each_piece_is_its_packet(rt: HostRuntime) -> Result<(), Fail> {
-    let want = bytes(rt.alloc(), &[REJECTING, ACCEPTING, FRAMES, END])?;
+    let want = joined_bytes(rt.alloc(), &[REJECTING, ACCEPTING, FRAMES, END])?;
     for (at_once, writes) in [(usize::MAX, 9), (1, 232)] {
         let out = Output::new(rt.alloc(), usize::MAX, at_once, Then::Fails);
         let mut writer = Writer::new(out, &[1], 8);
@@ -209,7 +186,7 @@ fn sequence_numbers_go_on_from_255_with_0(rt: HostRuntime) -> Result<(), Fail> {
 
 #[test]
 fn after_a_fault_nothing_is_written(rt: HostRuntime) -> Result<(), Fail> {
-    let want = bytes(rt.alloc(), &[REJECTING, ACCEPTING])?;
+    let want = joined_bytes(rt.alloc(), &[REJECTING, ACCEPTING])?;
     for then in [
         Then::Fails,
         Then::TakesNone,

@@ -1,0 +1,5 @@
+pub mod Splitting
+pub mod Chains
+pub mod Held
+pub mod OneReading
+pub mod Cuts

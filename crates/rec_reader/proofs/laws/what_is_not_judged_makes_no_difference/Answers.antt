@@ -1,0 +1,11 @@
+use Rattle.std.proofs.Common.{ap}
+use Rattle.rec_reader.specs.ChannelFrames.{frames_held}
+use Rattle.rec_reader.proofs.Cuts.{spells_again}
+use Rattle.rec_reader.proofs.laws.what_is_not_judged_makes_no_difference.Goals as goal
+
+pub returns-clause-packet : goal.returns-clause-packet
+returns-clause-packet c = λ packet spelling body header spells judged is bytes long.
+    spells_again c.a_packet_holds_one_thing.ensures.unjudged packet spelling body header spells judged is bytes long
+
+pub returns-clause-frames : goal.returns-clause-frames
+returns-clause-frames c = λ packet body header bytes. ap (frames_held packet.what) bytes

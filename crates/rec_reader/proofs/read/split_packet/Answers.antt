@@ -1,0 +1,19 @@
+use Rattle.std.proofs.Common.{refl, arith}
+use Rattle.rec_reader.proofs.Splitting.{cut_packet, bad_packet, first_packet, split_is}
+use Rattle.rec_reader.proofs.read.split_packet.Goals as goal
+
+pub returns-in_default-clause-fault : goal.returns-in_default-clause-fault
+returns-in_default-clause-fault c =
+    cut_packet _ _ _ c.in_ok-header.ensures.header (omega (arith, c.in_default.ensures.cases))
+
+pub returns-in_default-classify-clause-fault : goal.returns-in_default-classify-clause-fault
+returns-in_default-classify-clause-fault c =
+    let split = c.in-Some.ensures.cases in
+    bad_packet _ _ _ _ _ c.in_ok-header.ensures.header (split_is _ _ _ _ split.1 split.2) (omega (arith, split.3, c.in_ok-header.header.in_range.lengths.holds))
+    (c.in_default-classify.ensures.fault.0 refl)
+
+pub returns-clause-packet : goal.returns-clause-packet
+returns-clause-packet c =
+    let split = c.in-Some.ensures.cases in
+    first_packet c.args.at _ _ _ _ _ _ c.in_ok-header.ensures.header (split_is _ _ _ _ split.1 split.2) (omega (arith, split.3, c.in_ok-header.header.in_range.lengths.holds))
+    c.in-Some-classify.ensures.holds

@@ -1,0 +1,23 @@
+-- The frames of a channel in a recording.
+use Rattle.std.specs.Prelude.{ℕ, ◌==◌, if◌then◌else◌, List, []}
+use Rattle.std.specs.List.{flat_map}
+use Rattle.ch11_packet.specs.declared.class.What.{What}
+use Rattle.ch11_packet.specs.declared.class.What.TheVariants.{Frames}
+use Rattle.ch11_packet.specs.FramesRead.{ReadFrameData}
+use Rattle.ch11_packet.specs.Classes.{data_in, said_frames}
+use Rattle.rec_reader.specs.Packets.{PacketData}
+
+-- the frames of data that hold this: of frames their own, and of anything else none
+abbrev pub frames_held : What → List ℕ → List ReadFrameData
+frames_held (Frames count) bytes = said_frames bytes
+frames_held held bytes = []
+
+-- the frames of a packet
+abbrev pub packet_frames : PacketData → List ReadFrameData
+packet_frames packet = frames_held packet.what (data_in packet.header packet.body)
+
+-- the frames of a channel: those of its packets, in order
+abbrev pub channel_frames : (channel : ℕ) → List PacketData → List ReadFrameData
+channel_frames channel packets =
+    flat_map (λ (packet : PacketData).
+    if packet.header.channel == channel then packet_frames packet else []) packets

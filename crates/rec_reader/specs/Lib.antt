@@ -1,0 +1,4 @@
+pub mod Packets
+pub mod Reading
+pub mod ChannelFrames
+pub mod Views

@@ -1,0 +1,81 @@
+-- What a recording's bytes read as: packets, and why a rest is none.
+use Rattle.std.specs.Prelude.{ℕ, ◌≡◌, ◌+◌, ◌<◌, ◌≤◌, ◌⊎◌, List, [], ◌∷◌, ◌++◌, length, take, Option, None, Some}
+use Rattle.ch11_packet.specs.declared.header.TheConstants.{HEADER_LEN}
+use Rattle.ch11_packet.specs.declared.header.HeaderFault.{HeaderFault}
+use Rattle.ch11_packet.specs.declared.header.HeaderFault.TheVariants.{Sync as BadSync, Checksum as BadChecksum, Length as BadLength}
+use Rattle.ch11_packet.specs.Header.{HeaderData, IsHeader, HasFault, header_bytes}
+use Rattle.ch11_packet.specs.Classes.{HoldsNothing}
+use Rattle.rec_reader.specs.declared.fault.ReadFaultKind.{ReadFaultKind}
+use Rattle.rec_reader.specs.declared.fault.ReadFaultKind.TheVariants.{Truncated, Sync, Checksum, Length, Body, Device, Memory}
+use Rattle.rec_reader.specs.Packets.{PacketData, Begins}
+
+-- ---- bytes that begin no packet
+
+-- a header stands first, and these bytes follow it
+pub record HasHeader (header : HeaderData) (bytes behind : List ℕ) : Type 0 where
+  pub is_header : IsHeader header
+  pub whole : bytes ≡ header_bytes header ++ behind
+
+-- some bytes, but fewer than a header has; or a header, and fewer bytes than its packet has
+abbrev pub IsCut : List ℕ → Type 0
+IsCut bytes =
+    ((0 < length bytes) × (length bytes < HEADER_LEN))
+    ⊎ ((header : HeaderData) × (behind : List ℕ) × HasHeader header bytes behind
+    × (length bytes < header.packet_len))
+
+-- as many bytes as a header has, with this wrong about them
+abbrev pub HasHeaderFault : List ℕ → HeaderFault → Type 0
+HasHeaderFault bytes fault = (HEADER_LEN ≤ length bytes) × HasFault (take HEADER_LEN bytes) fault
+
+-- a header and its packet's body, which is none
+pub record HasBadBody (bytes : List ℕ) : Type 0 where
+  pub header : HeaderData
+  pub body : List ℕ
+  pub more : List ℕ
+  pub headed : HasHeader header bytes (body ++ more)
+  pub long : HEADER_LEN + length body ≡ header.packet_len
+  pub nothing : HoldsNothing header body
+
+-- why the bytes begin no packet: there are fewer than a header has; else its sync pattern, else its
+-- checksum, else its lengths are wrong; else there are fewer bytes than its packet has; else its
+-- body has a fault. No bytes have a fault of a device or of memory.
+abbrev pub HasReadFault : List ℕ → ReadFaultKind → Type 0
+HasReadFault bytes Truncated = IsCut bytes
+HasReadFault bytes Sync = HasHeaderFault bytes BadSync
+HasReadFault bytes Checksum = HasHeaderFault bytes BadChecksum
+HasReadFault bytes Length = HasHeaderFault bytes BadLength
+HasReadFault bytes Body = HasBadBody bytes
+HasReadFault bytes Device = ⊥
+HasReadFault bytes Memory = ⊥
+
+-- ---- the reading of bytes
+
+-- how a recording ends after whose packets these bytes are left: at its end, or at a fault
+abbrev pub Ends : (rest : List ℕ) → Option ReadFaultKind → Type 0
+Ends rest None = rest ≡ []
+Ends rest (Some kind) = HasReadFault rest kind
+
+-- the bytes are these packets one after the other, and a rest that is empty or has this fault
+pub record Reads (bytes : List ℕ) (packets : List PacketData) (fault : Option ReadFaultKind)
+    : Type 0 where
+  pub rest : List ℕ
+  pub held : Begins 0 packets bytes rest
+  pub ends : Ends rest fault
+
+-- the bytes begin with these packets and a further one
+abbrev pub GoesOn : (bytes : List ℕ) → List PacketData → Type 0
+GoesOn bytes packets =
+    (next : PacketData) × (rest : List ℕ) × Begins 0 (packets ++ next ∷ []) bytes rest
+
+-- the bytes read as the first of these packets, and then end or are cut
+pub record ReadsAsFront (bytes : List ℕ) (packets : List PacketData) : Type 0 where
+  pub some : List PacketData
+  pub more : List PacketData
+  pub whole : packets ≡ some ++ more
+  pub reads : Reads bytes some None ⊎ Reads bytes some (Some Truncated)
+
+-- what a fault of a header is as a fault of the reader
+abbrev pub header_kind : HeaderFault → ReadFaultKind
+header_kind BadSync = Sync
+header_kind BadChecksum = Checksum
+header_kind BadLength = Length

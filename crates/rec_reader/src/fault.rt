@@ -1,0 +1,114 @@
+//! Why bytes are read no further.
+
+ghost use Rattle.std.specs.Prelude.{◌≡◌};
+ghost use Rattle.rec_reader.specs.Reading.{header_kind};
+ghost use Rattle.rec_reader.specs.declared.fault.ReadFaultKind.TheVariants.{Memory};
+
+use crate::recording::Recording;
+use ch11_packet::HeaderFault;
+use std::alloc::AllocFailed;
+use std::error::Error;
+use std::fmt;
+use thiserror::Error;
+
+/// Why no packet follows, in the order in which faults are looked for; but a packet is cut also
+/// where its header is whole and too few bytes follow it, which is looked for before its body.
+#[derive(Clone, Copy, Debug, PartialEq, Eq, Error)]
+pub enum ReadFaultKind {
+    /// Fewer bytes are left than a header has, or than the header says.
+    #[error("1 Truncated")]
+    Truncated,
+    /// The bytes don't begin with the sync pattern.
+    #[error("2 Sync")]
+    Sync,
+    /// The header's checksum is wrong.
+    #[error("3 Checksum")]
+    Checksum,
+    /// The header's lengths don't fit each other or the data type.
+    #[error("4 Length")]
+    Length,
+    /// The body isn't what its header says: frames that aren't whole or bytes left over after
+    /// them, or a record's tag without the record.
+    #[error("5 Body")]
+    Body,
+    /// The input failed.
+    #[error("6 Device")]
+    Device,
+    /// Out of memory for the packet.
+    #[error("7 Memory")]
+    Memory,
+}
+
+impl From<HeaderFault> for ReadFaultKind {
+    ghost from_gives = { λ fault kind. kind ≡ header_kind fault };
+
+    fn from(fault: HeaderFault) -> ReadFaultKind {
+        match fault {
+            HeaderFault::Sync => ReadFaultKind::Sync,
+            HeaderFault::Checksum => ReadFaultKind::Checksum,
+            HeaderFault::Length => ReadFaultKind::Length,
+        }
+    }
+}
+
+impl<T: Drop> From<AllocFailed<T>> for ReadFaultKind {
+    ghost from_gives = { λ _ kind. kind ≡ Memory };
+
+    fn from(_error: AllocFailed<T>) -> ReadFaultKind {
+        ReadFaultKind::Memory
+    }
+}
+
+/// Where a recording is read no further, and why.
+#[derive(Clone, Copy, Debug, PartialEq, Eq)]
+pub struct ReadEnd {
+    /// Why.
+    pub kind: ReadFaultKind,
+    /// The place of the first byte of the packet that isn't read, counted from 0.
+    pub at: u64,
+}
+
+impl fmt::Display for ReadEnd {
+    fn fmt<W: fmt::Write>(&self, f: &mut fmt::Formatter<W>) -> fmt::Result {
+        match self.kind {
+            ReadFaultKind::Memory => write!(f, "memory"),
+            kind => write!(f, "read {kind} {}", self.at),
+        }
+    }
+}
+
+impl Error for ReadEnd {}
+
+/// A recording that isn't read to its end: where and why, and the packets before.
+#[derive(Debug, Drop)]
+pub struct ReadFault<'a> {
+    /// Why it is read no further.
+    pub kind: ReadFaultKind,
+    /// The place of the first byte of the packet that isn't read, counted from 0.
+    pub at: u64,
+    /// All packets before it.
+    pub before: Recording<'a>,
+}
+
+impl ReadFault<'_> {
+    ghost use Rattle.std.specs.Prelude.{◌≡◌};
+
+    /// Where and why, without the packets.
+    pub fn end(&self) -> ReadEnd
+        ensures kind { result.kind ≡ self.now.kind }
+        ensures at { result.at ≡ self.now.at }
+    {
+        ReadEnd {
+            kind: self.kind,
+            at: self.at,
+        }
+    }
+}
+
+impl fmt::Display for ReadFault<'_> {
+    fn fmt<W: fmt::Write>(&self, f: &mut fmt::Formatter<W>) -> fmt::Result {
+        write!(f, "{}", self.end())
+    }
+}
+
+impl Error for ReadFault<'_> {}

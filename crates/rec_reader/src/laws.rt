@@ -1,0 +1,57 @@
+//! Laws of recordings, which run nothing.
+
+ghost use Rattle.std.specs.Prelude.{ℕ, ◌≡◌, ◌+◌, ◌++◌, List, [], length, Option, None};
+ghost use Rattle.ch11_packet.specs.declared.header.TheConstants.{HEADER_LEN};
+ghost use Rattle.ch11_packet.specs.Header.{HeaderData, IsHeader, header_bytes};
+ghost use Rattle.ch11_packet.specs.Classes.{IsJudgedAs, data_in};
+ghost use Rattle.rec_reader.specs.declared.fault.ReadFaultKind.{ReadFaultKind};
+ghost use Rattle.rec_reader.specs.Packets.{PacketData, SpellsPacket, Begins, packet_of};
+ghost use Rattle.rec_reader.specs.Reading.{Reads, ReadsAsFront};
+ghost use Rattle.rec_reader.specs.ChannelFrames.{packet_frames, channel_frames};
+
+use ch11_packet::{a_packet_holds_one_thing, header_has_one_spelling};
+
+/// Law: no packet's bytes begin those of a longer one, and they are one packet's; so bytes have one
+/// reading at most, and packets that they begin with are the first of it.
+pub fn bytes_have_one_reading()
+    ensures prefix { (packet other : PacketData) (spelling rest : List ℕ)
+        → SpellsPacket packet spelling → SpellsPacket other (spelling ++ rest) → rest ≡ [] }
+    ensures packet { (packet other : PacketData) (spelling : List ℕ)
+        → SpellsPacket packet spelling → SpellsPacket other spelling
+        → packet.at ≡ other.at → packet ≡ other }
+    ensures one { (bytes : List ℕ) (packets others : List PacketData)
+        (fault other : Option ReadFaultKind) → Reads bytes packets fault
+        → Reads bytes others other → (packets ≡ others) × (fault ≡ other) }
+    ensures front { (bytes rest : List ℕ) (packets all : List PacketData)
+        (fault : Option ReadFaultKind) → Begins 0 packets bytes rest → Reads bytes all fault
+        → (more : List PacketData) × (all ≡ packets ++ more) }
+{
+    header_has_one_spelling();
+    a_packet_holds_one_thing();
+}
+
+/// Law: the beginning of a recording that is read to its end, wherever it is cut, reads as the first
+/// of its packets, and then ends or is truncated; so the frames of each channel are the first of
+/// those that the recording has.
+pub fn a_cut_recording_reads_as_its_front()
+    ensures packets { (front rest : List ℕ) (packets : List PacketData)
+        → Reads (front ++ rest) packets None → ReadsAsFront front packets }
+    ensures frames { (channel : ℕ) (packets more : List PacketData)
+        → channel_frames channel (packets ++ more)
+        ≡ channel_frames channel packets ++ channel_frames channel more }
+{}
+
+/// Law: a packet with anything else in what isn't judged of its header, and after its data, is a
+/// packet that holds the same, with the same frames.
+pub fn what_is_not_judged_makes_no_difference()
+    ensures packet { (packet : PacketData) (spelling body : List ℕ) (header : HeaderData)
+        → SpellsPacket packet spelling → IsJudgedAs packet.header header → IsHeader header
+        → data_in header body ≡ data_in packet.header packet.body
+        → HEADER_LEN + length body ≡ header.packet_len
+        → SpellsPacket (packet_of packet.at header body packet.what) (header_bytes header ++ body) }
+    ensures frames { (packet : PacketData) (body : List ℕ) (header : HeaderData)
+        → data_in header body ≡ data_in packet.header packet.body
+        → packet_frames (packet_of packet.at header body packet.what) ≡ packet_frames packet }
+{
+    a_packet_holds_one_thing();
+}
