@@ -6,7 +6,7 @@ pub(crate) const ARP: &str = "ffffffffffff0200000000010806";
 pub(crate) const IPV4: &str = "ffffffffffff020000000001080045";
 
 /// The words of each run.
-pub(crate) static CASES: [&[&str]; 77] = [
+pub(crate) static CASES: [&[&str]; 97] = [
     // programs that may be installed, and what they return
     &["verify", "arp"],
     &["verify", "arp_lines"],
@@ -73,6 +73,20 @@ pub(crate) static CASES: [&[&str]; 77] = [
     &["dis", "return_of_x"],
     &["dis", "jump_out"],
     &["dis", "wrong_count"],
+    // recordings, whole, cut and damaged
+    &["list", "recordings/two_versions.ch11"],
+    &["list", "recordings/frames.ch11"],
+    &["list", "recordings/secondary_header.ch11"],
+    &["list", "recordings/setup.ch11"],
+    &["list", "recordings/passed.ch11"],
+    &["list", "empty"],
+    &["list", "recordings/cut_to_200.ch11"],
+    &["list", "recordings/cut_to_210.ch11"],
+    &["list", "recordings/bad_sync.ch11"],
+    &["list", "recordings/bad_checksum.ch11"],
+    &["list", "recordings/bad_length.ch11"],
+    &["list", "recordings/bad_body.ch11"],
+    &["list", "arp"],
     // files that can't be read, or are no text
     &["verify", "nowhere"],
     &["verify", "."],
@@ -82,6 +96,9 @@ pub(crate) static CASES: [&[&str]; 77] = [
     &["asm", "nowhere"],
     &["asm", "not_utf8"],
     &["dis", "nowhere"],
+    &["list", "nowhere"],
+    &["list", "."],
+    &["extract", "recordings/two_versions.ch11", "1", "/dev/full"],
     // words that are no command
     &["verify"],
     &["verify", "arp", "arp"],
@@ -89,13 +106,41 @@ pub(crate) static CASES: [&[&str]; 77] = [
     &["run"],
     &["asm"],
     &["dis", "arp", "arp"],
+    &["list"],
+    &["list", "arp", "arp"],
+    &["extract", "recordings/two_versions.ch11", "1"],
+    &["extract"],
     &["assemble", "arp"],
     &["--quiet"],
     &["verify", "--", "--arp"],
 ];
 
+/// Recordings, their channels, and the feeds that are written of them; each feed has a name of its
+/// own, so that it is seen whether the file was created.
+pub(crate) static EXTRACTS: [(&str, &str, &str); 16] = [
+    ("recordings/two_versions.ch11", "1", "feed_1"),
+    ("recordings/two_versions.ch11", "01", "feed_01"),
+    ("recordings/two_versions.ch11", "2", "feed_2"),
+    ("recordings/two_versions.ch11", "65535", "feed_65535"),
+    ("recordings/passed.ch11", "7", "feed_7"),
+    ("recordings/secondary_header.ch11", "1", "feed_secondary"),
+    ("empty", "0", "feed_0"),
+    // recordings that aren't read to their end: no feed is created
+    ("recordings/cut_to_210.ch11", "1", "feed_cut"),
+    ("recordings/bad_checksum.ch11", "1", "feed_bad"),
+    ("nowhere", "1", "feed_nowhere"),
+    // words that are no channel
+    ("recordings/two_versions.ch11", "65536", "feed_65536"),
+    ("nowhere", "+1", "feed_plus"),
+    ("recordings/two_versions.ch11", "0x1", "feed_0x1"),
+    ("recordings/two_versions.ch11", "", "feed_none"),
+    // feeds that can't be created
+    ("recordings/two_versions.ch11", "1", "nowhere/feed"),
+    ("recordings/two_versions.ch11", "1", ""),
+];
+
 /// Words that ask for help.
-pub(crate) static HELP: [&[&str]; 7] = [
+pub(crate) static HELP: [&[&str]; 9] = [
     &["--help"],
     &["-h"],
     &["help"],
@@ -103,4 +148,6 @@ pub(crate) static HELP: [&[&str]; 7] = [
     &["help", "run"],
     &["asm", "--help"],
     &["help", "dis"],
+    &["list", "--help"],
+    &["help", "extract"],
 ];

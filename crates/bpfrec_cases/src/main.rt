@@ -7,7 +7,7 @@
 mod cases;
 mod texts;
 
-use cases::{CASES, HELP};
+use cases::{CASES, EXTRACTS, HELP};
 use std::alloc::AllocError;
 use std::io::{ErrorKind, Write};
 use std::rt::Files;
@@ -17,6 +17,9 @@ use texts::{FILTERS, TEXTS, TextCase};
 fn main(rt: HostRuntime) -> io::Result<()> {
     for words in CASES {
         show(&rt, words)?;
+    }
+    for (recording, channel, feed) in EXTRACTS {
+        show_extract(&rt, recording, channel, feed)?;
     }
     for text in &TEXTS {
         show_text(&rt, text)?;
@@ -47,6 +50,24 @@ fn show_text<R: AllocGlobal + Files + Print>(rt: &R, text: &TextCase) -> io::Res
     Ok(())
 }
 
+/// A channel's feed: what is printed, and then the bytes of the feed, if it was created.
+fn show_extract<R: AllocGlobal + Files + Print>(
+    rt: &R,
+    recording: &str,
+    channel: &str,
+    feed: &str,
+) -> io::Result<()> {
+    show(rt, &["extract", recording, channel, feed])?;
+    let Ok(bytes) = fs::read(rt, feed) else {
+        return println!(rt; "no feed");
+    };
+    print!(rt; "feed")?;
+    for byte in &bytes {
+        print!(rt; " {byte:02x}")?;
+    }
+    println!(rt)
+}
+
 /// Runs the program on these words, and shows and gives its output.
 fn answered<R: AllocGlobal + Files + Print>(rt: &R, words: &[&str]) -> io::Result<Vec<u8>> {
     let owned = words_of(rt, words)?;
@@ -69,7 +90,9 @@ fn show_help<R: AllocGlobal + Files + Print>(rt: &R, words: &[&str]) -> io::Resu
     let mut errors = Vec::new(rt.alloc());
     let status = rec_cli::program(rt, owned.as_slice(), io::empty(), &mut output, &mut errors);
     title(rt, words)?;
-    for name in ["asm", "dis", "verify", "run", "FILE", "HEX", "Usage"] {
+    for name in [
+        "asm", "dis", "verify", "run", "extract", "FILE", "HEX", "CHANNEL", "OUT", "Usage",
+    ] {
         if text(&output).contains(name) {
             println!(rt; "names {name}")?;
         }
@@ -97,6 +120,13 @@ fn show_closed_output<R: AllocGlobal + Files + Print>(rt: &R) -> io::Result<()> 
         ["verify", "arp"].as_slice(),
         &["verify", "no_return"],
         &["run", "arp", ""],
+        &["list", "recordings/two_versions.ch11"],
+        &[
+            "extract",
+            "recordings/two_versions.ch11",
+            "1",
+            "feed_closed",
+        ],
         &["--help"],
     ] {
         let owned = words_of(rt, words)?;

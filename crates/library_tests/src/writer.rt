@@ -2,7 +2,7 @@
 ghost use Rattle.std.specs.Prelude.{ℕ, ◌≢◌, All};
 ghost use Rattle.rec_writer.specs.Numbers.{AreDistinct};
 
-use crate::shared::{ACCEPTING, END, FRAMES, REJECTING, all_bytes, joined_bytes, program};
+use crate::shared::{ACCEPTING, END, FRAMES, REJECTING, joined_bytes, program};
 use ch11_packet::{DataBody, DataBuilder, HEADER_LEN, Header, Limit};
 use eth_frame::Frame;
 use rec_lane::{DataPiece, EndPiece, Piece, ProgramPiece};

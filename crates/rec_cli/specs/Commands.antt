@@ -3,7 +3,7 @@ use Rattle.std.specs.Prelude.{◌≡◌, ◌≢◌, List, [], Option, Some, true
 use Rattle.clap.specs.Words.{App, Row, Rule, Text, first_of, new_app, new_rule, with_rule, with_subcommand}
 use Rattle.clap.specs.declared.builder.ArgAction.TheVariants.{Set}
 use Rattle.rec_cli.specs.declared.words.Words.{Words}
-use Rattle.rec_cli.specs.declared.words.Words.TheVariants.{NoCommand, Asm, Dis, Verify, Run}
+use Rattle.rec_cli.specs.declared.words.Words.TheVariants.{NoCommand, Asm, Dis, Verify, Run, List as ListOf, Extract}
 
 -- a word that must be given
 abbrev pub operand : Text → Rule
@@ -22,6 +22,14 @@ abbrev pub run_app : App
 run_app =
     with_rule (with_rule (new_app (codes "run")) (operand (codes "FILE"))) (operand (codes "HEX"))
 
+abbrev pub list_app : App
+list_app = with_rule (new_app (codes "list")) (operand (codes "FILE"))
+
+abbrev pub extract_app : App
+extract_app =
+    with_rule (with_rule (with_rule (new_app (codes "extract")) (operand (codes "FILE")))
+    (operand (codes "CHANNEL"))) (operand (codes "OUT"))
+
 -- the program without its commands: a command must stand among the words after its name
 abbrev pub top_app : App
 top_app =
@@ -32,9 +40,13 @@ top_app =
 abbrev pub texts_app : App
 texts_app = with_subcommand (with_subcommand top_app asm_app.top) dis_app.top
 
+-- the program with the commands on filters
+abbrev pub filters_app : App
+filters_app = with_subcommand (with_subcommand texts_app verify_app.top) run_app.top
+
 -- the program
 abbrev pub bpfrec_app : App
-bpfrec_app = with_subcommand (with_subcommand texts_app verify_app.top) run_app.top
+bpfrec_app = with_subcommand (with_subcommand filters_app list_app.top) extract_app.top
 
 -- the word given for a name
 abbrev pub word_for : Text → List Row → Text
@@ -45,6 +57,7 @@ abbrev pub AsksFor : Option (Text × List Row) → Words → Type 0
 AsksFor met NoCommand =
     (rows : List Row) → (met ≢ Some (codes "asm", rows)) × (met ≢ Some (codes "dis", rows))
     × (met ≢ Some (codes "verify", rows)) × (met ≢ Some (codes "run", rows))
+    × (met ≢ Some (codes "list", rows)) × (met ≢ Some (codes "extract", rows))
 AsksFor met (Asm file) =
     (rows : List Row) × (met ≡ Some (codes "asm", rows)) × (file.now ≡ word_for (codes "FILE") rows)
 AsksFor met (Dis file) =
@@ -55,3 +68,9 @@ AsksFor met (Verify file) =
 AsksFor met (Run file view) =
     (rows : List Row) × (met ≡ Some (codes "run", rows))
     × (file.now ≡ word_for (codes "FILE") rows) × (view.now ≡ word_for (codes "HEX") rows)
+AsksFor met (ListOf file) =
+    (rows : List Row) × (met ≡ Some (codes "list", rows)) × (file.now ≡ word_for (codes "FILE") rows)
+AsksFor met (Extract file channel out) =
+    (rows : List Row) × (met ≡ Some (codes "extract", rows))
+    × (file.now ≡ word_for (codes "FILE") rows) × (channel.now ≡ word_for (codes "CHANNEL") rows)
+    × (out.now ≡ word_for (codes "OUT") rows)

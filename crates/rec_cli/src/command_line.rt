@@ -3,20 +3,20 @@
 ghost use Rattle.std.specs.Prelude.{◌≡◌, IfOk, codes, false};
 ghost use Rattle.clap.specs.Words.{app_of, new_app, rule_of};
 ghost use Rattle.clap.specs.declared.builder.Command.TheViews.{out-Command as fields_of};
-ghost use Rattle.rec_cli.specs.Commands.{asm_app, bpfrec_app, dis_app, operand, run_app, texts_app, top_app, verify_app};
+ghost use Rattle.rec_cli.specs.Commands.{asm_app, bpfrec_app, dis_app, extract_app, filters_app, list_app, operand, run_app, texts_app, top_app, verify_app};
 
 use clap::{Arg, ArgAction, Command};
 use std::alloc::{AllocError, Global};
 
 const ABOUT: &str =
-    "Assembles, checks and runs the filters of the bpfrec recorder, which are classic BPF programs.";
+    "Assembles, checks and runs the filters of the bpfrec recorder, and reads its recordings.";
 
 const STATUSES: &str = "\
 Without words, bpfrec reads a listing and a view in hexadecimal, a line each, from standard
 input, and prints what run prints.
 
-Exit status: 0 answered; 1 a text, listing, program or view was refused; 2 the words are no
-command; 3 a file could not be read, or standard output not written; 4 no memory.";
+Exit status: 0 answered; 1 a text, listing, program, view or recording was refused; 2 the words
+are no command; 3 a file could not be read or written, or standard output not; 4 no memory.";
 
 const ASM: &str = "\
 Reads a filter in the text of the Linux kernel's bpf_asm, and prints its listing on standard
@@ -68,9 +68,51 @@ Exit status: 0 answered; 1 refused; 2 words; 3 the file; 4 no memory.
 Example:
   bpfrec run arp.txt ffffffffffff0200000000010806";
 
+const LIST: &str = "\
+Reads a recording, and prints on standard output a line for each of its packets, and how many
+there are and how many of them hold something else than frames and records:
+  <at> <channel> <type> <sequence> <length> <data length> <counter> <what>
+  packets <n> other <m>
+<at> is the place of the packet's first byte, <type> its data type in hexadecimal, and <what>
+  frames <n>                       n frames
+  program <channel> <version> <first> <count>
+                                   a program of that channel, from frame <first> on
+  end <channel> <offered> <kept>   the end of that channel
+  other                            anything else, which is passed over
+A recording that can't be read to its end is told on standard error, and nothing is listed:
+  read <number> <Name> <at>        Truncated, Sync, Checksum, Length or Body, and the place of
+                                   the packet that has it
+
+Exit status: 0 listed; 1 not read to its end; 2 words; 3 the file; 4 no memory.
+
+Example:
+  bpfrec list flight.ch11";
+
+const EXTRACT: &str = "\
+Reads a recording, writes the frames of one of its channels into the feed OUT, in order, and
+prints on standard output
+  frames <n> passed <m>            n frames are in the feed, and m were passed over, since they
+                                   are no frames with their check sequence
+A recording that can't be read to its end is told as by list, and then OUT is not created.
+
+Exit status: 0 written; 1 not read to its end; 2 words; 3 a file; 4 no memory.
+
+Example:
+  bpfrec extract flight.ch11 1 channel_1.feed";
+
 /// The command line of the program. Each command has a function of its own here.
 pub(crate) fn bpfrec<'a>(alloc: Global) -> Result<Command<'a>, AllocError>
     ensures app { IfOk result (λ c. app_of c ≡ bpfrec_app) }
+    ensures local { IfOk result (λ c. (fields_of c).has_globals ≡ false) }
+{
+    with_filters(alloc)?
+        .subcommand(list(alloc)?)?
+        .subcommand(extract(alloc)?)
+}
+
+/// The program with the commands on filters alone.
+fn with_filters<'a>(alloc: Global) -> Result<Command<'a>, AllocError>
+    ensures app { IfOk result (λ c. app_of c ≡ filters_app) }
     ensures local { IfOk result (λ c. (fields_of c).has_globals ≡ false) }
 {
     with_texts(alloc)?
@@ -152,6 +194,36 @@ fn run<'a>(alloc: Global) -> Result<Command<'a>, AllocError>
         .arg(operand(alloc, "HEX").help("The view in hexadecimal"))
 }
 
+fn list<'a>(alloc: Global) -> Result<Command<'a>, AllocError>
+    ensures app { IfOk result (λ c. app_of c ≡ list_app) }
+    ensures local { IfOk result (λ c. (fields_of c).has_globals ≡ false) }
+{
+    command(
+        alloc,
+        "list",
+        "bpfrec list",
+        "Prints a line for each packet of a recording",
+        LIST,
+    )?
+    .arg(recording(alloc))
+}
+
+fn extract<'a>(alloc: Global) -> Result<Command<'a>, AllocError>
+    ensures app { IfOk result (λ c. app_of c ≡ extract_app) }
+    ensures local { IfOk result (λ c. (fields_of c).has_globals ≡ false) }
+{
+    command(
+        alloc,
+        "extract",
+        "bpfrec extract",
+        "Writes a channel's frames into a feed",
+        EXTRACT,
+    )?
+    .arg(recording(alloc))?
+    .arg(operand(alloc, "CHANNEL").help("The channel, a number from 0 to 65535"))?
+    .arg(operand(alloc, "OUT").help("The feed that is written"))
+}
+
 /// A command without its words: its name alone, and as a user writes it.
 fn command<'a>(
     alloc: Global,
@@ -179,6 +251,14 @@ fn file<'a>(alloc: Global) -> Arg<'a>
     operand(alloc, "FILE").help(
         "A program's listing: the count, then code jt jf k of each instruction",
     )
+}
+
+/// A file with a recording.
+fn recording<'a>(alloc: Global) -> Arg<'a>
+    ensures rule { rule_of result ≡ operand (codes "FILE") }
+    ensures local { result.global ≡ false }
+{
+    operand(alloc, "FILE").help("A recording: packets, one after the other")
 }
 
 /// A word that must be given.

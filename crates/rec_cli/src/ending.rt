@@ -8,6 +8,7 @@ use bpf_asm::AsmFault;
 use bpf_dis::DisFault;
 use bpf_insn::ListingFault;
 use bpf_verify::Refused;
+use rec_reader::{ReadEnd, ReadFaultKind};
 use std::alloc::AllocError;
 use std::io;
 use std::io::{ErrorKind, Write};
@@ -15,7 +16,7 @@ use thiserror::Error;
 
 /// The status where the command did what was asked.
 pub(crate) const ANSWERED: u8 = 0;
-/// The status where a text, a listing, a program or a view was refused.
+/// The status where a text, a listing, a program, a view or a recording was refused.
 const REFUSED: u8 = 1;
 /// The status where the words of the command line were no command.
 const WORDS: u8 = 2;
@@ -43,6 +44,9 @@ pub(crate) enum Ending<'a> {
     Refused(#[from] Refused),
     #[error("{0}\n")]
     View(#[from] ViewFault),
+    /// A recording isn't read to its end.
+    #[error("{0}\n")]
+    Reading(ReadEnd),
     /// The words are no command; the text is clap's, with its line feeds.
     #[error("{0}")]
     Words(String),
@@ -59,6 +63,15 @@ impl<'a> Ending<'a> {
         match error.kind() {
             ErrorKind::OutOfMemory => Ending::Memory,
             _ => Ending::File(path),
+        }
+    }
+
+    /// What a fault of a recording comes to.
+    pub(crate) fn of_reading(path: &'a str, end: ReadEnd) -> Ending<'a> {
+        match end.kind {
+            ReadFaultKind::Memory => Ending::Memory,
+            ReadFaultKind::Device => Ending::File(path),
+            _ => Ending::Reading(end),
         }
     }
 
@@ -95,7 +108,7 @@ impl<'a> Ending<'a> {
             Ending::Listing(ListingFault::Memory) | Ending::View(ViewFault::Memory) => MEMORY,
             Ending::Assembler(AsmFault::Memory) | Ending::Disassembler(DisFault::Memory) => MEMORY,
             Ending::Memory => MEMORY,
-            Ending::Assembler(_) | Ending::Disassembler(_) => REFUSED,
+            Ending::Assembler(_) | Ending::Disassembler(_) | Ending::Reading(_) => REFUSED,
             Ending::Listing(_) | Ending::Refused(_) | Ending::View(_) => REFUSED,
         }
     }

@@ -7,6 +7,7 @@ use crate::ending::{ANSWERED, Ending};
 use crate::filters::{assemble_file, disassemble_file, run_file, verify_file};
 use crate::no_words::answer_lines;
 use crate::output::print_text;
+use crate::recordings::{extract_frames, list_packets};
 use crate::words::{Words, WordsFault, words_of};
 use std::io;
 use std::io::{ErrorKind, Read, Write};
@@ -66,6 +67,8 @@ fn answer<'a, R: AllocGlobal + Files, O: Write>(
         Words::Dis { file } => disassemble_file(rt, file, output),
         Words::Verify { file } => verify_file(rt, file, output),
         Words::Run { file, view } => run_file(rt, file, view, output),
+        Words::List { file } => list_packets(rt, file, output),
+        Words::Extract { file, channel, out } => extract_frames(rt, file, channel, out, output),
         Words::NoCommand => Err(Ending::Words(String::new(rt.alloc()))),
     }
 }

@@ -7,6 +7,7 @@ mod entry;
 mod filters;
 mod no_words;
 mod output;
+mod recordings;
 mod view;
 mod words;
 

@@ -17,13 +17,32 @@ pub enum Words<'a> {
     /// No command: clap takes no words without one.
     NoCommand,
     /// `asm FILE`
-    Asm { file: &'a str },
+    Asm {
+        file: &'a str,
+    },
     /// `dis FILE`
-    Dis { file: &'a str },
+    Dis {
+        file: &'a str,
+    },
     /// `verify FILE`
-    Verify { file: &'a str },
+    Verify {
+        file: &'a str,
+    },
     /// `run FILE HEX`
-    Run { file: &'a str, view: &'a str },
+    Run {
+        file: &'a str,
+        view: &'a str,
+    },
+    /// `list FILE`
+    List {
+        file: &'a str,
+    },
+    /// `extract FILE CHANNEL OUT`
+    Extract {
+        file: &'a str,
+        channel: &'a str,
+        out: &'a str,
+    },
 }
 
 /// Why the words ask for nothing. The texts are those of `clap`, with their line feeds.
@@ -81,6 +100,14 @@ fn command_in<'a>(matches: &ArgMatches<'a>) -> Words<'a>
     if name == "run" {
         let view = inner.get_str("HEX").unwrap_or("");
         return Words::Run { file, view };
+    }
+    if name == "list" {
+        return Words::List { file };
+    }
+    if name == "extract" {
+        let channel = inner.get_str("CHANNEL").unwrap_or("");
+        let out = inner.get_str("OUT").unwrap_or("");
+        return Words::Extract { file, channel, out };
     }
     Words::NoCommand
 }

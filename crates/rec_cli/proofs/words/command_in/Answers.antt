@@ -37,3 +37,21 @@ returns-then-eq-4 c =
     let file : c.unwrap_or-file.result.now ≡ word_for (codes "FILE") rows = ap (λ (s : Bor (List ℕ)). s.now) c.unwrap_or-file.ensures ∙ word_is c.in-Some.inner.now (codes "FILE") c.get_str.result _ refl c.get_str.ensures in
     let view : c.unwrap_or-view.result.now ≡ word_for (codes "HEX") rows = ap (λ (s : Bor (List ℕ)). s.now) c.unwrap_or-view.ensures ∙ word_is c.in-Some.inner.now (codes "HEX") c.get_str-then-eq-4.result _ refl c.get_str-then-eq-4.ensures in
     (rows, rw named at met, file, view)
+
+pub returns-then-eq-5 : goal.returns-then-eq-5
+returns-then-eq-5 c =
+    let rows = rows_of (found_of c.in-Some.inner.now) in
+    let named : c.in-Some.name.now ≡ codes "list" = (bytes_eq-Decides c.in-Some.name.now (codes "list")).0 (sym c.eq-5.ensures ∙ c.if-eq-5.true) in
+    let met : subcommand_rows_of c.args.matches.now ≡ Some (c.in-Some.name.now, rows) = pair_is _ _ c.in-Some.name.now rows c.in-Some.ensures.name c.in-Some.ensures.rows in
+    let file : c.unwrap_or-file.result.now ≡ word_for (codes "FILE") rows = ap (λ (s : Bor (List ℕ)). s.now) c.unwrap_or-file.ensures ∙ word_is c.in-Some.inner.now (codes "FILE") c.get_str.result _ refl c.get_str.ensures in
+    (rows, rw named at met, file)
+
+pub returns-then-eq-6 : goal.returns-then-eq-6
+returns-then-eq-6 c =
+    let rows = rows_of (found_of c.in-Some.inner.now) in
+    let named : c.in-Some.name.now ≡ codes "extract" = (bytes_eq-Decides c.in-Some.name.now (codes "extract")).0 (sym c.eq-6.ensures ∙ c.if-eq-6.true) in
+    let met : subcommand_rows_of c.args.matches.now ≡ Some (c.in-Some.name.now, rows) = pair_is _ _ c.in-Some.name.now rows c.in-Some.ensures.name c.in-Some.ensures.rows in
+    let file : c.unwrap_or-file.result.now ≡ word_for (codes "FILE") rows = ap (λ (s : Bor (List ℕ)). s.now) c.unwrap_or-file.ensures ∙ word_is c.in-Some.inner.now (codes "FILE") c.get_str.result _ refl c.get_str.ensures in
+    let channel : c.unwrap_or-channel.result.now ≡ word_for (codes "CHANNEL") rows = ap (λ (s : Bor (List ℕ)). s.now) c.unwrap_or-channel.ensures ∙ word_is c.in-Some.inner.now (codes "CHANNEL") c.get_str-then-eq-6.result _ refl c.get_str-then-eq-6.ensures in
+    let out : c.unwrap_or-out.result.now ≡ word_for (codes "OUT") rows = ap (λ (s : Bor (List ℕ)). s.now) c.unwrap_or-out.ensures ∙ word_is c.in-Some.inner.now (codes "OUT") c.get_str-then-eq-6-2.result _ refl c.get_str-then-eq-6-2.ensures in
+    (rows, rw named at met, file, channel, out)
