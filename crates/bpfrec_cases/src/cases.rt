@@ -115,30 +115,6 @@ pub(crate) static CASES: [&[&str]; 97] = [
     &["verify", "--", "--arp"],
 ];
 
-/// Recordings, their channels, and the feeds that are written of them; each feed has a name of its
-/// own, so that it is seen whether the file was created.
-pub(crate) static EXTRACTS: [(&str, &str, &str); 16] = [
-    ("recordings/two_versions.ch11", "1", "feed_1"),
-    ("recordings/two_versions.ch11", "01", "feed_01"),
-    ("recordings/two_versions.ch11", "2", "feed_2"),
-    ("recordings/two_versions.ch11", "65535", "feed_65535"),
-    ("recordings/passed.ch11", "7", "feed_7"),
-    ("recordings/secondary_header.ch11", "1", "feed_secondary"),
-    ("empty", "0", "feed_0"),
-    // recordings that aren't read to their end: no feed is created
-    ("recordings/cut_to_210.ch11", "1", "feed_cut"),
-    ("recordings/bad_checksum.ch11", "1", "feed_bad"),
-    ("nowhere", "1", "feed_nowhere"),
-    // words that are no channel
-    ("recordings/two_versions.ch11", "65536", "feed_65536"),
-    ("nowhere", "+1", "feed_plus"),
-    ("recordings/two_versions.ch11", "0x1", "feed_0x1"),
-    ("recordings/two_versions.ch11", "", "feed_none"),
-    // feeds that can't be created
-    ("recordings/two_versions.ch11", "1", "nowhere/feed"),
-    ("recordings/two_versions.ch11", "1", ""),
-];
-
 /// Words that ask for help.
 pub(crate) static HELP: [&[&str]; 9] = [
     &["--help"],

@@ -5,9 +5,11 @@
 #![tactic(auto)]
 
 mod cases;
+mod extracts;
 mod texts;
 
-use cases::{CASES, EXTRACTS, HELP};
+use cases::{CASES, HELP};
+use extracts::{EXTRACTS, ExtractCase};
 use std::alloc::AllocError;
 use std::io::{ErrorKind, Write};
 use std::rt::Files;
@@ -18,8 +20,8 @@ fn main(rt: HostRuntime) -> io::Result<()> {
     for words in CASES {
         show(&rt, words)?;
     }
-    for (recording, channel, feed) in EXTRACTS {
-        show_extract(&rt, recording, channel, feed)?;
+    for case in &EXTRACTS {
+        show_extract(&rt, case)?;
     }
     for text in &TEXTS {
         show_text(&rt, text)?;
@@ -51,14 +53,9 @@ fn show_text<R: AllocGlobal + Files + Print>(rt: &R, text: &TextCase) -> io::Res
 }
 
 /// A channel's feed: what is printed, and then the bytes of the feed, if it was created.
-fn show_extract<R: AllocGlobal + Files + Print>(
-    rt: &R,
-    recording: &str,
-    channel: &str,
-    feed: &str,
-) -> io::Result<()> {
-    show(rt, &["extract", recording, channel, feed])?;
-    let Ok(bytes) = fs::read(rt, feed) else {
+fn show_extract<R: AllocGlobal + Files + Print>(rt: &R, case: &ExtractCase) -> io::Result<()> {
+    show(rt, &["extract", case.recording, case.channel, case.feed])?;
+    let Ok(bytes) = fs::read(rt, case.feed) else {
         return println!(rt; "no feed");
     };
     print!(rt; "feed")?;
