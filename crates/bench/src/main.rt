@@ -1,4 +1,5 @@
-//! Times the machine, the assembler, the feed's reader, packets, the slot, the lane and the writer.
+//! Times the machine, the assembler, the feed's reader, packets, the slot, the lane and the writer,
+//! and makes a recording for the program to read.
 //! The first word names the part, and the others say how much of it is timed; `bench/README.md` has them. Without words
 //! it runs a little of each part, and prints what each loop came to.
 #![tactic(auto)]
@@ -9,6 +10,7 @@ mod feed;
 mod lane;
 mod machine;
 mod packets;
+mod recording;
 mod slot;
 mod words;
 mod writer;
@@ -56,7 +58,10 @@ fn measure<R: Wait>(rt: &HostRuntime, waits: &R, part: &str, words: &[String]) -
     if part == "writer" {
         return writer::measure(rt, words);
     }
-    bail!("no such part: machine, assembler, feed, packets, slot, lane and writer are there");
+    if part == "recording" {
+        return recording::make(rt, words);
+    }
+    bail!("no such part: `bench/README.md` has them");
 }
 
 /// Runs a little of each part, and prints what each loop came to.
@@ -68,5 +73,6 @@ fn self_check<R: Wait>(rt: &HostRuntime, waits: &R) -> Result<()> {
     println!(rt; "slot {}", slot::self_check(rt, waits)?)?;
     println!(rt; "lane {}", lane::self_check(rt)?)?;
     println!(rt; "writer {}", writer::self_check(rt)?)?;
+    println!(rt; "recording {}", recording::self_check(rt)?)?;
     Ok(())
 }

@@ -4,10 +4,11 @@ ghost use Rattle.std.specs.Prelude.{◌≡◌, ◌<◌, IfSome, length};
 ghost use Rattle.rec_cli.specs.Lines.{AnswersLines};
 
 use crate::ending::{ANSWERED, Ending};
+use crate::extraction::extract_frames;
 use crate::filters::{assemble_file, disassemble_file, run_file, verify_file};
 use crate::no_words::answer_lines;
 use crate::output::print_text;
-use crate::recordings::{extract_frames, list_packets};
+use crate::packet_list::list_packets;
 use crate::words::{Words, WordsFault, words_of};
 use std::io;
 use std::io::{ErrorKind, Read, Write};

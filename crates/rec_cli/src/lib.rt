@@ -4,10 +4,11 @@
 mod command_line;
 mod ending;
 mod entry;
+mod extraction;
 mod filters;
 mod no_words;
 mod output;
-mod recordings;
+mod packet_list;
 mod view;
 mod words;
 

@@ -1,10 +1,10 @@
-//! The commands on one recording: to list its packets, and to extract a channel's frames.
+//! The command that extracts a channel's frames from a recording.
 
 use crate::ending::Ending;
 use crate::output::finish;
-use ch11_packet::{Header, ReadFrame, What};
+use ch11_packet::ReadFrame;
 use eth_frame::{FeedWriteFault, write_feed};
-use rec_reader::{Packet, Recording, frames_of, read_recording};
+use rec_reader::{Recording, frames_of, read_recording};
 use std::alloc::Global;
 use std::io::{BufWriter, Write};
 use std::rt::Files;
@@ -15,19 +15,6 @@ use std::{fs, io};
 struct Extracted {
     frames: usize,
     passed: usize,
-}
-
-/// `list FILE`: prints a line for each packet, and their number.
-pub(crate) fn list_packets<'a, R: AllocGlobal + Files, O: Write>(
-    rt: &R,
-    file: &'a str,
-    output: &mut O,
-) -> Result<(), Ending<'a>> {
-    let bytes = file_bytes(rt, file)?;
-    let recording = recording_in(rt.alloc(), file, bytes.as_slice())?;
-    let mut lines = BufWriter::new(rt.alloc(), output).map_err(|_| Ending::Memory)?;
-    let written = print_packets(&mut lines, &recording);
-    finish(&mut lines, written)
 }
 
 /// `extract FILE CHANNEL OUT`: writes the channel's frames into a feed, and prints how many. The
@@ -80,49 +67,6 @@ fn recording_in<'a, 'b>(
     match read_recording(alloc, bytes) {
         Ok(recording) => Ok(recording),
         Err(fault) => Err(Ending::of_reading(file, fault.end())),
-    }
-}
-
-/// Prints the line of each packet, and then how many there are.
-fn print_packets<W: Write>(lines: &mut W, recording: &Recording<'_>) -> io::Result<()> {
-    'packets: for packet in &recording.packets {
-        print_packet(lines, packet)?;
-    }
-    let others = recording.packets.iter();
-    let others = others.filter(|packet| packet.what == What::Other).count();
-    writeln!(lines, "packets {} other {others}", recording.packets.len())
-}
-
-/// Prints the line of a packet: its place, its header's fields, and what it holds.
-fn print_packet<W: Write>(lines: &mut W, packet: &Packet<'_>) -> io::Result<()> {
-    let Header {
-        channel,
-        packet_len,
-        data_len,
-        sequence,
-        kind,
-        counter,
-        ..
-    } = packet.header;
-    let at = packet.at;
-    write!(
-        lines,
-        "{at} {channel} {kind:02x} {sequence} {packet_len} {data_len} {counter} "
-    )?;
-    match packet.what {
-        What::Frames(count) => writeln!(lines, "frames {count}"),
-        What::Program {
-            channel,
-            version,
-            first,
-            count,
-        } => writeln!(lines, "program {channel} {version} {first} {count}"),
-        What::End {
-            channel,
-            offered,
-            kept,
-        } => writeln!(lines, "end {channel} {offered} {kept}"),
-        What::Other => writeln!(lines, "other"),
     }
 }
 

@@ -1,0 +1,61 @@
+#!/usr/bin/env python3
+"""Times `bpfrec list` and `bpfrec extract` on a recording beside `cat` of the same file.
+
+usage: bench/read_recording.py BPFREC BENCH [LENGTH [MEGABYTES]]
+
+BPFREC and BENCH are the programs that `tools/build` and `tools/build bench` leave in bin/. BENCH makes
+a recording of MEGABYTES (100) of packets that are full of frames of LENGTH (1518) bytes, in a
+temporary folder. Each command runs nine times, in turn with the others, with its output to a file there.
+It prints, for each, the best time and the median in milliseconds, and the most memory of any run.
+"""
+import os
+import statistics
+import subprocess
+import sys
+import tempfile
+import time
+
+ROUNDS = 9
+
+
+def run(words, output):
+    """The seconds that a run takes, and its greatest memory in kilobytes."""
+    with open(output, "wb") as out:
+        begin = time.monotonic()
+        child = subprocess.Popen(words, stdout=out)
+        _, status, used = os.wait4(child.pid, 0)
+        spent = time.monotonic() - begin
+    child.returncode = os.waitstatus_to_exitcode(status)
+    if child.returncode != 0:
+        sys.exit(f"{' '.join(words)} ended with status {child.returncode}")
+    return spent, used.ru_maxrss
+
+
+def main():
+    if not 3 <= len(sys.argv) <= 5:
+        print(__doc__.strip())
+        return 2
+    bpfrec, bench = (os.path.abspath(it) for it in sys.argv[1:3])
+    length, megabytes = [*sys.argv[3:], *["1518", "100"][len(sys.argv) - 3:]]
+    with tempfile.TemporaryDirectory() as work:
+        recording = f"{work}/recording.ch11"
+        subprocess.run([bench, "recording", recording, length, megabytes], check=True)
+        size = os.path.getsize(recording)
+        commands = {
+            "cat": ["cat", recording],
+            "list": [bpfrec, "list", recording],
+            "extract": [bpfrec, "extract", recording, "1", f"{work}/feed"],
+        }
+        runs = {name: [] for name in commands}
+        for _ in range(ROUNDS):
+            for name, words in commands.items():
+                runs[name].append(run(words, f"{work}/{name}.out"))
+        print(f"a recording of {size:,} bytes, frames of {length}")
+        for name, done in runs.items():
+            times = sorted(seconds * 1000 for seconds, _ in done)
+            memory = max(kilobytes for _, kilobytes in done) / 1000
+            print(f"{name:8} best {times[0]:7.1f} ms  median {statistics.median(times):7.1f} ms  memory {memory:6.1f} MB")
+    return 0
+
+
+sys.exit(main())
