@@ -1,4 +1,5 @@
 //! Whole recordings: sources, a control and an output that wait for one another.
+mod long;
 mod parts;
 mod runs;
 mod script;

@@ -24,24 +24,14 @@ pub(crate) fn report_of<S: Drop>(
         marks,
         offered,
     } = slot.into_parts();
+    let (programs, numbers) = (versions.as_slice(), marks.as_slice());
     if joined.end == WorkerEnd::History || joined.offered != offered {
         return None;
     }
-    if !are_served(
-        joined.met.as_slice(),
-        versions.as_slice(),
-        marks.as_slice(),
-        offered,
-    ) {
+    if !are_served(joined.met.as_slice(), programs, numbers, offered) {
         return None;
     }
-    if !are_answered(
-        joined.channel,
-        &joined.program,
-        versions.as_slice(),
-        marks.as_slice(),
-        log,
-    ) {
+    if !are_answered(joined.channel, &joined.program, programs, numbers, log) {
         return None;
     }
     let Joined {

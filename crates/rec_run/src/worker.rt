@@ -99,6 +99,10 @@ fn record_frame<S: Drop, R: Wait>(
         return Some(WorkerEnd::History);
     }
     let offered = worker.lane.offer(frame, drawn);
+    // most frames make no piece certain
+    if offered.pieces.is_empty() {
+        return None;
+    }
     if send_all(rt, stop, &mut worker.ring, offered.pieces) {
         None
     } else {

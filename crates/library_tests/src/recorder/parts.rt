@@ -83,6 +83,16 @@ pub(super) struct Stage {
     pub(super) gave: usize,
 }
 
+/// A stage of one frame or of none.
+pub(super) fn stage_of(bytes: Vec<u8>, began: usize, needs: [usize; 2], gave: usize) -> Stage {
+    Stage {
+        bytes,
+        began,
+        needs,
+        gave,
+    }
+}
+
 /// A reader of stages, one after the other.
 #[derive(Drop)]
 pub(super) struct Stages {
@@ -135,6 +145,30 @@ pub(super) struct Step {
     pub(super) change: Option<Change>,
     pub(super) began: usize,
     pub(super) needs: usize,
+}
+
+/// A step that gives a change of a channel.
+pub(super) fn change(
+    alloc: Global,
+    channel: u16,
+    listing: &str,
+    needs: usize,
+) -> Result<Step, Fail> {
+    let program = program(alloc, listing)?;
+    Ok(Step {
+        change: Some(Change { channel, program }),
+        began: NONE,
+        needs,
+    })
+}
+
+/// A step that ends.
+pub(super) fn end(began: usize, needs: usize) -> Step {
+    Step {
+        change: None,
+        began,
+        needs,
+    }
 }
 
 /// A control with these steps, which has given and was told nothing.

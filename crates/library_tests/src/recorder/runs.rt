@@ -1,7 +1,12 @@
 //! Recordings of a few frames, whose sources, control and output wait for one another.
+
+ghost use Rattle.std.specs.Prelude.{◌≤◌};
+ghost use Rattle.library_tests.specs.Scripts.{IsFresh};
+
 use super::parts::*;
-use crate::shared::{all_bytes, program};
-use eth_frame::SourceFault;
+use super::script::Script;
+use crate::shared::all_bytes;
+use eth_frame::{FeedSource, SourceFault};
 use rec_run::*;
 use rec_writer::WriteFault;
 use std::alloc::Global;
@@ -28,19 +33,23 @@ const NO_FRAME: &str = "25eb 0000 34000000 1c000000 08 00 00 00 000000000000 7de
     00000000 43425052 0200 0100 0000000000000000 0000000000000000";
 
 /// A stage that waits for nothing.
-fn plain(bytes: Vec<u8>) -> Stage {
-    Stage {
-        bytes,
-        began: NONE,
-        needs: [NONE, NONE],
-        gave: NONE,
-    }
+pub(super) fn plain(bytes: Vec<u8>) -> Stage {
+    stage_of(bytes, NONE, [NONE, NONE], NONE)
 }
 
 /// What is told of a channel: versions, offered, kept and its ending.
 type Told4 = (usize, u64, u64, Ending);
 
-/// Records two frames of channel 1 into an output, with no change.
+/// The stages of up to two frames.
+fn feed(alloc: Global, frames: u8) -> Result<Vec<Stage>, Fail> {
+    let mut stages = Vec::new(alloc);
+    for k in 0..frames {
+        stages.push(plain(record_of(alloc, 16 + 16 * (k % 2))?))?;
+    }
+    Ok(stages)
+}
+
+/// Records up to two frames of channel 1 into an output, with no change.
 fn two_frames<R: Threads + Wait + Sync>(
     rt: &R,
     alloc: Global,
@@ -49,12 +58,8 @@ fn two_frames<R: Threads + Wait + Sync>(
     flushes_fail: bool,
 ) -> Result<(Vec<u8>, Option<Told4>, Option<WriteFault>), Fail> {
     let marks = fresh_marks(alloc)?;
-    let mut stages = Vec::new(alloc);
-    for k in 0..frames {
-        stages.push(plain(record_of(alloc, 16 + 16 * (k % 2))?))?;
-    }
     let mut jobs = Vec::new(alloc);
-    let source = source(Arc::try_clone(&marks)?, stages);
+    let source = source(Arc::try_clone(&marks)?, feed(alloc, frames)?);
     jobs.push(job(alloc, 1, ACCEPT, source)?)?;
     let control = fresh_script(alloc, Arc::try_clone(&marks)?, Vec::new(alloc), NONE);
     let mut out = output(alloc, marks, room);
@@ -128,6 +133,27 @@ fn an_output_that_fails_cuts_the_recording(rt: HostRuntime) -> Result<(), Fail> 
     Ok(())
 }
 
+/// A recording that ends.
+pub(super) fn recorded<R: Threads + Wait + Sync>(
+    rt: &R,
+    alloc: Global,
+    jobs: Vec<Job<FeedSource<Stages>>>,
+    ring: usize,
+    control: Script,
+    out: Watched,
+) -> Result<Done<FeedSource<Stages>, Script, Watched>, Fail>
+    requires ring { (1 ≤ ring) × (ring ≤ 4096) }
+    requires control { IsFresh control }
+{
+    if !jobs_ok(jobs.as_slice()) {
+        return Err("jobs that may be recorded")?;
+    }
+    match record(rt, alloc, jobs, ring, 8, control, out) {
+        Ok(done) => Ok(done),
+        Err(_) => Err("a recording that ends")?,
+    }
+}
+
 /// What a job's channel is told, and the marks of its versions.
 fn told_of<S: Drop>(
     alloc: Global,
@@ -156,40 +182,15 @@ fn sources_control_and_output_wait_for_one_another(rt: HostRuntime) -> Result<()
     const PACKET_OUT: usize = 6;
     let alloc = rt.alloc();
     let marks = fresh_marks(alloc)?;
+    let frame = record_of(alloc, 16)?;
     let mut first = Vec::new(alloc);
-    first.push(Stage {
-        bytes: record_of(alloc, 16)?,
-        began: ASKED_1,
-        needs: [GAVE_2, ASKED_CONTROL_AGAIN],
-        gave: GAVE_1,
-    })?;
-    first.push(Stage {
-        bytes: Vec::new(alloc),
-        began: ASKED_1_AGAIN,
-        needs: [PACKET_OUT, NONE],
-        gave: NONE,
-    })?;
+    first.push(stage_of(frame, ASKED_1, [GAVE_2, ASKED_CONTROL_AGAIN], GAVE_1))?;
+    first.push(stage_of(Vec::new(alloc), ASKED_1_AGAIN, [PACKET_OUT, NONE], NONE))?;
     let mut second = Vec::new(alloc);
-    second.push(Stage {
-        bytes: record_of(alloc, 16)?,
-        began: NONE,
-        needs: [TOLD, ASKED_1],
-        gave: GAVE_2,
-    })?;
+    second.push(stage_of(record_of(alloc, 16)?, NONE, [TOLD, ASKED_1], GAVE_2))?;
     let mut steps = Vec::new(alloc);
-    steps.push(Step {
-        change: None,
-        began: ASKED_CONTROL_AGAIN,
-        needs: GAVE_1,
-    })?;
-    steps.push(Step {
-        change: Some(Change {
-            channel: 2,
-            program: program(alloc, ACCEPT)?,
-        }),
-        began: NONE,
-        needs: NONE,
-    })?;
+    steps.push(end(ASKED_CONTROL_AGAIN, GAVE_1))?;
+    steps.push(change(alloc, 2, ACCEPT, NONE)?)?;
     let mut jobs = Vec::new(alloc);
     let source_1 = source(Arc::try_clone(&marks)?, first);
     jobs.push(job(alloc, 1, REJECT, source_1)?)?;
@@ -200,12 +201,7 @@ fn sources_control_and_output_wait_for_one_another(rt: HostRuntime) -> Result<()
     out.needs = ASKED_1_AGAIN;
     out.full = 60;
     out.full_mark = PACKET_OUT;
-    if !jobs_ok(jobs.as_slice()) {
-        return Err("jobs that may be recorded")?;
-    }
-    let Ok(done) = record(&rt, alloc, jobs, 1, 8, control, out) else {
-        return Err("a recording that ends")?;
-    };
+    let done = recorded(&rt, alloc, jobs, 1, control, out)?;
     let reports = done.report.channels.as_slice();
     let (told, marks) = told_of(alloc, reports, 0)?;
     assert_eq!(rt; told, (1, 1, 0, Ending::SourceEnd));
@@ -227,32 +223,15 @@ fn a_change_meets_the_frames_after_it(rt: HostRuntime) -> Result<(), Fail> {
     let mut stages = Vec::new(alloc);
     stages.push(plain(record_of(alloc, 16)?))?;
     stages.push(plain(record_of(alloc, 32)?))?;
-    stages.push(Stage {
-        bytes: record_of(alloc, 48)?,
-        began: ASKED_THIRD,
-        needs: [TOLD, NONE],
-        gave: NONE,
-    })?;
+    stages.push(stage_of(record_of(alloc, 48)?, ASKED_THIRD, [TOLD, NONE], NONE))?;
     let mut steps = Vec::new(alloc);
-    steps.push(Step {
-        change: Some(Change {
-            channel: 1,
-            program: program(alloc, ACCEPT)?,
-        }),
-        began: NONE,
-        needs: ASKED_THIRD,
-    })?;
+    steps.push(change(alloc, 1, ACCEPT, ASKED_THIRD)?)?;
     let mut jobs = Vec::new(alloc);
     let source = source(Arc::try_clone(&marks)?, stages);
     jobs.push(job(alloc, 1, REJECT, source)?)?;
     let control = fresh_script(alloc, Arc::try_clone(&marks)?, steps, TOLD);
     let out = output(alloc, marks, usize::MAX);
-    if !jobs_ok(jobs.as_slice()) {
-        return Err("jobs that may be recorded")?;
-    }
-    let Ok(done) = record(&rt, alloc, jobs, 4, 8, control, out) else {
-        return Err("a recording that ends")?;
-    };
+    let done = recorded(&rt, alloc, jobs, 4, control, out)?;
     let (told, marks) = told_of(alloc, done.report.channels.as_slice(), 0)?;
     assert_eq!(rt; told, (2, 3, 1, Ending::SourceEnd));
     assert_eq!(rt; marks.as_slice(), [0, 2].as_slice());
@@ -283,13 +262,8 @@ fn ending_of<R: Threads + Wait + Sync>(
     jobs.push(one)?;
     let control = fresh_script(alloc, Arc::try_clone(&marks)?, Vec::new(alloc), NONE);
     let out = output(alloc, marks, usize::MAX);
-    if !jobs_ok(jobs.as_slice()) {
-        return Err("jobs that may be recorded")?;
-    }
-    match record(rt, alloc, jobs, 1, 8, control, out) {
-        Ok(done) => Ok(first_told(done.report.channels.as_slice())),
-        Err(_) => Err("a recording that ends")?,
-    }
+    let done = recorded(rt, alloc, jobs, 1, control, out)?;
+    Ok(first_told(done.report.channels.as_slice()))
 }
 
 /// Two frames, and then the beginning of another record.
