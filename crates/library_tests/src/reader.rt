@@ -137,43 +137,46 @@ fn a_damaged_packet_ends_the_reading(rt: HostRuntime) -> Result<(), Fail> {
     Ok(())
 }
 
+/// Bytes that aren't read, and their fault.
+const FAULTS: [(&str, ReadFaultKind); 8] = [
+    // fewer bytes than a header has, whatever they are
+    ("00", ReadFaultKind::Truncated),
+    (
+        "00eb 0100 3c000000 22000000 08 00 00 68 100000000000 9c",
+        ReadFaultKind::Truncated,
+    ),
+    // the sync pattern, then the checksum, then the lengths
+    (
+        "00eb 0100 3d000000 22000000 08 00 00 68 100000000000 9c53",
+        ReadFaultKind::Sync,
+    ),
+    (
+        "25eb 0100 3d000000 22000000 08 00 00 68 100000000000 9c53",
+        ReadFaultKind::Checksum,
+    ),
+    (
+        "25eb 0100 3d000000 22000000 08 00 00 68 100000000000 9d53",
+        ReadFaultKind::Length,
+    ),
+    // a length that is only claimed
+    (
+        "25eb 0100 fcffffff 00000000 08 00 00 01 000000000000 29ec",
+        ReadFaultKind::Truncated,
+    ),
+    // a body that is cut isn't looked at
+    (
+        "25eb 0100 20000000 04000000 08 00 00 68 100000000000 6253 01000000",
+        ReadFaultKind::Truncated,
+    ),
+    (
+        "25eb 0100 1c000000 04000000 08 00 00 68 100000000000 5e53 01000000",
+        ReadFaultKind::Body,
+    ),
+];
+
 #[test]
 fn faults_are_looked_for_in_their_order(rt: HostRuntime) -> Result<(), Fail> {
-    for (text, kind) in [
-        // fewer bytes than a header has, whatever they are
-        ("00", ReadFaultKind::Truncated),
-        (
-            "00eb 0100 3c000000 22000000 08 00 00 68 100000000000 9c",
-            ReadFaultKind::Truncated,
-        ),
-        // the sync pattern, then the checksum, then the lengths
-        (
-            "00eb 0100 3d000000 22000000 08 00 00 68 100000000000 9c53",
-            ReadFaultKind::Sync,
-        ),
-        (
-            "25eb 0100 3d000000 22000000 08 00 00 68 100000000000 9c53",
-            ReadFaultKind::Checksum,
-        ),
-        (
-            "25eb 0100 3d000000 22000000 08 00 00 68 100000000000 9d53",
-            ReadFaultKind::Length,
-        ),
-        // a length that is only claimed
-        (
-            "25eb 0100 fcffffff 00000000 08 00 00 01 000000000000 29ec",
-            ReadFaultKind::Truncated,
-        ),
-        // a body that is cut isn't looked at
-        (
-            "25eb 0100 20000000 04000000 08 00 00 68 100000000000 6253 01000000",
-            ReadFaultKind::Truncated,
-        ),
-        (
-            "25eb 0100 1c000000 04000000 08 00 00 68 100000000000 5e53 01000000",
-            ReadFaultKind::Body,
-        ),
-    ] {
+    for (text, kind) in FAULTS {
         let bytes = all_bytes(rt.alloc(), text)?;
         let (packets, fault) = reading(rt.alloc(), bytes.as_slice())?;
         assert_eq!(rt; (packets.len(), fault), (0, Some((kind, 0))), "{text}");
@@ -263,6 +266,17 @@ fn a_channel_has_the_frames_of_its_packets_in_order(rt: HostRuntime) -> Result<(
             "channel {channel}"
         );
     }
+    Ok(())
+}
+
+#[test]
+fn a_frame_that_is_read_has_its_marks_and_its_bytes(rt: HostRuntime) -> Result<(), Fail> {
+    let alloc = rt.alloc();
+    let body = "01000000 010000000000 ffff 02c000c0 cccc";
+    let bytes = packet(alloc, (1, 0, ETHERNET_DATA), body)?;
+    let Ok(recording) = read_recording(alloc, bytes.as_slice()) else {
+        return Err("a recording")?;
+    };
     let frames = frames_of(alloc, &recording, 1)?;
     let Some(last) = frames.last() else {
         return Err("a frame")?;
