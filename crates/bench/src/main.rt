@@ -1,5 +1,5 @@
-//! Times the machine, the assembler, the feed's reader, packets, the slot, the lane and the writer,
-//! and makes a recording for the program to read.
+//! Times the machine, the assembler, the feed's reader, packets, the slot, the lane, the writer and
+//! whole recordings, and makes a recording for the program to read.
 //! The first word names the part, and the others say how much of it is timed; `bench/README.md` has them. Without words
 //! it runs a little of each part, and prints what each loop came to.
 #![tactic(auto)]
@@ -10,6 +10,7 @@ mod feed;
 mod lane;
 mod machine;
 mod packets;
+mod recorder;
 mod recording;
 mod slot;
 mod words;
@@ -18,6 +19,7 @@ mod writer;
 use anyhow::{Result, bail};
 use std::env;
 use std::sync::Wait;
+use std::thread::Threads;
 
 fn main(rt: HostRuntime) -> Result<()> {
     let mut words = Vec::new(rt.alloc());
@@ -35,8 +37,13 @@ fn main(rt: HostRuntime) -> Result<()> {
     )
 }
 
-/// Times one part. A draw waits for the slot's lock, by `waits`.
-fn measure<R: Wait>(rt: &HostRuntime, waits: &R, part: &str, words: &[String]) -> Result<()> {
+/// Times one part. A draw waits for the slot's lock, and a recording for its threads, by `waits`.
+fn measure<R: Threads + Wait + Sync>(
+    rt: &HostRuntime,
+    waits: &R,
+    part: &str,
+    words: &[String],
+) -> Result<()> {
     if part == "machine" {
         return machine::measure(rt, words);
     }
@@ -58,6 +65,9 @@ fn measure<R: Wait>(rt: &HostRuntime, waits: &R, part: &str, words: &[String]) -
     if part == "writer" {
         return writer::measure(rt, words);
     }
+    if part == "recorder" {
+        return recorder::measure(rt, waits, words);
+    }
     if part == "recording" {
         return recording::make(rt, words);
     }
@@ -65,7 +75,7 @@ fn measure<R: Wait>(rt: &HostRuntime, waits: &R, part: &str, words: &[String]) -
 }
 
 /// Runs a little of each part, and prints what each loop came to.
-fn self_check<R: Wait>(rt: &HostRuntime, waits: &R) -> Result<()> {
+fn self_check<R: Threads + Wait + Sync>(rt: &HostRuntime, waits: &R) -> Result<()> {
     println!(rt; "machine {}", machine::self_check(rt)?)?;
     println!(rt; "assembler {}", assembler::self_check(rt)?)?;
     println!(rt; "feed {}", feed::self_check(rt)?)?;
@@ -73,6 +83,7 @@ fn self_check<R: Wait>(rt: &HostRuntime, waits: &R) -> Result<()> {
     println!(rt; "slot {}", slot::self_check(rt, waits)?)?;
     println!(rt; "lane {}", lane::self_check(rt)?)?;
     println!(rt; "writer {}", writer::self_check(rt)?)?;
+    println!(rt; "recorder {}", recorder::self_check(waits, rt.alloc())?)?;
     println!(rt; "recording {}", recording::self_check(rt)?)?;
     Ok(())
 }
