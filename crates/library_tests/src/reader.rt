@@ -64,23 +64,16 @@ fn reading(
 fn packet(alloc: Global, head: (u16, u8, u8), text: &str) -> Result<Vec<u8>, Fail> {
     let (channel, flags, kind) = head;
     let data = all_bytes(alloc, text)?;
-    let len = ch11_len(data.len())?;
-    let header = Header::new(channel, len, data.len() as u32, 8, 0, flags, kind, 16);
-    let header = header.ok_or("a header")?;
+    let filler = (4 - data.len() % 4) % 4;
+    let len = u32::try_from(HEADER_LEN + data.len() + filler)?;
+    let data_len = u32::try_from(data.len())?;
+    let header = Header::new(channel, len, data_len, 8, 0, flags, kind, 16).ok_or("a header")?;
     let mut packet = header.encode().to_vec(alloc)?;
     packet.extend_from_slice(data.as_slice())?;
-    while packet.len() < len as usize {
+    for _ in 0..filler {
         packet.push(0)?;
     }
     Ok(packet)
-}
-
-/// The length of a packet with this many bytes of data, few as they are in tests.
-fn ch11_len(data_len: usize) -> Result<u32, Fail> {
-    if data_len > 100_000 {
-        return Err("few bytes of data")?;
-    }
-    Ok((HEADER_LEN + data_len).next_multiple_of(4) as u32)
 }
 
 #[test]

@@ -5,9 +5,7 @@ ghost use Rattle.ch11_packet.specs.declared.header.TheConstants.{HEADER_LEN};
 ghost use Rattle.ch11_packet.specs.Classes.{Holds};
 ghost use Rattle.ch11_packet.specs.Views.{header_data};
 
-use ch11_packet::{
-    Frames, Header, What, a_packet_holds_one_thing, decode_frames, header_has_one_spelling,
-};
+use ch11_packet::{Frames, Header, What, a_packet_holds_one_thing, decode_frames};
 
 /// A packet of a recording (IRIG 106-17 Chapter 11, in this project's profile), with what it holds
 /// by its header and its data. Its body is borrowed from the recording's bytes. Only the readers

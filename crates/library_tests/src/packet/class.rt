@@ -20,13 +20,13 @@ fn class_of(
     text: &str,
 ) -> Result<Option<What>, Fail> {
     let mut body = all_bytes(alloc, text)?;
-    let data_len = body.len();
-    let filled = data_len.next_multiple_of(4) + 4;
-    while body.len() < filled {
+    let data_len = u32::try_from(body.len())?;
+    let filler = (4 - body.len() % 4) % 4;
+    for _ in 0..filler + 4 {
         body.push(0xff)?;
     }
-    let len = (HEADER_LEN + body.len()) as u32;
-    let header = Header::new(channel, len, data_len as u32, 8, 0, flags, kind, 16);
+    let len = u32::try_from(HEADER_LEN + body.len())?;
+    let header = Header::new(channel, len, data_len, 8, 0, flags, kind, 16);
     let header = header.ok_or("a header")?;
     if header.packet_len as usize != HEADER_LEN + body.len() {
         return Err("a packet of this length")?;
