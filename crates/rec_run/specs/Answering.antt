@@ -22,7 +22,7 @@ programs_given changes = map (λ (g : Given). g.program) changes
 abbrev pub answers_in : List Answered → List Answer
 answers_in answers = map (λ (a : Answered). a.answer) answers
 
--- the answers to so many changes, if these are the versions that come next: as long as there are
+-- the answers to these changes of a channel, if these are the versions that come next: as long as there are
 -- some, each is installed
 abbrev pub answers_to : (version : ℕ) → List Version → List Given → List Answer
 answers_to version versions [] = []

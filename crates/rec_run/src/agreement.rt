@@ -33,7 +33,7 @@ pub(crate) fn are_answered(
 }
 
 /// Whether the changes of a channel are these later versions, in order, and those after them were
-/// refused for want of room.
+/// refused since there is no room.
 fn follow(channel: u16, versions: &[Arc<Verified, Global>], marks: &[u64], log: &[Logged]) -> bool
     ensures { result ≡ true
         → Follows channel 1 (history_in versions.now marks.now) log.now }
@@ -42,7 +42,7 @@ fn follow(channel: u16, versions: &[Arc<Verified, Global>], marks: &[u64], log: 
     let mut marks = marks;
     let mut log = log;
     let mut version = 1u64;
-    while let Some((entry, later)) = log.split_first() {
+    'entries: while let Some((entry, later)) = log.split_first() {
         if entry.told.channel == channel {
             if !is_next(entry, version, versions, marks) {
                 return false;
@@ -60,7 +60,7 @@ fn follow(channel: u16, versions: &[Arc<Verified, Global>], marks: &[u64], log: 
 }
 
 /// Whether a change is the next version of its channel, which has this number; where there is none,
-/// whether it was refused for want of room.
+/// whether it was refused since there is no room.
 fn is_next(entry: &Logged, version: u64, versions: &[Arc<Verified, Global>], marks: &[u64]) -> bool
     ensures { result ≡ true → IsNext version (history_in versions.now marks.now) entry.now }
 {
@@ -91,7 +91,7 @@ fn rest_of<T>(items: &[T]) -> &[T]
 pub(crate) fn are_of_some(channels: &[u16], log: &[Logged]) -> bool
     ensures { result ≡ true → All (IsOfSome channels.now) log.now }
 {
-    for entry in log {
+    'entries: for entry in log {
         if entry.told.answer != Answer::NoChannel && !channels.contains(&entry.told.channel) {
             return false;
         }

@@ -43,7 +43,7 @@ pub(crate) fn run_control<C: Control + Drop, R: Wait>(
         log,
         ended: false,
     };
-    for _ in rt.forever() {
+    'changes: for _ in rt.forever() {
         if !change_one(&mut run, rt, slots, channels, stop) {
             return run;
         }
@@ -97,7 +97,7 @@ fn make_room<R: Wait>(rt: &R, stop: &AtomicU64, log: &mut Vec<Logged>) -> bool
     ensures same { log.new.items ≡ log.old.items }
 {
     let mut pause = Pause::new();
-    for _ in rt.forever() {
+    'turns: for _ in rt.forever() {
         if is_stopped(stop) {
             return false;
         }

@@ -83,7 +83,7 @@ pub(crate) fn work<S: FrameSource + Drop, R: Wait>(
         max,
     };
     let mut buffer = FrameBuf::new();
-    for _ in rt.forever() {
+    'frames: for _ in rt.forever() {
         if let Some(end) = step(&mut worker, &mut buffer, rt, slot, stop) {
             return finish(rt, stop, program, worker, end);
         }

@@ -17,7 +17,7 @@ pub fn jobs_ok<S: Drop>(jobs: &[Job<S>]) -> bool
     if jobs.is_empty() || jobs.len() > MAX_CHANNELS {
         return false;
     }
-    for k in 0..jobs.len() {
+    'jobs: for k in 0..jobs.len() {
         if !is_new(jobs, k) {
             return false;
         }
@@ -30,7 +30,7 @@ fn is_new<S: Drop>(jobs: &[Job<S>], k: usize) -> bool
     requires { k < length jobs.now }
     ensures { IsTrue result ↔ IsNew (channels_of_jobs jobs.now) k }
 {
-    for i in 0..k {
+    'earlier: for i in 0..k {
         if jobs[i].spec.channel == jobs[k].spec.channel {
             return false;
         }
@@ -44,7 +44,7 @@ pub(crate) fn channels_of<S: Drop>(alloc: Global, jobs: &[Job<S>]) -> Result<Vec
     ensures named { IfOk result (λ v. All (λ (channel : ℕ). channel ≢ 0) v.items) }
 {
     let mut channels = Vec::with_capacity(alloc, jobs.len())?;
-    for k in 0..jobs.len() {
+    'jobs: for k in 0..jobs.len() {
         channels.push_reserved(jobs[k].spec.channel);
     }
     Ok(channels)

@@ -23,7 +23,7 @@ pub(crate) fn join_all<S: FrameSource + Drop, R: Threads>(
         → AllZip (JoinedOf S.left S.failures pieces) (jobs_of lines.items) result.items }
 {
     let mut joined = joined;
-    for line in lines {
+    'workers: for line in lines {
         joined.push_reserved(join_one(rt, line));
     }
     joined
@@ -58,7 +58,7 @@ fn join_one<S: FrameSource + Drop, R: Threads>(rt: &R, line: Line<S>) -> Joined<
 pub(crate) fn are_over<S: Drop>(joined: &[Joined<S>]) -> bool
     ensures { result ≡ true → AreOver joined.now }
 {
-    for one in joined {
+    'channels: for one in joined {
         if one.remaining != 0 || !one.end.is_over() {
             return false;
         }
@@ -70,7 +70,7 @@ pub(crate) fn are_over<S: Drop>(joined: &[Joined<S>]) -> bool
 pub(crate) fn are_ended<S: Drop>(joined: &[Joined<S>]) -> bool
     ensures { result ≡ true → AreEnded joined.now }
 {
-    for one in joined {
+    'channels: for one in joined {
         if !one.end.is_ended() {
             return false;
         }

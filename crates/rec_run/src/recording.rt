@@ -157,7 +157,7 @@ fn reports_of<S: Drop>(
     }
     let mut reports = reports;
     let mut slots = slots.into_iter();
-    for one in joined {
+    'workers: for one in joined {
         let slot = slots.next()?;
         reports.push_reserved(report_of(one, slot.into_slot(), log)?);
     }

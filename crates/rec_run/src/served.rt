@@ -25,7 +25,7 @@ pub(crate) fn are_served(
         → AreServed (history_in versions.now marks.now) offered (versions_met met.now) }
 {
     let mut met = met;
-    while let Some((one, later)) = met.split_first() {
+    'versions: while let Some((one, later)) = met.split_first() {
         if !is_served(one, first_number(later, offered), versions, marks) {
             return false;
         }

@@ -40,7 +40,7 @@ fn return_ring(
         return Err(AllocError);
     };
     let (mut returns, blanks) = RingBuffer::new(alloc, places)?;
-    for k in 0..ring + SPARE_BUFFERS {
+    'buffers: for k in 0..ring + SPARE_BUFFERS {
         returns.push_reserved(Blank::with_limit(alloc, limit)?);
     }
     Ok((returns, blanks))
@@ -95,7 +95,7 @@ pub(crate) fn prepare_all<S: Drop>(
     ensures len { IfOk result (λ p. vec_len p ≡ vec_len jobs) }
 {
     let mut all = Vec::new(alloc);
-    for job in jobs {
+    'jobs: for job in jobs {
         all.push(prepare_one(alloc, ring, job)?)?;
     }
     Ok(all)
@@ -109,7 +109,7 @@ pub(crate) fn slots_of<S: Drop>(
     ensures { IfOk result (λ v. vec_len v ≡ length jobs.now) }
 {
     let mut all = Vec::new(alloc);
-    for job in jobs {
+    'jobs: for job in jobs {
         let slot = Slot::new(alloc, Arc::try_clone(&job.program)?, job.max)?;
         all.push(SharedSlot::new(slot))?;
     }
@@ -162,7 +162,7 @@ pub(crate) fn start_all<'s, E, S: FrameSource + Send + Drop + 's, R: Threads + W
     ensures len { IfOk result (λ l. vec_len l ≡ vec_len prepared) }
 {
     let mut lines = lines;
-    for one in prepared {
+    'workers: for one in prepared {
         let slot = &slots[lines.len()];
         let line = start_one(scope, rt, slot, stop, one)?;
         lines.push_reserved(line);

@@ -34,7 +34,7 @@ fn send<R: Wait>(rt: &R, stop: &AtomicU64, ring: &mut Producer<Piece>, piece: Pi
 {
     let mut piece = piece;
     let mut pause = Pause::new();
-    for _ in rt.forever() {
+    'turns: for _ in rt.forever() {
         match ring.push(piece) {
             Ok(()) => return true,
             Err(PushError::Full(back)) => piece = back,
@@ -58,7 +58,7 @@ pub(crate) fn send_all<R: Wait>(
     ensures went { result ≡ true → sent ring.new ≡ sent ring.old ++ pieces.items }
     ensures part { Begins (sent ring.new) (sent ring.old ++ pieces.items) }
 {
-    for piece in pieces {
+    'pieces: for piece in pieces {
         if !send(rt, stop, ring, piece) {
             return false;
         }
@@ -80,7 +80,7 @@ pub(crate) fn make_ready<R: Wait>(
         return None;
     }
     let mut pause = Pause::new();
-    for _ in rt.forever() {
+    'turns: for _ in rt.forever() {
         if let Ok(blank) = blanks.pop() {
             return match lane.give(blank) {
                 None => None,
@@ -106,7 +106,7 @@ pub(crate) fn draw<R: Wait>(
     ensures stopped { IfErr result IsStop }
 {
     let mut pause = Pause::new();
-    for _ in rt.forever() {
+    'turns: for _ in rt.forever() {
         match slot.draw(rt, known) {
             Ok(drawn) => return Ok(drawn),
             Err(DrawFault::Memory) => {}

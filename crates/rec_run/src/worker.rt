@@ -145,7 +145,7 @@ pub(crate) fn share<R: Wait>(rt: &R, program: &Arc<Verified, Global>) -> Arc<Ver
     ensures { arc_value result ≡ arc_value program.now }
 {
     let mut pause = Pause::new();
-    for _ in rt.forever() {
+    'turns: for _ in rt.forever() {
         if let Ok(share) = Arc::try_clone(program) {
             return share;
         }

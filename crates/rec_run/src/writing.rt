@@ -65,7 +65,7 @@ fn write_lines<S: FrameSource + Drop, W: Write + Drop, R: Wait>(
         lines.old → WroteSo result first tape.new.writer tape.new.bytes lines.new }
 {
     let mut pause = Pause::new();
-    for _ in rt.forever() {
+    'rounds: for _ in rt.forever() {
         if !lines.iter().any(|line| line.open_yet) {
             return Wrote::Nothing;
         }
@@ -105,7 +105,7 @@ fn write_round<S: FrameSource + Drop, W: Write + Drop>(
         lines.old → WroteSo result first tape.new.writer tape.new.bytes lines.new }
 {
     let mut wrote = Wrote::Nothing;
-    for k in 0..lines.len() {
+    'lines: for k in 0..lines.len() {
         match write_at(lines, k, tape) {
             Wrote::Nothing => {}
             Wrote::Piece => wrote = Wrote::Piece,

@@ -2,5 +2,5 @@ use Rattle.std.specs.List.{AllWithin}
 use Rattle.rec_run.specs.Logs.{IsOfSome}
 use Rattle.rec_run.proofs.agreement.are_of_some.Given as goal
 
-abbrev pub invariant-loop-entry : goal.invariant-loop-entry
-invariant-loop-entry l = AllWithin (IsOfSome l.channels) l.log 0 l.entry-index
+abbrev pub invariant-entries : goal.invariant-entries
+invariant-entries l = AllWithin (IsOfSome l.channels) l.log 0 l.entry-index

@@ -3,10 +3,10 @@ use Rattle.rec_run.specs.Histories.{history_in}
 use Rattle.rec_run.specs.Logs.{Follows}
 use Rattle.rec_run.proofs.agreement.follow.Given as goal
 
-abbrev pub invariant-loop-entry : goal.invariant-loop-entry
-invariant-loop-entry l =
+abbrev pub invariant-entries : goal.invariant-entries
+invariant-entries l =
     Follows l.channel l.version (history_in l.versions l.marks) l.log
     → Follows l.channel 1 (history_in l.fn.versions l.fn.marks) l.fn.log
 
-abbrev pub decreases-loop-entry : goal.decreases-loop-entry
-decreases-loop-entry l = length l.log
+abbrev pub decreases-entries : goal.decreases-entries
+decreases-entries l = length l.log

@@ -5,8 +5,8 @@ use Rattle.rec_run.specs.Working.{versions_met}
 use Rattle.rec_run.proofs.Finishes.{starts}
 use Rattle.rec_run.proofs.finish.work.Goals as goal
 
-pub loop-init : goal.loop-init
-loop-init g c =
+pub frames-init : goal.frames-init
+frames-init g c =
     let r = c.requires in (
       ((refl, refl, refl, refl), refl),
       refl,

@@ -4,8 +4,8 @@ use Rattle.rec_lane.specs.Settings.{spec_data}
 use Rattle.rec_run.specs.Workers.{GoesOn}
 use Rattle.rec_run.proofs.finish.work.Given as goal
 
-abbrev pub invariant-loop : goal.invariant-loop
-invariant-loop g l =
+abbrev pub invariant-frames : goal.invariant-frames
+invariant-frames g l =
     SameProducer l.fn.tools.ring l.worker.ring
     × (l.worker.max ≡ l.fn.job.max)
     × (l.worker.lane.settings ≡ spec_data l.fn.job.spec)

@@ -7,15 +7,15 @@ use Rattle.rec_run.proofs.jobs.is_new.Goals as goal
 pub returns-then-jobs-i : goal.returns-then-jobs-i
 returns-then-jobs-i g c =
     let jobs = c.args.jobs.now in
-    let at_i : get_or (channels_of_jobs jobs) c.loop-i.i 0 ≡ (get_or jobs c.loop-i.i c.index-jobs-i.result).spec.channel = get_or-map channel_of_job jobs c.loop-i.i c.index-jobs-i.result 0 (omega arith) in
+    let at_i : get_or (channels_of_jobs jobs) c.earlier.i 0 ≡ (get_or jobs c.earlier.i c.index-jobs-i.result).spec.channel = get_or-map channel_of_job jobs c.earlier.i c.index-jobs-i.result 0 (omega arith) in
     let at_k : get_or (channels_of_jobs jobs) c.args.k 0 ≡ (get_or jobs c.args.k c.index-jobs-k.result).spec.channel = get_or-map channel_of_job jobs c.args.k c.index-jobs-k.result 0 (omega arith) in
-    ((λ so. absurd (both_ways false refl so)), λ new. absurd (new c.loop-i.i (omega arith) (at_i ∙ c.if-jobs-i.true ∙ sym at_k)))
+    ((λ so. absurd (both_ways false refl so)), λ new. absurd (new c.earlier.i (omega arith) (at_i ∙ c.if-jobs-i.true ∙ sym at_k)))
 
-pub loop-i-preserved : goal.loop-i-preserved
-loop-i-preserved g c =
+pub earlier-preserved : goal.earlier-preserved
+earlier-preserved g c =
     let jobs = c.args.jobs.now in
-    let i = c.loop-i.i in
+    let i = c.earlier.i in
     let k = c.args.k in
     let at_i : get_or (channels_of_jobs jobs) i 0 ≡ (get_or jobs i c.index-jobs-i.result).spec.channel = get_or-map channel_of_job jobs i c.index-jobs-i.result 0 (omega arith) in
     let at_k : get_or (channels_of_jobs jobs) k 0 ≡ (get_or jobs k c.index-jobs-k.result).spec.channel = get_or-map channel_of_job jobs k c.index-jobs-k.result 0 (omega arith) in
-    below_more (λ j. get_or (channels_of_jobs jobs) j 0 ≢ get_or (channels_of_jobs jobs) k 0) i c.loop-i.invariant (λ e. c.if-jobs-i.false (sym at_i ∙ e ∙ at_k))
+    below_more (λ j. get_or (channels_of_jobs jobs) j 0 ≢ get_or (channels_of_jobs jobs) k 0) i c.earlier.invariant (λ e. c.if-jobs-i.false (sym at_i ∙ e ∙ at_k))

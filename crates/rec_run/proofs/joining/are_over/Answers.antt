@@ -3,10 +3,10 @@ use Rattle.std.proofs.lemmas.List.Elements.{AllWithin-more, at_read}
 use Rattle.rec_run.specs.Ends.{IsOverThen}
 use Rattle.rec_run.proofs.joining.are_over.Goals as goal
 
-pub loop-one-preserved : goal.loop-one-preserved
-loop-one-preserved g c =
-    let here = at_read c.args.joined.now (λ j. (j.remaining ≡ 0) × IsOverThen j.end) c.loop-one.one-index c.one-item.result (omega arith) c.one-item.is (c.if-one-ne0.false, c.is_over.ensures.0 c.if-not-is_over.false) in
-    AllWithin-more (λ j. (j.remaining ≡ 0) × IsOverThen j.end) c.args.joined.now 0 c.loop-one.one-index c.loop-one.invariant here
+pub channels-preserved : goal.channels-preserved
+channels-preserved g c =
+    let here = at_read c.args.joined.now (λ j. (j.remaining ≡ 0) × IsOverThen j.end) c.channels.one-index c.one-item.result (omega arith) c.one-item.is (c.if-one-ne0.false, c.is_over.ensures.0 c.if-not-is_over.false) in
+    AllWithin-more (λ j. (j.remaining ≡ 0) × IsOverThen j.end) c.args.joined.now 0 c.channels.one-index c.channels.invariant here
 
 pub returns : goal.returns
-returns g c = λ u k d low. c.loop-one.invariant k d (omega arith) (omega arith)
+returns g c = λ u k d low. c.channels.invariant k d (omega arith) (omega arith)

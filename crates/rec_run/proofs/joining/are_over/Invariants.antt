@@ -3,5 +3,5 @@ use Rattle.std.specs.List.{AllWithin}
 use Rattle.rec_run.specs.Ends.{IsOverThen}
 use Rattle.rec_run.proofs.joining.are_over.Given as goal
 
-abbrev pub invariant-loop-one : goal.invariant-loop-one
-invariant-loop-one g l = AllWithin (λ j. (j.remaining ≡ 0) × IsOverThen j.end) l.joined 0 l.one-index
+abbrev pub invariant-channels : goal.invariant-channels
+invariant-channels g l = AllWithin (λ j. (j.remaining ≡ 0) × IsOverThen j.end) l.joined 0 l.one-index

@@ -3,10 +3,10 @@ use Rattle.rec_run.specs.Setup.{job_at}
 use Rattle.rec_run.proofs.JoinSteps.{came_rest, came_head, jobs_step, joined_push}
 use Rattle.rec_run.proofs.joining.join_all.Goals as goal
 
-pub loop-line-preserved : goal.loop-line-preserved
-loop-line-preserved g c =
+pub workers-preserved : goal.workers-preserved
+workers-preserved g c =
     let s = c.in-Some.ensures.steps in
-    let inv = c.loop-line.invariant in
+    let inv = c.workers.invariant in
     let l = c.in-Some.line in (
       omega (arith, inv.0, s.1, c.push_reserved.ensures.len, c.push_reserved.ensures.capacity),
       (λ pieces all. came_rest l _ _ s.0 pieces (inv.1 pieces all)),

@@ -9,8 +9,8 @@ use Rattle.rec_run.specs.Joins.{JoinedOf}
 use Rattle.rec_run.specs.declared.job.Job.{Job}
 use Rattle.rec_run.proofs.joining.join_all.Given as goal
 
-abbrev pub invariant-loop-line : goal.invariant-loop-line
-invariant-loop-line g l =
+abbrev pub invariant-workers : goal.invariant-workers
+invariant-workers g l =
     let rest = l.line-iterator in
     (vec_len l.joined + into_iter_len rest ≤ vec_capacity l.joined)
     × ((pieces : List PieceData) → AllCame pieces l.fn.lines.items → AllCame pieces (into_iter_items rest))

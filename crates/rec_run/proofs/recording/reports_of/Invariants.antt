@@ -6,7 +6,7 @@ use Rattle.rec_run.specs.Verdicts.{TellsOf}
 use Rattle.rec_run.specs.declared.joined.Joined.{Joined}
 use Rattle.rec_run.proofs.recording.reports_of.Given as goal
 
-abbrev pub invariant-loop-one : goal.invariant-loop-one
-invariant-loop-one g l =
+abbrev pub invariant-workers : goal.invariant-workers
+invariant-workers g l =
     (vec_len l.reports + into_iter_len l.one-iterator ≤ vec_capacity l.reports)
     × ((done : List (Joined _)) × (l.fn.joined.items ≡ done ++ into_iter_items l.one-iterator) × AllZip (TellsOf l.log) done l.reports.items)

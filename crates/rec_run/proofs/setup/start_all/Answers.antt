@@ -2,10 +2,10 @@ use Rattle.std.proofs.Common.{arith}
 use Rattle.rec_run.proofs.Starts.{started, unread_more}
 use Rattle.rec_run.proofs.setup.start_all.Goals as goal
 
-pub loop-one-preserved : goal.loop-one-preserved
-loop-one-preserved g c =
+pub workers-preserved : goal.workers-preserved
+workers-preserved g c =
     let s = c.in-Some.ensures.steps in
-    let inv = c.loop-one.invariant in
+    let inv = c.workers.invariant in
     let push = c.push_reserved.ensures in
     let l = c.in_ok-line.line in (
       started _ _ l push.items c.in-Some.one _ _ _ s.0 c.in_ok-line.ensures.job inv.0,

@@ -4,8 +4,8 @@ use Rattle.std.specs.Vec.Iter.{into_iter_items, into_iter_len}
 use Rattle.rec_run.specs.Setup.{jobs_in, jobs_of, AreUnread}
 use Rattle.rec_run.proofs.setup.start_all.Given as goal
 
-abbrev pub invariant-loop-one : goal.invariant-loop-one
-invariant-loop-one g l =
+abbrev pub invariant-workers : goal.invariant-workers
+invariant-workers g l =
     (jobs_in l.fn.prepared.items ≡ jobs_of l.lines.items ++ jobs_in (into_iter_items l.one-iterator))
     × (vec_len l.lines + into_iter_len l.one-iterator ≡ vec_len l.fn.prepared)
     × (vec_len l.fn.prepared ≤ vec_capacity l.lines)

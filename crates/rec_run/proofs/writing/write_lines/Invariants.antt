@@ -2,8 +2,8 @@ use Rattle.std.proofs.Common.{◌≡◌, ℕ, List, Option}
 use Rattle.rec_run.specs.Writing.{channels, handles, IsReady, Writes}
 use Rattle.rec_run.proofs.writing.write_lines.Given as goal
 
-abbrev pub invariant-loop : goal.invariant-loop
-invariant-loop g l =
+abbrev pub invariant-rounds : goal.invariant-rounds
+invariant-rounds g l =
     (channels l.lines ≡ channels l.initial.lines) × (handles l.lines ≡ handles l.initial.lines)
     × (l.tape.writer.version ≡ l.initial.tape.writer.version)
     × IsReady l.lines l.tape.writer

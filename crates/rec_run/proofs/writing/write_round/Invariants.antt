@@ -3,8 +3,8 @@ use Rattle.rec_writer.specs.Numbers.{channels_in}
 use Rattle.rec_run.specs.Writing.{channels, handles, IsReady, IsGood, Writes}
 use Rattle.rec_run.proofs.writing.write_round.Given as goal
 
-abbrev pub invariant-loop-k : goal.invariant-loop-k
-invariant-loop-k g l =
+abbrev pub invariant-lines : goal.invariant-lines
+invariant-lines g l =
     (channels l.lines ≡ channels l.initial.lines) × (handles l.lines ≡ handles l.initial.lines)
     × (channels_in l.tape.writer.numbers ≡ channels_in l.initial.tape.writer.numbers)
     × (l.tape.writer.version ≡ l.initial.tape.writer.version)
