@@ -1,6 +1,6 @@
 //! The parts of a recording that the tests watch: marks, sources, controls and outputs.
 
-ghost use Rattle.library_tests.specs.Scripts.{IsFresh};
+ghost use Rattle.std.specs.Prelude.{◌≡◌, [], false};
 
 use super::script::Script;
 use crate::shared::{all_bytes, program};
@@ -178,7 +178,9 @@ pub(super) fn fresh_script(
     steps: Vec<Step>,
     told_mark: usize,
 ) -> Script
-    ensures { IsFresh result }
+    ensures given { result.given.items ≡ [] }
+    ensures told { result.told.items ≡ [] }
+    ensures goes_on { result.ended ≡ false }
 {
     Script {
         marks,

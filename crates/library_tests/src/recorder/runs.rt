@@ -1,7 +1,6 @@
 //! Recordings of a few frames, whose sources, control and output wait for one another.
 
-ghost use Rattle.std.specs.Prelude.{◌≤◌};
-ghost use Rattle.library_tests.specs.Scripts.{IsFresh};
+ghost use Rattle.std.specs.Prelude.{◌≡◌, ◌≤◌, [], false};
 
 use super::parts::*;
 use super::script::Script;
@@ -143,7 +142,9 @@ pub(super) fn recorded<R: Threads + Wait + Sync>(
     out: Watched,
 ) -> Result<Done<FeedSource<Stages>, Script, Watched>, Fail>
     requires ring { (1 ≤ ring) × (ring ≤ 4096) }
-    requires control { IsFresh control }
+    requires given { control.given.items ≡ [] }
+    requires told { control.told.items ≡ [] }
+    requires goes_on { control.ended ≡ false }
 {
     if !jobs_ok(jobs.as_slice()) {
         return Err("jobs that may be recorded")?;
