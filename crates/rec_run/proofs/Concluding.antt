@@ -81,7 +81,11 @@ module _ {S : Type 0} (left : S → Option Left) (failures : S → ℕ) (log : L
           settings_are = refl;
           history_is = refl;
           history = tells.history;
+          few = tells.few;
+          programs_are = tells.programs_are;
+          marks_are = tells.marks_are;
           channel_is = tells.channel_is ∙ of.channel_is;
+          framed = ran.framed;
           offered_is = count ∙ sym (length-map ran.offered (λ (f : OfferedFrame). f.frame));
           within = (let w : length ran.offered ≤ job.max = ran.within in omega (arith, w, count));
           kept = accepted ran.offered;
@@ -194,6 +198,7 @@ module _ {S : Type 0} (left : S → Option Left) (failures : S → ℕ) (log : L
         written = keep_appends first writer.held out _ wrote.written.held_is keeps;
         fault_is = ap (λ x. Output x bytes) (fails.1 ∙ wrote.written.whole_is) ∙ ap (λ x. Output (shown (length wrote.pieces)) x) fails.2;
         reports_are = all.reports;
+        named = subst (λ ps. All (λ (p : PieceData). Contains (channels_of_jobs jobs) (channel_of p)) ps) (sym (append-nil wrote.pieces)) wrote.named;
         begin = subst (λ ps. All (BeginsChannel ps) all.channels) (sym (append-nil wrote.pieces)) all.begin;
         pieces_is = whole_is ∙ wrote.written.whole_is;
         bytes_is = wrote.counted;
@@ -214,6 +219,7 @@ module _ {S : Type 0} (left : S → Option Left) (failures : S → ℕ) (log : L
         written = keep_appends first writer.held out _ wrote.written.held_is keeps;
         fault_is = wrote.fault_is ∙ ap (λ x. Output x writer.bytes) wrote.written.whole_is ∙ ap (λ x. Output (shown (length wrote.pieces)) x) wrote.written.bytes_is;
         reports_are = all.reports;
+        named = wrote.named;
         begin = all.begin;
         pieces_is = whole_is ∙ wrote.written.whole_is;
         bytes_is = wrote.counted;

@@ -52,6 +52,7 @@ module _ {S : Type 0} (left : S → Option Left) (failures : S → ℕ) (before 
         record {
           offered = s.offered;
           ends = s.ends;
+          framed = s.framed;
           within = s.within;
           known = s.stands.known;
           count_is = s.stands.has_met.offered_is;
@@ -68,6 +69,7 @@ module _ {S : Type 0} (left : S → Option Left) (failures : S → ℕ) (before 
         record {
           offered = s.offered;
           ends = ends_first ending (frames_of s.offered) s.ends;
+          framed = s.framed;
           within = s.within;
           known = s.stands.known;
           count_is = s.stands.has_met.offered_is;
@@ -82,6 +84,7 @@ module _ {S : Type 0} (left : S → Option Left) (failures : S → ℕ) (before 
         record {
           offered = s.offered;
           ends = s.ends;
+          framed = s.framed;
           within = s.within;
           known = s.stands.known;
           count_is = s.stands.has_met.offered_is;
@@ -150,6 +153,7 @@ starts left failures source max lane settings met sent lane_is none_met none_sen
       offered = [];
       taken = taken_none (left source);
       failed = omega arith;
+      framed = λ k d low. absurd (omega (arith, low));
       within = omega arith;
       stands = record {
         has_met = record { offered_is = refl; kept_is = refl; counter_is = refl; current_is = refl; pending_is = refl };

@@ -64,5 +64,5 @@ module _ {S : Type 0} (left : S → Option Left) (failures : S → ℕ) (first :
   outcome Nothing writer bytes w = record { pieces = w.pieces; works = w.works; written = w.written; counted = w.counted; named = named_jobs w.pieces w.named; joined_are = joined_jobs w.pieces w.came }
   outcome Piece writer bytes w = record { pieces = w.pieces; works = w.works; written = w.written; counted = w.counted; named = named_jobs w.pieces w.named; joined_are = joined_jobs w.pieces w.came }
   outcome (Failed fault) writer bytes w =
-      record { pieces = w.pieces; piece = w.piece; cut = w.cut; cut_is = w.cut_is; written = w.written; fault_is = w.fault_is; counted = w.counted; joined_are = joined_jobs (w.pieces ++ w.piece ∷ []) w.came }
+      record { pieces = w.pieces; piece = w.piece; cut = w.cut; cut_is = w.cut_is; written = w.written; fault_is = w.fault_is; counted = w.counted; named = named_jobs (w.pieces ++ w.piece ∷ []) w.named; joined_are = joined_jobs (w.pieces ++ w.piece ∷ []) w.came }
   outcome Link writer bytes w = tt

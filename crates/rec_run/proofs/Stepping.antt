@@ -1,8 +1,9 @@
 -- A step of a worker that goes on.
 use Rattle.std.proofs.Common.{◌≡◌, ◌≢◌, ℕ, ◌+◌, ◌≤◌, true, List, [], ◌∷◌, ◌++◌, length, Option, None, Some, sym, ap, subst, ◌∙◌, arith, inl, inr}
-use Rattle.std.specs.Prelude.{◌⊎◌, MatchOption}
+use Rattle.std.specs.Prelude.{◌⊎◌, MatchOption, All}
 use Rattle.std.proofs.lemmas.List.{length-append, map-append, append-nil}
-use Rattle.eth_frame.specs.Frame.{FrameData}
+use Rattle.std.proofs.lemmas.List.Elements.{All-push}
+use Rattle.eth_frame.specs.Frame.{FrameData, IsFrame}
 use Rattle.eth_frame.specs.Source.{Left, GivesFirst}
 use Rattle.rec_lane.specs.Offered.{OfferedFrame, frames_of}
 use Rattle.rec_lane.specs.Parts.{Begins}
@@ -42,7 +43,7 @@ frames_more offered f frame is = map-append (λ (o : OfferedFrame). o.frame) off
 module _ {S : Type 0} (left : S → Option Left) (failures : S → ℕ) (before : S) (old mid new : Worker S) (frame : FrameData)
     (goes : GoesOn left failures before old) (ready : mid.lane ≡ record old.lane { ready = true })
     (met_same : met_by mid ≡ met_by old) (sent_same : sent_by mid ≡ sent_by old) (max_same : new.max ≡ old.max)
-    (more : old.lane.offered ≢ old.max) (gives : GivesFirst (left old.source) (Some frame) (left new.source)) (failed : failures old.source ≤ failures new.source) where
+    (is_frame : IsFrame frame) (more : old.lane.offered ≢ old.max) (gives : GivesFirst (left old.source) (Some frame) (left new.source)) (failed : failures old.source ≤ failures new.source) where
   stands_mid : Stands mid.lane (met_by mid) goes.offered
   stands_mid = subst (λ ms. Stands mid.lane ms goes.offered) (sym met_same) (stands_ready old.lane mid.lane (met_by old) goes.offered ready goes.stands)
 
@@ -59,6 +60,9 @@ module _ {S : Type 0} (left : S → Option Left) (failures : S → ℕ) (before 
   within_same : length goes.offered ≤ new.max
   within_same = let w : length goes.offered ≤ old.max = goes.within in omega (arith, w, max_same)
 
+  framed_more : (f : OfferedFrame) → f.frame ≡ frame → All IsFrame (frames_of (goes.offered ++ f ∷ []))
+  framed_more f is = subst (λ fs. All IsFrame fs) (sym (frames_more goes.offered f frame is)) (All-push IsFrame (frames_of goes.offered) frame goes.framed is_frame)
+
   taken_more : (f : OfferedFrame) → f.frame ≡ frame → AreTaken (left before) (frames_of (goes.offered ++ f ∷ [])) (left new.source)
   taken_more f is =
       subst (λ fs. AreTaken (left before) fs (left new.source)) (sym (frames_more goes.offered f frame is))
@@ -71,6 +75,7 @@ module _ {S : Type 0} (left : S → Option Left) (failures : S → ℕ) (before 
         offered = goes.offered ++ t.0 ∷ [];
         taken = taken_more t.0 t.1;
         failed = (let f : failures before ≤ failures old.source = goes.failed in omega (arith, f, failed));
+        framed = framed_more t.0 t.1;
         within = within_more t.0;
         stands = t.2;
         sent_is = t.3;
@@ -84,6 +89,7 @@ module _ {S : Type 0} (left : S → Option Left) (failures : S → ℕ) (before 
       record {
         offered = goes.offered ++ t.0 ∷ [];
         ends = taken_first (left before) (frames_of (goes.offered ++ t.0 ∷ [])) (left new.source) (taken_more t.0 t.1);
+        framed = framed_more t.0 t.1;
         within = within_more t.0;
         stands = t.2;
         begins = t.3;
@@ -93,6 +99,7 @@ module _ {S : Type 0} (left : S → Option Left) (failures : S → ℕ) (before 
       record {
         offered = goes.offered;
         ends = taken_first (left before) (frames_of goes.offered) (left old.source) goes.taken;
+        framed = goes.framed;
         within = within_same;
         stands = subst (λ l. Stands l (met_by new) goes.offered) (sym same.0) (subst (λ ms. Stands mid.lane ms goes.offered) (sym same.1) stands_mid);
         begins = begins_same (sent_by new) _ (same.2 ∙ sent_mid ∙ ap (λ (l : LaneState). pieces_so_far l.settings goes.offered) (sym same.0));

@@ -1,5 +1,5 @@
 -- What a control gave and was told.
-use Rattle.std.specs.Prelude.{ℕ, ◌≡◌, Bool, false, List, length}
+use Rattle.std.specs.Prelude.{ℕ, ◌≡◌, Bool, false, List, [], ◌∷◌, ◌++◌, length}
 use Rattle.std.specs.Arc.{arc_value}
 use Rattle.bpf_insn.specs.declared.insn.Insn.{Insn}
 use Rattle.rec_run.specs.declared.change.Change.{Change}
@@ -30,6 +30,12 @@ logged_change entry =
 
 abbrev pub logged_answer : Logged → Answered
 logged_answer entry = answered_of entry.told
+
+-- the last change that was given is for this channel
+abbrev pub IsOfLast : List Given → ℕ → Type 0
+IsOfLast changes channel =
+    (earlier : List Given) × (last : Given)
+    × (changes ≡ earlier ++ last ∷ []) × (last.channel ≡ channel)
 
 module _ {C : Type 0} (given : C → List Given) (answered : C → List Answered) (ended : C → Bool) where
   -- it was told the answer of each change that it gave, and has not ended

@@ -72,6 +72,8 @@ module _ {S : Type 0} (left : S → Option Left) (failures : S → ℕ) (first :
     pub written : HasWritten first pieces cut writer
     pub fault_is : fault ≡ Output writer.whole writer.bytes
     pub counted : bytes ≡ bytes_of writer.version pieces
+    pub named : All (λ (p : PieceData). Contains (channels_of_jobs jobs) (channel_of p))
+        (pieces ++ piece ∷ [])
     pub joined_are : AllZip (JoinedOf left failures (pieces ++ piece ∷ [])) jobs joined
 
   abbrev pub WroteIn :

@@ -5,7 +5,7 @@ use Rattle.std.specs.Arc.{arc_value}
 use Rattle.std.specs.Io.KnownBytes.{Appends}
 use Rattle.eth_frame.specs.Source.{Left}
 use Rattle.rec_lane.specs.Parts.{Begins}
-use Rattle.rec_lane.specs.Pieces.{PieceData, ArePieces}
+use Rattle.rec_lane.specs.Pieces.{PieceData, channel_of, ArePieces}
 use Rattle.rec_writer.specs.Encoding.{writer_output}
 use Rattle.rec_writer.specs.Recording.{RecordedChannel, is_of, IsRecording}
 use Rattle.rec_writer.specs.Writers.{IsCut}
@@ -63,6 +63,8 @@ module _ {S : Type 0} (left : S → Option Left) (failures : S → ℕ) where
     pub written : Appends first held (writer_output version pieces ++ cut)
     pub fault_is : fault ≡ Output (shown (length pieces)) (length cut)
     pub reports_are : AreReports left failures jobs report.channels.items channels
+    pub named : All (λ (p : PieceData). Contains (channels_of_jobs jobs) (channel_of p))
+        (pieces ++ begun)
     pub begin : All (BeginsChannel (pieces ++ begun)) channels
     pub pieces_is : report.pieces ≡ shown (length pieces)
     pub bytes_is : report.bytes ≡ bytes_of version pieces

@@ -1,14 +1,15 @@
 -- What the report of a channel says of its job.
-use Rattle.std.specs.Prelude.{ℕ, ◌≡◌, ◌≤◌, List, [], ◌∷◌, length, Option}
+use Rattle.std.specs.Prelude.{ℕ, ◌≡◌, ◌≤◌, List, [], ◌∷◌, length, All, Option}
 use Rattle.std.specs.Arc.{arc_value}
-use Rattle.eth_frame.specs.Frame.{FrameData}
+use Rattle.eth_frame.specs.Frame.{FrameData, IsFrame}
 use Rattle.eth_frame.specs.Source.{Left}
 use Rattle.rec_channel.specs.History.{Version, IsHistory}
 use Rattle.rec_channel.specs.declared.limits.TheConstants.{MAX_VERSIONS}
 use Rattle.rec_lane.specs.Offered.{AreAccepted}
 use Rattle.rec_lane.specs.Settings.{spec_data}
 use Rattle.rec_writer.specs.Recording.{RecordedChannel}
-use Rattle.rec_run.specs.Histories.{history_in}
+use Rattle.rec_channel.specs.Slots.{programs_in, marks_in}
+use Rattle.rec_run.specs.Histories.{programs_at, history_in}
 use Rattle.rec_run.specs.Endings.{EndsAs}
 use Rattle.rec_run.specs.Ends.{ending_of}
 use Rattle.rec_run.specs.Logs.{AreAnswered}
@@ -34,6 +35,8 @@ module _ {S : Type 0} where
     pub source_is : r.source ≡ joined.source
     pub history : IsHistory r.offered (history_of r)
     pub few : length (history_of r) ≤ MAX_VERSIONS
+    pub programs_are : programs_at r.versions.items ≡ programs_in (history_of r)
+    pub marks_are : r.marks.items ≡ marks_in (history_of r)
     pub served : AreServed (history_of r) r.offered (versions_met joined.met.items)
     pub answered : AreAnswered r.channel (arc_value joined.program) (history_of r) log
 
@@ -44,7 +47,12 @@ module _ {S : Type 0} (left : S → Option Left) (failures : S → ℕ) where
     pub settings_are : channel.settings ≡ spec_data job.spec
     pub history_is : channel.history ≡ history_of r
     pub history : IsHistory r.offered channel.history
+    pub few : length channel.history ≤ MAX_VERSIONS
+    -- the report's rows are the history, and nothing else
+    pub programs_are : programs_at r.versions.items ≡ programs_in channel.history
+    pub marks_are : r.marks.items ≡ marks_in channel.history
     pub channel_is : r.channel ≡ job.spec.channel
+    pub framed : All IsFrame channel.frames
     pub offered_is : r.offered ≡ length channel.frames
     pub within : r.offered ≤ job.max
     pub kept : List FrameData

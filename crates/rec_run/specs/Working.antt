@@ -1,7 +1,7 @@
 -- What a worker did with the frames of its source.
-use Rattle.std.specs.Prelude.{ℕ, ◌≡◌, ◌≤◌, List, [], ◌∷◌, ◌++◌, length, map, Option, None, Some}
+use Rattle.std.specs.Prelude.{ℕ, ◌≡◌, ◌≤◌, List, [], ◌∷◌, ◌++◌, length, map, All, Option, None, Some}
 use Rattle.std.specs.Arc.{arc_value}
-use Rattle.eth_frame.specs.Frame.{FrameData}
+use Rattle.eth_frame.specs.Frame.{FrameData, IsFrame}
 use Rattle.eth_frame.specs.Source.{Left}
 use Rattle.rec_channel.specs.History.{Version}
 use Rattle.rec_lane.specs.Offered.{OfferedFrame, frames_of, accepted, AllMet}
@@ -50,6 +50,7 @@ module _ {S : Type 0} (left : S → Option Left) (failures : S → ℕ) where
     pub offered : List OfferedFrame
     pub taken : AreTaken (left before) (frames_of offered) (left after)
     pub failed : failures before ≤ failures after
+    pub framed : All IsFrame (frames_of offered)
     pub within : length offered ≤ max
     pub stands : Stands lane met offered
     pub sent_is : sent ≡ pieces_so_far lane.settings offered
@@ -60,6 +61,7 @@ module _ {S : Type 0} (left : S → Option Left) (failures : S → ℕ) where
       (sent : List PieceData) : Type 0 where
     pub offered : List OfferedFrame
     pub ends : EndsAs left failures ending before after (frames_of offered) max
+    pub framed : All IsFrame (frames_of offered)
     pub within : length offered ≤ max
     pub stands : Stands lane met offered
     pub begins : Begins sent (pieces_so_far lane.settings offered)
@@ -79,6 +81,7 @@ module _ {S : Type 0} (left : S → Option Left) (failures : S → ℕ) where
       (met : List VersionMet) (sent : List PieceData) (count kept : ℕ) : Type 0 where
     pub offered : List OfferedFrame
     pub ends : EndsAs left failures ending before after (frames_of offered) max
+    pub framed : All IsFrame (frames_of offered)
     pub within : length offered ≤ max
     pub known : AreKnown met offered
     pub count_is : count ≡ length offered

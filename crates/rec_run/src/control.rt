@@ -5,7 +5,7 @@ use crate::change::{Change, Told};
 /// Gives the changes of the filters while a recording goes on, and is told what became of each.
 pub trait Control {
     ghost use Rattle.std.specs.Prelude.{ℕ, ◌≡◌, ◌+◌, List, [], ◌∷◌, ◌++◌, length, Bool, true, false, IfSome, IfNone};
-    ghost use Rattle.rec_run.specs.Changes.{Given, Answered, given_of, answered_of, MayBeAsked};
+    ghost use Rattle.rec_run.specs.Changes.{Given, Answered, given_of, answered_of, IsOfLast, MayBeAsked};
 
     // The changes that it gave, in order.
     ghost given: { Self → List Given };
@@ -28,7 +28,8 @@ pub trait Control {
 
     /// The answer of the change that it gave last.
     fn told(&mut self, told: &Told)
-        requires { length (answered self.old) + 1 ≡ length (given self.old) }
+        requires one { length (answered self.old) + 1 ≡ length (given self.old) }
+        requires last { IsOfLast (given self.old) told.now.channel }
         ensures told { answered self.new ≡ answered self.old ++ answered_of told.now ∷ [] }
         ensures given { given self.new ≡ given self.old }
         ensures ended { ended self.new ≡ ended self.old };

@@ -65,7 +65,8 @@ pub enum RunFault<S: Drop, C: Drop, W: Drop> {
         /// The output.
         out: W,
     },
-    /// A piece or a buffer came on another ring than its own, or a ring's ends did not agree.
+    /// A piece or a buffer came on another ring than its own, a ring took no buffer back, a ring's
+    /// ends did not agree, or a thread was stopped though the output had not failed.
     Link,
     /// A number, a version or an answer was not that of the slot's history.
     History,

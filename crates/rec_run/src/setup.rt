@@ -1,6 +1,6 @@
 //! Makes what the channels need, and starts their workers.
 
-ghost use Rattle.std.specs.Prelude.{◌≡◌, ◌+◌, ◌^◌, ◌<◌, ◌≤◌, [], length, vec_len, vec_capacity, IfOk};
+ghost use Rattle.std.specs.Prelude.{◌≡◌, ◌+◌, ◌^◌, ◌<◌, ◌≤◌, [], length, vec_len, vec_capacity, IfOk, OnOk};
 ghost use Rattle.rtrb.specs.Ring.{IsPair, sent, received, known_free};
 ghost use Rattle.rec_lane.specs.Settings.{spec_data};
 ghost use Rattle.rec_run.specs.Finishing.{StartsWith};
@@ -146,26 +146,25 @@ fn start_one<'s, E, S: FrameSource + Send + Drop + 's, R: Threads + Wait + Sync>
     })
 }
 
-/// Starts one worker after the other. At `Err` those before run.
+/// Starts one worker after the other. At `Err` the lines are those that run.
 pub(crate) fn start_all<'s, E, S: FrameSource + Send + Drop + 's, R: Threads + Wait + Sync>(
     scope: &Scope<'s, E>,
     rt: &'s R,
     slots: &'s [SharedSlot],
     stop: &'s AtomicU64,
     prepared: Vec<Prepared<S>>,
-    lines: Vec<Line<S>>,
-) -> Result<Vec<Line<S>>, AllocError>
+    lines: &mut Vec<Line<S>>,
+) -> Result<(), AllocError>
     requires slots { length slots.now ≡ vec_len prepared }
-    requires room { (lines.items ≡ []) × (vec_len prepared ≤ vec_capacity lines) }
-    ensures jobs { IfOk result (λ l. jobs_of l.items ≡ jobs_in prepared.items) }
-    ensures unread { IfOk result (λ l. AreUnread l.items) }
-    ensures len { IfOk result (λ l. vec_len l ≡ vec_len prepared) }
+    requires room { (lines.old.items ≡ []) × (vec_len prepared ≤ vec_capacity lines.old) }
+    ensures jobs { OnOk result (jobs_of lines.new.items ≡ jobs_in prepared.items) }
+    ensures unread { OnOk result (AreUnread lines.new.items) }
+    ensures len { vec_len lines.new ≤ vec_len prepared }
 {
-    let mut lines = lines;
     'workers: for one in prepared {
         let slot = &slots[lines.len()];
         let line = start_one(scope, rt, slot, stop, one)?;
         lines.push_reserved(line);
     }
-    Ok(lines)
+    Ok(())
 }

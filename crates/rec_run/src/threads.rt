@@ -68,7 +68,8 @@ pub(crate) fn run_threads<
     )
 }
 
-/// Starts the workers and then the control, writes what the workers send, and waits for all.
+/// Starts the workers and then the control, writes what the workers send, and waits for all. Where
+/// a thread doesn't start, it waits for those that run.
 fn run_in<
     's,
     E,
@@ -96,17 +97,20 @@ fn run_in<
         EndsControl C.given C.answered C.ended control o.controlled) }
 {
     let (lines, joined) = room;
-    let mut lines = match start_all(scope, rt, slots, stop, prepared, lines) {
-        Ok(lines) => lines,
+    let mut lines = lines;
+    match start_all(scope, rt, slots, stop, prepared, &mut lines) {
+        Ok(()) => {}
         Err(refused) => {
             set_stop(stop);
+            drop(join_all(rt, lines, joined));
             return Err(refused);
         }
-    };
+    }
     let controller = match start_control(scope, rt, control, slots, channels, stop, log) {
         Ok(controller) => controller,
         Err(refused) => {
             set_stop(stop);
+            drop(join_all(rt, lines, joined));
             return Err(refused);
         }
     };

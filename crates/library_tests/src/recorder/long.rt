@@ -3,6 +3,7 @@ use super::parts::*;
 use super::runs::{plain, recorded};
 use rec_reader::{frames_of, read_recording};
 use rec_run::*;
+use rec_writer::WriteFault;
 use std::alloc::Global;
 use std::sync::Arc;
 use std::test::Fail;
@@ -95,11 +96,40 @@ fn a_source_that_waits_holds_up_its_own_channel_alone(rt: HostRuntime) -> Result
     jobs.push(job(alloc, 2, ACCEPT, goes_on)?)?;
     let control = fresh_script(alloc, Arc::try_clone(&marks)?, Vec::new(alloc), NONE);
     let mut out = output(alloc, marks, usize::MAX);
-    out.full = 280_000;
+    out.full = 290_000;
     out.full_mark = WRITTEN;
     let done = recorded(&rt, alloc, jobs, 1, control, out)?;
     let bytes = done.out.bytes.as_slice();
     assert_eq!(rt; rising_counters(alloc, bytes, 1)?, Some(3));
     assert_eq!(rt; rising_counters(alloc, bytes, 2)?, Some(10_000));
+    Ok(())
+}
+
+/// The output fails while the worker has much to send: it is stopped.
+#[test]
+fn a_failed_output_stops_the_workers(rt: HostRuntime) -> Result<(), Fail> {
+    let alloc = rt.alloc();
+    let marks = fresh_marks(alloc)?;
+    let mut jobs = Vec::new(alloc);
+    let source = source(Arc::try_clone(&marks)?, stages(alloc, 10_000, NONE)?);
+    jobs.push(job(alloc, 1, ACCEPT, source)?)?;
+    let control = fresh_script(alloc, Arc::try_clone(&marks)?, Vec::new(alloc), NONE);
+    let out = output(alloc, marks, 1_000);
+    if !jobs_ok(jobs.as_slice()) {
+        return Err("jobs that may be recorded")?;
+    }
+    let Err(RunFault::Write { fault, report, .. }) = record(&rt, alloc, jobs, 1, 8, control, out)
+    else {
+        return Err("a recording whose output failed")?;
+    };
+    assert_eq!(rt;
+        fault,
+        WriteFault::Output {
+            whole: 1,
+            bytes: 940
+        }
+    );
+    let ending = report.channels.first().map(|channel| channel.ending);
+    assert_eq!(rt; ending, Some(Ending::Stopped));
     Ok(())
 }

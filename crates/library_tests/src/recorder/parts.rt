@@ -18,6 +18,9 @@ use std::{io, thread};
 /// How many turns a wait takes at most.
 const TURNS: u32 = 10_000_000;
 
+/// A mark that doesn't exist: whoever waits for it fails at once.
+pub(super) const NEVER: usize = 99;
+
 /// How many marks there are.
 const MARKS: usize = 8;
 
@@ -189,6 +192,7 @@ pub(super) fn fresh_script(
         told: Vec::new(alloc),
         told_mark,
         ended: false,
+        late: false,
     }
 }
 

@@ -150,8 +150,8 @@ pub(super) fn recorded<R: Threads + Wait + Sync>(
         return Err("jobs that may be recorded")?;
     }
     match record(rt, alloc, jobs, ring, 8, control, out) {
-        Ok(done) => Ok(done),
-        Err(_) => Err("a recording that ends")?,
+        Ok(done) if !done.control.late => Ok(done),
+        _ => Err("a recording that ends, whose control waited for nothing in vain")?,
     }
 }
 
@@ -299,5 +299,24 @@ fn a_channel_ends_as_its_source_or_at_its_count(rt: HostRuntime) -> Result<(), F
     }
     let told = ending_of(&rt, alloc, two_and(alloc, "")?, 0)?;
     assert_eq!(rt; told, Some((1, 0, 0, Ending::CountFull)));
+    Ok(())
+}
+
+#[test]
+fn a_device_that_fails_ends_its_channel(rt: HostRuntime) -> Result<(), Fail> {
+    let alloc = rt.alloc();
+    let marks = fresh_marks(alloc)?;
+    let mut stages = feed(alloc, 2)?;
+    stages.push(stage_of(Vec::new(alloc), NONE, [NEVER, NONE], NONE))?;
+    let mut jobs = Vec::new(alloc);
+    let source = source(Arc::try_clone(&marks)?, stages);
+    jobs.push(job(alloc, 1, ACCEPT, source)?)?;
+    let control = fresh_script(alloc, Arc::try_clone(&marks)?, Vec::new(alloc), NONE);
+    let out = output(alloc, marks, usize::MAX);
+    let done = recorded(&rt, alloc, jobs, 1, control, out)?;
+    let ending = Ending::SourceFault(SourceFault::Device);
+    let told = first_told(done.report.channels.as_slice());
+    assert_eq!(rt; told, Some((1, 2, 2, ending)));
+    assert_eq!(rt; done.out.bytes, all_bytes(alloc, TWO_FRAMES)?);
     Ok(())
 }

@@ -15,6 +15,8 @@ pub(super) struct Script {
     pub(super) told: Vec<Told>,
     pub(super) told_mark: usize,
     pub(super) ended: bool,
+    /// Whether a wait was given up.
+    pub(super) late: bool,
     ghost room: { vec_len given ≤ vec_capacity told },
 }
 
@@ -27,7 +29,11 @@ impl Script {
             needs,
         } = self.steps.pop()?;
         self.marks.set(began);
-        if self.marks.wait(needs) { change } else { None }
+        if !self.marks.wait(needs) {
+            self.late = true;
+            return None;
+        }
+        change
     }
 
     /// A further share of a change, with room for it and for its answer.
