@@ -1,5 +1,7 @@
 //! Whole recordings from feeds in memory into an output that keeps nothing.
 
+ghost use Rattle.std.specs.Prelude.{◌≤◌, vec_len, vec_capacity};
+
 use crate::clock::{Clock, Work, print};
 use crate::words::number;
 use anyhow::{Context, Result, bail};
@@ -64,15 +66,19 @@ impl Write for Counted {
 /// A control that gives no change.
 #[derive(Drop)]
 struct NoChanges {
+    given: Vec<Change>,
+    told: Vec<Told>,
     ended: bool,
+    ghost room: { vec_len given ≤ vec_capacity told },
 }
 
 impl Control for NoChanges {
-    ghost use Rattle.std.specs.Prelude.{[]};
+    ghost use Rattle.std.specs.Prelude.{map};
+    ghost use Rattle.rec_run.specs.Changes.{given_of, answered_of};
 
-    ghost given = { λ c. [] };
+    ghost given = { λ c. map given_of c.given.items };
 
-    ghost answered = { λ c. [] };
+    ghost answered = { λ c. map answered_of c.told.items };
 
     ghost ended = { λ c. c.ended };
 
@@ -81,8 +87,8 @@ impl Control for NoChanges {
         None
     }
 
-    fn told(&mut self, _told: &Told) {
-        unreachable!()
+    fn told(&mut self, told: &Told) {
+        self.told.push_reserved(*told);
     }
 }
 
@@ -132,7 +138,11 @@ fn run<R: Threads + Wait + Sync>(
     if !jobs_ok(jobs.as_slice()) {
         bail!("1 to 64 channels");
     }
-    let control = NoChanges { ended: false };
+    let control = NoChanges {
+        given: Vec::new(alloc),
+        told: Vec::new(alloc),
+        ended: false,
+    };
     match record(rt, alloc, jobs, 64, 8, control, Counted { bytes: 0 }) {
         Ok(done) => Ok(done.report.bytes),
         Err(_) => bail!("a recording that did not end"),

@@ -21,8 +21,15 @@ pub(super) struct Script {
 }
 
 impl Script {
+    ghost use Rattle.std.specs.Prelude.{◌≡◌, ◌+◌, ◌≤◌, IfSome};
+    ghost use Rattle.rec_run.specs.Changes.{given_of};
+
     /// The change of the next step.
-    fn step(&mut self) -> Option<Change> {
+    fn step(&mut self) -> Option<Change>
+        ensures given { self.new.given ≡ self.old.given }
+        ensures told { self.new.told ≡ self.old.told }
+        ensures ended { self.new.ended ≡ self.old.ended }
+    {
         let Step {
             change,
             began,
@@ -37,7 +44,15 @@ impl Script {
     }
 
     /// A further share of a change, with room for it and for its answer.
-    fn share(&mut self, change: &Change) -> Option<Change> {
+    fn share(&mut self, change: &Change) -> Option<Change>
+        ensures same { IfSome result (λ share. given_of share ≡ given_of change.now) }
+        ensures given { self.new.given.items ≡ self.old.given.items }
+        ensures told { self.new.told.items ≡ self.old.told.items }
+        ensures ended { self.new.ended ≡ self.old.ended }
+        ensures room { IfSome result (λ _.
+            (vec_len self.new.given + 1 ≤ vec_capacity self.new.given)
+            × (vec_len self.new.told + 1 ≤ vec_capacity self.new.told)) }
+    {
         let program = Arc::try_clone(&change.program).ok()?;
         self.given.reserve(1).ok()?;
         self.told.reserve(1).ok()?;
