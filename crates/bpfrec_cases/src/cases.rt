@@ -116,7 +116,7 @@ pub(crate) static CASES: [&[&str]; 97] = [
 ];
 
 /// Words that ask for help.
-pub(crate) static HELP: [&[&str]; 9] = [
+pub(crate) static HELP: [&[&str]; 10] = [
     &["--help"],
     &["-h"],
     &["help"],
@@ -125,5 +125,6 @@ pub(crate) static HELP: [&[&str]; 9] = [
     &["asm", "--help"],
     &["help", "dis"],
     &["list", "--help"],
+    &["extract", "--help"],
     &["help", "extract"],
 ];

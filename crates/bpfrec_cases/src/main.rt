@@ -16,6 +16,9 @@ use std::rt::Files;
 use std::{fs, io};
 use texts::{FILTERS, TEXTS, TextCase};
 
+/// The number of packets of a long recording, of 52 bytes each.
+const LONG: u64 = 40_000;
+
 fn main(rt: HostRuntime) -> io::Result<()> {
     for words in CASES {
         show(&rt, words)?;
@@ -23,6 +26,7 @@ fn main(rt: HostRuntime) -> io::Result<()> {
     for case in &EXTRACTS {
         show_extract(&rt, case)?;
     }
+    show_long_list(&rt)?;
     for text in &TEXTS {
         show_text(&rt, text)?;
     }
@@ -50,6 +54,38 @@ fn show_text<R: AllocGlobal + Files + Print>(rt: &R, text: &TextCase) -> io::Res
         show(rt, &["run", "listing", view])?;
     }
     Ok(())
+}
+
+/// A recording of so many packets that it is longer than the pieces of a mebibyte in which it is
+/// read, and so is its list: how many packets are listed as they must be, and all other lines.
+fn show_long_list<R: AllocGlobal + Files + Print>(rt: &R) -> io::Result<()> {
+    let recording = fs::read(rt, "recordings/two_versions.ch11")?;
+    let end = recording.get(180..).unwrap_or(&[]);
+    let mut bytes = Vec::new(rt.alloc());
+    for _ in 0..LONG {
+        bytes.extend_from_slice(end)?;
+    }
+    fs::write(rt, "long.ch11", bytes.as_slice())?;
+    let words = ["list", "long.ch11"];
+    let owned = words_of(rt, &words)?;
+    let mut output = Vec::new(rt.alloc());
+    let mut errors = Vec::new(rt.alloc());
+    let status = rec_cli::program(rt, owned.as_slice(), io::empty(), &mut output, &mut errors);
+    title(rt, &words)?;
+    let mut packets = 0u64;
+    for line in text(&output).lines() {
+        let want = format!(in rt.alloc();
+            "{} 0 00 2 52 28 32 end 1 2 1",
+            packets.wrapping_mul(52)
+        )?;
+        if line == want.as_str() {
+            packets = packets.wrapping_add(1);
+        } else {
+            println!(rt; "{line}")?;
+        }
+    }
+    println!(rt; "{packets} packets at their places")?;
+    println!(rt; "= {status}, {} bytes of errors", errors.len())
 }
 
 /// A channel's feed: what is printed, and then the bytes of the feed, if it was created.

@@ -17,7 +17,7 @@ use Rattle.ch11_packet.specs.declared.frames.word.TheConstants.{BODY_WORD_LEN}
 use Rattle.ch11_packet.specs.Records.{EndData}
 use Rattle.ch11_packet.specs.RecordsRead.{IsTagged, SpellsRecord, HasRecordFault, RecordData}
 use Rattle.ch11_packet.specs.RecordsRead.RecordData.{OfProgram, OfEnd}
-use Rattle.ch11_packet.specs.Classes.{SaysFrames, SaysRecord, IsPlain, HasSameFlags, IsJudgedAs, IsOther, HasClass, HasNoClass, IsAnswer, Holds, data_in, said_frames}
+use Rattle.ch11_packet.specs.Classes.{SaysFrames, SaysRecord, IsPlain, HasSameFlags, IsJudgedAs, IsOther, HasClass, HasNoClass, IsAnswer, Holds, HoldsNothing, data_in, said_frames}
 use Rattle.ch11_packet.proofs.ReadBodies.{one_body, no_fault, one_fault, IsBody-SpellsBody}
 use Rattle.ch11_packet.proofs.FirstFrames.{first_reads-Begins}
 use Rattle.ch11_packet.proofs.StoredInsns.{length-stored_insns}
@@ -183,6 +183,14 @@ class_again header other bytes Other same is = other_again header other bytes sa
 pub holds_again : (header other : HeaderData) (body more : List ℕ) (what : What) → IsJudgedAs header other → data_in other more ≡ data_in header body → Holds header body what → Holds other more what
 holds_again header other body more what same bytes is =
     subst (λ l. HasClass other l what) (sym bytes) (class_again header other (data_in header body) what same is)
+
+none_again : (header other : HeaderData) (bytes : List ℕ) → IsJudgedAs header other → HasNoClass header bytes → HasNoClass other bytes
+none_again header other bytes same (inl body) = inl (frames_again header other same body.0, body.1)
+none_again header other bytes same (inr found) = inr (record_again header other same found.0, found.1, found.2)
+
+pub nothing_again : (header other : HeaderData) (body more : List ℕ) → IsJudgedAs header other → data_in other more ≡ data_in header body → HoldsNothing header body → HoldsNothing other more
+nothing_again header other body more same bytes is =
+    subst (HasNoClass other) (sym bytes) (none_again header other (data_in header body) same is)
 
 -- ---- the frames that bytes say
 

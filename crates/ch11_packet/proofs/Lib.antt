@@ -10,3 +10,5 @@ pub mod ReadRecords
 pub mod Unjudged
 pub mod Lengths
 pub mod Classing
+pub mod Decided
+pub mod Outcomes

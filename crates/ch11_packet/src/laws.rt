@@ -1,9 +1,10 @@
 //! Laws of packets, which run nothing.
-ghost use Rattle.std.specs.Prelude.{◌≡◌, ◌+◌, ◌*◌, ◌%◌, ◌^◌, ◌<◌, ◌≤◌, ◌↔◌, [], ◌∷◌, ◌++◌, List, ℕ, length, map, take, drop};
+ghost use Rattle.std.specs.Prelude.{◌≡◌, ◌+◌, ◌*◌, ◌%◌, ◌^◌, ◌<◌, ◌≤◌, ◌↔◌, ◌⊎◌, [], ◌∷◌, ◌++◌, List, ℕ, length, map, take, drop};
 ghost use Rattle.std.specs.Int.{w16, w32, to_le_bytes};
 ghost use Rattle.bpf_insn.specs.declared.insn.Insn.{Insn};
 ghost use Rattle.eth_frame.specs.Bytes.{AreBytes};
-ghost use Rattle.ch11_packet.specs.Header.{HeaderData, IsHeader, header_bytes, header_at, HasSync, HasHeaderSum, HasLengths};
+ghost use Rattle.ch11_packet.specs.Header.{HeaderData, IsHeader, header_bytes, header_at, HasSync, HasHeaderSum, HasLengths, HasFault};
+ghost use Rattle.ch11_packet.specs.declared.header.HeaderFault.{HeaderFault};
 ghost use Rattle.ch11_packet.specs.declared.class.What.{What};
 ghost use Rattle.ch11_packet.specs.Classes.{Holds, HoldsNothing, IsJudgedAs, data_in, said_frames};
 ghost use Rattle.ch11_packet.specs.PacketLen.{packet_len};
@@ -28,8 +29,8 @@ use crate::records::{
 };
 use eth_frame::MAX_FRAME_LEN;
 
-/// Law: bytes begin with those of one header at most; a header's bytes say its fields; and 24 bytes
-/// with nothing wrong are those of the header that they say.
+/// Law: bytes begin with those of one header at most; a header's bytes say its fields; 24 bytes with
+/// nothing wrong are those of the header that they say; and all others have a fault.
 #[tactic(auto, unfolding(crate::specs::Header::header_bytes))]
 pub fn header_has_one_spelling()
     ensures one { (header other : HeaderData) (rest more : List ℕ) → IsHeader header
@@ -42,6 +43,9 @@ pub fn header_has_one_spelling()
     ensures spelled { (bytes : List ℕ) → AreBytes bytes → length bytes ≡ HEADER_LEN
         → HasSync bytes → HasHeaderSum bytes → HasLengths bytes
         → IsHeader (header_at bytes) × (bytes ≡ header_bytes (header_at bytes)) }
+    ensures some { (bytes : List ℕ) → AreBytes bytes → length bytes ≡ HEADER_LEN
+        → (IsHeader (header_at bytes) × (bytes ≡ header_bytes (header_at bytes)))
+        ⊎ ((fault : HeaderFault) × HasFault bytes fault) }
 {}
 
 /// Law: the least limit is 16,424 bytes, which is the length of a packet with the longest frame.
@@ -139,17 +143,22 @@ pub fn record_has_one_reading()
         → SpellsRecord (OfProgram channel version first insns) (with_unused other bytes) }
 {}
 
-/// Law: a packet holds one thing at most, and nothing where its body has a fault; what isn't judged
-/// of a header, and what follows the data, makes no difference; and the bytes of a body say its
-/// frames.
+/// Law: a packet holds one thing, or its body has a fault, and never both; what isn't judged of a
+/// header, and what follows the data, makes no difference to either; and the bytes of a body say
+/// its frames.
 pub fn a_packet_holds_one_thing()
     ensures one { (header : HeaderData) (body : List ℕ) (what other : What)
         → Holds header body what → Holds header body other → what ≡ other }
     ensures valid { (header : HeaderData) (body : List ℕ) (what : What)
         → Holds header body what → ¬ HoldsNothing header body }
+    ensures some { (header : HeaderData) (body : List ℕ) → AreBytes body
+        → ((what : What) × Holds header body what) ⊎ HoldsNothing header body }
     ensures unjudged { (header other : HeaderData) (body more : List ℕ) (what : What)
         → IsJudgedAs header other → data_in other more ≡ data_in header body
         → Holds header body what → Holds other more what }
+    ensures unjudged_fault { (header other : HeaderData) (body more : List ℕ)
+        → IsJudgedAs header other → data_in other more ≡ data_in header body
+        → HoldsNothing header body → HoldsNothing other more }
     ensures frames { (frames : List ReadFrameData) (bytes : List ℕ)
         → SpellsBody frames bytes → said_frames bytes ≡ frames }
 {}

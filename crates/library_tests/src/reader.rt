@@ -5,6 +5,8 @@ use eth_frame::{FeedSource, FrameBuf, FrameSource, Next, write_feed};
 use rec_reader::*;
 use std::alloc::Global;
 use std::fmt::Write as _;
+use std::io;
+use std::io::{ErrorKind, Write};
 use std::test::Fail;
 
 /// The recording of a channel that kept the second of two frames.
@@ -46,16 +48,23 @@ fn reading(
     alloc: Global,
     bytes: &[u8],
 ) -> Result<(Vec<(u64, What)>, Option<(ReadFaultKind, u64)>), Fail> {
-    let (packets, fault) = match read_recording(alloc, bytes) {
-        Ok(recording) => (recording.packets, None),
+    let (recording, fault) = match read_recording(alloc, bytes) {
+        Ok(recording) => (recording, None),
         Err(fault) => {
-            let ReadFault { kind, at, before } = fault;
-            (before.packets, Some((kind, at)))
+            let ReadEnd { kind, at } = fault.end();
+            (fault.into_before(), Some((kind, at)))
         }
     };
     let mut held = Vec::new(alloc);
-    for packet in &packets {
+    for packet in recording.packets() {
         held.push((packet.at, packet.what))?;
+    }
+    let found = match check_recording(bytes) {
+        Ok(()) => None,
+        Err(ReadEnd { kind, at }) => Some((kind, at)),
+    };
+    if found != fault {
+        return Err("the same end without the packets")?;
     }
     Ok((held, fault))
 }
@@ -307,6 +316,79 @@ fn an_extracted_feed_reads_as_the_frames_that_were_kept(rt: HostRuntime) -> Resu
     Ok(())
 }
 
+/// An output that takes this number of bytes, and then fails.
+#[derive(Drop)]
+struct Narrow {
+    room: usize,
+}
+
+impl Write for Narrow {
+    fn write(&mut self, buf: &[u8]) -> io::Result<usize> {
+        if self.room == 0 {
+            return Err(io::Error::from(ErrorKind::StorageFull));
+        }
+        let taken = buf.len().min(self.room);
+        self.room = self.room.saturating_sub(taken);
+        Ok(taken)
+    }
+
+    fn flush(&mut self) -> io::Result<()> {
+        Ok(())
+    }
+}
+
+/// The recording of two versions, and after it frames of content 1, of 17 bytes, and with a wrong
+/// check sequence, each in a packet of its own.
+fn with_other_frames(alloc: Global) -> Result<Vec<u8>, Fail> {
+    let mut bytes = joined_bytes(alloc, &TWO_VERSIONS)?;
+    for frame in [
+        "12000010 ffffffffffff 020000000001 0806 a1b2c3d4",
+        "11000000 ffffffffffff 020000000001 0806 a1b2c3 00",
+        "12000080 ffffffffffff 020000000001 0806 a1b2c3d4",
+    ] {
+        let body = format!(in alloc; "01000000 300000000000 0000 {frame}")?;
+        let packet = packet(alloc, (1, 0, ETHERNET_DATA), body.as_str())?;
+        bytes.extend_from_slice(packet.as_slice())?;
+    }
+    Ok(bytes)
+}
+
+#[test]
+fn a_channel_is_extracted_packet_by_packet(rt: HostRuntime) -> Result<(), Fail> {
+    let alloc = rt.alloc();
+    let bytes = with_other_frames(alloc)?;
+    let mut feed = Vec::new(alloc);
+    for (channel, frames, passed) in [(1, 2, 2), (2, 0, 0)] {
+        let extracted = extract_channel(bytes.as_slice(), channel, &mut feed);
+        assert_eq!(rt;
+            extracted,
+            Ok(Extracted { frames, passed }),
+            "channel {channel}"
+        );
+    }
+    let want = "200000000000 00 1200 ffffffffffff 020000000001 0806 a1b2c3d4 \
+        300000000000 01 1200 ffffffffffff 020000000001 0806 a1b2c3d4";
+    assert_eq!(rt; feed.as_slice(), all_bytes(alloc, want)?.as_slice());
+    Ok(())
+}
+
+#[test]
+fn an_extraction_ends_at_a_fault(rt: HostRuntime) -> Result<(), Fail> {
+    let bytes = with_other_frames(rt.alloc())?;
+    let end = ReadEnd {
+        kind: ReadFaultKind::Truncated,
+        at: 180,
+    };
+    let cut = bytes.get(..210).unwrap_or(&[]);
+    let extracted = extract_channel(cut, 1, &mut Narrow { room: 27 });
+    assert_eq!(rt; extracted, Err(ExtractFault::Reading(end)));
+    for room in [0, 8, 9, 26, 27, 53] {
+        let extracted = extract_channel(bytes.as_slice(), 1, &mut Narrow { room });
+        assert_eq!(rt; extracted, Err(ExtractFault::Device), "{room} bytes");
+    }
+    Ok(())
+}
+
 #[test]
 fn a_recording_of_many_packets_is_read(rt: HostRuntime) -> Result<(), Fail> {
     let alloc = rt.alloc();
@@ -328,9 +410,9 @@ fn a_recording_of_many_packets_is_read(rt: HostRuntime) -> Result<(), Fail> {
     let Ok(recording) = read_recording(alloc, bytes.as_slice()) else {
         return Err("a recording")?;
     };
-    assert_eq!(rt; recording.packets.len(), 20_001);
+    assert_eq!(rt; recording.packets().len(), 20_001);
     let last = recording
-        .packets
+        .packets()
         .last()
         .map(|packet| (packet.at, packet.what));
     assert_eq!(rt; last, Some((1_040_000, What::Frames(17_475))));

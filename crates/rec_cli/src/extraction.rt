@@ -2,23 +2,38 @@
 
 use crate::ending::Ending;
 use crate::output::finish;
-use ch11_packet::ReadFrame;
-use eth_frame::{FeedWriteFault, write_feed};
-use rec_reader::{Recording, frames_of, read_recording};
+use rec_reader::{ExtractFault, Extracted, check_recording, extract_channel};
 use std::alloc::Global;
-use std::io::{BufWriter, Write};
+use std::io::{BufWriter, ErrorKind, Write};
 use std::rt::Files;
 use std::{fs, io};
 
-/// How many frames were written, and how many were passed over.
-#[derive(Clone, Copy)]
-struct Extracted {
-    frames: usize,
-    passed: usize,
+/// A feed's file. It is created after the buffer before it, so that there is none if there is no
+/// memory for the buffer.
+#[derive(Drop)]
+struct FeedFile<F> {
+    file: Option<F>,
+}
+
+impl<F: Write> Write for FeedFile<F> {
+    fn write(&mut self, buf: &[u8]) -> io::Result<usize> {
+        match &mut self.file {
+            Some(file) => file.write(buf),
+            None => Err(io::Error::from(ErrorKind::NotFound)),
+        }
+    }
+
+    fn flush(&mut self) -> io::Result<()> {
+        match &mut self.file {
+            Some(file) => file.flush(),
+            None => Ok(()),
+        }
+    }
 }
 
 /// `extract FILE CHANNEL OUT`: writes the channel's frames into a feed, and prints how many. The
-/// feed's file is created only if the recording is read to its end.
+/// feed's file is created only if the recording is read to its end. Memory is taken for the
+/// recording's bytes and a small buffer, and not for its packets or frames.
 pub(crate) fn extract_frames<'a, R: AllocGlobal + Files, O: Write>(
     rt: &R,
     file: &'a str,
@@ -28,13 +43,17 @@ pub(crate) fn extract_frames<'a, R: AllocGlobal + Files, O: Write>(
 ) -> Result<(), Ending<'a>> {
     let channel = channel_of(rt.alloc(), channel)?;
     let bytes = file_bytes(rt, file)?;
-    let recording = recording_in(rt.alloc(), file, bytes.as_slice())?;
-    let frames = frames_of(rt.alloc(), &recording, channel)?;
+    check_recording(bytes.as_slice()).map_err(|end| Ending::of_reading(file, end))?;
+    let uncreated = FeedFile { file: None };
+    let mut feed = BufWriter::new(rt.alloc(), uncreated).map_err(|_| Ending::Memory)?;
     let created = fs::create(rt, out).map_err(|_| Ending::File(out))?;
-    let mut feed = BufWriter::new(rt.alloc(), created).map_err(|_| Ending::Memory)?;
-    let extracted = write_frames(&mut feed, frames.as_slice()).map_err(|_| Ending::File(out))?;
+    feed.get_mut().file = Some(created);
+    let Extracted { frames, passed } = match extract_channel(bytes.as_slice(), channel, &mut feed) {
+        Ok(extracted) => extracted,
+        Err(ExtractFault::Reading(end)) => return Err(Ending::of_reading(file, end)),
+        Err(ExtractFault::Device) => return Err(Ending::File(out)),
+    };
     feed.flush().map_err(|_| Ending::File(out))?;
-    let Extracted { frames, passed } = extracted;
     let written = writeln!(output, "frames {frames} passed {passed}");
     finish(output, written)
 }
@@ -56,34 +75,4 @@ fn file_bytes<'a, R: AllocGlobal + Files>(rt: &R, file: &'a str) -> Result<Vec<u
         Ok(bytes) => Ok(bytes),
         Err(error) => Err(Ending::of_read(file, &error)),
     }
-}
-
-/// The recording in the bytes of a file, which must be read to its end.
-fn recording_in<'a, 'b>(
-    alloc: Global,
-    file: &'a str,
-    bytes: &'b [u8],
-) -> Result<Recording<'b>, Ending<'a>> {
-    match read_recording(alloc, bytes) {
-        Ok(recording) => Ok(recording),
-        Err(fault) => Err(Ending::of_reading(file, fault.end())),
-    }
-}
-
-/// Writes the frames that have their check sequence into a feed, and passes over the others.
-fn write_frames<W: Write>(
-    feed: &mut W,
-    frames: &[ReadFrame<'_>],
-) -> Result<Extracted, FeedWriteFault> {
-    let mut written = 0;
-    'frames: for read in frames {
-        if let Some(frame) = read.frame() {
-            write_feed(&frame, feed)?;
-            written += 1;
-        }
-    }
-    Ok(Extracted {
-        frames: written,
-        passed: frames.len() - written,
-    })
 }

@@ -3,7 +3,7 @@
 use crate::ending::Ending;
 use crate::output::finish;
 use ch11_packet::{Header, What};
-use rec_reader::{Packet, ReadEnd, ReadFault, ReadFaultKind, read_recording};
+use rec_reader::{Packet, ReadEnd, ReadFaultKind, read_recording};
 use std::alloc::Global;
 use std::io::{Read, Write};
 use std::rt::Files;
@@ -76,15 +76,16 @@ impl PacketList {
     fn take_packets(&mut self, alloc: Global, is_last: bool) -> Result<(), ReadEnd> {
         let (recording, len) = match read_recording(alloc, self.held.as_slice()) {
             Ok(recording) => (recording, self.held.len()),
-            Err(ReadFault { kind, at, before }) => {
+            Err(fault) => {
+                let ReadEnd { kind, at } = fault.end();
                 if is_last || kind != ReadFaultKind::Truncated {
                     let at = self.at.saturating_add(at);
                     return Err(ReadEnd { kind, at });
                 }
-                (before, at as usize)
+                (fault.into_before(), at as usize)
             }
         };
-        'packets: for packet in &recording.packets {
+        'packets: for packet in recording.packets() {
             let kind = ReadFaultKind::Memory;
             let at = self.at.saturating_add(packet.at);
             if print_packet(&mut self.lines, at, packet).is_err() {

@@ -1,5 +1,6 @@
 -- The beginning of a recording that is read to its end.
 use Rattle.std.proofs.Common.{◌≡◌, ℕ, ◌+◌, ◌<◌, ◌≤◌, ◌⊎◌, inl, inr, List, [], ◌∷◌, ◌++◌, length, take, drop, None, Some, refl, sym, ap, subst, ◌∙◌, arith}
+use Rattle.std.proofs.lemmas.Bool.{cases_lt}
 use Rattle.std.proofs.lemmas.List.{append_assoc, length-append, nil_from_length, take_at, drop_at, take-append-drop, take-append-le, drop-append-le}
 use Rattle.ch11_packet.specs.declared.header.TheConstants.{HEADER_LEN}
 use Rattle.ch11_packet.specs.Header.{HeaderData, IsHeader, header_bytes}
@@ -48,18 +49,15 @@ past spelling front rest more e long = (
   sym (drop-append-le (length spelling) front rest long) ∙ ap (drop (length spelling)) e ∙ drop_at spelling more (length spelling) refl,
 )
 
-cases_le : (m n : ℕ) → (m < n) ⊎ (n ≤ m)
-cases_le m n = grind arith
-
 front_of : (at : ℕ) (packets : List PacketData) (front rest : List ℕ) → Begins at packets (front ++ rest) [] → Front at packets front
 front_of at [] front rest begins =
     record { some = []; more = []; whole = refl; left = front; held = refl; ends = inl (let e = ap length begins in let l = length-append front rest in nil_from_length front (omega (arith, e, l))) }
 front_of at (p ∷ ps) front rest begins =
     let first = begins.1 in
-    elim (cases_le (length front) p.header.packet_len) [
+    elim (cases_lt (length front) p.header.packet_len) [
       | inl few ↦ (
-          elim (cases_le 0 (length front)) [
-            | inl some ↦ record { some = []; more = p ∷ ps; whole = refl; left = front; held = refl; ends = inr (part_cut at p front rest begins.0 first some few (cases_le (length front) HEADER_LEN)) }
+          elim (cases_lt 0 (length front)) [
+            | inl some ↦ record { some = []; more = p ∷ ps; whole = refl; left = front; held = refl; ends = inr (part_cut at p front rest begins.0 first some few (cases_lt (length front) HEADER_LEN)) }
             | inr none ↦ record { some = []; more = p ∷ ps; whole = refl; left = front; held = refl; ends = inl (nil_from_length front (omega arith)) }
           ])
       | inr long ↦ (

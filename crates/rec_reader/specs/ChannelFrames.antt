@@ -1,9 +1,11 @@
--- The frames of a channel in a recording.
-use Rattle.std.specs.Prelude.{ℕ, ◌==◌, if◌then◌else◌, List, []}
+-- The frames of a channel in a recording, and their feed.
+use Rattle.std.specs.Prelude.{ℕ, ◌==◌, ◌&&◌, nat_le, if◌then◌else◌, List, [], length}
 use Rattle.std.specs.List.{flat_map}
+use Rattle.eth_frame.specs.declared.frame.TheConstants.{MIN_FRAME_LEN}
+use Rattle.eth_frame.specs.FeedRecord.{feed_record}
 use Rattle.ch11_packet.specs.declared.class.What.{What}
 use Rattle.ch11_packet.specs.declared.class.What.TheVariants.{Frames}
-use Rattle.ch11_packet.specs.FramesRead.{ReadFrameData}
+use Rattle.ch11_packet.specs.FramesRead.{ReadFrameData, frame_in}
 use Rattle.ch11_packet.specs.Classes.{data_in, said_frames}
 use Rattle.rec_reader.specs.Packets.{PacketData}
 
@@ -21,3 +23,16 @@ abbrev pub channel_frames : (channel : ℕ) → List PacketData → List ReadFra
 channel_frames channel packets =
     flat_map (λ (packet : PacketData).
     if packet.header.channel == channel then packet_frames packet else []) packets
+
+-- ---- the feed
+
+-- what a frame is in a feed: its record, if its content is 0 and it has the bytes of the shortest
+-- frame, and else nothing
+abbrev pub feed_part : ReadFrameData → List ℕ
+feed_part frame =
+    if frame.content == 0 && nat_le MIN_FRAME_LEN (length frame.bytes) then
+    feed_record (frame_in frame) else []
+
+-- the feed of these frames
+abbrev pub feed_of : List ReadFrameData → List ℕ
+feed_of frames = flat_map feed_part frames

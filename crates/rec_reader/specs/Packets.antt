@@ -47,6 +47,10 @@ Begins at (packet ∷ packets) bytes rest =
     (more : List ℕ) × StandsFirst at packet bytes more
     × Begins (at + packet.header.packet_len) packets more rest
 
+-- some bytes begin with these packets
+abbrev pub BeginSomeBytes : List PacketData → Type 0
+BeginSomeBytes packets = (bytes : List ℕ) × (rest : List ℕ) × Begins 0 packets bytes rest
+
 -- the number of bytes of these packets, which is the place of what follows them
 abbrev pub packets_len : List PacketData → ℕ
 packets_len [] = 0

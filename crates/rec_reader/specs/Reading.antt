@@ -62,6 +62,13 @@ pub record Reads (bytes : List ℕ) (packets : List PacketData) (fault : Option 
   pub held : Begins 0 packets bytes rest
   pub ends : Ends rest fault
 
+-- why a recording isn't read to its end, the place of the packet that isn't read, and the packets
+-- before it
+pub record ReadFaultData : Type 0 where
+  pub kind : ReadFaultKind
+  pub at : ℕ
+  pub before : List PacketData
+
 -- the bytes begin with these packets and a further one
 abbrev pub GoesOn : (bytes : List ℕ) → List PacketData → Type 0
 GoesOn bytes packets =

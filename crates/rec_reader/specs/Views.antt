@@ -2,7 +2,6 @@
 use Rattle.std.specs.Prelude.{List, map}
 use Rattle.ch11_packet.specs.Views.{header_data}
 use Rattle.rec_reader.specs.declared.packet.Packet.{Packet}
-use Rattle.rec_reader.specs.declared.recording.Recording.{Recording}
 use Rattle.rec_reader.specs.Packets.{PacketData, packet_of}
 
 -- a packet, without the place of its borrowed bytes in memory
@@ -12,7 +11,3 @@ packet_data p = packet_of p.at (header_data p.header) p.body.now p.what
 -- packets, one by one
 abbrev pub packets_data : List Packet → List PacketData
 packets_data packets = map packet_data packets
-
--- a recording's packets
-abbrev pub recording_packets : Recording → List PacketData
-recording_packets r = packets_data r.packets.items

@@ -9,6 +9,7 @@ use ch11_packet::HeaderFault;
 use std::alloc::AllocFailed;
 use std::error::Error;
 use std::fmt;
+use std::marker::Model;
 use thiserror::Error;
 
 /// Why no packet follows, in the order in which faults are looked for; but a packet is cut also
@@ -79,29 +80,48 @@ impl fmt::Display for ReadEnd {
 
 impl Error for ReadEnd {}
 
-/// A recording that isn't read to its end: where and why, and the packets before.
+/// A recording that isn't read to its end: where and why, and the packets before. Only the readers
+/// make one.
 #[derive(Debug, Drop)]
 pub struct ReadFault<'a> {
-    /// Why it is read no further.
-    pub kind: ReadFaultKind,
-    /// The place of the first byte of the packet that isn't read, counted from 0.
-    pub at: u64,
-    /// All packets before it.
-    pub before: Recording<'a>,
+    pub(crate) kind: ReadFaultKind,
+    pub(crate) at: u64,
+    pub(crate) before: Recording<'a>,
 }
 
-impl ReadFault<'_> {
+impl<'a> Model for ReadFault<'a> {
     ghost use Rattle.std.specs.Prelude.{◌≡◌};
+    ghost use Rattle.rec_reader.specs.Packets.{packets_len};
+    ghost use Rattle.rec_reader.specs.Reading.{ReadFaultData};
+
+    ghost Value = { ReadFaultData };
+
+    ghost view = { λ f. record { kind = f.kind; at = f.at; before = f.before } };
+
+    ghost invariant = { λ f. f.at ≡ packets_len f.before };
+}
+
+impl<'a> ReadFault<'a> {
+    ghost use Rattle.std.specs.Prelude.{◌≡◌};
+    ghost use Rattle.rec_reader.specs.Packets.{packets_len};
 
     /// Where and why, without the packets.
     pub fn end(&self) -> ReadEnd
         ensures kind { result.kind ≡ self.now.kind }
         ensures at { result.at ≡ self.now.at }
+        ensures place { self.now.at ≡ packets_len self.now.before }
     {
         ReadEnd {
             kind: self.kind,
             at: self.at,
         }
+    }
+
+    /// All packets before the one that isn't read.
+    pub fn into_before(self) -> Recording<'a>
+        ensures { result ≡ self.entry.before }
+    {
+        self.before
     }
 }
 

@@ -3,7 +3,7 @@
 ghost use Rattle.std.specs.Prelude.{◌≡◌, ◌++◌, map, IfOk, OnOk};
 ghost use Rattle.ch11_packet.specs.Views.{read_frame_data};
 ghost use Rattle.rec_reader.specs.ChannelFrames.{channel_frames, packet_frames};
-ghost use Rattle.rec_reader.specs.Views.{packet_data, recording_packets};
+ghost use Rattle.rec_reader.specs.Views.{packet_data};
 
 use crate::packet::Packet;
 use crate::recording::Recording;
@@ -17,10 +17,10 @@ pub fn frames_of<'a>(
     channel: u16,
 ) -> Result<Vec<ReadFrame<'a>>, AllocError>
     ensures { IfOk result (λ frames. map read_frame_data frames.items
-        ≡ channel_frames channel (recording_packets recording.now)) }
+        ≡ channel_frames channel recording.now) }
 {
     let mut frames = Vec::new(alloc);
-    'packets: for packet in &recording.packets {
+    'packets: for packet in recording.packets() {
         if packet.header.channel == channel {
             push_frames(packet, &mut frames)?;
         }

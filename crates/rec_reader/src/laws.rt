@@ -1,12 +1,13 @@
 //! Laws of recordings, which run nothing.
 
 ghost use Rattle.std.specs.Prelude.{ℕ, ◌≡◌, ◌+◌, ◌++◌, List, [], length, Option, None};
+ghost use Rattle.eth_frame.specs.Bytes.{AreBytes};
 ghost use Rattle.ch11_packet.specs.declared.header.TheConstants.{HEADER_LEN};
 ghost use Rattle.ch11_packet.specs.Header.{HeaderData, IsHeader, header_bytes};
-ghost use Rattle.ch11_packet.specs.Classes.{IsJudgedAs, data_in};
+ghost use Rattle.ch11_packet.specs.Classes.{HoldsNothing, IsJudgedAs, data_in};
 ghost use Rattle.rec_reader.specs.declared.fault.ReadFaultKind.{ReadFaultKind};
 ghost use Rattle.rec_reader.specs.Packets.{PacketData, SpellsPacket, Begins, packet_of};
-ghost use Rattle.rec_reader.specs.Reading.{Reads, ReadsAsFront};
+ghost use Rattle.rec_reader.specs.Reading.{HasReadFault, Reads, ReadsAsFront};
 ghost use Rattle.rec_reader.specs.ChannelFrames.{packet_frames, channel_frames};
 
 use ch11_packet::{a_packet_holds_one_thing, header_has_one_spelling};
@@ -30,6 +31,16 @@ pub fn bytes_have_one_reading()
     a_packet_holds_one_thing();
 }
 
+/// Law: all bytes have a reading, and so exactly one: packets one after the other, and then the end
+/// or a fault.
+pub fn all_bytes_have_a_reading()
+    ensures { (bytes : List ℕ) → AreBytes bytes → (packets : List PacketData)
+        × (fault : Option ReadFaultKind) × Reads bytes packets fault }
+{
+    header_has_one_spelling();
+    a_packet_holds_one_thing();
+}
+
 /// Law: the beginning of a recording that is read to its end, wherever it is cut, reads as the first
 /// of its packets, and then ends or is truncated; so the frames of each channel are the first of
 /// those that the recording has.
@@ -42,7 +53,7 @@ pub fn a_cut_recording_reads_as_its_front()
 {}
 
 /// Law: a packet with anything else in what isn't judged of its header, and after its data, is a
-/// packet that holds the same, with the same frames.
+/// packet that holds the same, with the same frames; and if its body has a fault, it has one again.
 pub fn what_is_not_judged_makes_no_difference()
     ensures packet { (packet : PacketData) (spelling body : List ℕ) (header : HeaderData)
         → SpellsPacket packet spelling → IsJudgedAs packet.header header → IsHeader header
@@ -52,6 +63,10 @@ pub fn what_is_not_judged_makes_no_difference()
     ensures frames { (packet : PacketData) (body : List ℕ) (header : HeaderData)
         → data_in header body ≡ data_in packet.header packet.body
         → packet_frames (packet_of packet.at header body packet.what) ≡ packet_frames packet }
+    ensures fault { (header other : HeaderData) (body more rest : List ℕ)
+        → HoldsNothing header body → IsJudgedAs header other → IsHeader other
+        → data_in other more ≡ data_in header body → HEADER_LEN + length more ≡ other.packet_len
+        → HasReadFault (header_bytes other ++ (more ++ rest)) ReadFaultKind.Body }
 {
     a_packet_holds_one_thing();
 }

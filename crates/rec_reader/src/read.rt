@@ -1,13 +1,13 @@
 //! How a recording is read.
 
-ghost use Rattle.std.specs.Prelude.{◌≡◌, ◌≢◌, ◌<◌, ◌++◌, ◌∷◌, [], length, None, Some, IfOk, IfErr, OnErr};
+ghost use Rattle.std.specs.Prelude.{◌≡◌, ◌≢◌, ◌<◌, ◌++◌, ◌∷◌, [], List, length, None, Some, IfOk, IfErr, OnOk, OnErr};
 ghost use Rattle.ch11_packet.specs.Views.{header_data};
 ghost use Rattle.rec_reader.specs.declared.fault.ReadFaultKind.{ReadFaultKind};
-ghost use Rattle.rec_reader.specs.Packets.{StandsFirst, HasPacket, Takes, packets_len};
+ghost use Rattle.rec_reader.specs.Packets.{PacketData, StandsFirst, HasPacket, Takes, packets_len};
 ghost use Rattle.rec_reader.specs.Reading.{HasHeader, HasReadFault, Reads, GoesOn};
-ghost use Rattle.rec_reader.specs.Views.{packet_data, packets_data, recording_packets};
+ghost use Rattle.rec_reader.specs.Views.{packet_data, packets_data};
 
-use crate::fault::{ReadFault, ReadFaultKind};
+use crate::fault::{ReadEnd, ReadFault, ReadFaultKind};
 use crate::packet::Packet;
 use crate::recording::Recording;
 use ch11_packet::{HEADER_LEN, Header, classify};
@@ -22,15 +22,14 @@ use std::alloc::Global;
 /// list of the packets that were read; their bytes are not copied.
 pub fn read_recording(alloc: Global, bytes: &[u8]) -> Result<Recording<'_>, ReadFault<'_>>
     // At Ok.
-    ensures read { IfOk result (λ recording. Reads bytes.now (recording_packets recording) None) }
+    ensures read { IfOk result (λ recording. Reads bytes.now recording None) }
 
     // At a fault.
     ensures fault { IfErr result (λ fault. fault.kind ≢ ReadFaultKind.Memory
-        → Reads bytes.now (recording_packets fault.before) (Some fault.kind)) }
+        → Reads bytes.now fault.before (Some fault.kind)) }
     ensures memory { IfErr result (λ fault. fault.kind ≡ ReadFaultKind.Memory
-        → GoesOn bytes.now (recording_packets fault.before)) }
-    ensures place { IfErr result (λ fault.
-        fault.at ≡ packets_len (recording_packets fault.before)) }
+        → GoesOn bytes.now fault.before) }
+    ensures place { IfErr result (λ fault. fault.at ≡ packets_len fault.before) }
 {
     let mut packets = Vec::new(alloc);
     let mut rest = bytes;
@@ -45,6 +44,24 @@ pub fn read_recording(alloc: Global, bytes: &[u8]) -> Result<Recording<'_>, Read
         }
     }
     Ok(Recording { packets })
+}
+
+/// Whether a recording is read to its end, and if not, where and why: as [`read_recording`] says, but
+/// without the packets. It takes no memory.
+pub fn check_recording(bytes: &[u8]) -> Result<(), ReadEnd>
+    ensures read { OnOk result ((packets : List PacketData) × Reads bytes.now packets None) }
+    ensures fault { IfErr result (λ end. (packets : List PacketData)
+        × Reads bytes.now packets (Some end.kind) × (end.at ≡ packets_len packets)) }
+{
+    let mut rest = bytes;
+    'packets: while !rest.is_empty() {
+        let at = (bytes.len() - rest.len()) as u64;
+        match read_packet(at, rest) {
+            Ok((_, after)) => rest = after,
+            Err(kind) => return Err(ReadEnd { kind, at }),
+        }
+    }
+    Ok(())
 }
 
 /// Takes the packet that stands first, and gives what follows it.
@@ -62,16 +79,18 @@ fn take_packet<'a>(
         → HasPacket at bytes.now) }
     ensures kept { OnErr result (packets.new.items ≡ packets.old.items) }
 {
-    let (packet, more) = split_packet(at, bytes)?;
+    let (packet, more) = read_packet(at, bytes)?;
     packets.push(packet)?;
     Ok(more)
 }
 
-/// The packet that stands first, and what follows it.
-fn split_packet(at: u64, bytes: &[u8]) -> Result<(Packet<'_>, &[u8]), ReadFaultKind>
+/// The packet that stands first in these bytes, of which the first has this place in the recording,
+/// and what follows the packet; or its first fault.
+pub(crate) fn read_packet(at: u64, bytes: &[u8]) -> Result<(Packet<'_>, &[u8]), ReadFaultKind>
     requires { 0 < length bytes.now }
     ensures packet { IfOk result (λ split.
         StandsFirst at (packet_data split.0) bytes.now split.1.now) }
+    ensures shorter { IfOk result (λ split. length split.1.now < length bytes.now) }
     ensures fault { IfErr result (HasReadFault bytes.now) }
 {
     let (header, behind) = split_header(bytes)?;

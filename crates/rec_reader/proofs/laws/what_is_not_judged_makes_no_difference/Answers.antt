@@ -1,6 +1,7 @@
 use Rattle.std.proofs.Common.{ap}
 use Rattle.rec_reader.specs.ChannelFrames.{frames_held}
 use Rattle.rec_reader.proofs.Cuts.{spells_again}
+use Rattle.rec_reader.proofs.EveryReading.{bad_again}
 use Rattle.rec_reader.proofs.laws.what_is_not_judged_makes_no_difference.Goals as goal
 
 pub returns-clause-packet : goal.returns-clause-packet
@@ -9,3 +10,7 @@ returns-clause-packet c = λ packet spelling body header spells judged is bytes 
 
 pub returns-clause-frames : goal.returns-clause-frames
 returns-clause-frames c = λ packet body header bytes. ap (frames_held packet.what) bytes
+
+pub returns-clause-fault : goal.returns-clause-fault
+returns-clause-fault c = λ header other body more rest nothing judged is bytes long.
+    bad_again c.a_packet_holds_one_thing.ensures.unjudged_fault header other body more rest nothing judged is bytes long

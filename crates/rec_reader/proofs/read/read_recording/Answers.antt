@@ -15,6 +15,11 @@ returns-in-Err-clause-memory c = λ refused.
     let within = rest_within _ _ _ c.packets.invariant in
     stays_on _ _ _ _ _ c.in-Err.ensures.kept c.packets.invariant (omega (arith, within)) (c.in-Err.ensures.memory refused)
 
+pub invariant_of-result : goal.invariant_of-result
+invariant_of-result c =
+    let within = rest_within _ _ _ c.packets.invariant in
+    stays_at _ _ _ _ _ c.in-Err.ensures.kept c.packets.invariant (omega (arith, within))
+
 pub returns-in-Err-clause-place : goal.returns-in-Err-clause-place
 returns-in-Err-clause-place c =
     let within = rest_within _ _ _ c.packets.invariant in

@@ -1,6 +1,7 @@
 use Rattle.std.proofs.Common.{refl, arith}
 use Rattle.rec_reader.proofs.Splitting.{cut_packet, bad_packet, first_packet, split_is}
-use Rattle.rec_reader.proofs.read.split_packet.Goals as goal
+use Rattle.rec_reader.proofs.Chains.{shorter}
+use Rattle.rec_reader.proofs.read.read_packet.Goals as goal
 
 pub returns-in_default-clause-fault : goal.returns-in_default-clause-fault
 returns-in_default-clause-fault c =
@@ -17,3 +18,6 @@ returns-clause-packet c =
     let split = c.in-Some.ensures.cases in
     first_packet c.args.at _ _ _ _ _ _ c.in_ok-header.ensures.header (split_is _ _ _ _ split.1 split.2) (omega (arith, split.3, c.in_ok-header.header.in_range.lengths.holds))
     c.in-Some-classify.ensures.holds
+
+pub returns-clause-shorter : goal.returns-clause-shorter
+returns-clause-shorter c = shorter c.args.at _ c.args.bytes.now c.in-Some.more.now (returns-clause-packet c)
