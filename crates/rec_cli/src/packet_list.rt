@@ -3,7 +3,7 @@
 use crate::ending::Ending;
 use crate::output::finish;
 use ch11_packet::{Header, What};
-use rec_reader::{Packet, ReadEnd, ReadFaultKind, read_recording};
+use rec_reader::{Packet, ReadEnd, ReadFault, ReadFaultKind, read_recording};
 use std::alloc::Global;
 use std::io::{Read, Write};
 use std::rt::Files;
@@ -76,16 +76,15 @@ impl PacketList {
     fn take_packets(&mut self, alloc: Global, is_last: bool) -> Result<(), ReadEnd> {
         let (recording, len) = match read_recording(alloc, self.held.as_slice()) {
             Ok(recording) => (recording, self.held.len()),
-            Err(fault) => {
-                let ReadEnd { kind, at } = fault.end();
+            Err(ReadFault { kind, at, before }) => {
                 if is_last || kind != ReadFaultKind::Truncated {
                     let at = self.at.saturating_add(at);
                     return Err(ReadEnd { kind, at });
                 }
-                (fault.into_before(), at as usize)
+                (before, at as usize)
             }
         };
-        'packets: for packet in recording.packets() {
+        'packets: for packet in &recording.packets {
             let kind = ReadFaultKind::Memory;
             let at = self.at.saturating_add(packet.at);
             if print_packet(&mut self.lines, at, packet).is_err() {

@@ -84,9 +84,9 @@ impl Error for ReadEnd {}
 /// make one.
 #[derive(Debug, Drop)]
 pub struct ReadFault<'a> {
-    pub(crate) kind: ReadFaultKind,
-    pub(crate) at: u64,
-    pub(crate) before: Recording<'a>,
+    pub kind: ReadFaultKind,
+    pub at: u64,
+    pub before: Recording<'a>,
 }
 
 impl<'a> Model for ReadFault<'a> {

@@ -4,10 +4,10 @@ use crate::packet::Packet;
 use std::marker::Model;
 
 /// The packets of a recording, in order: the first begins at place 0, and each other one where the
-/// one before it ends. They are borrowed from the recording's bytes. Only the readers make one.
+/// one before it ends. They are borrowed from the bytes of a recording.
 #[derive(Debug, Drop)]
 pub struct Recording<'a> {
-    pub(crate) packets: Vec<Packet<'a>>,
+    pub packets: Vec<Packet<'a>>,
 }
 
 impl<'a> Model for Recording<'a> {
