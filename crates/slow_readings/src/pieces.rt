@@ -1,245 +1,300 @@
-//! A slow reader of a channel's pieces, over plain lists of its frames and of its versions.
+//! A slow reading of a channel's pieces, from plain lists of all its frames and of all versions of
+//! its filter.
 
+ghost use Rattle.std.specs.Prelude.{◌≤◌, ◌<◌, length, vec_len};
+
+use bpf_insn::Insn;
+use bpf_machine::run;
+use bpf_verify::Verified;
 use std::alloc::{AllocError, Global};
+use std::sync::Arc;
 
-/// The bytes of a packet's header, of a body's first word and of a frame's own header.
-const HEADER: usize = 24;
+/// The bytes of a packet before its frames: the header, and the word with the number of frames.
+const BEFORE_FRAMES: usize = 24 + 4;
 
-const WORD: usize = 4;
+/// The bytes before those of a frame: its counter, two zeros, and its word.
+const BEFORE_FRAME: usize = 6 + 2 + 4;
 
-const FRAME_HEADER: usize = 12;
-/// The bytes of a frame's check sequence, which no filter sees.
+/// The bytes at a frame's end that no filter sees.
 const CHECK_SEQUENCE: usize = 4;
 
-/// A frame with its counter and its two marks.
-#[derive(Drop)]
+/// A frame that was offered.
+#[derive(Debug, Drop)]
 pub(crate) struct PlainFrame {
     pub(crate) counter: u64,
     pub(crate) crc_error: bool,
     pub(crate) frame_error: bool,
     pub(crate) bytes: Vec<u8>,
+    ghost short: { vec_len bytes ≤ 16_383 },
 }
 
-/// A filter: it accepts a frame that has a byte at an index before its check sequence, and that
-/// byte is below a bound.
-#[derive(Clone, Copy, Debug)]
-pub(crate) struct Filter {
-    pub(crate) at: usize,
-    pub(crate) bound: u8,
-}
-
-/// A version of a channel's filter, and the number of the first frame that it may meet.
-#[derive(Clone, Copy, Debug)]
+/// A version of a filter: the number of the first frame that may meet it, and its program.
+#[derive(Debug, Drop)]
 pub(crate) struct PlainVersion {
-    pub(crate) filter: Filter,
     pub(crate) mark: usize,
+    pub(crate) program: Arc<Verified, Global>,
 }
 
-/// What the packets of a channel are made with.
+/// What a channel is set to.
 #[derive(Clone, Copy, Debug)]
-pub(crate) struct Settings {
+pub(crate) struct Channel {
+    pub(crate) id: u16,
+    pub(crate) limit: usize,
     pub(crate) net: u8,
     pub(crate) speed: u8,
-    pub(crate) limit: usize,
 }
 
-/// A piece of a channel.
-#[derive(Debug, Drop, PartialEq, Eq)]
-pub(crate) enum PlainPiece {
-    /// A version that some frame met: the counter and the number of the first such frame.
+/// A piece as it is read: its channel, its counter, and what it holds.
+#[derive(Debug, Drop)]
+pub(crate) struct ReadPiece {
+    pub(crate) channel: u16,
+    pub(crate) counter: u64,
+    pub(crate) holds: Holds,
+}
+
+/// What a piece holds.
+#[derive(Debug, Drop)]
+pub(crate) enum Holds {
+    /// A version's program, and the number of the first frame that met it.
     Program {
-        counter: u64,
         version: usize,
         first: usize,
+        insns: Vec<Insn>,
     },
-    /// A packet of frames: the counter of its first frame, and its bytes after the header.
+    /// The body of a packet of so many frames.
     Data {
-        counter: u64,
+        count: usize,
         body: Vec<u8>,
     },
-    /// The end: the counter of the last frame, and how many frames there were and were kept.
+    /// The end, with the number of frames that were offered and of those that were kept.
     End {
-        counter: u64,
         offered: usize,
         kept: usize,
     },
 }
 
-/// Frames one after the other that met one version: the version, the number of the first one, and
-/// the numbers of those that its filter accepts.
+/// A frame, and the version in force at it.
 #[derive(Drop)]
-struct Group {
+struct Met<'a> {
+    frame: &'a PlainFrame,
+    number: usize,
     version: usize,
-    first: usize,
-    kept: Vec<usize>,
+    program: &'a Verified,
 }
 
-impl Filter {
-    /// Whether the filter accepts a frame.
-    pub(crate) fn accepts(self, frame: &PlainFrame) -> bool {
-        let seen = frame.bytes.len().saturating_sub(CHECK_SEQUENCE);
-        let byte = frame.bytes.get(self.at).copied();
-        self.at < seen && byte.is_some_and(|byte| byte < self.bound)
-    }
-}
-
-/// The version in force at a frame's number: the last one whose mark is at most that number.
-fn version_at(versions: &[PlainVersion], number: usize) -> usize {
-    let mut last = 0;
-    for (at, version) in versions.iter().enumerate() {
-        if version.mark <= number {
-            last = at;
-        }
-    }
-    last
-}
-
-/// The frames in runs of equal version in force.
-fn groups(
-    alloc: Global,
-    frames: &[PlainFrame],
-    versions: &[PlainVersion],
-) -> Result<Vec<Group>, AllocError> {
-    let mut groups: Vec<Group> = Vec::new(alloc);
-    for (number, frame) in frames.iter().enumerate() {
-        let version = version_at(versions, number);
-        if groups.last().map(|group| group.version) != Some(version) {
-            groups.push(Group {
-                version,
-                first: number,
-                kept: Vec::new(alloc),
-            })?;
-        }
-        let filter = versions.get(version).map(|version| version.filter);
-        if filter.is_some_and(|filter| filter.accepts(frame))
-            && let Some(group) = groups.last_mut()
-        {
-            group.kept.push(number)?;
-        }
-    }
-    Ok(groups)
-}
-
-/// How long the packet of these frames is.
-fn packet_len(frames: &[PlainFrame], numbers: &[usize]) -> usize {
-    let mut len = HEADER + WORD;
-    for number in numbers {
-        let bytes = frames.get(*number).map_or(0, |frame| frame.bytes.len());
-        len = len.saturating_add(FRAME_HEADER).saturating_add(bytes);
-        len = len.saturating_add(bytes % 2);
-    }
-    len.div_ceil(4).saturating_mul(4)
-}
-
-/// How many frames the longest beginning has whose packet is not longer than the limit.
-fn longest_front(limit: usize, frames: &[PlainFrame], left: &[usize]) -> usize {
-    let mut longest = 0;
-    for len in 0..=left.len() {
-        let front = left.get(..len).unwrap_or(left);
-        if packet_len(frames, front) <= limit {
-            longest = len;
-        }
-    }
-    longest
-}
-
-/// The frames of a group in packets, each the longest beginning of what is left.
-fn packets(
-    alloc: Global,
-    limit: usize,
-    frames: &[PlainFrame],
-    kept: &[usize],
-) -> Result<Vec<Vec<usize>>, AllocError> {
-    let mut packets = Vec::new(alloc);
-    let mut left = kept;
-    for _ in 0..kept.len() {
-        let len = longest_front(limit, frames, left);
-        if left.is_empty() {
-            break;
-        }
-        packets.push(left.get(..len).unwrap_or(left).to_vec(alloc)?)?;
-        left = left.get(len..).unwrap_or(&[]);
-    }
-    Ok(packets)
-}
-
-/// The body of a packet of these frames: a word with their number, and then each one with its
-/// counter in 6 bytes, 2 zero bytes, its word, and a zero byte after an odd number of bytes.
-fn body(
-    alloc: Global,
-    settings: Settings,
-    frames: &[PlainFrame],
-    numbers: &[usize],
-) -> Result<Vec<u8>, AllocError> {
-    let count = u32::try_from(numbers.len()).unwrap_or(u32::MAX);
-    let mut body = Vec::new(alloc);
-    body.extend_from_slice(&count.to_le_bytes())?;
-    for number in numbers {
-        if let Some(frame) = frames.get(*number) {
-            let len = u32::try_from(frame.bytes.len()).unwrap_or(u32::MAX);
-            let fixed = (u32::from(settings.speed) << 24) | (u32::from(settings.net) << 16);
-            let marks = (u32::from(frame.crc_error) << 31) | (u32::from(frame.frame_error) << 30);
-            body.extend_from_slice(&frame.counter.to_le_bytes()[..6])?;
-            body.extend_from_slice(&[0, 0])?;
-            body.extend_from_slice(&(marks | fixed | len).to_le_bytes())?;
-            body.extend_from_slice(frame.bytes.as_slice())?;
-            if len % 2 == 1 {
-                body.push(0)?;
-            }
-        }
-    }
-    Ok(body)
-}
-
-/// The counter of a frame.
-fn counter_of(frames: &[PlainFrame], number: Option<usize>) -> u64 {
-    let frame = number.and_then(|number| frames.get(number));
-    frame.map_or(0, |frame| frame.counter)
-}
-
-/// All pieces of a channel: for each group its program and its packets, and last the end.
+/// All pieces of a channel that was offered these frames under these versions.
 pub(crate) fn all_pieces(
     alloc: Global,
-    settings: Settings,
+    channel: Channel,
     frames: &[PlainFrame],
     versions: &[PlainVersion],
-) -> Result<Vec<PlainPiece>, AllocError> {
+) -> Result<Vec<ReadPiece>, AllocError> {
+    let met = all_met(alloc, frames, versions)?;
     let mut pieces = Vec::new(alloc);
-    let mut kept = 0usize;
-    for group in groups(alloc, frames, versions)? {
-        pieces.push(PlainPiece::Program {
-            counter: counter_of(frames, Some(group.first)),
-            version: group.version,
-            first: group.first,
-        })?;
-        kept = kept.saturating_add(group.kept.len());
-        for packet in packets(alloc, settings.limit, frames, group.kept.as_slice())? {
-            pieces.push(PlainPiece::Data {
-                counter: counter_of(frames, packet.first().copied()),
-                body: body(alloc, settings, frames, packet.as_slice())?,
-            })?;
-        }
+    for group in met.chunk_by(|one, next| one.version == next.version) {
+        add_group(alloc, channel, group, &mut pieces)?;
     }
-    pieces.push(PlainPiece::End {
-        counter: counter_of(frames, frames.len().checked_sub(1)),
-        offered: frames.len(),
-        kept,
+    pieces.push(ReadPiece {
+        channel: channel.id,
+        counter: frames.last().map_or(0, |frame| frame.counter),
+        holds: Holds::End {
+            offered: frames.len(),
+            kept: kept_frames(alloc, met.as_slice())?.len(),
+        },
     })?;
     Ok(pieces)
 }
 
-/// Those that are certain while more frames may come: without the end, and without the last
-/// packet of the last group.
+/// The pieces that stand however the channel goes on: all but its end, and but the last packet of
+/// the last version's frames.
 pub(crate) fn pieces_so_far(
     alloc: Global,
-    settings: Settings,
+    channel: Channel,
     frames: &[PlainFrame],
     versions: &[PlainVersion],
-) -> Result<Vec<PlainPiece>, AllocError> {
-    let mut pieces = all_pieces(alloc, settings, frames, versions)?;
-    pieces.pop();
-    if matches!(pieces.last(), Some(PlainPiece::Data { .. })) {
-        pieces.pop();
+) -> Result<Vec<ReadPiece>, AllocError> {
+    let mut pieces = all_pieces(alloc, channel, frames, versions)?;
+    let _end = pieces.pop();
+    if matches!(
+        pieces.last(),
+        Some(ReadPiece {
+            holds: Holds::Data { .. },
+            ..
+        })
+    ) {
+        let _open = pieces.pop();
     }
     Ok(pieces)
+}
+
+/// What the filter in force at the last of these frames says of it.
+pub(crate) fn last_value(frames: &[PlainFrame], versions: &[PlainVersion]) -> Option<u32> {
+    let (frame, earlier) = frames.split_last()?;
+    let (_, version) = in_force(versions, earlier.len())?;
+    Some(value_of(&version.program, frame))
+}
+
+/// Each frame with its number and the version in force at it.
+fn all_met<'a>(
+    alloc: Global,
+    frames: &'a [PlainFrame],
+    versions: &'a [PlainVersion],
+) -> Result<Vec<Met<'a>>, AllocError> {
+    let mut met = Vec::new(alloc);
+    for (number, frame) in frames.iter().enumerate() {
+        if let Some((version, PlainVersion { program, .. })) = in_force(versions, number) {
+            met.push(Met {
+                frame,
+                number,
+                version,
+                program,
+            })?;
+        }
+    }
+    Ok(met)
+}
+
+/// The last version whose mark is at most a frame's number, with its place.
+fn in_force(versions: &[PlainVersion], number: usize) -> Option<(usize, &PlainVersion)> {
+    versions
+        .iter()
+        .enumerate()
+        .filter(|(_, version)| version.mark <= number)
+        .last()
+}
+
+/// What a program returns on a frame without its check sequence.
+fn value_of(program: &Verified, frame: &PlainFrame) -> u32 {
+    let bytes = frame.bytes.as_slice();
+    let shown = bytes.len().saturating_sub(CHECK_SEQUENCE);
+    run(program, &bytes[..shown]).value
+}
+
+/// The frames on which the program in force doesn't return 0.
+fn kept_frames<'a>(alloc: Global, met: &[Met<'a>]) -> Result<Vec<&'a PlainFrame>, AllocError> {
+    let mut kept = Vec::new(alloc);
+    for one in met {
+        if value_of(one.program, one.frame) != 0 {
+            kept.push(one.frame)?;
+        }
+    }
+    Ok(kept)
+}
+
+/// Adds the pieces of frames that met the same version, one after the other: its program, and its
+/// packets.
+fn add_group(
+    alloc: Global,
+    channel: Channel,
+    group: &[Met<'_>],
+    pieces: &mut Vec<ReadPiece>,
+) -> Result<(), AllocError> {
+    if let Some(first) = group.first() {
+        pieces.push(program_piece(alloc, channel, first)?)?;
+    }
+    let kept = kept_frames(alloc, group)?;
+    let mut from = 0;
+    while from < kept.len() {
+        let rest = &kept[from..];
+        let count = longest_front(channel.limit, rest);
+        pieces.push(data_piece(alloc, channel, &rest[..count])?)?;
+        from += count;
+    }
+    Ok(())
+}
+
+/// The piece of the program that a frame is the first to meet.
+fn program_piece(alloc: Global, channel: Channel, met: &Met<'_>) -> Result<ReadPiece, AllocError> {
+    Ok(ReadPiece {
+        channel: channel.id,
+        counter: met.frame.counter,
+        holds: Holds::Program {
+            version: met.version,
+            first: met.number,
+            insns: Vec::from_slice(alloc, met.program.insns())?,
+        },
+    })
+}
+
+/// How many of the frames the next packet holds: the most, from the first on, whose packet is
+/// within the limit.
+fn longest_front(limit: usize, frames: &[&PlainFrame]) -> usize
+    requires { 0 < length frames.now }
+    ensures { (1 ≤ result) × (result ≤ length frames.now) }
+{
+    (1..=frames.len())
+        .rev()
+        .find(|count| packet_len(&frames[..*count]) <= limit)
+        .unwrap_or(1)
+}
+
+/// The bytes of a packet of these frames, with the filler after them.
+fn packet_len(frames: &[&PlainFrame]) -> usize {
+    let mut len = BEFORE_FRAMES;
+    for frame in frames {
+        let bytes = frame.bytes.len();
+        len = len.saturating_add(BEFORE_FRAME + bytes + bytes % 2);
+    }
+    len.div_ceil(4).saturating_mul(4)
+}
+
+/// The piece of a packet of these frames.
+fn data_piece(
+    alloc: Global,
+    channel: Channel,
+    frames: &[&PlainFrame],
+) -> Result<ReadPiece, AllocError> {
+    Ok(ReadPiece {
+        channel: channel.id,
+        counter: frames.first().map_or(0, |frame| frame.counter),
+        holds: Holds::Data {
+            count: frames.len(),
+            body: body_of(alloc, channel, frames)?,
+        },
+    })
+}
+
+/// The body of a packet of frames: how many they are, and each frame.
+fn body_of(alloc: Global, channel: Channel, frames: &[&PlainFrame]) -> Result<Vec<u8>, AllocError> {
+    let mut body = Vec::new(alloc);
+    add_number(&mut body, frames.len() as u64, 2)?;
+    add_number(&mut body, 0, 2)?;
+    for frame in frames {
+        add_frame(&mut body, channel, frame)?;
+    }
+    Ok(body)
+}
+
+/// Adds a frame: its counter, two zeros, its word, its bytes, and a zero after an odd number of
+/// them.
+fn add_frame(body: &mut Vec<u8>, channel: Channel, frame: &PlainFrame) -> Result<(), AllocError> {
+    add_number(body, frame.counter, 6)?;
+    add_number(body, 0, 2)?;
+    add_number(body, frame_word(channel, frame), 4)?;
+    body.extend_from_slice(frame.bytes.as_slice())?;
+    if frame.bytes.len() % 2 == 1 {
+        body.push(0)?;
+    }
+    Ok(())
+}
+
+/// A frame's word: its length in bits 0 to 13, the network in bits 16 to 23, the speed in bits 24
+/// to 27, the content 0 in bits 28 and 29, and its two errors in bits 30 and 31.
+fn frame_word(channel: Channel, frame: &PlainFrame) -> u64 {
+    let length = frame.bytes.len() as u64;
+    let net = u64::from(channel.net) * (1 << 16);
+    let speed = u64::from(channel.speed) * (1 << 24);
+    let frame_error = u64::from(frame.frame_error) * (1 << 30);
+    let crc_error = u64::from(frame.crc_error) * (1 << 31);
+    length + net + speed + frame_error + crc_error
+}
+
+/// Adds the lowest bytes of a number, the lowest first.
+fn add_number(bytes: &mut Vec<u8>, number: u64, count: usize) -> Result<(), AllocError> {
+    let mut left = number;
+    for _ in 0..count {
+        bytes.push((left % 256) as u8)?;
+        left /= 256;
+    }
+    Ok(())
 }

@@ -1,283 +1,364 @@
-//! The lane beside the slow reader, on drawn frames and ten versions.
+//! The lane beside the slow reader, on drawn frames under several versions.
 
-ghost use Rattle.std.specs.Prelude.{◌<◌};
+ghost use Rattle.std.specs.Prelude.{◌≤◌};
 
 use crate::draws::Draws;
 use crate::pieces::{
-    Filter, PlainFrame, PlainPiece, PlainVersion, Settings, all_pieces, pieces_so_far,
+    Channel, Holds, PlainFrame, PlainVersion, ReadPiece, all_pieces, last_value, pieces_so_far,
 };
-use bpf_insn::{Insn, parse_listing};
+use bpf_insn::parse_listing;
 use bpf_verify::{Verified, verify};
 use ch11_packet::Limit;
-use eth_frame::Frame;
+use eth_frame::{Frame, MAX_FRAME_LEN};
 use rec_channel::Slot;
-use rec_lane::{Lane, LaneSpec, Offered, Piece};
-use std::alloc::{AllocError, Global};
+use rec_lane::{Lane, LaneSpec, Piece};
+use std::alloc::Global;
 use std::process::Abort;
 use std::sync::Arc;
 use std::test::Fail;
 
-/// How many frames of all lengths are drawn, and how many short ones.
-const FRAMES: usize = 96;
-
-const SHORT_FRAMES: usize = 700;
-/// The seed that they are drawn from.
-const SEED: u64 = 20260502;
-/// How long a frame may be: the least and the greatest lengths, and odd and even ones between.
-const LENGTHS: [usize; 12] = [
-    18, 18, 19, 64, 65, 300, 1500, 1501, 4000, 9001, 16_382, 16_383,
+/// The least and the greatest length of a frame, and odd and even ones between.
+const LENGTHS: [usize; 16] = [
+    18, 18, 19, 20, 21, 64, 65, 300, 1_500, 1_501, 4_000, 4_099, 8_190, 9_001, 16_382, 16_383,
 ];
-/// The fewest pieces that there may be: five programs, a packet of each of the four versions that
-/// accept a frame, and the end.
-const FEWEST: usize = 10;
-/// The channel of the lane.
-const CHANNEL: u16 = 300;
 
-/// The lane gives the pieces that are read, after each frame and at the end.
+/// Accepts each frame.
+const ACCEPT: &str = "1,6 0 0 4294967295,";
+
+/// The programs of ten versions.
+const PROGRAMS: [&str; 10] = [
+    ACCEPT,
+    // byte 14 is below 200; in a frame of 18 bytes it is in the check sequence
+    "4,48 0 0 14,53 1 0 200,6 0 0 1,6 0 0 0,",
+    ACCEPT,
+    "1,6 0 0 0,",
+    // the length of the view modulo 3
+    "3,128 0 0 0,148 0 0 3,22 0 0 0,",
+    "1,6 0 0 0,",
+    ACCEPT,
+    ACCEPT,
+    // the byte that is 14 after four times the low half of byte 14 is odd
+    "5,177 0 0 14,80 0 0 14,69 0 1 1,6 0 0 7,6 0 0 0,",
+    ACCEPT,
+];
+
+/// Marks of the ten versions, in sixteenths of the frames: the first, the third, the fourth and the
+/// last meet no frame.
+const SIXTEENTHS: [usize; 10] = [0, 0, 2, 2, 2, 5, 6, 8, 10, 16];
+
+/// How many versions meet a frame at these marks.
+const MET: usize = 6;
+
 #[test]
-fn pieces_agree(rt: HostRuntime) -> Result<(), Fail> {
+fn pieces_agree_at_each_limit(rt: HostRuntime) -> Result<(), Fail> {
     let alloc = rt.alloc();
-    let mut draws = Draws::from_seed(SEED);
-    let frames = drawn_frames(alloc, &mut draws, FRAMES, &LENGTHS)?;
-    for limit in [16_424, 20_001, 65_536, 524_288] {
-        let pieces = compare_pieces(&rt, alloc, settings(limit), frames.as_slice(), 1)?;
-        assert!(rt;
-            pieces >= FEWEST,
-            "{pieces} pieces of packets up to {limit} bytes"
+    let frames = drawn_frames(alloc, &mut Draws::from_seed(1), 96, &LENGTHS)?;
+    let versions = ten_versions(alloc, sixteenths_of(frames.len()))?;
+    for limit in [16_424, 16_427, 20_001, 65_536, 524_288] {
+        let (frames, versions) = (frames.as_slice(), versions.as_slice());
+        let counts = compare(&rt, alloc, channel(limit), frames, versions)?;
+        assert_eq!(rt; counts.programs, MET);
+        // one of them drops each frame
+        assert!(rt; counts.packets >= MET - 1, "packets up to {limit} bytes");
+    }
+    Ok(())
+}
+
+/// Twenty times ten versions, of which about two thirds meet a frame.
+#[test]
+fn pieces_agree_at_drawn_marks(rt: HostRuntime) -> Result<(), Fail> {
+    let alloc = rt.alloc();
+    let mut draws = Draws::from_seed(2);
+    let mut programs = 0usize;
+    for _ in 0..20 {
+        let frames = drawn_frames(alloc, &mut draws, 96, &LENGTHS)?;
+        let versions = ten_versions(alloc, drawn_marks(&mut draws))?;
+        let (frames, versions) = (frames.as_slice(), versions.as_slice());
+        let counts = compare(&rt, alloc, channel(16_424), frames, versions)?;
+        programs = programs.saturating_add(counts.programs);
+    }
+    assert!(rt;
+        (100..=150).contains(&programs),
+        "{programs} versions meet a frame"
+    );
+    Ok(())
+}
+
+/// Of 19 bytes, 512 frames fit the least limit, as each has a filler byte. Of 18 bytes, 547 frames
+/// have a packet of 16,438 bytes, which its own filler makes 16,440.
+#[test]
+fn pieces_of_short_frames_agree(rt: HostRuntime) -> Result<(), Fail> {
+    let alloc = rt.alloc();
+    let versions = [version(alloc, 0, ACCEPT)?];
+    for (len, limit) in [(19, 16_424), (18, 16_438), (18, 16_439), (18, 16_440)] {
+        let frames = drawn_frames(alloc, &mut Draws::from_seed(3), 600, &[len])?;
+        let counts = compare(&rt, alloc, channel(limit), frames.as_slice(), &versions)?;
+        assert_eq!(rt; counts.packets, 2, "frames of {len} bytes up to {limit}");
+    }
+    Ok(())
+}
+
+/// A frame of 16,383 bytes fills the least packet, two of them one of 32,820 bytes, and 31 of them
+/// the greatest as far as it goes.
+#[test]
+fn pieces_of_the_longest_frames_agree(rt: HostRuntime) -> Result<(), Fail> {
+    let alloc = rt.alloc();
+    let versions = [version(alloc, 0, ACCEPT)?];
+    let cases = [
+        (2, 16_424, 2),
+        (2, 32_819, 2),
+        (2, 32_820, 1),
+        (63, 524_288, 3),
+    ];
+    for (count, limit, packets) in cases {
+        let frames = drawn_frames(alloc, &mut Draws::from_seed(4), count, &[MAX_FRAME_LEN])?;
+        let counts = compare(&rt, alloc, channel(limit), frames.as_slice(), &versions)?;
+        assert_eq!(rt;
+            counts.packets,
+            packets,
+            "{count} frames up to {limit} bytes"
         );
     }
     Ok(())
 }
 
-/// Frames that fill a packet to the last few bytes: of 19 bytes, 512 fit the least limit, as each
-/// has a filler byte; of 18 bytes, 546 fit a limit of 16,438, since 547 fit only before the packet
-/// is rounded up.
+/// Of these frames no two fit a packet of the least limit.
 #[test]
-fn pieces_of_short_frames_agree(rt: HostRuntime) -> Result<(), Fail> {
+fn more_than_257_packets_agree(rt: HostRuntime) -> Result<(), Fail> {
     let alloc = rt.alloc();
-    let mut draws = Draws::from_seed(SEED);
-    for (len, limit) in [(19, 16_424), (18, 16_438)] {
-        let frames = drawn_frames(alloc, &mut draws, SHORT_FRAMES, &[len; 12])?;
-        compare_pieces(&rt, alloc, settings(limit), frames.as_slice(), 200)?;
-    }
+    let lengths = [8_187, 8_188, 8_190, 8_193, 8_200];
+    let frames = drawn_frames(alloc, &mut Draws::from_seed(5), 448, &lengths)?;
+    let versions = ten_versions(alloc, sixteenths_of(frames.len()))?;
+    let (frames, versions) = (frames.as_slice(), versions.as_slice());
+    let counts = compare(&rt, alloc, channel(16_424), frames, versions)?;
+    assert_eq!(rt; counts.programs, MET);
+    assert!(rt; counts.packets > 257, "{} packets", counts.packets);
     Ok(())
 }
 
-/// The settings of a lane with this limit.
-fn settings(limit: usize) -> Settings {
-    Settings {
-        net: 255,
-        speed: 15,
+/// A channel to which no frame was offered has its end alone.
+#[test]
+fn pieces_of_no_frame_agree(rt: HostRuntime) -> Result<(), Fail> {
+    let alloc = rt.alloc();
+    let versions = ten_versions(alloc, sixteenths_of(0))?;
+    let counts = compare(&rt, alloc, channel(16_424), &[], versions.as_slice())?;
+    assert_eq!(rt; (counts.programs, counts.packets), (0, 0));
+    Ok(())
+}
+
+/// A channel of this limit.
+fn channel(limit: usize) -> Channel {
+    Channel {
+        id: 300,
         limit,
+        net: 0xa7,
+        speed: 0xb,
     }
 }
 
-/// The versions. The first, third, fourth and seventh meet no frame, since the next one has their
-/// mark, nor does the last, which comes after all frames but the short ones. The fifth and the eighth look at bytes
-/// that are in the check sequence of the least frame, the sixth drops each frame, and the eighth
-/// and the ninth are equal.
-fn versions() -> [PlainVersion; 10] {
-    [
-        version(0, 0, 255),
-        version(0, 3, 200),
-        version(7, 5, 255),
-        version(7, 5, 0),
-        version(7, 14, 128),
-        version(20, 0, 0),
-        version(41, 0, 100),
-        version(41, 17, 255),
-        version(60, 17, 255),
-        version(FRAMES, 1, 255),
-    ]
+/// Marks in sixteenths of so many frames.
+fn sixteenths_of(frames: usize) -> [usize; 10] {
+    SIXTEENTHS.map(|sixteenths| frames.saturating_mul(sixteenths) / 16)
 }
 
-/// A version that accepts a frame whose byte at an index is below a bound.
-fn version(mark: usize, at: usize, bound: u8) -> PlainVersion {
-    PlainVersion {
-        filter: Filter { at, bound },
+/// Drawn marks that begin with 0 and never fall. Many are equal, and some come after 96 frames.
+fn drawn_marks(draws: &mut Draws) -> [usize; 10] {
+    let mut last = 0usize;
+    let mut marks = [0; 10];
+    for mark in marks[1..].iter_mut() {
+        let further = draws.below(32).saturating_sub(10);
+        last = last.saturating_add(usize::from(further));
+        *mark = last;
+    }
+    marks
+}
+
+/// The ten programs as versions with these marks.
+fn ten_versions(alloc: Global, marks: [usize; 10]) -> Result<Vec<PlainVersion>, Fail> {
+    let mut versions = Vec::new(alloc);
+    for (mark, listing) in marks.iter().zip(PROGRAMS) {
+        versions.push(version(alloc, *mark, listing)?)?;
+    }
+    Ok(versions)
+}
+
+/// A version of the program with this listing.
+fn version(alloc: Global, mark: usize, listing: &str) -> Result<PlainVersion, Fail> {
+    let program = verify(parse_listing(alloc, listing)?)?;
+    Ok(PlainVersion {
         mark,
-    }
+        program: Arc::new(alloc, program)?,
+    })
 }
 
-/// The program of a filter: a load of the byte, a test, and a return of 1 and one of 0.
-fn program(alloc: Global, filter: Filter) -> Result<Vec<Insn>, Fail> {
-    let Filter { at, bound } = filter;
-    let listing = format!(in alloc; "4,48 0 0 {at},53 1 0 {bound},6 0 0 1,6 0 0 0,")?;
-    Ok(parse_listing(alloc, listing.as_str())?)
-}
-
-/// The same, ready to be installed.
-fn verified(alloc: Global, filter: Filter) -> Result<Arc<Verified, Global>, Fail> {
-    Ok(Arc::new(alloc, verify(program(alloc, filter)?)?)?)
-}
-
-/// Frames whose length is drawn from twelve, with drawn bytes, marks and counters.
+/// So many frames whose lengths are drawn from a list.
 fn drawn_frames(
     alloc: Global,
     draws: &mut Draws,
     count: usize,
-    lengths: &[usize; 12],
-) -> Result<Vec<PlainFrame>, AllocError> {
+    lengths: &[usize],
+) -> Result<Vec<PlainFrame>, Fail> {
     let mut frames = Vec::new(alloc);
     for _ in 0..count {
-        let len = lengths[usize::from(draws.below(12))];
-        let mut byte = draws.below(255);
-        let step = draws.below(255);
-        let mut bytes = Vec::new(alloc);
-        for _ in 0..len {
-            bytes.push(byte)?;
-            byte = byte.wrapping_add(step);
-        }
-        frames.push(PlainFrame {
-            counter: u64::from(draws.below(255)) << 40,
-            crc_error: draws.below(4) == 0,
-            frame_error: draws.below(4) == 0,
-            bytes,
-        })?;
+        let at = usize::from(draws.below(255)) % lengths.len().max(1);
+        let len = lengths.get(at).copied().ok_or("a length")?;
+        frames.push(drawn_frame(alloc, draws, len.min(MAX_FRAME_LEN))?)?;
     }
     Ok(frames)
 }
 
-/// Stops unless a lane gives the pieces that are read, after the first frame and each `every`
-/// further ones and at the end; how many there are in all.
-fn compare_pieces(
+/// A frame of drawn bytes, with a drawn counter and drawn marks.
+fn drawn_frame(alloc: Global, draws: &mut Draws, len: usize) -> Result<PlainFrame, Fail>
+    requires { len ≤ MAX_FRAME_LEN }
+{
+    let mut counter = [0u8; 8];
+    for byte in counter[..6].iter_mut() {
+        *byte = draws.below(255);
+    }
+    let mut bytes = vec![in alloc; 0u8; len]?;
+    for byte in bytes.iter_mut() {
+        *byte = draws.below(255);
+    }
+    Ok(PlainFrame {
+        counter: u64::from_le_bytes(counter),
+        crc_error: draws.below(4) == 0,
+        frame_error: draws.below(4) == 0,
+        bytes,
+    })
+}
+
+/// How many pieces of a channel are programs, and how many are packets of frames.
+#[derive(Clone, Copy)]
+struct Counts {
+    programs: usize,
+    packets: usize,
+}
+
+/// Offers the frames to a lane one by one, and stops unless its pieces are those that are read,
+/// after each frame and at the end.
+fn compare(
     rt: &impl Abort,
     alloc: Global,
-    settings: Settings,
+    channel: Channel,
     frames: &[PlainFrame],
-    every: usize,
-) -> Result<usize, Fail>
-    requires { 0 < every }
-{
-    let versions = versions();
-    let versions = versions.as_slice();
-    let first = versions.first().ok_or("a first version")?;
-    let mut slot = Slot::new(alloc, verified(alloc, first.filter)?, frames.len() as u64)?;
-    let mut lane = new_lane(alloc, settings)?;
+    versions: &[PlainVersion],
+) -> Result<Counts, Fail> {
+    let mut lane = new_lane(alloc, channel)?;
+    let mut slot = new_slot(alloc, versions)?;
     let mut given = Vec::new(alloc);
-    for (number, frame) in frames.iter().enumerate() {
-        install_after(alloc, &mut slot, versions, number)?;
-        let offered = offer(&mut lane, &mut slot, frame)?;
-        for piece in offered.pieces {
-            given.push(piece)?;
-        }
-        if number % every == 0 {
-            let before = frames.get(..=number).unwrap_or(frames);
-            let read = pieces_so_far(alloc, settings, before, versions)?;
-            let equal = equal_pieces(alloc, versions, given.as_slice(), read.as_slice())?;
-            let lengths = (given.len(), equal);
-            assert_eq!(rt; lengths, (read.len(), read.len()), "after frame {number}");
-        }
+    for number in 0..frames.len() {
+        let before = &frames[..number + 1];
+        install_at(&mut slot, versions, number)?;
+        let value = offer(&mut lane, &mut slot, &frames[number], &mut given)?;
+        assert_eq!(rt; Some(value), last_value(before, versions), "frame {number}");
+        let read = pieces_so_far(alloc, channel, before, versions)?;
+        let difference = first_difference(given.as_slice(), read.as_slice());
+        assert_eq!(rt; difference, None, "after frame {number}");
     }
-    install_after(alloc, &mut slot, versions, frames.len())?;
+    install_at(&mut slot, versions, frames.len())?;
     for piece in lane.end() {
         given.push(piece)?;
     }
-    let read = all_pieces(alloc, settings, frames, versions)?;
-    let equal = equal_pieces(alloc, versions, given.as_slice(), read.as_slice())?;
-    assert_eq!(rt;
-        (given.len(), equal),
-        (read.len(), read.len()),
-        "at the end"
-    );
-    Ok(equal)
+    let read = all_pieces(alloc, channel, frames, versions)?;
+    let difference = first_difference(given.as_slice(), read.as_slice());
+    assert_eq!(rt; difference, None, "at the end");
+    Ok(counts_of(given.as_slice()))
 }
 
-/// A lane with these settings.
-fn new_lane(alloc: Global, settings: Settings) -> Result<Lane, Fail> {
-    let Settings { net, speed, limit } = settings;
-    let limit = Limit::new(u32::try_from(limit)?).ok_or("a limit in range")?;
-    let spec = LaneSpec::new(CHANNEL, net, speed, limit).ok_or("settings in range")?;
-    Ok(Lane::new(alloc, spec)?)
+/// A lane of this channel.
+fn new_lane(alloc: Global, channel: Channel) -> Result<Lane, Fail> {
+    let limit = Limit::new(u32::try_from(channel.limit)?).ok_or("a limit in range")?;
+    let spec = LaneSpec::new(channel.id, channel.net, channel.speed, limit);
+    Ok(Lane::new(alloc, spec.ok_or("settings in range")?)?)
 }
 
-/// Installs the versions, from the second one on, that come after so many frames.
-fn install_after(
-    alloc: Global,
-    slot: &mut Slot,
-    versions: &[PlainVersion],
-    frames: usize,
-) -> Result<(), Fail> {
+/// A slot whose first version is that of the list.
+fn new_slot(alloc: Global, versions: &[PlainVersion]) -> Result<Slot, Fail> {
+    let first = versions.first().ok_or("a first version")?;
+    Ok(Slot::new(alloc, Arc::try_clone(&first.program)?, u64::MAX)?)
+}
+
+/// Installs the versions, from the second one on, whose mark is this number of frames.
+fn install_at(slot: &mut Slot, versions: &[PlainVersion], number: usize) -> Result<(), Fail> {
     for version in versions.iter().skip(1) {
-        if version.mark == frames {
-            slot.install(verified(alloc, version.filter)?)?;
+        if version.mark == number {
+            slot.install(Arc::try_clone(&version.program)?)?;
         }
     }
     Ok(())
 }
 
-/// Draws a frame from the slot and offers it to the lane, which has met all frames drawn before.
-fn offer(lane: &mut Lane, slot: &mut Slot, frame: &PlainFrame) -> Result<Offered, Fail> {
-    let frame = Frame::new(
-        frame.counter,
-        frame.crc_error,
-        frame.frame_error,
-        frame.bytes.as_slice(),
-    );
+/// Draws a frame from the slot and offers it to the lane; what the filter returned.
+fn offer(
+    lane: &mut Lane,
+    slot: &mut Slot,
+    frame: &PlainFrame,
+    given: &mut Vec<Piece>,
+) -> Result<u32, Fail> {
+    let bytes = frame.bytes.as_slice();
+    let frame = Frame::new(frame.counter, frame.crc_error, frame.frame_error, bytes);
+    let frame = frame.ok_or("a frame in range")?;
     lane.ready()?;
     let drawn = slot.draw()?;
     if drawn.number != lane.offered() {
-        return Err(Fail::from("the lane has met other frames"));
+        return Err("the number of the lane's next frame")?;
     }
-    Ok(lane.offer(&frame.ok_or("a frame in range")?, drawn))
+    let offered = lane.offer(&frame, drawn);
+    for piece in offered.pieces {
+        given.push(piece)?;
+    }
+    Ok(offered.value)
 }
 
-/// How many pieces are those that are read, from the first one on.
-fn equal_pieces(
-    alloc: Global,
-    versions: &[PlainVersion],
-    given: &[Piece],
-    read: &[PlainPiece],
-) -> Result<usize, Fail> {
-    let mut equal = 0usize;
-    for (piece, plain) in given.iter().zip(read.iter()) {
-        if plain_piece(alloc, versions, piece)?.as_ref() != Some(plain) {
-            break;
-        }
-        equal = equal.saturating_add(1);
-    }
-    Ok(equal)
-}
-
-/// A piece of the lane as a plain one: none if its channel is another one, or if its program isn't
-/// that of its version.
-fn plain_piece(
-    alloc: Global,
-    versions: &[PlainVersion],
-    piece: &Piece,
-) -> Result<Option<PlainPiece>, Fail> {
-    let (channel, plain) = match piece {
-        Piece::Program(p) => {
-            let version = versions.get(p.version as usize).ok_or("a version")?;
-            if p.program.insns() != program(alloc, version.filter)?.as_slice() {
-                return Ok(None);
-            }
-            let plain = PlainPiece::Program {
-                counter: p.counter,
-                version: p.version as usize,
-                first: p.first as usize,
-            };
-            (p.channel, plain)
-        }
-        Piece::Data(p) => {
-            let plain = PlainPiece::Data {
-                counter: p.body.counter(),
-                body: p.body.bytes().to_vec(alloc)?,
-            };
-            (p.channel, plain)
-        }
-        Piece::End(p) => {
-            let plain = PlainPiece::End {
-                counter: p.counter,
-                offered: p.offered as usize,
-                kept: p.kept as usize,
-            };
-            (p.channel, plain)
-        }
-    };
-    Ok(if channel == CHANNEL {
-        Some(plain)
-    } else {
-        None
+/// The index of the first piece that isn't the one that is read there, or that one of the two
+/// lists lacks.
+fn first_difference(given: &[Piece], read: &[ReadPiece]) -> Option<usize> {
+    let longest = given.len().max(read.len());
+    (0..longest).find(|at| match (given.get(*at), read.get(*at)) {
+        (Some(piece), Some(read)) => !is_same(piece, read),
+        _ => true,
     })
+}
+
+/// Whether a piece is the one that is read.
+fn is_same(piece: &Piece, read: &ReadPiece) -> bool {
+    let same = match (piece, &read.holds) {
+        (
+            Piece::Program(given),
+            Holds::Program {
+                version,
+                first,
+                insns,
+            },
+        ) => {
+            (given.version as usize, given.first as usize) == (*version, *first)
+                && given.counter == read.counter
+                && given.program.insns() == insns.as_slice()
+        }
+        (Piece::Data(given), Holds::Data { count, body }) => {
+            usize::from(given.body.count()) == *count
+                && given.body.counter() == read.counter
+                && given.body.bytes() == body.as_slice()
+        }
+        (Piece::End(given), Holds::End { offered, kept }) => {
+            (given.offered as usize, given.kept as usize) == (*offered, *kept)
+                && given.counter == read.counter
+        }
+        _ => false,
+    };
+    same && piece.channel() == read.channel
+}
+
+/// How many pieces are programs and packets.
+fn counts_of(pieces: &[Piece]) -> Counts {
+    let programs = pieces
+        .iter()
+        .filter(|piece| matches!(piece, Piece::Program(_)));
+    let packets = pieces
+        .iter()
+        .filter(|piece| matches!(piece, Piece::Data(_)));
+    Counts {
+        programs: programs.count(),
+        packets: packets.count(),
+    }
 }
