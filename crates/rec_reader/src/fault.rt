@@ -80,12 +80,14 @@ impl fmt::Display for ReadEnd {
 
 impl Error for ReadEnd {}
 
-/// A recording that isn't read to its end: where and why, and the packets before. Only the readers
-/// make one.
+/// A recording that isn't read to its end: where and why, and the packets before.
 #[derive(Debug, Drop)]
 pub struct ReadFault<'a> {
+    /// Why it is read no further.
     pub kind: ReadFaultKind,
+    /// The place of the first byte of the packet that isn't read, counted from 0.
     pub at: u64,
+    /// All packets before it.
     pub before: Recording<'a>,
 }
 

@@ -7,6 +7,7 @@ use std::marker::Model;
 /// one before it ends. They are borrowed from the bytes of a recording.
 #[derive(Debug, Drop)]
 pub struct Recording<'a> {
+    /// The packets.
     pub packets: Vec<Packet<'a>>,
 }
 
