@@ -9,9 +9,11 @@ mod filters;
 mod no_words;
 mod output;
 mod packet_list;
+mod settings;
 mod view;
 mod words;
 
 pub use entry::{program, words_unread};
+pub use settings::{ChannelSettings, Settings, SettingsFault, settings_of};
 pub use view::{ViewFault, view_of};
 pub use words::{Words, WordsFault, words_of};
