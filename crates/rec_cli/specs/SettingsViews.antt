@@ -1,5 +1,5 @@
 -- Settings and their faults as data.
-use Rattle.std.specs.Prelude.{ℕ, ◌≡◌, map, string_bytes, Result, Ok, Err, codes}
+use Rattle.std.specs.Prelude.{◌≡◌, map, string_bytes, Result, Err}
 use Rattle.rec_cli.specs.declared.settings.Settings.{Settings}
 use Rattle.rec_cli.specs.declared.settings.ChannelSettings.{ChannelSettings}
 use Rattle.rec_cli.specs.declared.settings.fault.SettingsFault.{SettingsFault}
