@@ -9,6 +9,7 @@ mod filters;
 mod no_words;
 mod output;
 mod packet_list;
+mod recording;
 mod settings;
 mod view;
 mod words;
