@@ -63,7 +63,7 @@ fn obey<
 >(
     rt: &R,
     words: &'a [String],
-    input: I,
+    mut input: I,
     output: &mut O,
     errors: &Mutex<E>,
 ) -> Result<(), Ending<'a>>
@@ -75,7 +75,7 @@ where
         Ok(Words::Record { settings, out }) => {
             record_channels(rt, settings, out, input, output, errors)
         }
-        Ok(command) => answer(rt, command, output),
+        Ok(command) => answer(rt, command, &mut input, output),
         Err(WordsFault::Help(text)) => print_help(output, text),
         Err(WordsFault::Words(text)) => Err(Ending::Words(text)),
         Err(WordsFault::Memory) => Err(Ending::Memory),
@@ -83,16 +83,17 @@ where
 }
 
 /// Does one command.
-fn answer<'a, R: AllocGlobal + Files, O: Write>(
+fn answer<'a, R: AllocGlobal + Files, I: Read, O: Write>(
     rt: &R,
     command: Words<'a>,
+    input: &mut I,
     output: &mut O,
 ) -> Result<(), Ending<'a>> {
     match command {
-        Words::Asm { file } => assemble_file(rt, file, output),
-        Words::Dis { file } => disassemble_file(rt, file, output),
-        Words::Verify { file } => verify_file(rt, file, output),
-        Words::Run { file, view } => run_file(rt, file, view, output),
+        Words::Asm { file } => assemble_file(rt, file, input, output),
+        Words::Dis { file } => disassemble_file(rt, file, input, output),
+        Words::Verify { file } => verify_file(rt, file, input, output),
+        Words::Run { file, view } => run_file(rt, file, view, input, output),
         Words::List { file } => list_packets(rt, file, output),
         Words::Extract { file, channel, out } => extract_frames(rt, file, channel, out, output),
         Words::Record { .. } | Words::NoCommand => Err(Ending::Words(String::new(rt.alloc()))),

@@ -6,6 +6,7 @@ mod ending;
 mod entry;
 mod extraction;
 mod filters;
+mod input;
 mod no_words;
 mod output;
 mod packet_list;
