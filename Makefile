@@ -7,15 +7,8 @@ export RT
 help: ## lists the targets
 	@grep -E '^[a-z-]+:.*## ' Makefile | sed -E 's/:[^#]*## /\t/' | expand -t 18
 
-demo: build ## builds the program, and shows a short tour on the samples in examples/
-	bin/bpfrec asm examples/filters/udp_port.bpf > bin/udp_port.txt
-	bin/bpfrec verify bin/udp_port.txt
-	bin/bpfrec dis bin/udp_port.txt
-	bin/bpfrec < examples/arp_frame.txt
-	bin/bpfrec verify examples/arp.txt
-	bin/bpfrec run examples/arp.txt ffffffffffff0200000000010806
-	bin/bpfrec run examples/arp.txt ffffffffffff0200000000010800
-	-bin/bpfrec verify examples/jump_out.txt
+demo: build ## builds the program, and shows a recording from filter to extracted frames
+	tools/demo
 
 build: ## proves the program and all that it stands on, and leaves it at bin/bpfrec
 	@tools/build

@@ -2,9 +2,11 @@
 #![tactic(auto)]
 
 use std::process::ExitCode;
-use std::{env, io};
+use std::rt::Files;
+use std::{env, fs, io};
 
 fn main(rt: HostRuntime) -> ExitCode {
+    let _held = hold_streams(&rt);
     let status = match words(&rt) {
         Ok(words) => rec_cli::program(
             &rt,
@@ -25,4 +27,15 @@ fn words(rt: &HostRuntime) -> io::Result<Vec<String>> {
         words.push(word)?;
     }
     Ok(words)
+}
+
+/// Opens an empty file in the place of each standard stream that is closed, and holds it: else the
+/// next file that is opened would be read as standard input, or written as an output.
+fn hold_streams<R: Files>(rt: &R) -> [io::Result<R::File>; 3] {
+    let empty = "/dev/null";
+    [
+        fs::open(rt, empty),
+        fs::open(rt, empty),
+        fs::open(rt, empty),
+    ]
 }

@@ -6,13 +6,17 @@
 
 mod cases;
 mod extracts;
+mod records;
 mod texts;
 
 use cases::{CASES, HELP};
 use extracts::{EXTRACTS, ExtractCase};
+use records::show_records;
 use std::alloc::AllocError;
 use std::io::{ErrorKind, Write};
 use std::rt::Files;
+use std::sync::Wait;
+use std::thread::Threads;
 use std::{fs, io};
 use texts::{FILTERS, TEXTS, TextCase};
 
@@ -36,17 +40,26 @@ fn main(rt: HostRuntime) -> io::Result<()> {
     for words in HELP {
         show_help(&rt, words)?;
     }
-    show_closed_output(&rt)
+    show_closed_output(&rt)?;
+    show_records(&rt)
 }
 
 /// One case.
-fn show<R: AllocGlobal + Files + Print>(rt: &R, words: &[&str]) -> io::Result<()> {
+fn show<R: AllocGlobal + Files + Print + Threads + Wait + Sync>(rt: &R, words: &[&str]) -> io::Result<()>
+where
+    R::File: Send,
+    R::Dir: Send,
+{
     answered(rt, words)?;
     Ok(())
 }
 
 /// A text: its listing is stored as the file `listing`, and then checked and run on each view.
-fn show_text<R: AllocGlobal + Files + Print>(rt: &R, text: &TextCase) -> io::Result<()> {
+fn show_text<R: AllocGlobal + Files + Print + Threads + Wait + Sync>(rt: &R, text: &TextCase) -> io::Result<()>
+where
+    R::File: Send,
+    R::Dir: Send,
+{
     let listing = answered(rt, &["asm", text.file])?;
     fs::write(rt, "listing", listing.as_slice())?;
     show(rt, &["verify", "listing"])?;
@@ -89,7 +102,11 @@ fn show_long_list<R: AllocGlobal + Files + Print>(rt: &R) -> io::Result<()> {
 }
 
 /// A channel's feed: what is printed, and then the bytes of the feed, if it was created.
-fn show_extract<R: AllocGlobal + Files + Print>(rt: &R, case: &ExtractCase) -> io::Result<()> {
+fn show_extract<R: AllocGlobal + Files + Print + Threads + Wait + Sync>(rt: &R, case: &ExtractCase) -> io::Result<()>
+where
+    R::File: Send,
+    R::Dir: Send,
+{
     show(rt, &["extract", case.recording, case.channel, case.feed])?;
     let Ok(bytes) = fs::read(rt, case.feed) else {
         return println!(rt; "no feed");
@@ -102,26 +119,57 @@ fn show_extract<R: AllocGlobal + Files + Print>(rt: &R, case: &ExtractCase) -> i
 }
 
 /// Runs the program on these words, and shows and gives its output.
-fn answered<R: AllocGlobal + Files + Print>(rt: &R, words: &[&str]) -> io::Result<Vec<u8>> {
-    let owned = words_of(rt, words)?;
+fn answered<R: AllocGlobal + Files + Print + Threads + Wait + Sync>(
+    rt: &R,
+    words: &[&str],
+) -> io::Result<Vec<u8>>
+where
+    R::File: Send,
+    R::Dir: Send,
+{
     let mut output = Vec::new(rt.alloc());
-    let mut errors = Vec::new(rt.alloc());
-    let status = rec_cli::program(rt, owned.as_slice(), io::empty(), &mut output, &mut errors);
+    let run = run_program(rt, words, b"", &mut output)?;
     title(rt, words)?;
     print!(rt; "{}", text(&output))?;
-    for line in text(&errors).lines() {
+    for line in text(&run.errors).lines() {
         println!(rt; "! {line}")?;
     }
-    println!(rt; "= {status}")?;
+    println!(rt; "= {}", run.status)?;
     Ok(output)
 }
 
-/// Help is shown by its stream, its status and the commands that it names, not by its text.
-fn show_help<R: AllocGlobal + Files + Print>(rt: &R, words: &[&str]) -> io::Result<()> {
+/// A run of the program.
+#[derive(Drop)]
+struct Run {
+    errors: Vec<u8>,
+    status: u8,
+}
+
+/// Runs the program on these words and this input.
+fn run_program<R: AllocGlobal + Files + Threads + Wait + Sync, O: Write>(
+    rt: &R,
+    words: &[&str],
+    input: &[u8],
+    output: &mut O,
+) -> io::Result<Run>
+where
+    R::File: Send,
+    R::Dir: Send,
+{
     let owned = words_of(rt, words)?;
-    let mut output = Vec::new(rt.alloc());
     let mut errors = Vec::new(rt.alloc());
-    let status = rec_cli::program(rt, owned.as_slice(), io::empty(), &mut output, &mut errors);
+    let status = rec_cli::program(rt, owned.as_slice(), input, output, &mut errors);
+    Ok(Run { errors, status })
+}
+
+/// Help is shown by its stream, its status and the commands that it names, not by its text.
+fn show_help<R: AllocGlobal + Files + Print + Threads + Wait + Sync>(rt: &R, words: &[&str]) -> io::Result<()>
+where
+    R::File: Send,
+    R::Dir: Send,
+{
+    let mut output = Vec::new(rt.alloc());
+    let Run { errors, status } = run_program(rt, words, b"", &mut output)?;
     title(rt, words)?;
     for name in [
         "asm", "dis", "verify", "run", "extract", "FILE", "HEX", "CHANNEL", "OUT", "Usage",
@@ -147,7 +195,11 @@ impl Write for Closed {
     }
 }
 
-fn show_closed_output<R: AllocGlobal + Files + Print>(rt: &R) -> io::Result<()> {
+fn show_closed_output<R: AllocGlobal + Files + Print + Threads + Wait + Sync>(rt: &R) -> io::Result<()>
+where
+    R::File: Send,
+    R::Dir: Send,
+{
     let mut closed = Closed;
     for words in [
         ["verify", "arp"].as_slice(),
@@ -162,9 +214,7 @@ fn show_closed_output<R: AllocGlobal + Files + Print>(rt: &R) -> io::Result<()> 
         ],
         &["--help"],
     ] {
-        let owned = words_of(rt, words)?;
-        let mut errors = Vec::new(rt.alloc());
-        let status = rec_cli::program(rt, owned.as_slice(), io::empty(), &mut closed, &mut errors);
+        let Run { errors, status } = run_program(rt, words, b"", &mut closed)?;
         title(rt, words)?;
         print!(rt; "! {}", text(&errors))?;
         println!(rt; "= {status}, with a closed output")?;

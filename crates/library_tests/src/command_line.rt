@@ -5,7 +5,9 @@ use std::io;
 use std::io::{ErrorKind, Read, Write};
 use std::process::Abort;
 use std::rt::Files;
+use std::sync::Wait;
 use std::test::Fail;
+use std::thread::Threads;
 
 /// The ARP filter, and the part of an ARP frame that a program sees.
 const ARP: &str = "4,40 0 0 12,21 0 1 2054,6 0 0 4294967295,6 0 0 0,";
@@ -13,13 +15,16 @@ const ARP: &str = "4,40 0 0 12,21 0 1 2054,6 0 0 4294967295,6 0 0 0,";
 const VIEW: &str = "ffffffffffff0200000000010806";
 
 /// Runs the program without words, and compares its status, output and errors.
-fn check<R: AllocGlobal + Files + Abort>(
+fn check<R: AllocGlobal + Files + Threads + Wait + Sync + Abort>(
     rt: &R,
     input: &[u8],
     status: u8,
     output: &str,
     errors: &str,
-) {
+) where
+    R::File: Send,
+    R::Dir: Send,
+{
     let mut out = Vec::new(rt.alloc());
     let mut err = Vec::new(rt.alloc());
     let ended = program(rt, &[], input, &mut out, &mut err);

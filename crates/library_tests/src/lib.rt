@@ -25,6 +25,8 @@ mod reader;
 #[cfg(test)]
 mod recorder;
 #[cfg(test)]
+mod settings;
+#[cfg(test)]
 mod shared;
 #[cfg(test)]
 mod verifier;

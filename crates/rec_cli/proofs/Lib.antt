@@ -1,3 +1,4 @@
 pub mod Returns
 pub mod Answered
 pub mod Matches
+pub mod SettingsRead

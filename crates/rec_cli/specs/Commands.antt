@@ -3,7 +3,7 @@ use Rattle.std.specs.Prelude.{◌≡◌, ◌≢◌, List, [], Option, Some, true
 use Rattle.clap.specs.Words.{App, Row, Rule, Text, first_of, new_app, new_rule, with_rule, with_subcommand}
 use Rattle.clap.specs.declared.builder.ArgAction.TheVariants.{Set}
 use Rattle.rec_cli.specs.declared.words.Words.{Words}
-use Rattle.rec_cli.specs.declared.words.Words.TheVariants.{NoCommand, Asm, Dis, Verify, Run, List as ListOf, Extract}
+use Rattle.rec_cli.specs.declared.words.Words.TheVariants.{NoCommand, Asm, Dis, Verify, Run, List as ListOf, Extract, Record}
 
 -- a word that must be given
 abbrev pub operand : Text → Rule
@@ -30,6 +30,11 @@ extract_app =
     with_rule (with_rule (with_rule (new_app (codes "extract")) (operand (codes "FILE")))
     (operand (codes "CHANNEL"))) (operand (codes "OUT"))
 
+abbrev pub record_app : App
+record_app =
+    with_rule (with_rule (new_app (codes "record")) (operand (codes "SETTINGS")))
+    (operand (codes "OUT"))
+
 -- the program without its commands: a command must stand among the words after its name
 abbrev pub top_app : App
 top_app =
@@ -44,9 +49,13 @@ texts_app = with_subcommand (with_subcommand top_app asm_app.top) dis_app.top
 abbrev pub filters_app : App
 filters_app = with_subcommand (with_subcommand texts_app verify_app.top) run_app.top
 
+-- the program with the commands on filters and recordings
+abbrev pub recordings_app : App
+recordings_app = with_subcommand (with_subcommand filters_app list_app.top) extract_app.top
+
 -- the program
 abbrev pub bpfrec_app : App
-bpfrec_app = with_subcommand (with_subcommand filters_app list_app.top) extract_app.top
+bpfrec_app = with_subcommand recordings_app record_app.top
 
 -- the word given for a name
 abbrev pub word_for : Text → List Row → Text
@@ -58,6 +67,7 @@ AsksFor met NoCommand =
     (rows : List Row) → (met ≢ Some (codes "asm", rows)) × (met ≢ Some (codes "dis", rows))
     × (met ≢ Some (codes "verify", rows)) × (met ≢ Some (codes "run", rows))
     × (met ≢ Some (codes "list", rows)) × (met ≢ Some (codes "extract", rows))
+    × (met ≢ Some (codes "record", rows))
 AsksFor met (Asm file) =
     (rows : List Row) × (met ≡ Some (codes "asm", rows)) × (file.now ≡ word_for (codes "FILE") rows)
 AsksFor met (Dis file) =
@@ -74,3 +84,6 @@ AsksFor met (Extract file channel out) =
     (rows : List Row) × (met ≡ Some (codes "extract", rows))
     × (file.now ≡ word_for (codes "FILE") rows) × (channel.now ≡ word_for (codes "CHANNEL") rows)
     × (out.now ≡ word_for (codes "OUT") rows)
+AsksFor met (Record settings out) =
+    (rows : List Row) × (met ≡ Some (codes "record", rows))
+    × (settings.now ≡ word_for (codes "SETTINGS") rows) × (out.now ≡ word_for (codes "OUT") rows)

@@ -1,3 +1,5 @@
 pub mod Lines
 pub mod Commands
 pub mod WordsFaults
+pub mod Settings
+pub mod SettingsViews

@@ -3,13 +3,13 @@
 ghost use Rattle.std.specs.Prelude.{◌≡◌, IfOk, codes, false};
 ghost use Rattle.clap.specs.Words.{app_of, new_app, rule_of};
 ghost use Rattle.clap.specs.declared.builder.Command.TheViews.{out-Command as fields_of};
-ghost use Rattle.rec_cli.specs.Commands.{asm_app, bpfrec_app, dis_app, extract_app, filters_app, list_app, operand, run_app, texts_app, top_app, verify_app};
+ghost use Rattle.rec_cli.specs.Commands.{asm_app, bpfrec_app, dis_app, extract_app, filters_app, list_app, operand, record_app, recordings_app, run_app, texts_app, top_app, verify_app};
 
 use clap::{Arg, ArgAction, Command};
 use std::alloc::{AllocError, Global};
 
 const ABOUT: &str =
-    "Assembles, checks and runs the filters of the bpfrec recorder, and reads its recordings.";
+    "Records Ethernet channels through filters, reads the recordings, and assembles and checks filters.";
 
 const STATUSES: &str = "\
 Without words, bpfrec reads a listing and a view in hexadecimal, a line each, from standard
@@ -100,9 +100,52 @@ Exit status: 0 written; 1 not read to its end; 2 words; 3 a file; 4 no memory.
 Example:
   bpfrec extract flight.ch11 1 channel_1.feed";
 
+const RECORD: &str = "\
+Records the channels that SETTINGS names into the file OUT, until every feed has ended and so has
+standard input. SETTINGS is a TOML document:
+  limit = 65536                    the longest packet of frames, in bytes, 16424 to 524288
+  ring = 64                        how many pieces of a channel may wait for OUT, 1 to 4096
+  version = 8                      the data type version of the packets
+  [[channel]]                      1 to 64 of them, each with an id of its own
+  id = 1                           1 to 65535
+  feed = \"one.feed\"               where its frames come from: a file, or a named pipe
+  filter = \"one.txt\"              the listing of its filter's first program
+  net = 0                          the network identifier of its frames
+  speed = 0                        their Ethernet speed, 0 to 15
+  max = 1000                       how many frames are taken at most
+Only id, feed and filter must be set; the numbers above are the others' defaults, but for max,
+which has none. Filters and feeds are opened in the order of the channels, and then OUT is created;
+the opening of a pipe waits for its writer.
+
+A line on standard input changes the filter of a channel while recording goes on:
+  set <channel> <file>             the program that <file> lists is in force from now on
+and each is answered on standard error, as soon as its answer is known:
+  installed <channel> <version> <mark>   from frame <mark> on, counted from 0
+  refused <channel> <reason>       Line, File, Listing, Program, NoChannel or VersionsFull
+
+At the end it prints on standard output
+  channel <id> versions <n> offered <n> kept <n> <ending>   for each channel, in their order
+  wrote <pieces> <bytes>
+where <ending> is SourceEnd, CountFull, or SourceFault and the fault. Settings that are refused
+are told as settings <number> <Name> ..; an output that fails as run 2 Output <whole> <bytes>.
+
+Exit status: 0 recorded; 1 a filter was refused, or the recording failed; 2 words or settings;
+3 a file; 4 no memory.
+
+Example:
+  bpfrec record flight.toml flight.ch11 < /dev/null";
+
 /// The command line of the program. Each command has a function of its own here.
 pub(crate) fn bpfrec<'a>(alloc: Global) -> Result<Command<'a>, AllocError>
     ensures app { IfOk result (λ c. app_of c ≡ bpfrec_app) }
+    ensures local { IfOk result (λ c. (fields_of c).has_globals ≡ false) }
+{
+    with_recordings(alloc)?.subcommand(record(alloc)?)
+}
+
+/// The program with the commands on filters and on recordings.
+fn with_recordings<'a>(alloc: Global) -> Result<Command<'a>, AllocError>
+    ensures app { IfOk result (λ c. app_of c ≡ recordings_app) }
     ensures local { IfOk result (λ c. (fields_of c).has_globals ≡ false) }
 {
     with_filters(alloc)?
@@ -222,6 +265,21 @@ fn extract<'a>(alloc: Global) -> Result<Command<'a>, AllocError>
     .arg(recording(alloc))?
     .arg(operand(alloc, "CHANNEL").help("The channel, a number from 0 to 65535"))?
     .arg(operand(alloc, "OUT").help("The feed that is written"))
+}
+
+fn record<'a>(alloc: Global) -> Result<Command<'a>, AllocError>
+    ensures app { IfOk result (λ c. app_of c ≡ record_app) }
+    ensures local { IfOk result (λ c. (fields_of c).has_globals ≡ false) }
+{
+    command(
+        alloc,
+        "record",
+        "bpfrec record",
+        "Records channels through their filters",
+        RECORD,
+    )?
+    .arg(operand(alloc, "SETTINGS").help("The channels, their feeds and filters"))?
+    .arg(operand(alloc, "OUT").help("The recording that is written"))
 }
 
 /// A command without its words: its name alone, and as a user writes it.

@@ -3,13 +3,15 @@
 ghost use Rattle.std.specs.Prelude.{◌<◌};
 
 use crate::output::finish;
+use crate::recording::RecordingFault;
+use crate::settings::SettingsFault;
 use crate::view::ViewFault;
 use bpf_asm::AsmFault;
 use bpf_dis::DisFault;
 use bpf_insn::ListingFault;
 use bpf_verify::Refused;
 use rec_reader::{ReadEnd, ReadFaultKind};
-use std::alloc::AllocError;
+use std::alloc::{AllocError, AllocFailed};
 use std::io;
 use std::io::{ErrorKind, Write};
 use thiserror::Error;
@@ -18,7 +20,7 @@ use thiserror::Error;
 pub(crate) const ANSWERED: u8 = 0;
 /// The status where a text, a listing, a program, a view or a recording was refused.
 const REFUSED: u8 = 1;
-/// The status where the words of the command line were no command.
+/// The status where the words of the command line were no command, or settings were refused.
 const WORDS: u8 = 2;
 /// The status where a file or a stream couldn't be read or written.
 const FILE: u8 = 3;
@@ -34,6 +36,9 @@ pub(crate) enum Ending<'a> {
     /// A file couldn't be read, is no UTF-8 where text is wanted, or couldn't be written.
     #[error("file {0}\n")]
     File(&'a str),
+    /// The same of a file that the settings name.
+    #[error("file {0}\n")]
+    NamedFile(String),
     #[error("{0}\n")]
     Assembler(#[from] AsmFault),
     #[error("{0}\n")]
@@ -47,6 +52,11 @@ pub(crate) enum Ending<'a> {
     /// A recording isn't read to its end.
     #[error("{0}\n")]
     Reading(ReadEnd),
+    #[error("{0}\n")]
+    Settings(#[from] SettingsFault),
+    /// A recording did not end.
+    #[error("{0}\n")]
+    Recording(#[from] RecordingFault),
     /// The words are no command; the text is clap's, with its line feeds.
     #[error("{0}")]
     Words(String),
@@ -63,6 +73,14 @@ impl<'a> Ending<'a> {
         match error.kind() {
             ErrorKind::OutOfMemory => Ending::Memory,
             _ => Ending::File(path),
+        }
+    }
+
+    /// What a failed read of a file that the settings name comes to.
+    pub(crate) fn of_named_read(path: String, error: &io::Error) -> Ending<'a> {
+        match error.kind() {
+            ErrorKind::OutOfMemory => Ending::Memory,
+            _ => Ending::NamedFile(path),
         }
     }
 
@@ -103,19 +121,27 @@ impl<'a> Ending<'a> {
         ensures nonzero { 0 < result }
     {
         match self {
-            Ending::Words(_) | Ending::WordsUnread(_) => WORDS,
-            Ending::File(_) => FILE,
+            Ending::Settings(SettingsFault::Memory) => MEMORY,
+            Ending::Words(_) | Ending::WordsUnread(_) | Ending::Settings(_) => WORDS,
+            Ending::File(_) | Ending::NamedFile(_) => FILE,
             Ending::Listing(ListingFault::Memory) | Ending::View(ViewFault::Memory) => MEMORY,
             Ending::Assembler(AsmFault::Memory) | Ending::Disassembler(DisFault::Memory) => MEMORY,
             Ending::Memory => MEMORY,
             Ending::Assembler(_) | Ending::Disassembler(_) | Ending::Reading(_) => REFUSED,
             Ending::Listing(_) | Ending::Refused(_) | Ending::View(_) => REFUSED,
+            Ending::Recording(_) => REFUSED,
         }
     }
 }
 
 impl<'a> From<AllocError> for Ending<'a> {
     fn from(_error: AllocError) -> Ending<'a> {
+        Ending::Memory
+    }
+}
+
+impl<'a, T: Drop> From<AllocFailed<T>> for Ending<'a> {
+    fn from(_error: AllocFailed<T>) -> Ending<'a> {
         Ending::Memory
     }
 }

@@ -9,48 +9,73 @@ use crate::filters::{assemble_file, disassemble_file, run_file, verify_file};
 use crate::no_words::answer_lines;
 use crate::output::print_text;
 use crate::packet_list::list_packets;
+use crate::recording::record_channels;
 use crate::words::{Words, WordsFault, words_of};
 use std::io;
 use std::io::{ErrorKind, Read, Write};
 use std::rt::Files;
+use std::sync::{Mutex, Wait};
+use std::thread::Threads;
 
 /// Runs the program on these words, without the program's name, and gives its exit status:
 /// 0 answered, 1 refused, 2 words, 3 a file's fault, 4 no memory.
 ///
 /// Without words it reads a listing and a view in hexadecimal, a line each, from `input`, and
 /// prints `<value> <steps>`: what the program returns on the view, and after how many instructions.
-pub fn program<R: AllocGlobal + Files, I: Read, O: Write, E: Write>(
+pub fn program<
+    R: AllocGlobal + Files + Threads + Wait + Sync,
+    I: Read + Send + Drop,
+    O: Write,
+    E: Write + Send + Drop,
+>(
     rt: &R,
     words: &[String],
-    mut input: I,
+    input: I,
     output: &mut O,
-    mut errors: E,
+    errors: E,
 ) -> u8
 where
-    I: Drop,
-    E: Drop,
+    R::File: Send,
+    R::Dir: Send,
     ensures lines { length words.now ≡ 0 → result ≡ 0 → IfSome (I.remaining input) (λ bytes.
         AnswersLines bytes (O.contents output.old) (O.contents output.new)) }
 {
+    let shared = Mutex::new(errors);
     let answer = if words.is_empty() {
+        let mut input = input;
         answer_lines(rt.alloc(), &mut input, output)
     } else {
-        obey(rt, words, output)
+        obey(rt, words, input, output, &shared)
     };
     match answer {
         Ok(()) => ANSWERED,
-        Err(ending) => ending.report(output, &mut errors),
+        Err(ending) => ending.report(output, &mut shared.into_inner()),
     }
 }
 
 /// Does what the words ask for.
-fn obey<'a, R: AllocGlobal + Files, O: Write>(
+fn obey<
+    'a,
+    R: AllocGlobal + Files + Threads + Wait + Sync,
+    I: Read + Send + Drop,
+    O: Write,
+    E: Write + Send + Drop,
+>(
     rt: &R,
     words: &'a [String],
+    mut input: I,
     output: &mut O,
-) -> Result<(), Ending<'a>> {
+    errors: &Mutex<E>,
+) -> Result<(), Ending<'a>>
+where
+    R::File: Send,
+    R::Dir: Send,
+{
     match words_of(rt.alloc(), words) {
-        Ok(command) => answer(rt, command, output),
+        Ok(Words::Record { settings, out }) => {
+            record_channels(rt, settings, out, input, output, errors)
+        }
+        Ok(command) => answer(rt, command, &mut input, output),
         Err(WordsFault::Help(text)) => print_help(output, text),
         Err(WordsFault::Words(text)) => Err(Ending::Words(text)),
         Err(WordsFault::Memory) => Err(Ending::Memory),
@@ -58,19 +83,20 @@ fn obey<'a, R: AllocGlobal + Files, O: Write>(
 }
 
 /// Does one command.
-fn answer<'a, R: AllocGlobal + Files, O: Write>(
+fn answer<'a, R: AllocGlobal + Files, I: Read, O: Write>(
     rt: &R,
     command: Words<'a>,
+    input: &mut I,
     output: &mut O,
 ) -> Result<(), Ending<'a>> {
     match command {
-        Words::Asm { file } => assemble_file(rt, file, output),
-        Words::Dis { file } => disassemble_file(rt, file, output),
-        Words::Verify { file } => verify_file(rt, file, output),
-        Words::Run { file, view } => run_file(rt, file, view, output),
+        Words::Asm { file } => assemble_file(rt, file, input, output),
+        Words::Dis { file } => disassemble_file(rt, file, input, output),
+        Words::Verify { file } => verify_file(rt, file, input, output),
+        Words::Run { file, view } => run_file(rt, file, view, input, output),
         Words::List { file } => list_packets(rt, file, output),
         Words::Extract { file, channel, out } => extract_frames(rt, file, channel, out, output),
-        Words::NoCommand => Err(Ending::Words(String::new(rt.alloc()))),
+        Words::Record { .. } | Words::NoCommand => Err(Ending::Words(String::new(rt.alloc()))),
     }
 }
 

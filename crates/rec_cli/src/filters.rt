@@ -1,23 +1,24 @@
 //! The commands on one filter: to assemble, disassemble, verify and run it.
 
 use crate::ending::Ending;
+use crate::input::text_in;
 use crate::no_words::outcome_of;
 use crate::output::{finish, print_outcome, print_text};
 use bpf_asm::assemble;
 use bpf_dis::text_of;
 use bpf_insn::{parse_listing, print_listing};
 use bpf_verify::verify;
-use std::fs;
-use std::io::Write;
+use std::io::{Read, Write};
 use std::rt::Files;
 
 /// `asm FILE`: prints the listing of the program that the file's text denotes, and a line feed.
-pub(crate) fn assemble_file<'a, R: AllocGlobal + Files, O: Write>(
+pub(crate) fn assemble_file<'a, R: AllocGlobal + Files, I: Read, O: Write>(
     rt: &R,
     file: &'a str,
+    input: &mut I,
     output: &mut O,
 ) -> Result<(), Ending<'a>> {
-    let text = file_text(rt, file)?;
+    let text = text_in(rt, file, input)?;
     let program = assemble(rt.alloc(), text.as_str())?;
     let mut listing = print_listing(rt.alloc(), program.as_slice())?;
     listing.push('\n')?;
@@ -25,45 +26,40 @@ pub(crate) fn assemble_file<'a, R: AllocGlobal + Files, O: Write>(
 }
 
 /// `dis FILE`: prints the text of the listed program.
-pub(crate) fn disassemble_file<'a, R: AllocGlobal + Files, O: Write>(
+pub(crate) fn disassemble_file<'a, R: AllocGlobal + Files, I: Read, O: Write>(
     rt: &R,
     file: &'a str,
+    input: &mut I,
     output: &mut O,
 ) -> Result<(), Ending<'a>> {
-    let listing = file_text(rt, file)?;
+    let listing = text_in(rt, file, input)?;
     let program = parse_listing(rt.alloc(), listing.as_str())?;
     let text = text_of(rt.alloc(), program.as_slice())?;
     print_text(output, text.as_str())
 }
 
 /// `verify FILE`: prints `valid <n>`, with the number of instructions.
-pub(crate) fn verify_file<'a, R: AllocGlobal + Files, O: Write>(
+pub(crate) fn verify_file<'a, R: AllocGlobal + Files, I: Read, O: Write>(
     rt: &R,
     file: &'a str,
+    input: &mut I,
     output: &mut O,
 ) -> Result<(), Ending<'a>> {
-    let listing = file_text(rt, file)?;
+    let listing = text_in(rt, file, input)?;
     let program = verify(parse_listing(rt.alloc(), listing.as_str())?)?;
     let written = writeln!(output, "valid {}", program.len());
     finish(output, written)
 }
 
 /// `run FILE HEX`: prints `<value> <steps>`.
-pub(crate) fn run_file<'a, R: AllocGlobal + Files, O: Write>(
+pub(crate) fn run_file<'a, R: AllocGlobal + Files, I: Read, O: Write>(
     rt: &R,
     file: &'a str,
     view: &str,
+    input: &mut I,
     output: &mut O,
 ) -> Result<(), Ending<'a>> {
-    let listing = file_text(rt, file)?;
+    let listing = text_in(rt, file, input)?;
     let outcome = outcome_of(rt.alloc(), listing.as_str(), view)?;
     print_outcome(output, outcome)
-}
-
-/// The text of a file.
-fn file_text<'a, R: AllocGlobal + Files>(rt: &R, file: &'a str) -> Result<String, Ending<'a>> {
-    match fs::read_to_string(rt, file) {
-        Ok(text) => Ok(text),
-        Err(error) => Err(Ending::of_read(file, &error)),
-    }
 }

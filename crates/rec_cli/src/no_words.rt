@@ -1,10 +1,11 @@
 //! The run without words: a listing and a view, a line each, from standard input.
 
-ghost use Rattle.std.specs.Prelude.{◌≡◌, ◌==◌, OnOk, IfOk, IfSome, string_bytes};
+ghost use Rattle.std.specs.Prelude.{◌≡◌, ◌==◌, OnOk, IfOk, IfSome};
 ghost use Rattle.std.specs.List.{before_first, after_first};
 ghost use Rattle.rec_cli.specs.Lines.{AnswersLines, RunsOn, without_return};
 
-use crate::ending::{Ending, STREAM};
+use crate::ending::Ending;
+use crate::input::whole_text;
 use crate::output::print_outcome;
 use crate::view::view_of;
 use bpf_insn::parse_listing;
@@ -40,18 +41,6 @@ pub(crate) fn outcome_of<'a>(
     let program = verify(parse_listing(alloc, listing)?)?;
     let view = view_of(alloc, view)?;
     Ok(run(&program, view.as_slice()))
-}
-
-/// The whole input, as text.
-fn whole_text<I: Read>(alloc: Global, input: &mut I) -> Result<String, Ending<'static>>
-    ensures { IfOk result (λ text. IfSome (I.remaining input.old) (λ bytes.
-        string_bytes text ≡ bytes)) }
-{
-    let mut text = String::new(alloc);
-    match input.read_to_string(&mut text) {
-        Ok(_) => Ok(text),
-        Err(error) => Err(Ending::of_read(STREAM, &error)),
-    }
 }
 
 /// The first line, without a carriage return at its end, and what follows its line feed.

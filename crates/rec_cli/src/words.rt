@@ -43,6 +43,11 @@ pub enum Words<'a> {
         channel: &'a str,
         out: &'a str,
     },
+    /// `record SETTINGS OUT`
+    Record {
+        settings: &'a str,
+        out: &'a str,
+    },
 }
 
 /// Why the words ask for nothing. The texts are those of `clap`, with their line feeds.
@@ -108,6 +113,11 @@ fn command_in<'a>(matches: &ArgMatches<'a>) -> Words<'a>
         let channel = inner.get_str("CHANNEL").unwrap_or("");
         let out = inner.get_str("OUT").unwrap_or("");
         return Words::Extract { file, channel, out };
+    }
+    if name == "record" {
+        let settings = inner.get_str("SETTINGS").unwrap_or("");
+        let out = inner.get_str("OUT").unwrap_or("");
+        return Words::Record { settings, out };
     }
     Words::NoCommand
 }

@@ -55,3 +55,12 @@ returns-then-eq-6 c =
     let channel : c.unwrap_or-channel.result.now ≡ word_for (codes "CHANNEL") rows = ap (λ (s : Bor (List ℕ)). s.now) c.unwrap_or-channel.ensures ∙ word_is c.in-Some.inner.now (codes "CHANNEL") c.get_str-then-eq-6.result _ refl c.get_str-then-eq-6.ensures in
     let out : c.unwrap_or-out.result.now ≡ word_for (codes "OUT") rows = ap (λ (s : Bor (List ℕ)). s.now) c.unwrap_or-out.ensures ∙ word_is c.in-Some.inner.now (codes "OUT") c.get_str-then-eq-6-2.result _ refl c.get_str-then-eq-6-2.ensures in
     (rows, rw named at met, file, channel, out)
+
+pub returns-then-eq-7 : goal.returns-then-eq-7
+returns-then-eq-7 c =
+    let rows = rows_of (found_of c.in-Some.inner.now) in
+    let named : c.in-Some.name.now ≡ codes "record" = (bytes_eq-Decides c.in-Some.name.now (codes "record")).0 (sym c.eq-7.ensures ∙ c.if-eq-7.true) in
+    let met : subcommand_rows_of c.args.matches.now ≡ Some (c.in-Some.name.now, rows) = pair_is _ _ c.in-Some.name.now rows c.in-Some.ensures.name c.in-Some.ensures.rows in
+    let settings : c.unwrap_or-settings.result.now ≡ word_for (codes "SETTINGS") rows = ap (λ (s : Bor (List ℕ)). s.now) c.unwrap_or-settings.ensures ∙ word_is c.in-Some.inner.now (codes "SETTINGS") c.get_str-then-eq-7.result _ refl c.get_str-then-eq-7.ensures in
+    let out : c.unwrap_or-out-then-eq-7.result.now ≡ word_for (codes "OUT") rows = ap (λ (s : Bor (List ℕ)). s.now) c.unwrap_or-out-then-eq-7.ensures ∙ word_is c.in-Some.inner.now (codes "OUT") c.get_str-then-eq-7-2.result _ refl c.get_str-then-eq-7-2.ensures in
+    (rows, rw named at met, settings, out)
