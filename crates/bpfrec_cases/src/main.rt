@@ -11,7 +11,7 @@ mod texts;
 
 use cases::{CASES, HELP};
 use extracts::{EXTRACTS, ExtractCase};
-use records::show_records;
+use records::{show_answers, show_records};
 use std::alloc::AllocError;
 use std::io::{ErrorKind, Write};
 use std::rt::Files;
@@ -40,6 +40,7 @@ fn main(rt: HostRuntime) -> io::Result<()> {
     for words in HELP {
         show_help(&rt, words)?;
     }
+    show_piped(&rt)?;
     show_closed_output(&rt)?;
     show_records(&rt)
 }
@@ -71,7 +72,11 @@ where
 
 /// A recording of so many packets that it is longer than the pieces of a mebibyte in which it is
 /// read, and so is its list: how many packets are listed as they must be, and all other lines.
-fn show_long_list<R: AllocGlobal + Files + Print>(rt: &R) -> io::Result<()> {
+fn show_long_list<R: AllocGlobal + Files + Print + Threads + Wait + Sync>(rt: &R) -> io::Result<()>
+where
+    R::File: Send,
+    R::Dir: Send,
+{
     let recording = fs::read(rt, "recordings/two_versions.ch11")?;
     let end = recording.get(180..).unwrap_or(&[]);
     let mut bytes = Vec::new(rt.alloc());
@@ -80,10 +85,8 @@ fn show_long_list<R: AllocGlobal + Files + Print>(rt: &R) -> io::Result<()> {
     }
     fs::write(rt, "long.ch11", bytes.as_slice())?;
     let words = ["list", "long.ch11"];
-    let owned = words_of(rt, &words)?;
     let mut output = Vec::new(rt.alloc());
-    let mut errors = Vec::new(rt.alloc());
-    let status = rec_cli::program(rt, owned.as_slice(), io::empty(), &mut output, &mut errors);
+    let Run { errors, status } = run_program(rt, &words, b"", &mut output)?;
     title(rt, &words)?;
     let mut packets = 0u64;
     for line in text(&output).lines() {
@@ -179,6 +182,29 @@ where
         }
     }
     println!(rt; "= {status}, {} bytes of errors", errors.len())
+}
+
+/// Each command that reads a file, by `-` from standard input.
+fn show_piped<R: AllocGlobal + Files + Print + Threads + Wait + Sync>(rt: &R) -> io::Result<()>
+where
+    R::File: Send,
+    R::Dir: Send,
+{
+    for (file, words) in [
+        ("filters/arp.bpf", ["asm", "-"].as_slice()),
+        ("arp", &["dis", "-"]),
+        ("arp", &["verify", "-"]),
+        ("arp", &["run", "-", cases::ARP]),
+        ("recordings/two_versions.ch11", &["list", "-"]),
+        ("recordings/two_versions.ch11", &["extract", "-", "1", "feed_piped"]),
+        ("recordings/cut_to_210.ch11", &["list", "-"]),
+        ("recordings/cut_to_210.ch11", &["extract", "-", "1", "feed_cut"]),
+        ("not_utf8", &["asm", "-"]),
+    ] {
+        let input = fs::read(rt, file)?;
+        show_answers(rt, words, input.as_slice())?;
+    }
+    Ok(())
 }
 
 /// A standard output that can't be written.

@@ -77,7 +77,7 @@ where
 }
 
 /// Runs the program on these words and this input, and shows what it prints.
-fn show_answers<R: AllocGlobal + Files + Print + Threads + Wait + Sync>(
+pub(crate) fn show_answers<R: AllocGlobal + Files + Print + Threads + Wait + Sync>(
     rt: &R,
     words: &[&str],
     input: &[u8],

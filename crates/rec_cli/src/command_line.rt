@@ -12,6 +12,8 @@ const ABOUT: &str =
     "Records Ethernet channels through filters, reads the recordings, and assembles and checks filters.";
 
 const STATUSES: &str = "\
+As FILE, - is standard input, so commands can be joined by pipes:
+  bpfrec asm arp.bpf | bpfrec verify -
 Without words, bpfrec reads a listing and a view in hexadecimal, a line each, from standard
 input, and prints what run prints.
 

@@ -94,8 +94,8 @@ fn answer<'a, R: AllocGlobal + Files, I: Read, O: Write>(
         Words::Dis { file } => disassemble_file(rt, file, input, output),
         Words::Verify { file } => verify_file(rt, file, input, output),
         Words::Run { file, view } => run_file(rt, file, view, input, output),
-        Words::List { file } => list_packets(rt, file, output),
-        Words::Extract { file, channel, out } => extract_frames(rt, file, channel, out, output),
+        Words::List { file } => list_packets(rt, file, input, output),
+        Words::Extract { file, channel, out } => extract_frames(rt, file, channel, out, input, output),
         Words::Record { .. } | Words::NoCommand => Err(Ending::Words(String::new(rt.alloc()))),
     }
 }

@@ -1,10 +1,12 @@
 //! The command that extracts a channel's frames from a recording.
 
+use crate::channel_word::channel_in;
 use crate::ending::Ending;
+use crate::input::bytes_in;
 use crate::output::finish;
 use rec_reader::{ExtractFault, Extracted, check_recording, extract_channel};
 use std::alloc::Global;
-use std::io::{BufWriter, ErrorKind, Write};
+use std::io::{BufWriter, ErrorKind, Read, Write};
 use std::rt::Files;
 use std::{fs, io};
 
@@ -34,15 +36,16 @@ impl<F: Write> Write for FeedFile<F> {
 /// `extract FILE CHANNEL OUT`: writes the channel's frames into a feed, and prints how many. The
 /// feed's file is created only if the recording is read to its end. Memory is taken for the
 /// recording's bytes and a small buffer, and not for its packets or frames.
-pub(crate) fn extract_frames<'a, R: AllocGlobal + Files, O: Write>(
+pub(crate) fn extract_frames<'a, R: AllocGlobal + Files, I: Read, O: Write>(
     rt: &R,
     file: &'a str,
     channel: &'a str,
     out: &'a str,
+    input: &mut I,
     output: &mut O,
 ) -> Result<(), Ending<'a>> {
     let channel = channel_of(rt.alloc(), channel)?;
-    let bytes = file_bytes(rt, file)?;
+    let bytes = bytes_in(rt, file, input)?;
     check_recording(bytes.as_slice()).map_err(|end| Ending::of_reading(file, end))?;
     let uncreated = FeedFile { file: None };
     let mut feed = BufWriter::new(rt.alloc(), uncreated).map_err(|_| Ending::Memory)?;
@@ -60,19 +63,11 @@ pub(crate) fn extract_frames<'a, R: AllocGlobal + Files, O: Write>(
 
 /// The channel that a word names: a number from 0 to 65,535, in decimal digits alone.
 fn channel_of<'a>(alloc: Global, word: &str) -> Result<u16, Ending<'a>> {
-    match word.parse() {
-        Ok(channel) if !word.starts_with('+') => Ok(channel),
-        _ => Err(Ending::Words(format!(in alloc;
+    match channel_in(word) {
+        Some(channel) => Ok(channel),
+        None => Err(Ending::Words(format!(in alloc;
             "error: invalid value '{word}' for '<CHANNEL>': a channel is a number from 0 to 65535\n\n\
             For more information, try '--help'.\n"
         )?)),
-    }
-}
-
-/// The bytes of a file.
-fn file_bytes<'a, R: AllocGlobal + Files>(rt: &R, file: &'a str) -> Result<Vec<u8>, Ending<'a>> {
-    match fs::read(rt, file) {
-        Ok(bytes) => Ok(bytes),
-        Err(error) => Err(Ending::of_read(file, &error)),
     }
 }

@@ -1,6 +1,6 @@
 //! The command that lists a recording's packets.
 
-use crate::ending::Ending;
+use crate::ending::{Ending, STREAM};
 use crate::output::finish;
 use ch11_packet::{Header, What};
 use rec_reader::{Packet, ReadEnd, ReadFault, ReadFaultKind, read_recording};
@@ -14,22 +14,35 @@ use std::{fs, io};
 const PIECE: u64 = 1 << 20;
 
 /// `list FILE`: prints a line for each packet, and their number.
-pub(crate) fn list_packets<'a, R: AllocGlobal + Files, O: Write>(
+pub(crate) fn list_packets<'a, R: AllocGlobal + Files, I: Read, O: Write>(
     rt: &R,
     file: &'a str,
+    input: &mut I,
     output: &mut O,
 ) -> Result<(), Ending<'a>> {
-    let mut input = match fs::open(rt, file) {
-        Ok(input) => input,
-        Err(error) => return Err(Ending::of_read(file, &error)),
-    };
-    let mut list = PacketList::new(rt.alloc());
+    if file == STREAM {
+        return list_all(rt.alloc(), file, input, output);
+    }
+    match fs::open(rt, file) {
+        Ok(mut recording) => list_all(rt.alloc(), file, &mut recording, output),
+        Err(error) => Err(Ending::of_read(file, &error)),
+    }
+}
+
+/// Lists the packets of a recording that is read to its end.
+fn list_all<'a, I: Read, O: Write>(
+    alloc: Global,
+    file: &'a str,
+    input: &mut I,
+    output: &mut O,
+) -> Result<(), Ending<'a>> {
+    let mut list = PacketList::new(alloc);
     'pieces: for _ in 0..u64::MAX {
-        let count = match list.read_piece(&mut input) {
+        let count = match list.read_piece(input) {
             Ok(count) => count,
             Err(error) => return Err(Ending::of_read(file, &error)),
         };
-        match list.take_packets(rt.alloc(), count == 0) {
+        match list.take_packets(alloc, count == 0) {
             Ok(()) => {}
             Err(end) => return Err(Ending::of_reading(file, end)),
         }

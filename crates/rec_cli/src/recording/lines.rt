@@ -1,5 +1,6 @@
 //! The lines that change filters while a recording goes on.
 
+use crate::channel_word::channel_in;
 use std::alloc::Global;
 use std::io::{self, BufRead, BufReader, Read, Take};
 
@@ -74,13 +75,5 @@ pub(super) fn request_in(line: &[u8]) -> Result<Request<'_>, u16> {
     match channel_in(word) {
         Some(channel) if !file.is_empty() => Ok(Request { channel, file }),
         channel => Err(channel.unwrap_or(0)),
-    }
-}
-
-/// The channel that a word names: a number from 0 to 65,535, in decimal digits alone.
-pub(crate) fn channel_in(word: &str) -> Option<u16> {
-    match word.parse() {
-        Ok(channel) if !word.starts_with('+') => Some(channel),
-        _ => None,
     }
 }
