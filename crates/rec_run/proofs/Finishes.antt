@@ -127,12 +127,12 @@ pub last_whole : (lane : LaneState) (stop : WorkerEnd) (ending : Ending) (sent s
 last_whole lane stop ending sent sent_then given is over left went =
     inl (subst (λ e. IsOverThen e) (sym is) over, sym is, record { given = pieces_data given; left = left; sent_is = ap (λ ps. pieces_data ps) went ∙ map-append piece_data sent given })
 
-pub last_part : (lane : LaneState) (stop : WorkerEnd) (ending : Ending) (sent sent_then given : List Piece) → stop ≡ Ended ending → IsOver ending → AreLeft lane (pieces_data given) → Begins sent_then (sent ++ given)
-    → SendsLast lane stop (Ended Stopped) (pieces_data sent) (pieces_data sent_then)
-last_part lane stop ending sent sent_then given is over left part =
+pub last_part : (lane : LaneState) (stop end : WorkerEnd) (ending : Ending) (sent sent_then given : List Piece) → stop ≡ Ended ending → IsOver ending → AreLeft lane (pieces_data given) → Begins sent_then (sent ++ given)
+    → end ≡ Ended Stopped → SendsLast lane stop end (pieces_data sent) (pieces_data sent_then)
+last_part lane stop end ending sent sent_then given is over left part stopped =
     inr (inl (
       subst (λ e. IsOverThen e) (sym is) over,
-      refl,
+      stopped,
       record {
         given = pieces_data given;
         left = left;
