@@ -6,6 +6,7 @@ use Rattle.std.specs.List.{AllZip}
 use Rattle.std.proofs.lemmas.Bool.{cases_Bool}
 use Rattle.bpf_insn.specs.declared.insn.Insn.{Insn}
 use Rattle.eth_frame.specs.Source.{Left}
+use Rattle.eth_frame.specs.declared.source.SourceEnding.{SourceEnding}
 use Rattle.rec_channel.specs.History.{Version}
 use Rattle.rec_channel.specs.Slots.{programs_in}
 use Rattle.rec_channel.specs.declared.limits.TheConstants.{MAX_VERSIONS}
@@ -108,8 +109,8 @@ paired : (log : List Logged) → map (λ (g : Given). g.channel) (map logged_cha
 paired [] = refl
 paired (e ∷ es) = ap (λ cs. e.told.channel ∷ cs) (paired es)
 
-module _ {S C : Type 0} (left : S → Option Left) (failures : S → ℕ) (given : C → List Given) (answered : C → List Answered) (ended : C → Bool) where
-  all_changed : (pieces : List PieceData) (log : List Logged) (jobs : List (Job S)) (js : List (Joined S)) (rs : List (ChannelReport S)) → AllZip (JoinedOf left failures pieces) jobs js → AllZip (TellsOf log) js rs
+module _ {S C : Type 0} (left : S → Option Left) (failures : S → ℕ) (ended_as : S → Option SourceEnding) (given : C → List Given) (answered : C → List Answered) (ended : C → Bool) where
+  all_changed : (pieces : List PieceData) (log : List Logged) (jobs : List (Job S)) (js : List (Joined S)) (rs : List (ChannelReport S)) → AllZip (JoinedOf left failures ended_as pieces) jobs js → AllZip (TellsOf log) js rs
       → AllZip (λ (j : Job S) (r : ChannelReport S). IsChanged j.spec.channel (arc_value j.program) (history_of r) (map logged_change log) (map logged_answer log)) jobs rs
   all_changed pieces log [] [] [] of tells = tt
   all_changed pieces log [] [] (r ∷ rs) of tells = absurd tells
@@ -125,7 +126,7 @@ module _ {S C : Type 0} (left : S → Option Left) (failures : S → ℕ) (given
       (is_changed job.spec.channel (arc_value job.program) (history_of r) log here t.few, all_changed pieces log jobs js rs of.1 tells.1)
 
   pub controlled : (pieces : List PieceData) (jobs : List (Job S)) (js : List (Joined S)) (rs : List (ChannelReport S)) (before : C) (run : Controlled C) (channels : List ℕ)
-      → AllZip (JoinedOf left failures pieces) jobs js → AllZip (TellsOf run.log.items) js rs → channels ≡ channels_of_jobs jobs → All (IsOfSome channels) run.log.items
+      → AllZip (JoinedOf left failures ended_as pieces) jobs js → AllZip (TellsOf run.log.items) js rs → channels ≡ channels_of_jobs jobs → All (IsOfSome channels) run.log.items
       → run.ended ≡ true → EndsControl given answered ended before run → IsControlled given answered ended before run.control jobs rs
   controlled pieces jobs js rs before run channels of tells same others so ends =
       let e = ends so in

@@ -7,6 +7,7 @@ use Rattle.std.proofs.lemmas.Bool.{both_ways}
 use Rattle.std.proofs.lemmas.List.{append-nil, length-map, get_or-map}
 use Rattle.std.proofs.lemmas.List.Elements.{All-cons, All-rest, All-head}
 use Rattle.eth_frame.specs.Source.{Left}
+use Rattle.eth_frame.specs.declared.source.SourceEnding.{SourceEnding}
 use Rattle.rec_lane.specs.Offered.{OfferedFrame, frames_of, accepted, AllMet}
 use Rattle.rec_lane.specs.Pieces.{PieceData, channel_of, channel_pieces, ArePieces}
 use Rattle.rec_lane.specs.Settings.{spec_data}
@@ -55,20 +56,20 @@ over_ending History over = absurd over
 
 -- ---- one channel
 
-module _ {S : Type 0} (left : S → Option Left) (failures : S → ℕ) (log : List Logged) (pieces : List PieceData) where
+module _ {S : Type 0} (left : S → Option Left) (failures : S → ℕ) (ended_as : S → Option SourceEnding) (log : List Logged) (pieces : List PieceData) where
   pub record OneChannel (job : Job S) (j : Joined S) (r : ChannelReport S) : Type 0 where
     pub channel : RecordedChannel
-    pub report : IsReport left failures job r channel
+    pub report : IsReport left failures ended_as job r channel
     pub id_is : channel.settings.channel ≡ job.spec.channel
     pub begins : BeginsChannel pieces channel
     pub whole : j.remaining ≡ 0 → IsOverThen j.end → ArePieces channel.settings channel.frames channel.history (filter (is_of channel.settings.channel) pieces)
     pub over : IsOverThen j.end → IsOver r.ending
 
-  one_channel : (job : Job S) (j : Joined S) (r : ChannelReport S) → JoinedOf left failures pieces job j → Tells j log r → IsEnded j.end → OneChannel job j r
+  one_channel : (job : Job S) (j : Joined S) (r : ChannelReport S) → JoinedOf left failures ended_as pieces job j → Tells j log r → IsEnded j.end → OneChannel job j r
   one_channel job j r of tells ended =
       let e = with_ending j.end ended in
-      let ran : Ran left failures (spec_data job.spec) job.max e.0 job.source j.source (versions_met j.met.items) of.sent j.offered j.kept =
-      subst (λ x. RanAs left failures (spec_data job.spec) job.max x job.source j.source (versions_met j.met.items) of.sent j.offered j.kept) e.1 of.ran
+      let ran : Ran left failures ended_as (spec_data job.spec) job.max e.0 job.source j.source (versions_met j.met.items) of.sent j.offered j.kept =
+      subst (λ x. RanAs left failures ended_as (spec_data job.spec) job.max x job.source j.source (versions_met j.met.items) of.sent j.offered j.kept) e.1 of.ran
       in
       let h = history_of r in
       let count : r.offered ≡ length ran.offered = tells.offered_is ∙ ran.count_is in
@@ -91,7 +92,7 @@ module _ {S : Type 0} (left : S → Option Left) (failures : S → ℕ) (log : L
           kept = accepted ran.offered;
           accepted = (ran.offered, met, refl, refl);
           kept_is = tells.kept_is ∙ ran.kept_is;
-          ends = subst (λ s. EndsAs left failures r.ending job.source s (frames_of ran.offered) job.max) (sym tells.source_is) (subst (λ x. EndsAs left failures x job.source j.source (frames_of ran.offered) job.max) (sym ending) ran.ends);
+          ends = subst (λ s. EndsAs left failures ended_as r.ending job.source s (frames_of ran.offered) job.max) (sym tells.source_is) (subst (λ x. EndsAs left failures ended_as x job.source j.source (frames_of ran.offered) job.max) (sym ending) ran.ends);
         };
         id_is = refl;
         begins = (all, (ran.offered, met, refl, refl), begins_trans (filter (is_of job.spec.channel) pieces) of.sent all of.begins ran.begins);
@@ -103,7 +104,7 @@ module _ {S : Type 0} (left : S → Option Left) (failures : S → ℕ) (log : L
 
   pub record AllChannels (jobs : List (Job S)) (js : List (Joined S)) (rs : List (ChannelReport S)) : Type 0 where
     pub channels : List RecordedChannel
-    pub reports : AreReports left failures jobs rs channels
+    pub reports : AreReports left failures ended_as jobs rs channels
     pub ids : map (λ (c : RecordedChannel). c.settings.channel) channels ≡ channels_of_jobs jobs
     pub begin : All (BeginsChannel pieces) channels
     pub whole : AreOver js → All (λ (c : RecordedChannel). ArePieces c.settings c.frames c.history (filter (is_of c.settings.channel) pieces)) channels
@@ -118,7 +119,7 @@ module _ {S : Type 0} (left : S → Option Left) (failures : S → ℕ) (log : L
   rest_of : {X : Type 0} (P : X → Type 0) (x : X) (xs : List X) → All P (x ∷ xs) → All P xs
   rest_of P x xs all = All-rest P x xs (x ∷ xs) refl all
 
-  pub all_channels : (jobs : List (Job S)) (js : List (Joined S)) (rs : List (ChannelReport S)) → AllZip (JoinedOf left failures pieces) jobs js → AllZip (TellsOf log) js rs → AreEnded js → AllChannels jobs js rs
+  pub all_channels : (jobs : List (Job S)) (js : List (Joined S)) (rs : List (ChannelReport S)) → AllZip (JoinedOf left failures ended_as pieces) jobs js → AllZip (TellsOf log) js rs → AreEnded js → AllChannels jobs js rs
   all_channels [] [] [] of tells ended = record { channels = []; reports = tt; ids = refl; begin = none_of (BeginsChannel pieces); whole = λ over. none_of (λ (c : RecordedChannel). ArePieces c.settings c.frames c.history (filter (is_of c.settings.channel) pieces)); over = λ over. none_of (λ (r : ChannelReport S). IsOver r.ending) }
   all_channels [] [] (r ∷ rs) of tells ended = absurd tells
   all_channels [] (j ∷ js) rs of tells ended = absurd of
@@ -167,12 +168,12 @@ appends_same first held bytes other is a = subst (λ bs. Appends first held bs) 
 are_ended : {S : Type 0} (js : List (Joined S)) → AreOver js → AreEnded js
 are_ended js over = λ k d low. over_is_ended (get_or js k d).end (over k d low).1
 
-module _ {S : Type 0} (left : S → Option Left) (failures : S → ℕ) (log : List Logged) (jobs : List (Job S)) (js : List (Joined S)) (report : Report S)
+module _ {S : Type 0} (left : S → Option Left) (failures : S → ℕ) (ended_as : S → Option SourceEnding) (log : List Logged) (jobs : List (Job S)) (js : List (Joined S)) (report : Report S)
     (first out : Option (List ℕ)) (writer : WriterState) (keeps : Keeps writer.held out) (whole_is : report.pieces ≡ writer.whole) where
-  pub recorded : WroteAll left failures first jobs js writer report.bytes → AllZip (TellsOf log) js report.channels.items → AreOver js
-      → IsRecorded left failures jobs writer.version first out report
+  pub recorded : WroteAll left failures ended_as first jobs js writer report.bytes → AllZip (TellsOf log) js report.channels.items → AreOver js
+      → IsRecorded left failures ended_as jobs writer.version first out report
   recorded wrote tells over =
-      let all = all_channels left failures log wrote.pieces jobs js report.channels.items wrote.joined_are tells (are_ended js over) in
+      let all = all_channels left failures ended_as log wrote.pieces jobs js report.channels.items wrote.joined_are tells (are_ended js over) in
       record {
         channels = all.channels;
         bytes = writer_output writer.version wrote.pieces;
@@ -185,10 +186,10 @@ module _ {S : Type 0} (left : S → Option Left) (failures : S → ℕ) (log : L
       }
 
   -- all pieces went out, and the flush failed
-  pub cut_at_flush : (fault : WriteFault) → WroteAll left failures first jobs js writer report.bytes → AllZip (TellsOf log) js report.channels.items → AreOver js → FinishFails writer fault
-      → IsCutShort left failures jobs writer.version first out fault report
+  pub cut_at_flush : (fault : WriteFault) → WroteAll left failures ended_as first jobs js writer report.bytes → AllZip (TellsOf log) js report.channels.items → AreOver js → FinishFails writer fault
+      → IsCutShort left failures ended_as jobs writer.version first out fault report
   cut_at_flush (Output whole bytes) wrote tells over fails =
-      let all = all_channels left failures log wrote.pieces jobs js report.channels.items wrote.joined_are tells (are_ended js over) in
+      let all = all_channels left failures ended_as log wrote.pieces jobs js report.channels.items wrote.joined_are tells (are_ended js over) in
       record {
         channels = all.channels;
         pieces = wrote.pieces;
@@ -206,10 +207,10 @@ module _ {S : Type 0} (left : S → Option Left) (failures : S → ℕ) (log : L
   cut_at_flush (FailedBefore whole bytes) wrote tells over fails = absurd (both_ways writer.failed wrote.works fails.0)
 
   -- a piece went out in part
-  pub cut_at_piece : (fault : WriteFault) → WrotePart left failures first jobs js writer report.bytes fault → AllZip (TellsOf log) js report.channels.items → AreEnded js
-      → IsCutShort left failures jobs writer.version first out fault report
+  pub cut_at_piece : (fault : WriteFault) → WrotePart left failures ended_as first jobs js writer report.bytes fault → AllZip (TellsOf log) js report.channels.items → AreEnded js
+      → IsCutShort left failures ended_as jobs writer.version first out fault report
   cut_at_piece fault wrote tells ended =
-      let all = all_channels left failures log (wrote.pieces ++ wrote.piece ∷ []) jobs js report.channels.items wrote.joined_are tells ended in
+      let all = all_channels left failures ended_as log (wrote.pieces ++ wrote.piece ∷ []) jobs js report.channels.items wrote.joined_are tells ended in
       record {
         channels = all.channels;
         pieces = wrote.pieces;

@@ -4,6 +4,10 @@ use Rattle.std.proofs.lemmas.List.{append-nil, append_assoc, map-append}
 use Rattle.eth_frame.specs.Frame.{FrameData}
 use Rattle.eth_frame.specs.Source.{Left}
 use Rattle.eth_frame.specs.declared.source.SourceEnding.{SourceEnding}
+use Rattle.eth_frame.specs.declared.source.SourceEnding.TheVariants.{Fault}
+use Rattle.eth_frame.specs.declared.source.SourceFault.{SourceFault as FaultOfSource}
+use Rattle.eth_frame.specs.declared.source.SourceFault.TheVariants.{Device}
+use Rattle.std.specs.Prelude.{◌⊎◌}
 use Rattle.rec_lane.specs.Offered.{OfferedFrame, frames_of}
 use Rattle.rec_lane.specs.Parts.{Begins}
 use Rattle.rec_lane.specs.Pieces.{LaneSettings, PieceData, pieces_so_far, channel_pieces}
@@ -12,7 +16,7 @@ use Rattle.rec_lane.specs.Views.{piece_data, pieces_data}
 use Rattle.rec_lane.specs.declared.piece.Piece.{Piece}
 use Rattle.rec_lane.proofs.Beginnings.{begin_all}
 use Rattle.rec_run.specs.Served.{VersionMet}
-use Rattle.rec_run.specs.Endings.{AreFirst, AreAll, AreTaken, EndsAs, IsOver}
+use Rattle.rec_run.specs.Endings.{AreFirst, AreAll, AreTaken, HasFailed, EndsAs, IsOver}
 use Rattle.rec_run.specs.Working.{Going, Stopping, Ran, StopsAs, RanAs}
 use Rattle.rec_run.specs.Ends.{IsOverThen}
 use Rattle.rec_run.specs.Finishing.{SendsLast}
@@ -30,12 +34,15 @@ all_first (Some l) frames ending all = ([], append-nil frames ∙ sym all.0)
 pub begins_trans : {X : Type 0} (xs ys zs : List X) → Begins xs ys → Begins ys zs → Begins xs zs
 begins_trans xs ys zs b c = (b.0 ++ c.0, sym (append_assoc xs b.0 c.0) ∙ ap (λ l. l ++ c.0) b.1 ∙ c.1)
 
-module _ {S : Type 0} (left : S → Option Left) (failures : S → ℕ) (before after : S) (max : ℕ) where
+module _ {S : Type 0} (left : S → Option Left) (failures : S → ℕ) (ended_as : S → Option SourceEnding) (before after : S) (max : ℕ) where
+  fault_first : (fault : FaultOfSource) (frames : List FrameData) → AreAll (left before) frames (Fault fault) ⊎ ((fault ≡ Device) × HasFailed left failures ended_as before after frames) → AreFirst (left before) frames
+  fault_first fault frames (inl all) = all_first (left before) frames _ all
+  fault_first fault frames (inr failed) = failed.1.first
+
   -- whatever the ending, the frames came first
-  pub ends_first : (ending : Ending) (frames : List FrameData) → EndsAs left failures ending before after frames max → AreFirst (left before) frames
-  ends_first SourceEnd frames ends = all_first (left before) frames _ ends
-  ends_first (SourceFault fault) frames (inl all) = all_first (left before) frames _ all
-  ends_first (SourceFault fault) frames (inr failed) = failed.1.first
+  pub ends_first : (ending : Ending) (frames : List FrameData) → EndsAs left failures ended_as ending before after frames max → AreFirst (left before) frames
+  ends_first SourceEnd frames ends = all_first (left before) frames _ ends.1
+  ends_first (SourceFault fault) frames ends = fault_first fault frames ends.2
   ends_first Memory frames ends = taken_first (left before) frames (left after) ends
   ends_first CountFull frames ends = taken_first (left before) frames (left after) ends.1
   ends_first Stopped frames ends = ends
@@ -44,9 +51,9 @@ module _ {S : Type 0} (left : S → Option Left) (failures : S → ℕ) (before 
     so_far_begin : (offered : List OfferedFrame) → Begins (pieces_so_far lane.settings offered) (channel_pieces lane.settings offered)
     so_far_begin offered = subst (λ os. Begins (pieces_so_far lane.settings offered) (channel_pieces lane.settings os)) (append-nil offered) (begin_all lane.settings offered [])
 
-    sent_all : (ending : Ending) → IsOver ending → Stopping left failures ending max before after lane met sent → (given : List PieceData)
+    sent_all : (ending : Ending) → IsOver ending → Stopping left failures ended_as ending max before after lane met sent → (given : List PieceData)
         → ((offered : List OfferedFrame) → HasMet lane offered → channel_pieces lane.settings offered ≡ pieces_so_far lane.settings offered ++ given)
-        → sent_then ≡ sent ++ given → Ran left failures lane.settings max ending before after met sent_then lane.offered lane.kept
+        → sent_then ≡ sent ++ given → Ran left failures ended_as lane.settings max ending before after met sent_then lane.offered lane.kept
     sent_all ending over s given all went =
         let is : sent_then ≡ channel_pieces lane.settings s.offered = went ∙ ap (λ ps. ps ++ given) (s.whole over) ∙ sym (all s.offered s.stands.has_met) in
         record {
@@ -61,9 +68,9 @@ module _ {S : Type 0} (left : S → Option Left) (failures : S → ℕ) (before 
           whole = λ o. is;
         }
 
-    sent_some : (ending : Ending) → IsOver ending → Stopping left failures ending max before after lane met sent → (given : List PieceData)
+    sent_some : (ending : Ending) → IsOver ending → Stopping left failures ended_as ending max before after lane met sent → (given : List PieceData)
         → ((offered : List OfferedFrame) → HasMet lane offered → channel_pieces lane.settings offered ≡ pieces_so_far lane.settings offered ++ given)
-        → Begins sent_then (sent ++ given) → Ran left failures lane.settings max Stopped before after met sent_then lane.offered lane.kept
+        → Begins sent_then (sent ++ given) → Ran left failures ended_as lane.settings max Stopped before after met sent_then lane.offered lane.kept
     sent_some ending over s given all part =
         let is : sent ++ given ≡ channel_pieces lane.settings s.offered = ap (λ ps. ps ++ given) (s.whole over) ∙ sym (all s.offered s.stands.has_met) in
         record {
@@ -78,8 +85,8 @@ module _ {S : Type 0} (left : S → Option Left) (failures : S → ℕ) (before 
           whole = λ never. absurd never;
         }
 
-    sent_none : (ending : Ending) → (¬ IsOver ending) → Stopping left failures ending max before after lane met sent → sent_then ≡ sent
-        → Ran left failures lane.settings max ending before after met sent_then lane.offered lane.kept
+    sent_none : (ending : Ending) → (¬ IsOver ending) → Stopping left failures ended_as ending max before after lane met sent → sent_then ≡ sent
+        → Ran left failures ended_as lane.settings max ending before after met sent_then lane.offered lane.kept
     sent_none ending not_over s same =
         record {
           offered = s.offered;
@@ -93,32 +100,32 @@ module _ {S : Type 0} (left : S → Option Left) (failures : S → ℕ) (before 
           whole = λ over. absurd (not_over over);
         }
 
-    finished : (stop end : WorkerEnd) → SendsLast lane stop end sent sent_then → StopsAs left failures stop max before after lane met sent
-        → RanAs left failures lane.settings max end before after met sent_then lane.offered lane.kept
+    finished : (stop end : WorkerEnd) → SendsLast lane stop end sent sent_then → StopsAs left failures ended_as stop max before after lane met sent
+        → RanAs left failures ended_as lane.settings max end before after met sent_then lane.offered lane.kept
     finished (Ended ending) end (inl whole) stops =
-        subst (λ e. RanAs left failures lane.settings max e before after met sent_then lane.offered lane.kept) (sym whole.1)
+        subst (λ e. RanAs left failures ended_as lane.settings max e before after met sent_then lane.offered lane.kept) (sym whole.1)
         (sent_all ending whole.0 stops whole.2.given whole.2.left whole.2.sent_is)
     finished (Ended ending) end (inr (inl part)) stops =
-        subst (λ e. RanAs left failures lane.settings max e before after met sent_then lane.offered lane.kept) (sym part.1)
+        subst (λ e. RanAs left failures ended_as lane.settings max e before after met sent_then lane.offered lane.kept) (sym part.1)
         (sent_some ending part.0 stops part.2.given part.2.left part.2.part)
     finished (Ended ending) end (inr (inr none)) stops =
-        subst (λ e. RanAs left failures lane.settings max e before after met sent_then lane.offered lane.kept) (sym none.1)
+        subst (λ e. RanAs left failures ended_as lane.settings max e before after met sent_then lane.offered lane.kept) (sym none.1)
         (sent_none ending none.0 stops none.2)
     finished Link end (inl whole) stops = absurd whole.0
     finished Link end (inr (inl part)) stops = absurd part.0
-    finished Link end (inr (inr none)) stops = subst (λ e. RanAs left failures lane.settings max e before after met sent_then lane.offered lane.kept) (sym none.1) tt
+    finished Link end (inr (inr none)) stops = subst (λ e. RanAs left failures ended_as lane.settings max e before after met sent_then lane.offered lane.kept) (sym none.1) tt
     finished History end (inl whole) stops = absurd whole.0
     finished History end (inr (inl part)) stops = absurd part.0
-    finished History end (inr (inr none)) stops = subst (λ e. RanAs left failures lane.settings max e before after met sent_then lane.offered lane.kept) (sym none.1) tt
+    finished History end (inr (inr none)) stops = subst (λ e. RanAs left failures ended_as lane.settings max e before after met sent_then lane.offered lane.kept) (sym none.1) tt
 
 -- the same with the lane's counts and the rows named
-pub finished_as : {S : Type 0} (left : S → Option Left) (failures : S → ℕ) (before after : S) (max : ℕ) (lane : LaneState) (met : List VersionMet) (sent sent_then : List PieceData) (stop end : WorkerEnd) (count kept : ℕ)
-    → count ≡ lane.offered → kept ≡ lane.kept → SendsLast lane stop end sent sent_then → StopsAs left failures stop max before after lane met sent
-    → RanAs left failures lane.settings max end before after met sent_then count kept
-finished_as left failures before after max lane met sent sent_then stop end count kept count_is kept_is last stops =
-    subst (λ n. RanAs left failures lane.settings max end before after met sent_then n kept) (sym count_is)
-    (subst (λ n. RanAs left failures lane.settings max end before after met sent_then lane.offered n) (sym kept_is)
-    (finished left failures before after max lane met sent sent_then stop end last stops))
+pub finished_as : {S : Type 0} (left : S → Option Left) (failures : S → ℕ) (ended_as : S → Option SourceEnding) (before after : S) (max : ℕ) (lane : LaneState) (met : List VersionMet) (sent sent_then : List PieceData) (stop end : WorkerEnd) (count kept : ℕ)
+    → count ≡ lane.offered → kept ≡ lane.kept → SendsLast lane stop end sent sent_then → StopsAs left failures ended_as stop max before after lane met sent
+    → RanAs left failures ended_as lane.settings max end before after met sent_then count kept
+finished_as left failures ended_as before after max lane met sent sent_then stop end count kept count_is kept_is last stops =
+    subst (λ n. RanAs left failures ended_as lane.settings max end before after met sent_then n kept) (sym count_is)
+    (subst (λ n. RanAs left failures ended_as lane.settings max end before after met sent_then lane.offered n) (sym kept_is)
+    (finished left failures ended_as before after max lane met sent sent_then stop end last stops))
 
 -- ---- the last pieces of a lane
 
@@ -127,12 +134,12 @@ pub last_whole : (lane : LaneState) (stop : WorkerEnd) (ending : Ending) (sent s
 last_whole lane stop ending sent sent_then given is over left went =
     inl (subst (λ e. IsOverThen e) (sym is) over, sym is, record { given = pieces_data given; left = left; sent_is = ap (λ ps. pieces_data ps) went ∙ map-append piece_data sent given })
 
-pub last_part : (lane : LaneState) (stop : WorkerEnd) (ending : Ending) (sent sent_then given : List Piece) → stop ≡ Ended ending → IsOver ending → AreLeft lane (pieces_data given) → Begins sent_then (sent ++ given)
-    → SendsLast lane stop (Ended Stopped) (pieces_data sent) (pieces_data sent_then)
-last_part lane stop ending sent sent_then given is over left part =
+pub last_part : (lane : LaneState) (stop end : WorkerEnd) (ending : Ending) (sent sent_then given : List Piece) → stop ≡ Ended ending → IsOver ending → AreLeft lane (pieces_data given) → Begins sent_then (sent ++ given)
+    → end ≡ Ended Stopped → SendsLast lane stop end (pieces_data sent) (pieces_data sent_then)
+last_part lane stop end ending sent sent_then given is over left part stopped =
     inr (inl (
       subst (λ e. IsOverThen e) (sym is) over,
-      refl,
+      stopped,
       record {
         given = pieces_data given;
         left = left;
@@ -146,10 +153,10 @@ taken_none : (l : Option Left) → AreTaken l [] l
 taken_none None = tt
 taken_none (Some l) = (refl, refl)
 
-pub starts : {S : Type 0} (left : S → Option Left) (failures : S → ℕ) (source : S) (max : ℕ) (lane : LaneState) (settings : LaneSettings) (met : List VersionMet) (sent : List PieceData)
-    → lane ≡ new_lane settings → met ≡ [] → sent ≡ [] → Going left failures max source source lane met sent
-starts left failures source max lane settings met sent lane_is none_met none_sent =
-    subst (λ l. Going left failures max source source l met sent) (sym lane_is) (record {
+pub starts : {S : Type 0} (left : S → Option Left) (failures : S → ℕ) (ended_as : S → Option SourceEnding) (source : S) (max : ℕ) (lane : LaneState) (settings : LaneSettings) (met : List VersionMet) (sent : List PieceData)
+    → lane ≡ new_lane settings → met ≡ [] → sent ≡ [] → Going left failures ended_as max source source lane met sent
+starts left failures ended_as source max lane settings met sent lane_is none_met none_sent =
+    subst (λ l. Going left failures ended_as max source source l met sent) (sym lane_is) (record {
       offered = [];
       taken = taken_none (left source);
       failed = omega arith;

@@ -1,13 +1,11 @@
 -- One worker more has ended.
 use Rattle.std.proofs.Common.{◌≡◌, ℕ, List, [], ◌∷◌, ◌++◌, Option, ◌∙◌, ap, sym, subst}
 use Rattle.std.specs.List.{AllZip}
-use Rattle.std.proofs.lemmas.List.{append_assoc, append-nil, map-append}
+use Rattle.std.proofs.lemmas.List.{append_assoc}
 use Rattle.std.proofs.lemmas.List.Elements.{All-rest, All-head}
 use Rattle.eth_frame.specs.Source.{Left}
-use Rattle.rec_lane.specs.Parts.{Begins}
+use Rattle.eth_frame.specs.declared.source.SourceEnding.{SourceEnding}
 use Rattle.rec_lane.specs.Pieces.{PieceData}
-use Rattle.rec_lane.specs.Views.{piece_data, pieces_data}
-use Rattle.rec_lane.specs.declared.piece.Piece.{Piece}
 use Rattle.rec_run.specs.Setup.{jobs_of, job_at}
 use Rattle.rec_run.specs.Writing.{CameFrom, AllCame}
 use Rattle.rec_run.specs.Joins.{JoinedOf}
@@ -32,14 +30,7 @@ zip_push R [] (b ∷ ys) x y all one = absurd all
 zip_push R (a ∷ xs) [] x y all one = absurd all
 zip_push R (a ∷ xs) (b ∷ ys) x y all one = (all.0, zip_push R xs ys x y all.1 one)
 
-pub joined_push : {S : Type 0} (left : S → Option Left) (failures : S → ℕ) (pieces : List PieceData) (js : List (Job S)) (done done' : List (Joined S)) (job : Job S) (j : Joined S)
-    → done' ≡ done ++ j ∷ [] → AllZip (JoinedOf left failures pieces) js done → JoinedOf left failures pieces job j → AllZip (JoinedOf left failures pieces) (js ++ job ∷ []) done'
-joined_push left failures pieces js done done' job j e all one =
-    subst (λ x. AllZip (JoinedOf left failures pieces) (js ++ job ∷ []) x) (sym e) (zip_push (JoinedOf left failures pieces) js done job j all one)
-
--- what was received of a ring begins what was sent, and is all of it where nothing is left
-pub received_begins : (received known sent : List Piece) → received ++ known ≡ sent → Begins (pieces_data received) (pieces_data sent)
-received_begins received known sent is = (pieces_data known, sym (map-append piece_data received known) ∙ ap (λ ps. pieces_data ps) is)
-
-pub received_all : (received known sent : List Piece) → received ++ known ≡ sent → known ≡ [] → pieces_data received ≡ pieces_data sent
-received_all received known sent is none = ap (λ ps. pieces_data ps) (sym (append-nil received) ∙ ap (λ ks. received ++ ks) (sym none) ∙ is)
+pub joined_push : {S : Type 0} (left : S → Option Left) (failures : S → ℕ) (ended_as : S → Option SourceEnding) (pieces : List PieceData) (js : List (Job S)) (done done' : List (Joined S)) (job : Job S) (j : Joined S)
+    → done' ≡ done ++ j ∷ [] → AllZip (JoinedOf left failures ended_as pieces) js done → JoinedOf left failures ended_as pieces job j → AllZip (JoinedOf left failures ended_as pieces) (js ++ job ∷ []) done'
+joined_push left failures ended_as pieces js done done' job j e all one =
+    subst (λ x. AllZip (JoinedOf left failures ended_as pieces) (js ++ job ∷ []) x) (sym e) (zip_push (JoinedOf left failures ended_as pieces) js done job j all one)

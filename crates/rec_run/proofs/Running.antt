@@ -4,6 +4,7 @@ use Rattle.std.specs.Prelude.{count_by, Contains}
 use Rattle.std.specs.List.{AllZip}
 use Rattle.rtrb.specs.Ring.{received}
 use Rattle.eth_frame.specs.Source.{Left}
+use Rattle.eth_frame.specs.declared.source.SourceEnding.{SourceEnding}
 use Rattle.rec_lane.specs.Pieces.{PieceData, channel_of}
 use Rattle.rec_lane.specs.Views.{pieces_data}
 use Rattle.rec_writer.specs.Numbers.{channels_in, AreDistinct}
@@ -52,15 +53,15 @@ module _ {S : Type 0} where
         omega (arith, u.1, n);
   }
 
-module _ {S : Type 0} (left : S → Option Left) (failures : S → ℕ) (first : Option (List ℕ)) (ls : List (Line S)) (js : List (Job S)) (joined : List (Joined S))
-    (jobs_are : jobs_of ls ≡ js) (joins : (pieces : List PieceData) → AllCame pieces ls → AllZip (JoinedOf left failures pieces) (jobs_of ls) joined) where
+module _ {S : Type 0} (left : S → Option Left) (failures : S → ℕ) (ended_as : S → Option SourceEnding) (first : Option (List ℕ)) (ls : List (Line S)) (js : List (Job S)) (joined : List (Joined S))
+    (jobs_are : jobs_of ls ≡ js) (joins : (pieces : List PieceData) → AllCame pieces ls → AllZip (JoinedOf left failures ended_as pieces) (jobs_of ls) joined) where
   named_jobs : (pieces : List PieceData) → All (λ (p : PieceData). Contains (channels ls) (channel_of p)) pieces → All (λ (p : PieceData). Contains (channels_of_jobs js) (channel_of p)) pieces
   named_jobs pieces named = subst (λ cs. All (λ (p : PieceData). Contains cs (channel_of p)) pieces) (channels_are ls ∙ ap (λ x. channels_of_jobs x) jobs_are) named
 
-  joined_jobs : (pieces : List PieceData) → AllCame pieces ls → AllZip (JoinedOf left failures pieces) js joined
-  joined_jobs pieces came = subst (λ x. AllZip (JoinedOf left failures pieces) x joined) jobs_are (joins pieces came)
+  joined_jobs : (pieces : List PieceData) → AllCame pieces ls → AllZip (JoinedOf left failures ended_as pieces) js joined
+  joined_jobs pieces came = subst (λ x. AllZip (JoinedOf left failures ended_as pieces) x joined) jobs_are (joins pieces came)
 
-  pub outcome : (wrote : Wrote) (writer : WriterState) (bytes : ℕ) → WroteSo wrote first writer bytes ls → WroteIn left failures first wrote js joined writer bytes
+  pub outcome : (wrote : Wrote) (writer : WriterState) (bytes : ℕ) → WroteSo wrote first writer bytes ls → WroteIn left failures ended_as first wrote js joined writer bytes
   outcome Nothing writer bytes w = record { pieces = w.pieces; works = w.works; written = w.written; counted = w.counted; named = named_jobs w.pieces w.named; joined_are = joined_jobs w.pieces w.came }
   outcome Piece writer bytes w = record { pieces = w.pieces; works = w.works; written = w.written; counted = w.counted; named = named_jobs w.pieces w.named; joined_are = joined_jobs w.pieces w.came }
   outcome (Failed fault) writer bytes w =

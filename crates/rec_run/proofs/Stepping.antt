@@ -5,6 +5,7 @@ use Rattle.std.proofs.lemmas.List.{length-append, map-append, append-nil}
 use Rattle.std.proofs.lemmas.List.Elements.{All-push}
 use Rattle.eth_frame.specs.Frame.{FrameData, IsFrame}
 use Rattle.eth_frame.specs.Source.{Left, GivesFirst}
+use Rattle.eth_frame.specs.declared.source.SourceEnding.{SourceEnding}
 use Rattle.rec_lane.specs.Offered.{OfferedFrame, frames_of}
 use Rattle.rec_lane.specs.Parts.{Begins}
 use Rattle.rec_lane.specs.Pieces.{pieces_so_far}
@@ -40,8 +41,8 @@ begins_same xs ys is = ([], append-nil xs ∙ is)
 frames_more : (offered : List OfferedFrame) (f : OfferedFrame) (frame : FrameData) → f.frame ≡ frame → frames_of (offered ++ f ∷ []) ≡ frames_of offered ++ frame ∷ []
 frames_more offered f frame is = map-append (λ (o : OfferedFrame). o.frame) offered (f ∷ []) ∙ ap (λ x. frames_of offered ++ x ∷ []) is
 
-module _ {S : Type 0} (left : S → Option Left) (failures : S → ℕ) (before : S) (old mid new : Worker S) (frame : FrameData)
-    (goes : GoesOn left failures before old) (ready : mid.lane ≡ record old.lane { ready = true })
+module _ {S : Type 0} (left : S → Option Left) (failures : S → ℕ) (ended_as : S → Option SourceEnding) (before : S) (old mid new : Worker S) (frame : FrameData)
+    (goes : GoesOn left failures ended_as before old) (ready : mid.lane ≡ record old.lane { ready = true })
     (met_same : met_by mid ≡ met_by old) (sent_same : sent_by mid ≡ sent_by old) (max_same : new.max ≡ old.max)
     (is_frame : IsFrame frame) (more : old.lane.offered ≢ old.max) (gives : GivesFirst (left old.source) (Some frame) (left new.source)) (failed : failures old.source ≤ failures new.source) where
   stands_mid : Stands mid.lane (met_by mid) goes.offered
@@ -68,7 +69,7 @@ module _ {S : Type 0} (left : S → Option Left) (failures : S → ℕ) (before 
       subst (λ fs. AreTaken (left before) fs (left new.source)) (sym (frames_more goes.offered f frame is))
       (taken_next (left before) (frames_of goes.offered) (left old.source) frame (left new.source) goes.taken gives)
 
-  went_on : TakesOne mid.lane new.lane (met_by mid) (met_by new) (sent_by mid) (sent_by new) frame (λ some all. some ≡ all) → GoesOn left failures before new
+  went_on : TakesOne mid.lane new.lane (met_by mid) (met_by new) (sent_by mid) (sent_by new) frame (λ some all. some ≡ all) → GoesOn left failures ended_as before new
   went_on takes =
       let t = takes goes.offered stands_mid sent_mid in
       record {
@@ -83,7 +84,7 @@ module _ {S : Type 0} (left : S → Option Left) (failures : S → ℕ) (before 
 
   gave_up : (TakesOne mid.lane new.lane (met_by mid) (met_by new) (sent_by mid) (sent_by new) frame Begins
       ⊎ ((new.lane ≡ mid.lane) × (met_by new ≡ met_by mid) × (sent_by new ≡ sent_by mid)))
-      → Stopping left failures Stopped new.max before new.source new.lane (met_by new) (sent_by new)
+      → Stopping left failures ended_as Stopped new.max before new.source new.lane (met_by new) (sent_by new)
   gave_up (inl takes) =
       let t = takes goes.offered stands_mid sent_mid in
       record {
@@ -106,7 +107,7 @@ module _ {S : Type 0} (left : S → Option Left) (failures : S → ℕ) (before 
         whole = λ never. absurd never;
       }
 
-  pub stepped : (result : Option WorkerEnd) → RecordsFrame mid new frame result → MatchOption result (GoesOn left failures before new) (ComesTo left failures before new)
+  pub stepped : (result : Option WorkerEnd) → RecordsFrame mid new frame result → MatchOption result (GoesOn left failures ended_as before new) (ComesTo left failures ended_as before new)
   stepped None takes = went_on takes
   stepped (Some (Ended Stopped)) gave = gave_up gave.1
   stepped (Some (Ended SourceEnd)) gave = absurd gave.0

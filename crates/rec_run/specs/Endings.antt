@@ -1,5 +1,5 @@
 -- What the ending of a channel says of its source, and of the frames that were taken from it.
-use Rattle.std.specs.Prelude.{ℕ, ◌≡◌, ◌<◌, ◌⊎◌, List, ◌++◌, length, Option, IfSome, IsSomeAnd}
+use Rattle.std.specs.Prelude.{ℕ, ◌≡◌, ◌<◌, ◌⊎◌, List, ◌++◌, length, Option, Some, IfSome, IsSomeAnd}
 use Rattle.eth_frame.specs.Frame.{FrameData}
 use Rattle.eth_frame.specs.Source.{Left}
 use Rattle.eth_frame.specs.declared.source.SourceEnding.{SourceEnding}
@@ -34,18 +34,23 @@ abbrev pub AreAll : Option Left → List FrameData → SourceEnding → Type 0
 AreAll before frames ending =
     IfSome before (λ l. (l.frames ≡ frames) × (l.ending ≡ ending))
 
-module _ {S : Type 0} (left : S → Option Left) (failures : S → ℕ) where
+module _ {S : Type 0}
+    (left : S → Option Left) (failures : S → ℕ) (ended_as : S → Option SourceEnding) where
   -- the device failed since then, after these frames
   pub record HasFailed (before after : S) (frames : List FrameData) : Type 0 where
     pub first : AreFirst (left before) frames
     pub more : failures before < failures after
 
-  -- from the source as it was before, these frames were taken, at most `max`, and this is how it ended
+  -- from the source as it was before, these frames were taken, at most `max`, and this is how it
+  -- ended; what a source gave as its last answer is known of every source
   abbrev pub EndsAs : Ending → (before after : S) → List FrameData → (max : ℕ) → Type 0
-  EndsAs SourceEnd before after frames max = AreAll (left before) frames End
+  EndsAs SourceEnd before after frames max =
+      (ended_as after ≡ Some End) × AreAll (left before) frames End
   EndsAs (SourceFault fault) before after frames max =
-      AreAll (left before) frames (Fault fault)
-      ⊎ ((fault ≡ Device) × HasFailed before after frames)
+      (ended_as after ≡ Some (Fault fault))
+      × (fault ≡ Device → 0 < failures after)
+      × (AreAll (left before) frames (Fault fault)
+      ⊎ ((fault ≡ Device) × HasFailed before after frames))
   EndsAs Memory before after frames max = AreTaken (left before) frames (left after)
   EndsAs CountFull before after frames max =
       (length frames ≡ max) × AreTaken (left before) frames (left after)

@@ -3,6 +3,7 @@ use Rattle.std.specs.Prelude.{ℕ, ◌≡◌, ◌≤◌, Bool, false, List, [], 
 use Rattle.std.specs.List.{AllZip}
 use Rattle.std.specs.declared.alloc.Global.{Global}
 use Rattle.eth_frame.specs.Source.{Left}
+use Rattle.eth_frame.specs.declared.source.SourceEnding.{SourceEnding}
 use Rattle.rec_channel.specs.declared.shared.SharedSlot.{SharedSlot}
 use Rattle.rec_lane.specs.Pieces.{PieceData, channel_of}
 use Rattle.rec_writer.specs.Numbers.{channels_in, AreDistinct}
@@ -49,7 +50,9 @@ module _ {C : Type 0} (given : C → List Given) (answered : C → List Answered
 
 -- ---- after
 
-module _ {S : Type 0} (left : S → Option Left) (failures : S → ℕ) (first : Option (List ℕ)) where
+module _ {S : Type 0}
+    (left : S → Option Left) (failures : S → ℕ) (ended_as : S → Option SourceEnding)
+    (first : Option (List ℕ)) where
   -- the writer wrote these pieces, which came from the workers of these jobs
   pub record WroteAll
       (jobs : List (Job S)) (joined : List (Joined S)) (writer : WriterState) (bytes : ℕ)
@@ -59,7 +62,7 @@ module _ {S : Type 0} (left : S → Option Left) (failures : S → ℕ) (first :
     pub written : HasWritten first pieces [] writer
     pub counted : bytes ≡ bytes_of writer.version pieces
     pub named : All (λ (p : PieceData). Contains (channels_of_jobs jobs) (channel_of p)) pieces
-    pub joined_are : AllZip (JoinedOf left failures pieces) jobs joined
+    pub joined_are : AllZip (JoinedOf left failures ended_as pieces) jobs joined
 
   -- the same as far as the output went
   pub record WrotePart
@@ -74,7 +77,7 @@ module _ {S : Type 0} (left : S → Option Left) (failures : S → ℕ) (first :
     pub counted : bytes ≡ bytes_of writer.version pieces
     pub named : All (λ (p : PieceData). Contains (channels_of_jobs jobs) (channel_of p))
         (pieces ++ piece ∷ [])
-    pub joined_are : AllZip (JoinedOf left failures (pieces ++ piece ∷ [])) jobs joined
+    pub joined_are : AllZip (JoinedOf left failures ended_as (pieces ++ piece ∷ [])) jobs joined
 
   abbrev pub WroteIn :
       Wrote → List (Job S) → List (Joined S) → WriterState → (bytes : ℕ) → Type 0
@@ -83,11 +86,12 @@ module _ {S : Type 0} (left : S → Option Left) (failures : S → ℕ) (first :
   WroteIn (Failed fault) jobs joined writer bytes = WrotePart jobs joined writer bytes fault
   WroteIn Link jobs joined writer bytes = Unit {0}
 
-module _ {S C W : Type 0} (left : S → Option Left) (failures : S → ℕ) where
+module _ {S C W : Type 0}
+    (left : S → Option Left) (failures : S → ℕ) (ended_as : S → Option SourceEnding) where
   -- since the output held `first`, this was written of the workers' pieces
   abbrev pub IsOutcome :
       Option (List ℕ) → Tape W → List (Job S) → Outcome S C W → Type 0
   IsOutcome first tape jobs o =
       HasWritten first [] [] tape.writer
       → (o.tape.writer.version ≡ tape.writer.version)
-      × WroteIn left failures first o.wrote jobs o.joined.items o.tape.writer o.tape.bytes
+      × WroteIn left failures ended_as first o.wrote jobs o.joined.items o.tape.writer o.tape.bytes

@@ -4,6 +4,7 @@ use Rattle.std.specs.List.{filter, AllZip}
 use Rattle.std.specs.Arc.{arc_value}
 use Rattle.std.specs.Io.KnownBytes.{Appends}
 use Rattle.eth_frame.specs.Source.{Left}
+use Rattle.eth_frame.specs.declared.source.SourceEnding.{SourceEnding}
 use Rattle.rec_lane.specs.Parts.{Begins}
 use Rattle.rec_lane.specs.Pieces.{PieceData, channel_of, ArePieces}
 use Rattle.rec_writer.specs.Encoding.{writer_output}
@@ -35,7 +36,8 @@ BeginsChannel taken c =
     × ArePieces c.settings c.frames c.history all
     × Begins (filter (is_of c.settings.channel) taken) all
 
-module _ {S : Type 0} (left : S → Option Left) (failures : S → ℕ) where
+module _ {S : Type 0}
+    (left : S → Option Left) (failures : S → ℕ) (ended_as : S → Option SourceEnding) where
   -- a recording that ended: since its output held `first`, it took the recording of these channels,
   -- one for each job, and each channel is over
   pub record IsRecorded
@@ -45,7 +47,7 @@ module _ {S : Type 0} (left : S → Option Left) (failures : S → ℕ) where
     pub bytes : List ℕ
     pub recording : IsRecording version channels bytes
     pub written : Appends first held bytes
-    pub reports_are : AreReports left failures jobs report.channels.items channels
+    pub reports_are : AreReports left failures ended_as jobs report.channels.items channels
     pub over : All (λ (r : ChannelReport S). IsOver r.ending) report.channels.items
     pub pieces_is : report.pieces ≡ shown (length recording.0)
     pub bytes_is : report.bytes ≡ shown (length bytes)
@@ -62,7 +64,7 @@ module _ {S : Type 0} (left : S → Option Left) (failures : S → ℕ) where
     pub cut_is : IsCutOf version pieces begun cut
     pub written : Appends first held (writer_output version pieces ++ cut)
     pub fault_is : fault ≡ Output (shown (length pieces)) (length cut)
-    pub reports_are : AreReports left failures jobs report.channels.items channels
+    pub reports_are : AreReports left failures ended_as jobs report.channels.items channels
     pub named : All (λ (p : PieceData). Contains (channels_of_jobs jobs) (channel_of p))
         (pieces ++ begun)
     pub begin : All (BeginsChannel (pieces ++ begun)) channels

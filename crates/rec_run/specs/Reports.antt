@@ -3,6 +3,7 @@ use Rattle.std.specs.Prelude.{ℕ, ◌≡◌, ◌≤◌, List, [], ◌∷◌, le
 use Rattle.std.specs.Arc.{arc_value}
 use Rattle.eth_frame.specs.Frame.{FrameData, IsFrame}
 use Rattle.eth_frame.specs.Source.{Left}
+use Rattle.eth_frame.specs.declared.source.SourceEnding.{SourceEnding}
 use Rattle.rec_channel.specs.History.{Version, IsHistory}
 use Rattle.rec_channel.specs.declared.limits.TheConstants.{MAX_VERSIONS}
 use Rattle.rec_lane.specs.Offered.{AreAccepted}
@@ -40,7 +41,8 @@ module _ {S : Type 0} where
     pub served : AreServed (history_of r) r.offered (versions_met joined.met.items)
     pub answered : AreAnswered r.channel (arc_value joined.program) (history_of r) log
 
-module _ {S : Type 0} (left : S → Option Left) (failures : S → ℕ) where
+module _ {S : Type 0}
+    (left : S → Option Left) (failures : S → ℕ) (ended_as : S → Option SourceEnding) where
   -- the channel of this report, as it was recorded: its settings are the job's, its frames were
   -- taken from the job's source, and its history is the one that the report gives
   pub record IsReport (job : Job S) (r : ChannelReport S) (channel : RecordedChannel) : Type 0 where
@@ -58,7 +60,7 @@ module _ {S : Type 0} (left : S → Option Left) (failures : S → ℕ) where
     pub kept : List FrameData
     pub accepted : AreAccepted channel.history channel.frames kept
     pub kept_is : r.kept ≡ length kept
-    pub ends : EndsAs left failures r.ending job.source r.source channel.frames job.max
+    pub ends : EndsAs left failures ended_as r.ending job.source r.source channel.frames job.max
 
   -- the reports are those of these channels, job by job
   abbrev pub AreReports : List (Job S) → List (ChannelReport S) → List RecordedChannel → Type 0

@@ -2,6 +2,7 @@
 use Rattle.std.specs.Prelude.{ℕ, ◌≡◌, Bool, List, Option}
 use Rattle.std.specs.Io.KnownBytes.{Keeps}
 use Rattle.eth_frame.specs.Source.{Left}
+use Rattle.eth_frame.specs.declared.source.SourceEnding.{SourceEnding}
 use Rattle.rec_writer.specs.Writers.{WriterState, FinishFails}
 use Rattle.rec_run.specs.Changes.{Given, Answered}
 use Rattle.rec_run.specs.Controlling.{EndsControl}
@@ -22,13 +23,15 @@ use Rattle.rec_run.specs.declared.report.RunFault.TheVariants.{Memory, Write, Li
 abbrev pub TellsOf : {S : Type 0} → List Logged → Joined S → ChannelReport S → Type 0
 TellsOf log joined report = Tells joined log report
 
-module _ {S C W : Type 0} (left : S → Option Left) (failures : S → ℕ) (contents : W → Option (List ℕ)) where
+module _ {S C W : Type 0}
+    (left : S → Option Left) (failures : S → ℕ) (ended_as : S → Option SourceEnding)
+    (contents : W → Option (List ℕ)) where
   -- where the output failed, the recording was cut short
   abbrev pub CutsShort :
       List (Job S) → (version : ℕ) → Option (List ℕ) → RunFault S C W → Type 0
   CutsShort jobs version first Memory = Unit {0}
   CutsShort jobs version first (Write fault report control out) =
-      IsCutShort left failures jobs version first (contents out) fault report
+      IsCutShort left failures ended_as jobs version first (contents out) fault report
   CutsShort jobs version first Link = Unit {0}
   CutsShort jobs version first History = Unit {0}
 
@@ -36,20 +39,23 @@ module _ {S C W : Type 0} (left : S → Option Left) (failures : S → ℕ) (con
   abbrev pub Concludes : Outcome S C W → Done S C W → Type 0
   Concludes o done =
       (jobs : List (Job S)) (first : Option (List ℕ))
-      → WroteIn left failures first o.wrote jobs o.joined.items o.tape.writer o.tape.bytes
-      → IsRecorded left failures jobs o.tape.writer.version first (contents done.out) done.report
+      → WroteIn left failures ended_as first o.wrote jobs o.joined.items o.tape.writer o.tape.bytes
+      → IsRecorded left failures ended_as jobs o.tape.writer.version first (contents done.out)
+      done.report
 
   abbrev pub ConcludesCut : Outcome S C W → RunFault S C W → Type 0
   ConcludesCut o fault =
       (jobs : List (Job S)) (first : Option (List ℕ))
-      → WroteIn left failures first o.wrote jobs o.joined.items o.tape.writer o.tape.bytes
+      → WroteIn left failures ended_as first o.wrote jobs o.joined.items o.tape.writer o.tape.bytes
       → CutsShort jobs o.tape.writer.version first fault
 
-module _ {S C W : Type 0} (left : S → Option Left) (failures : S → ℕ) (given : C → List Given) (answered : C → List Answered) (ended : C → Bool) where
+module _ {S C W : Type 0}
+    (left : S → Option Left) (failures : S → ℕ) (ended_as : S → Option SourceEnding)
+    (given : C → List Given) (answered : C → List Answered) (ended : C → Bool) where
   abbrev pub ConcludesControl : Outcome S C W → List ℕ → Done S C W → Type 0
   ConcludesControl o channels done =
       (jobs : List (Job S)) (first : Option (List ℕ)) (before : C)
-      → WroteIn left failures first o.wrote jobs o.joined.items o.tape.writer o.tape.bytes
+      → WroteIn left failures ended_as first o.wrote jobs o.joined.items o.tape.writer o.tape.bytes
       → channels ≡ channels_of_jobs jobs
       → EndsControl given answered ended before o.controlled
       → IsControlled given answered ended before done.control jobs done.report.channels.items

@@ -3,6 +3,7 @@ use Rattle.std.specs.Prelude.{ℕ, ◌≡◌, ◌⊎◌, List, Option, MatchOpti
 use Rattle.rtrb.specs.Ring.{sent}
 use Rattle.eth_frame.specs.Frame.{FrameData}
 use Rattle.eth_frame.specs.Source.{Left}
+use Rattle.eth_frame.specs.declared.source.SourceEnding.{SourceEnding}
 use Rattle.rec_lane.specs.Pieces.{PieceData}
 use Rattle.rec_lane.specs.Parts.{Begins}
 use Rattle.rec_lane.specs.Views.{pieces_data}
@@ -31,17 +32,18 @@ module _ {S : Type 0} where
       Begins
       ⊎ ((new.lane ≡ old.lane) × (met_by new ≡ met_by old) × (sent_by new ≡ sent_by old))))
 
-module _ {S : Type 0} (left : S → Option Left) (failures : S → ℕ) where
+module _ {S : Type 0}
+    (left : S → Option Left) (failures : S → ℕ) (ended_as : S → Option SourceEnding) where
   -- the worker goes on, since its source was as before
   abbrev pub GoesOn : S → Worker S → Type 0
   GoesOn before worker =
-      Going left failures worker.max before worker.source worker.lane (met_by worker)
+      Going left failures ended_as worker.max before worker.source worker.lane (met_by worker)
       (sent_by worker)
 
   -- the worker came to this end
   abbrev pub ComesTo : S → Worker S → WorkerEnd → Type 0
   ComesTo before worker end =
-      StopsAs left failures end worker.max before worker.source worker.lane (met_by worker)
+      StopsAs left failures ended_as end worker.max before worker.source worker.lane (met_by worker)
       (sent_by worker)
 
   -- a worker that went on goes on, or came to an end

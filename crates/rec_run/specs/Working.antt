@@ -3,6 +3,7 @@ use Rattle.std.specs.Prelude.{ℕ, ◌≡◌, ◌≤◌, List, [], ◌∷◌, �
 use Rattle.std.specs.Arc.{arc_value}
 use Rattle.eth_frame.specs.Frame.{FrameData, IsFrame}
 use Rattle.eth_frame.specs.Source.{Left}
+use Rattle.eth_frame.specs.declared.source.SourceEnding.{SourceEnding}
 use Rattle.rec_channel.specs.History.{Version}
 use Rattle.rec_lane.specs.Offered.{OfferedFrame, frames_of, accepted, AllMet}
 use Rattle.rec_lane.specs.Parts.{Begins}
@@ -41,7 +42,8 @@ pub record Stands (lane : LaneState) (met : List VersionMet) (offered : List Off
   pub known : AreKnown met offered
   pub last : IsLast lane.current (length offered) met
 
-module _ {S : Type 0} (left : S → Option Left) (failures : S → ℕ) where
+module _ {S : Type 0}
+    (left : S → Option Left) (failures : S → ℕ) (ended_as : S → Option SourceEnding) where
   -- a worker that goes on, since its source was as before: the frames that it took, and the pieces
   -- that it sent
   pub record Going
@@ -60,7 +62,7 @@ module _ {S : Type 0} (left : S → Option Left) (failures : S → ℕ) where
       (ending : Ending) (max : ℕ) (before after : S) (lane : LaneState) (met : List VersionMet)
       (sent : List PieceData) : Type 0 where
     pub offered : List OfferedFrame
-    pub ends : EndsAs left failures ending before after (frames_of offered) max
+    pub ends : EndsAs left failures ended_as ending before after (frames_of offered) max
     pub framed : All IsFrame (frames_of offered)
     pub within : length offered ≤ max
     pub stands : Stands lane met offered
@@ -80,7 +82,7 @@ module _ {S : Type 0} (left : S → Option Left) (failures : S → ℕ) where
       (settings : LaneSettings) (max : ℕ) (ending : Ending) (before after : S)
       (met : List VersionMet) (sent : List PieceData) (count kept : ℕ) : Type 0 where
     pub offered : List OfferedFrame
-    pub ends : EndsAs left failures ending before after (frames_of offered) max
+    pub ends : EndsAs left failures ended_as ending before after (frames_of offered) max
     pub framed : All IsFrame (frames_of offered)
     pub within : length offered ≤ max
     pub known : AreKnown met offered

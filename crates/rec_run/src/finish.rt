@@ -57,8 +57,8 @@ pub(crate) fn work<S: FrameSource + Drop, R: Wait>(
     requires { StartsWith tools (spec_data job.spec) }
     ensures program { result.program ≡ job.program }
     ensures ring { SameProducer tools.ring result.ring }
-    ensures ran { RanAs S.left S.failures (spec_data job.spec) job.max result.end job.source
-        result.source (versions_met result.met.items) (pieces_data (sent result.ring))
+    ensures ran { RanAs S.left S.failures S.ending (spec_data job.spec) job.max result.end
+        job.source result.source (versions_met result.met.items) (pieces_data (sent result.ring))
         result.offered result.kept }
 {
     let Job {
@@ -101,10 +101,10 @@ fn finish<S: FrameSource + Drop, R: Wait>(
 ) -> Done<S>
     ensures program { result.program ≡ program }
     ensures ring { SameProducer worker.ring result.ring }
-    ensures ran { (before : S) → ComesTo S.left S.failures before worker end
-        → RanAs S.left S.failures worker.lane.settings worker.max result.end before result.source
-        (versions_met result.met.items) (pieces_data (sent result.ring)) result.offered
-        result.kept }
+    ensures ran { (before : S) → ComesTo S.left S.failures S.ending before worker end
+        → RanAs S.left S.failures S.ending worker.lane.settings worker.max result.end before
+        result.source (versions_met result.met.items) (pieces_data (sent result.ring))
+        result.offered result.kept }
 {
     let Worker {
         source,

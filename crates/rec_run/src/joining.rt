@@ -20,7 +20,7 @@ pub(crate) fn join_all<S: FrameSource + Drop, R: Threads>(
 ) -> Vec<Joined<S>>
     requires { (vec_len joined ≡ 0) × (vec_len lines ≤ vec_capacity joined) }
     ensures { (pieces : List PieceData) → AllCame pieces lines.items
-        → AllZip (JoinedOf S.left S.failures pieces) (jobs_of lines.items) result.items }
+        → AllZip (JoinedOf S.left S.failures S.ending pieces) (jobs_of lines.items) result.items }
 {
     let mut joined = joined;
     'workers: for line in lines {
@@ -32,7 +32,7 @@ pub(crate) fn join_all<S: FrameSource + Drop, R: Threads>(
 /// Waits for a worker's end, and looks what it has left in its ring.
 fn join_one<S: FrameSource + Drop, R: Threads>(rt: &R, line: Line<S>) -> Joined<S>
     ensures { (pieces : List PieceData) → CameFrom pieces line
-        → JoinedOf S.left S.failures pieces (job_at line) result }
+        → JoinedOf S.left S.failures S.ending pieces (job_at line) result }
 {
     let Line {
         channel,

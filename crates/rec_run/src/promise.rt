@@ -25,7 +25,8 @@ pub(crate) struct Works<S: Drop> {
 }
 
 impl<S: FrameSource + Drop> Promise<Done<S>> for Works<S> {
-    ghost kept_by = { λ p done. KeepsWorker S.left S.failures p.job.value p.ring.value done };
+    ghost kept_by = { λ p done.
+        KeepsWorker S.left S.failures S.ending p.job.value p.ring.value done };
 }
 
 /// Starts the thread of a worker.
@@ -48,7 +49,7 @@ pub(crate) fn start<'s, E, S: FrameSource + Send + Drop + 's, R: Threads + Wait 
         promise,
         move || -> Done<S>
             requires { StartsWith tools (spec_data job.spec) }
-            ensures { KeepsWorker S.left S.failures job tools.ring result }
+            ensures { KeepsWorker S.left S.failures S.ending job tools.ring result }
         { work(rt, job, slot, stop, tools) },
     )?;
     Ok(handle)

@@ -58,12 +58,12 @@ pub fn record<
     requires jobs { AreJobs jobs.items }
     requires ring { (1 ≤ ring) × (ring ≤ MAX_RING) }
     requires control { MayBeAsked C.given C.answered C.ended control }
-    ensures recorded { IfOk result (λ done. IsRecorded S.left S.failures jobs.items version
+    ensures recorded { IfOk result (λ done. IsRecorded S.left S.failures S.ending jobs.items version
         (W.contents out) (W.contents done.out) done.report) }
     ensures controlled { IfOk result (λ done. IsControlled C.given C.answered C.ended control
         done.control jobs.items done.report.channels.items) }
     ensures cut { IfErr result
-        (CutsShort S.left S.failures W.contents jobs.items version (W.contents out)) }
+        (CutsShort S.left S.failures S.ending W.contents jobs.items version (W.contents out)) }
 {
     let channels = channels_of(alloc, jobs.as_slice())?;
     let slots = slots_of(alloc, jobs.as_slice())?;
@@ -100,10 +100,11 @@ fn conclude<S: FrameSource + Drop, C: Control + Drop, W: Write + Drop>(
     reports: Vec<ChannelReport<S>>,
 ) -> Result<Done<S, C, W>, RunFault<S, C, W>>
     requires { reports.items ≡ [] }
-    ensures recorded { IfOk result (λ done. Concludes S.left S.failures W.contents outcome done) }
-    ensures controlled { IfOk result (λ done. ConcludesControl S.left S.failures C.given C.answered
-        C.ended outcome channels.now done) }
-    ensures cut { IfErr result (ConcludesCut S.left S.failures W.contents outcome) }
+    ensures recorded { IfOk result (λ done.
+        Concludes S.left S.failures S.ending W.contents outcome done) }
+    ensures controlled { IfOk result (λ done. ConcludesControl S.left S.failures S.ending C.given
+        C.answered C.ended outcome channels.now done) }
+    ensures cut { IfErr result (ConcludesCut S.left S.failures S.ending W.contents outcome) }
 {
     let Outcome {
         joined,

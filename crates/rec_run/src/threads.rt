@@ -46,7 +46,7 @@ pub(crate) fn run_threads<
     requires { IsPrepared slots.now prepared room tape
         × MayStart C.given C.answered C.ended control log }
     ensures joined { IfOk result (λ o. (first : Option (List ℕ))
-        → IsOutcome S.left S.failures first tape (jobs_in prepared.items) o) }
+        → IsOutcome S.left S.failures S.ending first tape (jobs_in prepared.items) o) }
     ensures control { IfOk result (λ o.
         EndsControl C.given C.answered C.ended control o.controlled) }
 {
@@ -57,7 +57,7 @@ pub(crate) fn run_threads<
             requires { IsPrepared slots.now prepared room tape
                 × MayStart C.given C.answered C.ended control log }
             ensures joined { IfOk result (λ o. (first : Option (List ℕ))
-                → IsOutcome S.left S.failures first tape (jobs_in prepared.items) o) }
+                → IsOutcome S.left S.failures S.ending first tape (jobs_in prepared.items) o) }
             ensures control { IfOk result (λ o.
                 EndsControl C.given C.answered C.ended control o.controlled) }
         {
@@ -92,7 +92,7 @@ fn run_in<
     requires { IsPrepared slots.now prepared room tape
         × MayStart C.given C.answered C.ended control log }
     ensures joined { IfOk result (λ o. (first : Option (List ℕ))
-        → IsOutcome S.left S.failures first tape (jobs_in prepared.items) o) }
+        → IsOutcome S.left S.failures S.ending first tape (jobs_in prepared.items) o) }
     ensures control { IfOk result (λ o.
         EndsControl C.given C.answered C.ended control o.controlled) }
 {

@@ -50,7 +50,7 @@ pub(crate) fn step<S: FrameSource + Drop, R: Wait>(
     ensures ring { SameProducer worker.old.ring worker.new.ring }
     ensures max { worker.new.max ≡ worker.old.max }
     ensures settings { worker.new.lane.settings ≡ worker.old.lane.settings }
-    ensures steps { StepsOn S.left S.failures worker.old worker.new result }
+    ensures steps { StepsOn S.left S.failures S.ending worker.old worker.new result }
 {
     if is_stopped(stop) {
         return Some(WorkerEnd::Ended(Ending::Stopped));

@@ -18,6 +18,9 @@ use std::{io, thread};
 /// How many turns a wait takes at most.
 const TURNS: u32 = 10_000_000;
 
+/// How many turns are soon.
+const SOON: u32 = 100_000;
+
 /// A mark that doesn't exist: whoever waits for it fails at once.
 pub(super) const NEVER: usize = 99;
 
@@ -63,10 +66,15 @@ impl Marks {
 
     /// Waits until a mark is set; `false` if it isn't after many turns.
     pub(super) fn wait(&self, mark: usize) -> bool {
+        self.comes(mark, TURNS)
+    }
+
+    /// Whether a mark is set within so many turns.
+    fn comes(&self, mark: usize, turns: u32) -> bool {
         let Some(mark) = self.marks.get(mark) else {
             return false;
         };
-        for _turn in 0..TURNS {
+        for _turn in 0..turns {
             if mark.load(Ordering::SeqCst) != 0 {
                 return true;
             }
@@ -76,11 +84,12 @@ impl Marks {
     }
 }
 
-/// What a source gives at a call: bytes, or none at its end. It says that the call began, waits for
-/// two marks, and says that it gave.
+/// What a source gives at a call, and so many times again: bytes, or none at its end. It says that
+/// the call began, waits for two marks, and says that it gave.
 #[derive(Drop)]
 pub(super) struct Stage {
     pub(super) bytes: Vec<u8>,
+    pub(super) again: usize,
     pub(super) began: usize,
     pub(super) needs: [usize; 2],
     pub(super) gave: usize,
@@ -90,6 +99,7 @@ pub(super) struct Stage {
 pub(super) fn stage_of(bytes: Vec<u8>, began: usize, needs: [usize; 2], gave: usize) -> Stage {
     Stage {
         bytes,
+        again: 0,
         began,
         needs,
         gave,
@@ -102,6 +112,7 @@ pub(super) struct Stages {
     pub(super) marks: Shared,
     pub(super) stages: Vec<Stage>,
     at: usize,
+    given: usize,
     within: usize,
 }
 
@@ -111,6 +122,7 @@ pub(super) fn source(marks: Shared, stages: Vec<Stage>) -> FeedSource<Stages> {
         marks,
         stages,
         at: 0,
+        given: 0,
         within: 0,
     })
 }
@@ -134,8 +146,13 @@ impl Read for Stages {
         self.within += count;
         if self.within == stage.bytes.len() && count > 0 {
             self.marks.set(stage.gave);
-            self.at += 1;
             self.within = 0;
+            if self.given < stage.again {
+                self.given = self.given.saturating_add(1);
+            } else {
+                self.at += 1;
+                self.given = 0;
+            }
         }
         Ok(count)
     }
@@ -196,13 +213,14 @@ pub(super) fn fresh_script(
     }
 }
 
-/// An output that keeps its bytes. Its first write waits for a mark, and it sets one when it has so
-/// many bytes. It fails where it has no room.
+/// An output that keeps its bytes. Its first write waits for a mark, and fails if another one comes
+/// soon after that; it sets one when it has so many bytes. It fails where it has no room.
 #[derive(Drop)]
 pub(super) struct Watched {
     pub(super) bytes: Vec<u8>,
     pub(super) marks: Shared,
     pub(super) needs: usize,
+    pub(super) refuses: usize,
     pub(super) full: usize,
     pub(super) full_mark: usize,
     pub(super) room: usize,
@@ -211,8 +229,11 @@ pub(super) struct Watched {
 
 impl Write for Watched {
     fn write(&mut self, buf: &[u8]) -> io::Result<usize> {
-        if self.bytes.is_empty() && !self.marks.wait(self.needs) {
-            return Err(io::Error::from(ErrorKind::TimedOut));
+        if self.bytes.is_empty() {
+            let late = !self.marks.wait(self.needs);
+            if late || self.marks.comes(self.refuses, SOON) {
+                return Err(io::Error::from(ErrorKind::TimedOut));
+            }
         }
         if self.room == 0 && !buf.is_empty() {
             return Err(io::Error::from(ErrorKind::StorageFull));
@@ -242,6 +263,7 @@ pub(super) fn output(alloc: Global, marks: Shared, room: usize) -> Watched {
         bytes: Vec::new(alloc),
         marks,
         needs: NONE,
+        refuses: NEVER,
         full: usize::MAX,
         full_mark: NONE,
         room,

@@ -1,3 +1,4 @@
+use Rattle.std.proofs.Common.{rules}
 use Rattle.rec_run.proofs.Finishes.{last_whole, last_part}
 use Rattle.rec_run.proofs.finish.last_pieces.Goals as goal
 
@@ -7,4 +8,4 @@ returns-then-send_all-clause-last g c =
 
 pub returns-else-send_all-clause-last : goal.returns-else-send_all-clause-last
 returns-else-send_all-clause-last g c =
-    last_part c.args.lane c.args.end c.in-Ended.ending _ _ _ c.in-Ended.is (c.is_over.ensures.0 c.if-is_over.true) c.end.ensures.pieces c.send_all.ensures.part
+    last_part c.args.lane c.args.end _ c.in-Ended.ending _ _ _ c.in-Ended.is (c.is_over.ensures.0 c.if-is_over.true) c.end.ensures.pieces c.send_all.ensures.part (search rules)

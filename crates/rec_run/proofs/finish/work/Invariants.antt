@@ -9,4 +9,4 @@ invariant-frames g l =
     SameProducer l.fn.tools.ring l.worker.ring
     × (l.worker.max ≡ l.fn.job.max)
     × (l.worker.lane.settings ≡ spec_data l.fn.job.spec)
-    × GoesOn g.S.FrameSource.left g.S.FrameSource.failures l.fn.job.source l.worker
+    × GoesOn g.S.FrameSource.left g.S.FrameSource.failures g.S.FrameSource.ending l.fn.job.source l.worker

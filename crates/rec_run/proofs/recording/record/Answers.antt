@@ -1,8 +1,7 @@
 use Rattle.std.proofs.Common.{◌≡◌, ◌≢◌, ℕ, ◌∷◌, All, arith, refl, ap, sym, subst, ◌∙◌}
 use Rattle.rec_writer.specs.Numbers.{AreDistinct}
 use Rattle.rec_run.specs.Jobs.{channels_of_jobs}
-use Rattle.rec_run.specs.Outcomes.{WroteIn}
-use Rattle.rec_run.proofs.Judging.{whole_recording, cut_recording, whole_control}
+use Rattle.rec_run.proofs.Judging.{written_of, whole_recording, cut_recording, whole_control}
 use Rattle.rec_run.proofs.recording.record.Goals as goal
 
 pub new-requires-clause-named : goal.new-requires-clause-named
@@ -35,29 +34,29 @@ pub returns-clause-recorded : goal.returns-clause-recorded
 returns-clause-recorded g c =
     let left = g.S.FrameSource.left in
     let failures = g.S.FrameSource.failures in
+    let ended_as = g.S.FrameSource.ending in
     let o = c.in_ok-outcome.outcome in
     let first = g.W.Write.contents c.args.out in
-    let out = c.in_ok-outcome.ensures.joined first c.new.ensures.stands in
-    let writes : WroteIn left failures first o.wrote c.args.jobs.items o.joined.items o.tape.writer o.tape.bytes = subst (λ js. WroteIn left failures first o.wrote js o.joined.items o.tape.writer o.tape.bytes) c.in_ok-prepared.ensures.jobs out.1 in
-    whole_recording left failures g.W.Write.contents o c.args.jobs.items first c.args.version writes (out.0 ∙ c.new.ensures.version) c.conclude.result c.conclude.ensures.recorded
+    let w = written_of left failures ended_as first (record { writer = c.new.result; bytes = 0 }) c.args.version _ c.args.jobs.items o c.new.ensures.stands c.new.ensures.version c.in_ok-prepared.ensures.jobs (c.in_ok-outcome.ensures.joined first) in
+    whole_recording left failures ended_as g.W.Write.contents o c.args.jobs.items first c.args.version w.1 w.0 c.conclude.result c.conclude.ensures.recorded
 
 pub returns-clause-controlled : goal.returns-clause-controlled
 returns-clause-controlled g c =
     let left = g.S.FrameSource.left in
     let failures = g.S.FrameSource.failures in
+    let ended_as = g.S.FrameSource.ending in
     let o = c.in_ok-outcome.outcome in
     let first = g.W.Write.contents c.args.out in
-    let out = c.in_ok-outcome.ensures.joined first c.new.ensures.stands in
-    let writes : WroteIn left failures first o.wrote c.args.jobs.items o.joined.items o.tape.writer o.tape.bytes = subst (λ js. WroteIn left failures first o.wrote js o.joined.items o.tape.writer o.tape.bytes) c.in_ok-prepared.ensures.jobs out.1 in
+    let w = written_of left failures ended_as first (record { writer = c.new.result; bytes = 0 }) c.args.version _ c.args.jobs.items o c.new.ensures.stands c.new.ensures.version c.in_ok-prepared.ensures.jobs (c.in_ok-outcome.ensures.joined first) in
     let same : c.as_slice-6.result.now ≡ channels_of_jobs c.args.jobs.items = c.as_slice-6.ensures.value ∙ c.in_ok-channels.ensures.channels ∙ ap (λ js. channels_of_jobs js) c.as_slice.ensures.value in
-    whole_control left failures g.W.Write.contents o c.args.jobs.items first c.args.version writes (out.0 ∙ c.new.ensures.version) g.C.Control.given g.C.Control.answered g.C.Control.ended _ c.args.control same c.in_ok-outcome.ensures.control c.conclude.result c.conclude.ensures.controlled
+    whole_control left failures ended_as g.W.Write.contents o c.args.jobs.items first c.args.version w.1 w.0 g.C.Control.given g.C.Control.answered g.C.Control.ended _ c.args.control same c.in_ok-outcome.ensures.control c.conclude.result c.conclude.ensures.controlled
 
 pub returns-clause-cut : goal.returns-clause-cut
 returns-clause-cut g c =
     let left = g.S.FrameSource.left in
     let failures = g.S.FrameSource.failures in
+    let ended_as = g.S.FrameSource.ending in
     let o = c.in_ok-outcome.outcome in
     let first = g.W.Write.contents c.args.out in
-    let out = c.in_ok-outcome.ensures.joined first c.new.ensures.stands in
-    let writes : WroteIn left failures first o.wrote c.args.jobs.items o.joined.items o.tape.writer o.tape.bytes = subst (λ js. WroteIn left failures first o.wrote js o.joined.items o.tape.writer o.tape.bytes) c.in_ok-prepared.ensures.jobs out.1 in
-    cut_recording left failures g.W.Write.contents o c.args.jobs.items first c.args.version writes (out.0 ∙ c.new.ensures.version) c.conclude.result c.conclude.ensures.cut
+    let w = written_of left failures ended_as first (record { writer = c.new.result; bytes = 0 }) c.args.version _ c.args.jobs.items o c.new.ensures.stands c.new.ensures.version c.in_ok-prepared.ensures.jobs (c.in_ok-outcome.ensures.joined first) in
+    cut_recording left failures ended_as g.W.Write.contents o c.args.jobs.items first c.args.version w.1 w.0 c.conclude.result c.conclude.ensures.cut

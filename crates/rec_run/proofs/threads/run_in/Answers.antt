@@ -10,7 +10,7 @@ returns-clause-joined g c = λ first written.
     let r = c.requires.0 in
     let w = c.write_all-wrote.ensures in (
       w.version,
-      outcome g.S.FrameSource.left g.S.FrameSource.failures first c.write_all-wrote.new.lines.items _ c.join_all-joined.result.items
+      outcome g.S.FrameSource.left g.S.FrameSource.failures g.S.FrameSource.ending first c.write_all-wrote.new.lines.items _ c.join_all-joined.result.items
           (same_jobs c.start_all.new.lines.items c.write_all-wrote.new.lines.items w.lines.1 ∙ c.in-Ok.ensures.jobs)
           c.join_all-joined.ensures c.write_all-wrote.result _ _
           (w.wrote first (writes_none first c.args.tape.writer c.args.tape.bytes c.start_all.new.lines.items r.works written r.no_bytes c.in-Ok.ensures.unread)),

@@ -10,6 +10,7 @@ pub returns-clause-steps : goal.returns-clause-steps
 returns-clause-steps g c = λ before goes.
     let left = g.S.FrameSource.left in
     let failures = g.S.FrameSource.failures in
+    let ended_as = g.S.FrameSource.ending in
     let old = c.args.worker.now in
     let new = c.record_frame.new.worker in
     let r = c.record_frame.ensures in
@@ -19,7 +20,7 @@ returns-clause-steps g c = λ before goes.
     let held : c.next.new.buffer ≡ Some frame = search rules in
     let gives : GivesFirst (left old.source) (Some frame) (left c.next.new.self) = subst (λ b. GivesFirst (left old.source) b (left c.next.new.self)) held (c.next.ensures.frame (search rules)) in
     let mid : Worker g.row.S.Denot = record c.args.worker.now { source = c.next.new.self; lane = c.make_ready.new.lane; blanks = c.make_ready.new.blanks } in
-    stepped left failures before old mid new frame goes ready refl refl r.max c.in-Some-frame.frame.in_range
+    stepped left failures ended_as before old mid new frame goes ready refl refl r.max c.in-Some-frame.frame.in_range
     (λ e. c.if-offered-worker.false (c.offered.ensures.offered ∙ ap (λ (l : LaneState). l.offered) ready ∙ e))
     (subst (λ s. GivesFirst (left old.source) (Some frame) (left s)) source gives)
     (subst (λ s. failures old.source ≤ failures s) source c.next.ensures.failures)
