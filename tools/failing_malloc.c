@@ -1,48 +1,55 @@
 /* Preloaded before a program: its Nth growth of memory is refused, N being REFUSED_GROWTH (0: none).
-   A growth is a call of malloc, calloc or realloc once the program itself runs. At the end the
-   number of growths goes to the file that GROWTHS names. */
+   A growth is a call of malloc, calloc or realloc once the program itself runs. Their number is kept
+   in the file that GROWTHS names, as 8 bytes of the machine's order: a program with threads ends
+   without running destructors. */
 #define _GNU_SOURCE
 #include <dlfcn.h>
+#include <errno.h>
 #include <fcntl.h>
 #include <stddef.h>
-#include <stdio.h>
+#include <stdint.h>
 #include <stdlib.h>
+#include <sys/mman.h>
 #include <unistd.h>
 
 static void *(*real_malloc)(size_t);
 static void *(*real_calloc)(size_t, size_t);
 static void *(*real_realloc)(void *, size_t);
-static long growths, refused;
+static int64_t refused, uncounted, *growths = &uncounted;
 static int counting;
+
+static void count_into(const char *name)
+{
+    int file = open(name, O_RDWR | O_CREAT | O_TRUNC, 0644);
+    void *counter;
+
+    if (file < 0 || ftruncate(file, sizeof *growths) != 0)
+        _exit(99);
+    counter = mmap(NULL, sizeof *growths, PROT_READ | PROT_WRITE, MAP_SHARED, file, 0);
+    if (counter == MAP_FAILED)
+        _exit(99);
+    growths = counter;
+    close(file);
+}
 
 __attribute__((constructor)) static void begin(void)
 {
-    const char *number = getenv("REFUSED_GROWTH");
+    const char *number = getenv("REFUSED_GROWTH"), *name = getenv("GROWTHS");
     real_malloc = dlsym(RTLD_NEXT, "malloc");
     real_calloc = dlsym(RTLD_NEXT, "calloc");
     real_realloc = dlsym(RTLD_NEXT, "realloc");
     refused = number ? atol(number) : 0;
+    if (name)
+        count_into(name);
     counting = 1;
-}
-
-__attribute__((destructor)) static void end(void)
-{
-    const char *name = getenv("GROWTHS");
-    char text[32];
-    int file, length;
-
-    counting = 0;
-    if (!name || (file = open(name, O_WRONLY | O_CREAT | O_TRUNC, 0644)) < 0)
-        return;
-    length = snprintf(text, sizeof text, "%ld\n", growths);
-    if (write(file, text, (size_t)length) != length)
-        _exit(99);
-    close(file);
 }
 
 static int is_refused(void)
 {
-    return counting && ++growths == refused;
+    if (!counting || __atomic_add_fetch(growths, 1, __ATOMIC_SEQ_CST) != refused)
+        return 0;
+    errno = ENOMEM;
+    return 1;
 }
 
 void *malloc(size_t size)

@@ -46,7 +46,10 @@ fn main(rt: HostRuntime) -> io::Result<()> {
 }
 
 /// One case.
-fn show<R: AllocGlobal + Files + Print + Threads + Wait + Sync>(rt: &R, words: &[&str]) -> io::Result<()>
+fn show<R: AllocGlobal + Files + Print + Threads + Wait + Sync>(
+    rt: &R,
+    words: &[&str],
+) -> io::Result<()>
 where
     R::File: Send,
     R::Dir: Send,
@@ -56,7 +59,10 @@ where
 }
 
 /// A text: its listing is stored as the file `listing`, and then checked and run on each view.
-fn show_text<R: AllocGlobal + Files + Print + Threads + Wait + Sync>(rt: &R, text: &TextCase) -> io::Result<()>
+fn show_text<R: AllocGlobal + Files + Print + Threads + Wait + Sync>(
+    rt: &R,
+    text: &TextCase,
+) -> io::Result<()>
 where
     R::File: Send,
     R::Dir: Send,
@@ -105,7 +111,10 @@ where
 }
 
 /// A channel's feed: what is printed, and then the bytes of the feed, if it was created.
-fn show_extract<R: AllocGlobal + Files + Print + Threads + Wait + Sync>(rt: &R, case: &ExtractCase) -> io::Result<()>
+fn show_extract<R: AllocGlobal + Files + Print + Threads + Wait + Sync>(
+    rt: &R,
+    case: &ExtractCase,
+) -> io::Result<()>
 where
     R::File: Send,
     R::Dir: Send,
@@ -166,7 +175,10 @@ where
 }
 
 /// Help is shown by its stream, its status and the commands that it names, not by its text.
-fn show_help<R: AllocGlobal + Files + Print + Threads + Wait + Sync>(rt: &R, words: &[&str]) -> io::Result<()>
+fn show_help<R: AllocGlobal + Files + Print + Threads + Wait + Sync>(
+    rt: &R,
+    words: &[&str],
+) -> io::Result<()>
 where
     R::File: Send,
     R::Dir: Send,
@@ -196,9 +208,15 @@ where
         ("arp", &["verify", "-"]),
         ("arp", &["run", "-", cases::ARP]),
         ("recordings/two_versions.ch11", &["list", "-"]),
-        ("recordings/two_versions.ch11", &["extract", "-", "1", "feed_piped"]),
+        (
+            "recordings/two_versions.ch11",
+            &["extract", "-", "1", "feed_piped"],
+        ),
         ("recordings/cut_to_210.ch11", &["list", "-"]),
-        ("recordings/cut_to_210.ch11", &["extract", "-", "1", "feed_cut"]),
+        (
+            "recordings/cut_to_210.ch11",
+            &["extract", "-", "1", "feed_cut"],
+        ),
         ("not_utf8", &["asm", "-"]),
     ] {
         let input = fs::read(rt, file)?;
@@ -221,7 +239,9 @@ impl Write for Closed {
     }
 }
 
-fn show_closed_output<R: AllocGlobal + Files + Print + Threads + Wait + Sync>(rt: &R) -> io::Result<()>
+fn show_closed_output<R: AllocGlobal + Files + Print + Threads + Wait + Sync>(
+    rt: &R,
+) -> io::Result<()>
 where
     R::File: Send,
     R::Dir: Send,

@@ -114,7 +114,10 @@ where
     let mut output = Vec::new(rt.alloc());
     let Run { errors, status } = run_program(rt, &words, input.as_slice(), &mut output)?;
     title(rt, &words)?;
-    let answered = text(&errors).lines().filter(|line| *line == "refused 0 Line").count();
+    let answered = text(&errors)
+        .lines()
+        .filter(|line| *line == "refused 0 Line")
+        .count();
     println!(rt; "{answered} lines answered of {} bytes", input.len())?;
     println!(rt; "= {status}")
 }

@@ -21,7 +21,8 @@ fn check<R: AllocGlobal + Files + Threads + Wait + Sync + Abort>(
     status: u8,
     output: &str,
     errors: &str,
-) where
+)
+where
     R::File: Send,
     R::Dir: Send,
 {

@@ -25,7 +25,15 @@ fn shown(alloc: Global, settings: &Settings) -> Result<String, Fail> {
         settings.version
     )?;
     for channel in &settings.channels {
-        let ChannelSettings { id, feed, filter, net, speed, max, .. } = channel;
+        let ChannelSettings {
+            id,
+            feed,
+            filter,
+            net,
+            speed,
+            max,
+            ..
+        } = channel;
         let part = format!(in alloc; " / {id} {feed} {filter} {net} {speed} {max}")?;
         line.push_str(part.as_str())?;
     }
@@ -45,7 +53,11 @@ fn what_is_not_set_has_its_default(rt: HostRuntime) -> Result<(), Fail> {
         "limit = 16424\n[[channel]]\nid = 1\nfeed = \"a.feed\"\nfilter = \"a.bpf\"\nspeed = 3",
         "16424 64 8 / 1 a.feed a.bpf 0 3 9223372036854775807",
     )?;
-    check(&rt, CHANNEL, "65536 64 8 / 1 a.feed a.bpf 0 0 9223372036854775807")?;
+    check(
+        &rt,
+        CHANNEL,
+        "65536 64 8 / 1 a.feed a.bpf 0 0 9223372036854775807",
+    )?;
     check(
         &rt,
         "channel = [{max = 0, speed = 15, net = 255, filter = \"\", feed = \"b\", id = 65535}]",
@@ -82,14 +94,20 @@ fn keys_of_the_recording_are_taken_to_their_limits(rt: HostRuntime) -> Result<()
 #[test]
 fn keys_of_a_channel_are_taken_to_their_limits(rt: HostRuntime) -> Result<(), Fail> {
     let table = [
-        ("id = 65535", "65536 64 8 / 65535 f l 0 0 9223372036854775807"),
+        (
+            "id = 65535",
+            "65536 64 8 / 65535 f l 0 0 9223372036854775807",
+        ),
         ("id = 0", "settings 4 Value id"),
         ("id = 65536", "settings 4 Value id"),
         ("id = true", "settings 4 Value id"),
         ("id = 1\nnet = 256", "settings 4 Value net"),
         ("id = 1\nnet = -1", "settings 4 Value net"),
         ("id = 1\nspeed = 16", "settings 4 Value speed"),
-        ("id = 1\nmax = 9223372036854775807", "65536 64 8 / 1 f l 0 0 9223372036854775807"),
+        (
+            "id = 1\nmax = 9223372036854775807",
+            "65536 64 8 / 1 f l 0 0 9223372036854775807",
+        ),
         ("id = 1\nmax = 0", "65536 64 8 / 1 f l 0 0 0"),
         ("id = 1\nmax = -1", "settings 4 Value max"),
         ("id = 1\nmax = 9223372036854775808", "settings 1 Syntax"),
@@ -108,16 +126,28 @@ fn the_first_fault_is_told(rt: HostRuntime) -> Result<(), Fail> {
     let table = [
         ("limit = 1\nlimit = 2", "settings 1 Syntax"),
         ("limit = 16420", "settings 4 Value limit"),
-        ("limit = 16420\nzone = 1\narea = 2", "settings 2 Unknown area"),
+        (
+            "limit = 16420\nzone = 1\narea = 2",
+            "settings 2 Unknown area",
+        ),
         ("ring = 0\nlimit = 0", "settings 4 Value limit"),
-        ("ring = 0\nversion = 256\nchannel = 1", "settings 4 Value ring"),
+        (
+            "ring = 0\nversion = 256\nchannel = 1",
+            "settings 4 Value ring",
+        ),
         ("", "settings 5 Channels"),
         ("channel = []", "settings 5 Channels"),
         ("channel = 1", "settings 4 Value channel"),
         ("channel = [1]", "settings 4 Value channel"),
         ("[channel]\nid = 1", "settings 4 Value channel"),
-        ("[[channel]]\nid = 1\nfilter = \"a.bpf\"", "settings 3 Missing feed"),
-        ("[[channel]]\nid = 1\nfeed = \"a.feed\"", "settings 3 Missing filter"),
+        (
+            "[[channel]]\nid = 1\nfilter = \"a.bpf\"",
+            "settings 3 Missing feed",
+        ),
+        (
+            "[[channel]]\nid = 1\nfeed = \"a.feed\"",
+            "settings 3 Missing filter",
+        ),
         ("[[channel]]\nid = 1\nfeed = 1", "settings 4 Value feed"),
         ("[[channel]]\nfeed = 1\nfilter = 1", "settings 3 Missing id"),
     ];
@@ -131,9 +161,7 @@ fn the_first_fault_is_told(rt: HostRuntime) -> Result<(), Fail> {
 fn channels(alloc: Global, ids: &[u16]) -> Result<String, Fail> {
     let mut text = String::new(alloc);
     for id in ids {
-        let channel = format!(in alloc;
-            "[[channel]]\nid = {id}\nfeed = \"f\"\nfilter = \"l\"\n"
-        )?;
+        let channel = format!(in alloc; "[[channel]]\nid = {id}\nfeed = \"f\"\nfilter = \"l\"\n")?;
         text.push_str(channel.as_str())?;
     }
     Ok(text)

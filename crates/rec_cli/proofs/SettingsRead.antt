@@ -78,22 +78,22 @@ followed_more before channel (Ok others) = ap Ok (sym (append_assoc before (chan
 abbrev pub IsAhead : List Members → List ChannelData → List Value → Type 0
 IsAhead tables before values =
     (rest : List Members) × (tables_in (items_view values) ≡ Some rest)
-        × (channels_in tables ≡ followed before (channels_in rest))
+    × (channels_in tables ≡ followed before (channels_in rest))
 
 -- the next value is a table
 pub table_here : (values : List Value) (k : ℕ) (v : Value) (rest : List Members) → k < length values → v ≡ get_or values k v
     → tables_in (items_view (drop k values)) ≡ Some rest
     → (table : Members) × (others : List Members) × (as_table (view v) ≡ Some table)
-        × (tables_in (items_view (drop (k + 1) values)) ≡ Some others) × (rest ≡ table ∷ others)
+    × (tables_in (items_view (drop (k + 1) values)) ≡ Some others) × (rest ≡ table ∷ others)
 table_here values k v rest h same e =
     let here = tables_here (as_table (view (get_or values k v))) (tables_in (items_view (drop (k + 1) values))) rest
-                (rw (items_view-drop values k v h) at e) in
+    (rw (items_view-drop values k v h) at e) in
     (here.0, here.1, ap (λ x. as_table (view x)) same ∙ here.2, here.3, here.4)
 
 pub ahead_here : (tables : List Members) (before : List ChannelData) (values : List Value) (k : ℕ) (v : Value) (table : Members)
     → k < length values → v ≡ get_or values k v → Some table ≡ as_table (view v) → IsAhead tables before (drop k values)
     → (others : List Members) × (tables_in (items_view (drop (k + 1) values)) ≡ Some others)
-        × (channels_in tables ≡ followed before (channels_in (table ∷ others)))
+    × (channels_in tables ≡ followed before (channels_in (table ∷ others)))
 ahead_here tables before values k v table h same is ahead =
     let here = table_here values k v ahead.0 h same ahead.1 in
     let first : table ≡ here.0 = (cond_some true table here.0 (is ∙ here.2)).1 in
@@ -104,9 +104,12 @@ pub ahead_more : (tables : List Members) (before : List ChannelData) (values : L
     → k < length values → v ≡ get_or values k v → Some table ≡ as_table (view v) → channel_in table ≡ Ok channel
     → IsAhead tables before (drop k values) → IsAhead tables (before ++ channel ∷ []) (drop (k + 1) values)
 ahead_more tables before values k v table channel h same is e ahead =
-    let here = ahead_here tables before values k v table h same is ahead in
-    (here.0, here.1, here.2 ∙ (ap (λ r. followed before (r >>= (λ c. channels_in here.0 >>= (λ others. Ok (c ∷ others))))) e
-        ∙ followed_more before channel (channels_in here.0)))
+    let here = ahead_here tables before values k v table h same is ahead in (
+      here.0,
+      here.1,
+      here.2 ∙ (ap (λ r. followed before (r >>= (λ c. channels_in here.0 >>= (λ others. Ok (c ∷ others))))) e
+          ∙ followed_more before channel (channels_in here.0)),
+    )
 
 -- a fault of the next channel
 pub ahead_fault : (tables : List Members) (before : List ChannelData) (values : List Value) (k : ℕ) (v : Value) (table : Members) (fault : Fault)

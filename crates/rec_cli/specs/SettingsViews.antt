@@ -14,7 +14,7 @@ channel_data channel =
       filter = string_bytes channel.filter;
       net = channel.net;
       speed = channel.speed;
-      max = channel.max
+      max = channel.max;
     }
 
 abbrev pub settings_data : Settings → SettingsData
@@ -23,7 +23,7 @@ settings_data settings =
       limit = settings.limit;
       ring = settings.ring;
       version = settings.version;
-      channels = map channel_data settings.channels.items
+      channels = map channel_data settings.channels.items;
     }
 
 -- the fault is the one that the definition has; out of memory may be at any text

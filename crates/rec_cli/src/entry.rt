@@ -27,13 +27,7 @@ pub fn program<
     I: Read + Send + Drop,
     O: Write,
     E: Write + Send + Drop,
->(
-    rt: &R,
-    words: &[String],
-    input: I,
-    output: &mut O,
-    errors: E,
-) -> u8
+>(rt: &R, words: &[String], input: I, output: &mut O, errors: E) -> u8
 where
     R::File: Send,
     R::Dir: Send,
@@ -95,7 +89,9 @@ fn answer<'a, R: AllocGlobal + Files, I: Read, O: Write>(
         Words::Verify { file } => verify_file(rt, file, input, output),
         Words::Run { file, view } => run_file(rt, file, view, input, output),
         Words::List { file } => list_packets(rt, file, input, output),
-        Words::Extract { file, channel, out } => extract_frames(rt, file, channel, out, input, output),
+        Words::Extract { file, channel, out } => extract_frames(
+            rt, file, channel, out, input, output,
+        ),
         Words::Record { .. } | Words::NoCommand => Err(Ending::Words(String::new(rt.alloc()))),
     }
 }

@@ -7,9 +7,8 @@ mod lines;
 mod programs;
 mod report;
 
-pub(crate) use self::fault::RecordingFault;
-
 use self::changes::LineControl;
+pub(crate) use self::fault::RecordingFault;
 use self::jobs::jobs_of;
 use self::report::print_report;
 use crate::ending::Ending;
@@ -42,7 +41,13 @@ where
     R::File: Send,
     R::Dir: Send,
 {
-    let Settings { limit, ring, version, channels, .. } = read_settings(rt, settings)?;
+    let Settings {
+        limit,
+        ring,
+        version,
+        channels,
+        ..
+    } = read_settings(rt, settings)?;
     let jobs = jobs_of(rt, limit, channels)?;
     if !jobs_ok(jobs.as_slice()) {
         return Err(Ending::Settings(SettingsFault::Channels));
@@ -52,7 +57,13 @@ where
     };
     let created = fs::create(rt, out).map_err(|_| Ending::File(out))?;
     match record(rt, rt.alloc(), jobs, ring, version, control, created) {
-        Ok(Done { report, control, .. }) => {
+        Ok(
+            Done {
+                report,
+                control,
+                ..
+            },
+        ) => {
             print_report(output, &report)?;
             control.outcome()
         }

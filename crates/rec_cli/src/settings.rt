@@ -8,10 +8,9 @@ mod fault;
 mod keys;
 mod reading;
 
+use ch11_packet::Limit;
 pub use fault::SettingsFault;
 pub use reading::settings_of;
-
-use ch11_packet::Limit;
 
 /// The settings of a recording. The document's top has the keys `limit`, `ring`, `version` and
 /// `channel`, and each table of `channel` the keys of [`ChannelSettings`].

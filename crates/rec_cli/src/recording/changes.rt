@@ -155,9 +155,12 @@ impl<'r, R: AllocGlobal + Sync, I: Read + Send + Drop, E: Send + Drop> LineContr
     }
 }
 
-impl<'r, R: AllocGlobal + Files + Wait + Sync, I: Read + Send + Drop, E: Write + Send + Drop> Control
-    for LineControl<'r, R, I, E>
-{
+impl<
+    'r,
+    R: AllocGlobal + Files + Wait + Sync,
+    I: Read + Send + Drop,
+    E: Write + Send + Drop,
+> Control for LineControl<'r, R, I, E> {
     ghost use Rattle.std.specs.Prelude.{map};
     ghost use Rattle.rec_run.specs.Changes.{given_of, answered_of};
 

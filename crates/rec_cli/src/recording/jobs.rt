@@ -34,7 +34,15 @@ fn job_of<'a, R: AllocGlobal + Files>(
     limit: Limit,
     channel: ChannelSettings,
 ) -> Result<Job<FeedSource<BufReader<R::File>>>, Ending<'a>> {
-    let ChannelSettings { id, feed, filter, net, speed, max, .. } = channel;
+    let ChannelSettings {
+        id,
+        feed,
+        filter,
+        net,
+        speed,
+        max,
+        ..
+    } = channel;
     let program = match program_in(rt, filter.as_str()) {
         Ok(program) => Arc::new(rt.alloc(), program)?,
         Err(ProgramFault::File(error)) => return Err(Ending::of_named_read(filter, &error)),

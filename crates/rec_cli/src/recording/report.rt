@@ -1,7 +1,7 @@
 //! What is printed of a recording.
 
-use crate::output::finish;
 use crate::ending::Ending;
+use crate::output::finish;
 use rec_run::{ChannelReport, Report};
 use std::io;
 use std::io::Write;
@@ -29,7 +29,11 @@ fn print_channel<S: Drop, O: Write>(output: &mut O, channel: &ChannelReport<S>) 
         ending,
         ..
     } = channel;
-    write!(output, "channel {id} versions {} offered {offered} kept {kept} ", versions.len())?;
+    write!(
+        output,
+        "channel {id} versions {} offered {offered} kept {kept} ",
+        versions.len()
+    )?;
     match ending {
         rec_run::Ending::SourceFault(fault) => writeln!(output, "SourceFault {fault}"),
         other => writeln!(output, "{other:?}"),

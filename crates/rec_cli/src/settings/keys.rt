@@ -99,12 +99,7 @@ pub(super) fn number_or(
 }
 
 /// A whole number, `least` to `most`.
-fn number_in(
-    value: &Value,
-    key: &'static str,
-    least: u64,
-    most: u64,
-) -> Result<u64, SettingsFault>
+fn number_in(value: &Value, key: &'static str, least: u64, most: u64) -> Result<u64, SettingsFault>
     ensures number { MatchResult result
         (λ n. number_in least most key.now (view value.now) ≡ Ok n)
         (Reports (number_in least most key.now (view value.now))) }
@@ -121,11 +116,7 @@ fn number_in(
 }
 
 /// A text.
-fn text_in(
-    alloc: Global,
-    value: &Value,
-    key: &'static str,
-) -> Result<String, SettingsFault>
+fn text_in(alloc: Global, value: &Value, key: &'static str) -> Result<String, SettingsFault>
     ensures { MatchResult result
         (λ s. text_in key.now (view value.now) ≡ Ok (string_bytes s))
         (Reports (text_in key.now (view value.now))) }

@@ -64,7 +64,13 @@ fn limit_in(table: &Table) -> Result<Limit, SettingsFault>
         (Reports (number_or 65536 16424 524288 (codes "limit") (table_view table.now))) }
 {
     let least = u64::from(MIN_LIMIT);
-    let bytes = number_or(table, "limit", least, u64::from(MAX_ETHERNET_PACKET_LEN), 65_536)?;
+    let bytes = number_or(
+        table,
+        "limit",
+        least,
+        u64::from(MAX_ETHERNET_PACKET_LEN),
+        65_536,
+    )?;
     Limit::new(bytes as u32).ok_or(SettingsFault::Value { key: "limit" })
 }
 
@@ -72,7 +78,7 @@ fn limit_in(table: &Table) -> Result<Limit, SettingsFault>
 fn tables_of(table: &Table) -> Result<&[Value], SettingsFault>
     ensures { MatchResult result
         (λ values. (tables : List Members) × (tables_in (items_view values.now) ≡ Some tables)
-            × (channel_tables (table_view table.now) ≡ Ok tables))
+        × (channel_tables (table_view table.now) ≡ Ok tables))
         (Reports (channel_tables (table_view table.now))) }
 {
     let Some(value) = value_at(table, "channel") else {
@@ -104,8 +110,8 @@ fn are_tables(values: &[Value]) -> bool
 fn channels_in(alloc: Global, values: &[Value]) -> Result<Vec<ChannelSettings>, SettingsFault>
     ensures { (tables : List Members) → tables_in (items_view values.now) ≡ Some tables
         → MatchResult result
-            (λ found. channels_in tables ≡ Ok (map channel_data found.items))
-            (Reports (channels_in tables)) }
+        (λ found. channels_in tables ≡ Ok (map channel_data found.items))
+        (Reports (channels_in tables)) }
 {
     let mut channels = Vec::new(alloc);
     'values: for value in values {
@@ -122,7 +128,11 @@ fn channel_in(alloc: Global, table: &Table) -> Result<ChannelSettings, SettingsF
         (λ found. channel_in (table_view table.now) ≡ Ok (channel_data found))
         (Reports (channel_in (table_view table.now))) }
 {
-    only(alloc, table, &["id", "feed", "filter", "net", "speed", "max"])?;
+    only(
+        alloc,
+        table,
+        &["id", "feed", "filter", "net", "speed", "max"],
+    )?;
     let most = i64::MAX as u64;
     Ok(ChannelSettings {
         id: number_at(table, "id", 1, u64::from(u16::MAX))? as u16,

@@ -10,12 +10,12 @@ returns-then-is_empty c =
     let values = c.in-Some-as_array.values.now.items in
     let some = some_tables (tables_in (items_view values)) (rw c.as_slice.ensures.value at (c.if-are_tables.ensures.0 refl)) in
     let of = channel_tables_of (table_view c.args.table.now) (view c.in-Some.value.now) (items_view values) some.0
-        c.in-Some.ensures c.in-Some-as_array.ensures some.1 in
+    c.in-Some.ensures c.in-Some-as_array.ensures some.1 in
     let none : c.is_empty.result ≡ true → length values ≡ 0 =
-        λ e. grind (arith, c.is_empty.ensures, c.as_slice-values.ensures.value, e) in
+    λ e. grind (arith, c.is_empty.ensures, c.as_slice-values.ensures.value, e) in
     elim c.then-is_empty.either [
-      inl empty ↦ of ∙ no_tables some.0 (length values) (tables_length values some.0 some.1) (none empty)
-    | inr many ↦ of ∙ too_many_tables some.0 (length values) (tables_length values some.0 some.1) (rw c.as_slice-values.ensures.value at many.1)
+      | inl empty ↦ of ∙ no_tables some.0 (length values) (tables_length values some.0 some.1) (none empty)
+      | inr many ↦ of ∙ too_many_tables some.0 (length values) (tables_length values some.0 some.1) (rw c.as_slice-values.ensures.value at many.1)
     ]
 
 pub returns : goal.returns
@@ -23,7 +23,9 @@ returns c =
     let values = c.in-Some-as_array.values.now.items in
     let some = some_tables (tables_in (items_view values)) (rw c.as_slice.ensures.value at (c.if-are_tables.ensures.0 refl)) in
     let of = channel_tables_of (table_view c.args.table.now) (view c.in-Some.value.now) (items_view values) some.0
-        c.in-Some.ensures c.in-Some-as_array.ensures some.1 in
-    let least : 0 < length values = grind (arith, c.is_empty.ensures, c.as_slice-values.ensures.value, c.if-is_empty.false) in
-    (some.0, rw c.as_slice-values.ensures.value some.1,
-        of ∙ enough_tables some.0 (length values) (tables_length values some.0 some.1) least (rw c.as_slice-values.ensures.value at c.if-values-gt-MAX_CHANNELS.false))
+    c.in-Some.ensures c.in-Some-as_array.ensures some.1 in
+    let least : 0 < length values = grind (arith, c.is_empty.ensures, c.as_slice-values.ensures.value, c.if-is_empty.false) in (
+      some.0,
+      rw c.as_slice-values.ensures.value some.1,
+      of ∙ enough_tables some.0 (length values) (tables_length values some.0 some.1) least (rw c.as_slice-values.ensures.value at c.if-values-gt-MAX_CHANNELS.false),
+    )
