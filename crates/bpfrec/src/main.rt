@@ -29,8 +29,9 @@ fn words(rt: &HostRuntime) -> io::Result<Vec<String>> {
     Ok(words)
 }
 
-/// Opens an empty file in the place of each standard stream that is closed, and holds it: else the
-/// next file that is opened would be read as standard input, or written as an output.
+/// Opens an empty file three times and holds it, so that each standard stream that is closed has one
+/// in its place: else the next file that is opened would be read as standard input, or written as an
+/// output.
 fn hold_streams<R: Files>(rt: &R) -> [io::Result<R::File>; 3] {
     let empty = "/dev/null";
     [

@@ -107,17 +107,19 @@ Records the channels that SETTINGS names into the file OUT, until every feed has
 standard input. SETTINGS is a TOML document:
   limit = 65536                    the longest packet of frames, in bytes, 16424 to 524288
   ring = 64                        how many pieces of a channel may wait for OUT, 1 to 4096
-  version = 8                      the data type version of the packets
+  version = 8                      the data type version of the packets, 0 to 255
   [[channel]]                      1 to 64 of them, each with an id of its own
   id = 1                           1 to 65535
   feed = \"one.feed\"               where its frames come from: a file, or a named pipe
   filter = \"one.txt\"              the listing of its filter's first program
-  net = 0                          the network identifier of its frames
+  net = 0                          the network identifier of its frames, 0 to 255
   speed = 0                        their Ethernet speed, 0 to 15
-  max = 1000                       how many frames are taken at most
-Only id, feed and filter must be set; the numbers above are the others' defaults, but for max,
-which has none. Filters and feeds are opened in the order of the channels, and then OUT is created;
-the opening of a pipe waits for its writer.
+  max = 9223372036854775807        how many frames are taken at most, 0 to this number
+Only id, feed and filter must be set; the numbers above are the others' defaults. Filters and feeds
+are opened channel by channel, and then OUT is created, or emptied if it is there; the opening of a
+pipe waits for its writer. From then on a silent pipe holds up no other channel, and its filter can
+be changed meanwhile. Recording ends when every feed and standard input have ended, also after OUT
+has failed.
 
 A line on standard input changes the filter of a channel while recording goes on:
   set <channel> <file>             the program that <file> lists is in force from now on
@@ -128,7 +130,8 @@ and each is answered on standard error, as soon as its answer is known:
 At the end it prints on standard output
   channel <id> versions <n> offered <n> kept <n> <ending>   for each channel, in their order
   wrote <pieces> <bytes>
-where <ending> is SourceEnd, CountFull, or SourceFault and the fault. Settings that are refused
+where <ending> is SourceEnd, CountFull, or SourceFault and the fault; none of them changes the
+status. Settings that are refused
 are told as settings <number> <Name> ..; an output that fails as run 2 Output <whole> <bytes>.
 
 Exit status: 0 recorded; 1 a filter was refused, or the recording failed; 2 words or settings;

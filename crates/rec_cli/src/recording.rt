@@ -55,7 +55,7 @@ where
     let Ok(control) = LineControl::new(rt, input, errors) else {
         return Err(Ending::Memory);
     };
-    let created = fs::create(rt, out).map_err(|_| Ending::File(out))?;
+    let created = fs::create(rt, out).map_err(|error| Ending::of_read(out, &error))?;
     match record(rt, rt.alloc(), jobs, ring, version, control, created) {
         Ok(
             Done {

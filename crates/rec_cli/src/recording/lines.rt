@@ -29,7 +29,7 @@ impl<I: Read + Drop> Lines<I> {
 
     /// The next line, without its line feed; `None` after the last. A last line without a line feed
     /// counts where the input ends, and is dropped where the read of it failed, or where it reaches
-    /// past [`MAX_BYTES`].
+    /// [`MAX_BYTES`].
     ///
     /// # Errors
     ///
