@@ -13,7 +13,7 @@ use cases::{CASES, HELP};
 use extracts::{EXTRACTS, ExtractCase};
 use records::{show_answers, show_records};
 use std::alloc::AllocError;
-use std::io::{ErrorKind, Write};
+use std::io::{ErrorKind, Read, Write};
 use std::rt::Files;
 use std::sync::Wait;
 use std::thread::Threads;
@@ -92,7 +92,7 @@ where
     fs::write(rt, "long.ch11", bytes.as_slice())?;
     let words = ["list", "long.ch11"];
     let mut output = Vec::new(rt.alloc());
-    let Run { errors, status } = run_program(rt, &words, b"", &mut output)?;
+    let Run { errors, status } = run_program(rt, &words, b"".as_slice(), &mut output)?;
     title(rt, &words)?;
     let mut packets = 0u64;
     for line in text(&output).lines() {
@@ -140,7 +140,7 @@ where
     R::Dir: Send,
 {
     let mut output = Vec::new(rt.alloc());
-    let run = run_program(rt, words, b"", &mut output)?;
+    let run = run_program(rt, words, b"".as_slice(), &mut output)?;
     title(rt, words)?;
     print!(rt; "{}", text(&output))?;
     for line in text(&run.errors).lines() {
@@ -158,10 +158,14 @@ struct Run {
 }
 
 /// Runs the program on these words and this input.
-fn run_program<R: AllocGlobal + Files + Threads + Wait + Sync, O: Write>(
+fn run_program<
+    R: AllocGlobal + Files + Threads + Wait + Sync,
+    I: Read + Send + Drop,
+    O: Write,
+>(
     rt: &R,
     words: &[&str],
-    input: &[u8],
+    input: I,
     output: &mut O,
 ) -> io::Result<Run>
 where
@@ -184,7 +188,7 @@ where
     R::Dir: Send,
 {
     let mut output = Vec::new(rt.alloc());
-    let Run { errors, status } = run_program(rt, words, b"", &mut output)?;
+    let Run { errors, status } = run_program(rt, words, b"".as_slice(), &mut output)?;
     title(rt, words)?;
     for name in [
         "asm", "dis", "verify", "run", "extract", "FILE", "HEX", "CHANNEL", "OUT", "Usage",
@@ -260,7 +264,7 @@ where
         ],
         &["--help"],
     ] {
-        let Run { errors, status } = run_program(rt, words, b"", &mut closed)?;
+        let Run { errors, status } = run_program(rt, words, b"".as_slice(), &mut closed)?;
         title(rt, words)?;
         print!(rt; "! {}", text(&errors))?;
         println!(rt; "= {status}, with a closed output")?;

@@ -1,7 +1,7 @@
 //! Recordings.
 
 use crate::{Closed, Run, run_program, text, title};
-use std::io::Write;
+use std::io::{ErrorKind, Read, Write};
 use std::rt::Files;
 use std::sync::Wait;
 use std::thread::Threads;
@@ -36,7 +36,28 @@ static RECORDS: [[&str; 3]; 18] = [
     ["records/two.toml", "nowhere/out", ""],
 ];
 
-/// The recordings of the table, the endings of several channels, long inputs, and a closed output.
+/// The line that [`show_full_versions`] repeats, as often as a channel may have programs.
+const CHANGE: &[u8] = b"set 1 records/keeps\n";
+
+const VERSIONS: u64 = 1_024;
+
+/// An input that gives its bytes, and then has no memory for more.
+#[derive(Clone, Copy)]
+struct Exhausted<'b> {
+    left: &'b [u8],
+}
+
+impl Read for Exhausted<'_> {
+    fn read(&mut self, buf: &mut [u8]) -> io::Result<usize> {
+        if self.left.is_empty() {
+            return Err(io::Error::from(ErrorKind::OutOfMemory));
+        }
+        self.left.read(buf)
+    }
+}
+
+/// The recordings of the table, the endings of several channels, long inputs, as many changes as a
+/// channel may have, an input without memory, and a closed output.
 pub(crate) fn show_records<R: AllocGlobal + Files + Print + Threads + Wait + Sync>(
     rt: &R,
 ) -> io::Result<()>
@@ -48,9 +69,12 @@ where
         show_record(rt, settings, out, lines)?;
     }
     let endings = ["record", "records/endings.toml", "endings.ch11"];
-    show_answers(rt, &endings, b"")?;
+    show_answers(rt, &endings, b"".as_slice())?;
     show_long_input(rt, "no change\n", 65_537)?;
     show_long_input(rt, "0123456789abcdef", 1_048_577)?;
+    show_full_versions(rt)?;
+    let exhausted = ["record", "records/none.toml", "exhausted.ch11"];
+    show_answers(rt, &exhausted, Exhausted { left: CHANGE })?;
     show_closed_record(rt)
 }
 
@@ -77,10 +101,13 @@ where
 }
 
 /// Runs the program on these words and this input, and shows what it prints.
-pub(crate) fn show_answers<R: AllocGlobal + Files + Print + Threads + Wait + Sync>(
+pub(crate) fn show_answers<
+    R: AllocGlobal + Files + Print + Threads + Wait + Sync,
+    I: Read + Send + Drop,
+>(
     rt: &R,
     words: &[&str],
-    input: &[u8],
+    input: I,
 ) -> io::Result<()>
 where
     R::File: Send,
@@ -122,6 +149,37 @@ where
     println!(rt; "= {status}")
 }
 
+/// One change more than the channel may have: how many are answered by their versions, in order,
+/// and all other lines.
+fn show_full_versions<R: AllocGlobal + Files + Print + Threads + Wait + Sync>(
+    rt: &R,
+) -> io::Result<()>
+where
+    R::File: Send,
+    R::Dir: Send,
+{
+    let words = ["record", "records/none.toml", "full.ch11"];
+    let mut input = Vec::new(rt.alloc());
+    for _ in 0..VERSIONS {
+        input.extend_from_slice(CHANGE)?;
+    }
+    let mut output = Vec::new(rt.alloc());
+    let Run { errors, status } = run_program(rt, &words, input.as_slice(), &mut output)?;
+    title(rt, &words)?;
+    print!(rt; "{}", text(&output))?;
+    let mut versions = 1u64;
+    for line in text(&errors).lines() {
+        let want = format!(in rt.alloc(); "installed 1 {versions} 0")?;
+        if line == want.as_str() {
+            versions = versions.wrapping_add(1);
+        } else {
+            println!(rt; "! {line}")?;
+        }
+    }
+    println!(rt; "{versions} versions in their order")?;
+    println!(rt; "= {status}")
+}
+
 /// A recording whose lines can't be printed.
 fn show_closed_record<R: AllocGlobal + Files + Print + Threads + Wait + Sync>(
     rt: &R,
@@ -131,7 +189,7 @@ where
     R::Dir: Send,
 {
     let words = ["record", "records/none.toml", "closed.ch11"];
-    let Run { errors, status } = run_program(rt, &words, b"", &mut Closed)?;
+    let Run { errors, status } = run_program(rt, &words, b"".as_slice(), &mut Closed)?;
     title(rt, &words)?;
     print!(rt; "! {}", text(&errors))?;
     println!(rt; "= {status}, with a closed output")

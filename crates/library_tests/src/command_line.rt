@@ -14,7 +14,21 @@ const ARP: &str = "4,40 0 0 12,21 0 1 2054,6 0 0 4294967295,6 0 0 0,";
 
 const VIEW: &str = "ffffffffffff0200000000010806";
 
-/// Runs the program without words, and compares its status, output and errors.
+/// Runs the program without words. The one caller of it, since each is a minute of proof.
+fn run<
+    R: AllocGlobal + Files + Threads + Wait + Sync,
+    I: Read + Send + Drop,
+    O: Write,
+    E: Write + Send + Drop,
+>(rt: &R, input: I, output: &mut O, errors: E) -> u8
+where
+    R::File: Send,
+    R::Dir: Send,
+{
+    program(rt, &[], input, output, errors)
+}
+
+/// Runs the program on an input, and compares its status, output and errors.
 fn check<R: AllocGlobal + Files + Threads + Wait + Sync + Abort>(
     rt: &R,
     input: &[u8],
@@ -28,7 +42,7 @@ where
 {
     let mut out = Vec::new(rt.alloc());
     let mut err = Vec::new(rt.alloc());
-    let ended = program(rt, &[], input, &mut out, &mut err);
+    let ended = run(rt, input, &mut out, &mut err);
     assert_eq!(*rt; ended, status, "{input:?}");
     assert_eq!(*rt; out.as_slice(), output.as_bytes(), "{input:?}");
     assert_eq!(*rt; err.as_slice(), errors.as_bytes(), "{input:?}");
@@ -145,11 +159,10 @@ impl Write for Broken {
 fn a_failing_stream_is_reported_as_a_file(rt: HostRuntime) {
     let mut out = Vec::new(rt.alloc());
     let mut err = Vec::new(rt.alloc());
-    assert_eq!(rt; program(&rt, &[], Broken, &mut out, &mut err), 3);
+    assert_eq!(rt; run(&rt, Broken, &mut out, &mut err), 3);
     assert_eq!(rt;
-        program(
+        run(
             &rt,
-            &[],
             b"2,128 0 0 0,22 0 0 0,".as_slice(),
             &mut Broken,
             &mut err
@@ -157,11 +170,11 @@ fn a_failing_stream_is_reported_as_a_file(rt: HostRuntime) {
         3
     );
     assert_eq!(rt;
-        program(&rt, &[], b"0,".as_slice(), &mut Broken, &mut err),
+        run(&rt, b"0,".as_slice(), &mut Broken, &mut err),
         3
     );
     assert_eq!(rt; err.as_slice(), b"file -\nfile -\nfile -\n".as_slice());
     // a failed write to standard error is passed over
-    assert_eq!(rt; program(&rt, &[], b"".as_slice(), &mut out, Broken), 1);
+    assert_eq!(rt; run(&rt, b"".as_slice(), &mut out, Broken), 1);
     assert_eq!(rt; out.len(), 0);
 }
