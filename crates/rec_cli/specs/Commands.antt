@@ -3,7 +3,7 @@ use Rattle.std.specs.Prelude.{◌≡◌, ◌≢◌, List, [], Option, Some, true
 use Rattle.clap.specs.Words.{App, Row, Rule, Text, first_of, new_app, new_rule, with_rule, with_subcommand}
 use Rattle.clap.specs.declared.builder.ArgAction.TheVariants.{Set}
 use Rattle.rec_cli.specs.declared.words.Words.{Words}
-use Rattle.rec_cli.specs.declared.words.Words.TheVariants.{NoCommand, Asm, Dis, Verify, Run, List as ListOf, Extract, Record}
+use Rattle.rec_cli.specs.declared.words.Words.TheVariants.{NoCommand, Asm, Dis, Verify, Run, List as ListOf, Audit, Extract, Record}
 
 -- a word that must be given
 abbrev pub operand : Text → Rule
@@ -24,6 +24,9 @@ run_app =
 
 abbrev pub list_app : App
 list_app = with_rule (new_app (codes "list")) (operand (codes "FILE"))
+
+abbrev pub audit_app : App
+audit_app = with_rule (new_app (codes "audit")) (operand (codes "FILE"))
 
 abbrev pub extract_app : App
 extract_app =
@@ -51,7 +54,9 @@ filters_app = with_subcommand (with_subcommand texts_app verify_app.top) run_app
 
 -- the program with the commands on filters and recordings
 abbrev pub recordings_app : App
-recordings_app = with_subcommand (with_subcommand filters_app list_app.top) extract_app.top
+recordings_app =
+    with_subcommand (with_subcommand (with_subcommand filters_app list_app.top) audit_app.top)
+    extract_app.top
 
 -- the program
 abbrev pub bpfrec_app : App
@@ -66,8 +71,8 @@ abbrev pub AsksFor : Option (Text × List Row) → Words → Type 0
 AsksFor met NoCommand =
     (rows : List Row) → (met ≢ Some (codes "asm", rows)) × (met ≢ Some (codes "dis", rows))
     × (met ≢ Some (codes "verify", rows)) × (met ≢ Some (codes "run", rows))
-    × (met ≢ Some (codes "list", rows)) × (met ≢ Some (codes "extract", rows))
-    × (met ≢ Some (codes "record", rows))
+    × (met ≢ Some (codes "list", rows)) × (met ≢ Some (codes "audit", rows))
+    × (met ≢ Some (codes "extract", rows)) × (met ≢ Some (codes "record", rows))
 AsksFor met (Asm file) =
     (rows : List Row) × (met ≡ Some (codes "asm", rows)) × (file.now ≡ word_for (codes "FILE") rows)
 AsksFor met (Dis file) =
@@ -80,6 +85,9 @@ AsksFor met (Run file view) =
     × (file.now ≡ word_for (codes "FILE") rows) × (view.now ≡ word_for (codes "HEX") rows)
 AsksFor met (ListOf file) =
     (rows : List Row) × (met ≡ Some (codes "list", rows)) × (file.now ≡ word_for (codes "FILE") rows)
+AsksFor met (Audit file) =
+    (rows : List Row) × (met ≡ Some (codes "audit", rows))
+    × (file.now ≡ word_for (codes "FILE") rows)
 AsksFor met (Extract file channel out) =
     (rows : List Row) × (met ≡ Some (codes "extract", rows))
     × (file.now ≡ word_for (codes "FILE") rows) × (channel.now ≡ word_for (codes "CHANNEL") rows)

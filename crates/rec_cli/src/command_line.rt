@@ -3,7 +3,7 @@
 ghost use Rattle.std.specs.Prelude.{◌≡◌, IfOk, codes, false};
 ghost use Rattle.clap.specs.Words.{app_of, new_app, rule_of};
 ghost use Rattle.clap.specs.declared.builder.Command.TheViews.{out-Command as fields_of};
-ghost use Rattle.rec_cli.specs.Commands.{asm_app, bpfrec_app, dis_app, extract_app, filters_app, list_app, operand, record_app, recordings_app, run_app, texts_app, top_app, verify_app};
+ghost use Rattle.rec_cli.specs.Commands.{asm_app, audit_app, bpfrec_app, dis_app, extract_app, filters_app, list_app, operand, record_app, recordings_app, run_app, texts_app, top_app, verify_app};
 
 use clap::{Arg, ArgAction, Command};
 use std::alloc::{AllocError, Global};
@@ -90,6 +90,26 @@ Exit status: 0 listed; 1 not read to its end; 2 words; 3 the file; 4 no memory.
 Example:
   bpfrec list flight.ch11";
 
+const AUDIT: &str = "\
+Reads a recording and judges it by itself: whether each frame was accepted by the program that the
+recording has for it, and whether each channel's end counts its frames. Prints on standard output
+  channel <id> programs <n> frames <n> offered <n>     for each channel, in ascending order
+  yes other <m>                    m packets hold something else
+or the first thing that is wrong, with packets and frames counted from 0:
+  no 1 NoProgram <packet>          frames, and no program of their channel before them
+  no 2 BadProgram <packet>         a program that verify refuses
+  no 3 NotAccepted <packet> <frame>
+                                   a frame that its program drops, or that has no check sequence
+  no 4 Order <packet>              a packet after its channel's end, or programs out of order
+  no 5 NoEnd <channel>             a channel without its end
+  no 6 Counts <channel>            an end whose numbers are not those of its frames
+A recording that can't be read to its end is told as by list.
+
+Exit status: 0 yes; 1 no, or not read to its end; 2 words; 3 the file; 4 no memory.
+
+Example:
+  bpfrec audit flight.ch11";
+
 const EXTRACT: &str = "\
 Reads a recording, writes the frames of one of its channels into the feed OUT, in order, and
 prints on standard output
@@ -155,6 +175,7 @@ fn with_recordings<'a>(alloc: Global) -> Result<Command<'a>, AllocError>
 {
     with_filters(alloc)?
         .subcommand(list(alloc)?)?
+        .subcommand(audit(alloc)?)?
         .subcommand(extract(alloc)?)
 }
 
@@ -252,6 +273,20 @@ fn list<'a>(alloc: Global) -> Result<Command<'a>, AllocError>
         "bpfrec list",
         "Prints a line for each packet of a recording",
         LIST,
+    )?
+    .arg(recording(alloc))
+}
+
+fn audit<'a>(alloc: Global) -> Result<Command<'a>, AllocError>
+    ensures app { IfOk result (λ c. app_of c ≡ audit_app) }
+    ensures local { IfOk result (λ c. (fields_of c).has_globals ≡ false) }
+{
+    command(
+        alloc,
+        "audit",
+        "bpfrec audit",
+        "Judges a recording by itself",
+        AUDIT,
     )?
     .arg(recording(alloc))
 }

@@ -10,7 +10,7 @@ use bpf_asm::AsmFault;
 use bpf_dis::DisFault;
 use bpf_insn::ListingFault;
 use bpf_verify::Refused;
-use rec_reader::{ReadEnd, ReadFaultKind};
+use rec_reader::{AuditFault, ReadEnd, ReadFaultKind};
 use std::alloc::{AllocError, AllocFailed};
 use std::io;
 use std::io::{ErrorKind, Write};
@@ -52,6 +52,9 @@ pub(crate) enum Ending<'a> {
     /// A recording isn't read to its end.
     #[error("{0}\n")]
     Reading(ReadEnd),
+    /// A recording is not approved.
+    #[error("{0}\n")]
+    Audit(AuditFault),
     #[error("{0}\n")]
     Settings(#[from] SettingsFault),
     /// A recording did not end.
@@ -93,15 +96,15 @@ impl<'a> Ending<'a> {
         }
     }
 
-    /// Prints the text and gives the exit status. A verifier's refusal is an answer and goes to
-    /// `output`; all else goes to `errors`, where a failed write is passed over.
+    /// Prints the text and gives the exit status. A refusal of the verifier or of the audit is an
+    /// answer and goes to `output`; all else goes to `errors`, where a failed write is passed over.
     pub(crate) fn report<O: Write, E: Write>(self, output: &mut O, errors: &mut E) -> u8
         ensures nonzero { 0 < result }
     {
-        let Ending::Refused(refused) = &self else {
+        if !matches!(self, Ending::Refused(_) | Ending::Audit(_)) {
             return self.print_fault(errors);
-        };
-        let written = writeln!(output, "{refused}");
+        }
+        let written = write!(output, "{self}");
         match finish(output, written) {
             Ok(()) => self.status(),
             Err(ending) => ending.print_fault(errors),
@@ -129,7 +132,16 @@ impl<'a> Ending<'a> {
             Ending::Memory => MEMORY,
             Ending::Assembler(_) | Ending::Disassembler(_) | Ending::Reading(_) => REFUSED,
             Ending::Listing(_) | Ending::Refused(_) | Ending::View(_) => REFUSED,
-            Ending::Recording(_) => REFUSED,
+            Ending::Recording(_) | Ending::Audit(_) => REFUSED,
+        }
+    }
+}
+
+impl<'a> From<AuditFault> for Ending<'a> {
+    fn from(fault: AuditFault) -> Ending<'a> {
+        match fault {
+            AuditFault::Memory => Ending::Memory,
+            fault => Ending::Audit(fault),
         }
     }
 }

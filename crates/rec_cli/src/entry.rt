@@ -3,6 +3,7 @@
 ghost use Rattle.std.specs.Prelude.{◌≡◌, ◌<◌, IfSome, length};
 ghost use Rattle.rec_cli.specs.Lines.{AnswersLines};
 
+use crate::auditing::audit_recording;
 use crate::ending::{ANSWERED, Ending};
 use crate::extraction::extract_frames;
 use crate::filters::{assemble_file, disassemble_file, run_file, verify_file};
@@ -89,6 +90,7 @@ fn answer<'a, R: AllocGlobal + Files, I: Read, O: Write>(
         Words::Verify { file } => verify_file(rt, file, input, output),
         Words::Run { file, view } => run_file(rt, file, view, input, output),
         Words::List { file } => list_packets(rt, file, input, output),
+        Words::Audit { file } => audit_recording(rt, file, input, output),
         Words::Extract { file, channel, out } => extract_frames(
             rt, file, channel, out, input, output,
         ),

@@ -49,7 +49,7 @@ pub(crate) fn extract_frames<'a, R: AllocGlobal + Files, I: Read, O: Write>(
     check_recording(bytes.as_slice()).map_err(|end| Ending::of_reading(file, end))?;
     let uncreated = FeedFile { file: None };
     let mut feed = BufWriter::new(rt.alloc(), uncreated).map_err(|_| Ending::Memory)?;
-    let created = fs::create(rt, out).map_err(|_| Ending::File(out))?;
+    let created = fs::create(rt, out).map_err(|error| Ending::of_read(out, &error))?;
     feed.get_mut().file = Some(created);
     let Extracted { frames, passed } = match extract_channel(bytes.as_slice(), channel, &mut feed) {
         Ok(extracted) => extracted,

@@ -1,6 +1,7 @@
 //! The program `bpfrec` as a function over its words, its input and its outputs.
 #![tactic(auto)]
 
+mod auditing;
 mod channel_word;
 mod command_line;
 mod ending;

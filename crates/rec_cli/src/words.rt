@@ -1,8 +1,8 @@
 //! What the words of the command line ask for, by `clap`.
 
 ghost use Rattle.std.specs.Prelude.{◌≡◌, ◌⊎◌, true, map, string_bytes, IfOk, IfErr};
-ghost use Rattle.clap.specs.Words.{HasKind, Kinds, fault_of, kind_of, subcommand_of, subcommand_rows_of, takes};
-ghost use Rattle.rec_cli.specs.Commands.{AsksFor, bpfrec_app};
+ghost use Rattle.clap.specs.Words.{HasKind, Kinds, fault_of, found_of, kind_of, rows_of, subcommand_of, subcommand_rows_of, takes};
+ghost use Rattle.rec_cli.specs.Commands.{AsksFor, bpfrec_app, word_for};
 ghost use Rattle.rec_cli.specs.WordsFaults.{IsFaultOf};
 ghost use Rattle.rec_cli.specs.declared.words.WordsFault.TheVariants.{Memory};
 
@@ -35,6 +35,10 @@ pub enum Words<'a> {
     },
     /// `list FILE`
     List {
+        file: &'a str,
+    },
+    /// `audit FILE`
+    Audit {
         file: &'a str,
     },
     /// `extract FILE CHANNEL OUT`
@@ -92,7 +96,7 @@ fn command_in<'a>(matches: &ArgMatches<'a>) -> Words<'a>
     let Some((name, inner)) = matches.subcommand() else {
         return Words::NoCommand;
     };
-    let file = inner.get_str("FILE").unwrap_or("");
+    let file = word_for(inner, "FILE");
     if name == "asm" {
         return Words::Asm { file };
     }
@@ -103,23 +107,33 @@ fn command_in<'a>(matches: &ArgMatches<'a>) -> Words<'a>
         return Words::Verify { file };
     }
     if name == "run" {
-        let view = inner.get_str("HEX").unwrap_or("");
+        let view = word_for(inner, "HEX");
         return Words::Run { file, view };
     }
     if name == "list" {
         return Words::List { file };
     }
+    if name == "audit" {
+        return Words::Audit { file };
+    }
     if name == "extract" {
-        let channel = inner.get_str("CHANNEL").unwrap_or("");
-        let out = inner.get_str("OUT").unwrap_or("");
+        let channel = word_for(inner, "CHANNEL");
+        let out = word_for(inner, "OUT");
         return Words::Extract { file, channel, out };
     }
     if name == "record" {
-        let settings = inner.get_str("SETTINGS").unwrap_or("");
-        let out = inner.get_str("OUT").unwrap_or("");
+        let settings = word_for(inner, "SETTINGS");
+        let out = word_for(inner, "OUT");
         return Words::Record { settings, out };
     }
     Words::NoCommand
+}
+
+/// The word that a command has for this name.
+fn word_for<'a>(matches: &ArgMatches<'a>, name: &str) -> &'a str
+    ensures { result.now ≡ word_for name.now (rows_of (found_of matches.now)) }
+{
+    matches.get_str(name).unwrap_or("")
 }
 
 /// What an error of clap comes to.
