@@ -1,4 +1,2 @@
 pub mod Returns
 pub mod Answered
-pub mod Matches
-pub mod SettingsRead

@@ -1,5 +1,1 @@
 pub mod Lines
-pub mod Commands
-pub mod WordsFaults
-pub mod Settings
-pub mod SettingsViews

@@ -4,8 +4,8 @@ ghost use Rattle.std.specs.Prelude.{◌<◌};
 
 use crate::output::finish;
 use crate::recording::RecordingFault;
-use crate::settings::SettingsFault;
-use crate::view::ViewFault;
+use rec_words::SettingsFault;
+use rec_words::ViewFault;
 use bpf_asm::AsmFault;
 use bpf_dis::DisFault;
 use bpf_insn::ListingFault;

@@ -11,7 +11,7 @@ use crate::no_words::answer_lines;
 use crate::output::print_text;
 use crate::packet_list::list_packets;
 use crate::recording::record_channels;
-use crate::words::{Words, WordsFault, words_of};
+use rec_words::{Words, WordsFault, words_of};
 use std::io;
 use std::io::{ErrorKind, Read, Write};
 use std::rt::Files;

@@ -3,7 +3,6 @@
 
 mod auditing;
 mod channel_word;
-mod command_line;
 mod ending;
 mod entry;
 mod extraction;
@@ -13,11 +12,9 @@ mod no_words;
 mod output;
 mod packet_list;
 mod recording;
-mod settings;
-mod view;
-mod words;
 
 pub use entry::{program, words_unread};
-pub use settings::{ChannelSettings, Settings, SettingsFault, settings_of};
-pub use view::{ViewFault, view_of};
-pub use words::{Words, WordsFault, words_of};
+pub use rec_words::{
+    ChannelSettings, Settings, SettingsFault, ViewFault, Words, WordsFault, settings_of, view_of,
+    words_of,
+};

@@ -12,7 +12,7 @@ pub(crate) use self::fault::RecordingFault;
 use self::jobs::jobs_of;
 use self::report::print_report;
 use crate::ending::Ending;
-use crate::settings::{Settings, SettingsFault, settings_of};
+use rec_words::{Settings, SettingsFault, settings_of};
 use rec_run::{Done, RunFault, jobs_ok, record};
 use std::fs;
 use std::io::{Read, Write};

@@ -2,7 +2,7 @@
 
 use super::programs::{ProgramFault, program_in};
 use crate::ending::Ending;
-use crate::settings::{ChannelSettings, Settings};
+use rec_words::{ChannelSettings, Settings};
 use ch11_packet::Limit;
 use eth_frame::FeedSource;
 use rec_lane::LaneSpec;

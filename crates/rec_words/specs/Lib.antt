@@ -1,0 +1,4 @@
+pub mod Commands
+pub mod WordsFaults
+pub mod Settings
+pub mod SettingsViews

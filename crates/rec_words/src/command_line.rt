@@ -1,0 +1,368 @@
+//! The command line as `clap` reads it: a function for each command, with its help.
+
+ghost use Rattle.std.specs.Prelude.{◌≡◌, IfOk, codes, false};
+ghost use Rattle.clap.specs.Words.{app_of, new_app, rule_of};
+ghost use Rattle.clap.specs.declared.builder.Command.TheViews.{out-Command as fields_of};
+ghost use Rattle.rec_words.specs.Commands.{asm_app, audit_app, bpfrec_app, dis_app, extract_app, filters_app, list_app, operand, record_app, recordings_app, run_app, texts_app, top_app, verify_app};
+
+use clap::{Arg, ArgAction, Command};
+use std::alloc::{AllocError, Global};
+
+const ABOUT: &str =
+    "Records Ethernet channels through filters, reads the recordings, and assembles and checks filters.";
+
+const STATUSES: &str = "\
+As FILE, - is standard input, so commands can be joined by pipes:
+  bpfrec asm arp.bpf | bpfrec verify -
+Without words, bpfrec reads a listing and a view in hexadecimal, a line each, from standard
+input, and prints what run prints.
+
+Exit status: 0 answered; 1 a text, listing, program, view or recording was refused; 2 the words
+are no command; 3 a file could not be read or written, or standard output not; 4 no memory.";
+
+const ASM: &str = "\
+Reads a filter in the text of the Linux kernel's bpf_asm, and prints its listing on standard
+output, on one line, for verify, run and dis. The first fault of the text is told on standard
+error, with its line, counted from 1:
+  asm <number> <Name> line <n>     Syntax, Number, UnknownMnemonic, OperandNotAllowed,
+                                   LabelMissing, LabelTwice, Backward or TooFar
+  asm 9 TooLong                    more than 512 instructions
+
+Exit status: 0 answered; 1 no program; 2 words; 3 the file; 4 no memory.
+
+Example:
+  bpfrec asm arp.bpf";
+
+const DIS: &str = "\
+Reads a program's listing, and prints the program in the text of the Linux kernel's bpf_asm on
+standard output, a line for each instruction, with labels where jumps lead. asm reads a text of
+at most 512 instructions as the same program. What has no text is told on standard error:
+  dis 1 NoForm <i>                 instruction i has no legal code, or a number in a field that
+                                   it doesn't use, as tcpdump leaves them (7 0 0 5); verify and
+                                   run pass over such a number, the text could not say it
+  dis 2 JumpOut <i>                a jump of instruction i leads past the last instruction
+
+Exit status: 0 answered; 1 no listing, or no text; 2 words; 3 the file; 4 no memory.
+
+Example:
+  bpfrec dis arp.txt";
+
+const VERIFY: &str = "\
+Reads a program's listing, as bpf_asm and tcpdump -ddd print it. Prints on standard output
+  valid <n>                        a program of n instructions, which may be installed
+  refused <number> <Name> [<i>]    the first condition that it breaks, at instruction i
+A fault of the listing (listing ..) or of the file (file <path>) is told on standard error.
+
+Exit status: 0 valid; 1 refused, or no listing; 2 words; 3 the file; 4 no memory.
+
+Example:
+  bpfrec verify arp.txt";
+
+const RUN: &str = "\
+Reads a program's listing, and runs the program on a view: the bytes of a frame without its
+check sequence, in hexadecimal (the empty word is the empty view). Prints on standard output
+  <value> <steps>                  what the program returns, and how many instructions ran
+A value of 0 means that the frame is dropped. A program that verify refuses is refused here
+too; a view that is odd, not hexadecimal or over 16,379 bytes is told as view.
+
+Exit status: 0 answered; 1 refused; 2 words; 3 the file; 4 no memory.
+
+Example:
+  bpfrec run arp.txt ffffffffffff0200000000010806";
+
+const LIST: &str = "\
+Reads a recording, and prints on standard output a line for each of its packets, and how many
+there are and how many of them hold something else than frames and records:
+  <at> <channel> <type> <sequence> <length> <data length> <counter> <what>
+  packets <n> other <m>
+<at> is the place of the packet's first byte, <type> its data type in hexadecimal, and <what>
+  frames <n>                       n frames
+  program <channel> <version> <first> <count>
+                                   a program of that channel, from frame <first> on
+  end <channel> <offered> <kept>   the end of that channel
+  other                            anything else, which is passed over
+A recording that can't be read to its end is told on standard error, and nothing is listed:
+  read <number> <Name> <at>        Truncated, Sync, Checksum, Length or Body, and the place of
+                                   the packet that has it
+
+Exit status: 0 listed; 1 not read to its end; 2 words; 3 the file; 4 no memory.
+
+Example:
+  bpfrec list flight.ch11";
+
+const AUDIT: &str = "\
+Reads a recording and judges it by itself: whether each frame was accepted by the program that the
+recording has for it, and whether each channel's end counts its frames. Prints on standard output
+  channel <id> programs <n> frames <n> offered <n>     for each channel, in ascending order
+  yes other <m>                    m packets hold something else
+or the first thing that is wrong, with packets and frames counted from 0:
+  no 1 NoProgram <packet>          frames, and no program of their channel before them
+  no 2 BadProgram <packet>         a program that verify refuses
+  no 3 NotAccepted <packet> <frame>
+                                   a frame that its program drops, or that has no check sequence
+  no 4 Order <packet>              a packet after its channel's end, or programs out of order
+  no 5 NoEnd <channel>             a channel without its end
+  no 6 Counts <channel>            an end whose numbers are not those of its frames
+A recording that can't be read to its end is told as by list.
+
+Exit status: 0 yes; 1 no, or not read to its end; 2 words; 3 the file; 4 no memory.
+
+Example:
+  bpfrec audit flight.ch11";
+
+const EXTRACT: &str = "\
+Reads a recording, writes the frames of one of its channels into the feed OUT, in order, and
+prints on standard output
+  frames <n> passed <m>            n frames are in the feed, and m were passed over, since they
+                                   are no frames with their check sequence
+A recording that can't be read to its end is told as by list, and then OUT is not created.
+
+Exit status: 0 written; 1 not read to its end; 2 words; 3 a file; 4 no memory.
+
+Example:
+  bpfrec extract flight.ch11 1 channel_1.feed";
+
+const RECORD: &str = "\
+Records the channels that SETTINGS names into the file OUT, until every feed has ended and so has
+standard input. SETTINGS is a TOML document:
+  limit = 65536                    the longest packet of frames, in bytes, 16424 to 524288
+  ring = 64                        how many pieces of a channel may wait for OUT, 1 to 4096
+  version = 8                      the data type version of the packets, 0 to 255
+  [[channel]]                      1 to 64 of them, each with an id of its own
+  id = 1                           1 to 65535
+  feed = \"one.feed\"               where its frames come from: a file, or a named pipe
+  filter = \"one.txt\"              the listing of its filter's first program
+  net = 0                          the network identifier of its frames, 0 to 255
+  speed = 0                        their Ethernet speed, 0 to 15
+  max = 9223372036854775807        how many frames are taken at most, 0 to this number
+Only id, feed and filter must be set; the numbers above are the others' defaults. Filters and feeds
+are opened channel by channel, and then OUT is created, or emptied if it is there; the opening of a
+pipe waits for its writer. From then on a silent pipe holds up no other channel, and its filter can
+be changed meanwhile. Recording ends when every feed and standard input have ended, also after OUT
+has failed.
+
+A line on standard input changes the filter of a channel while recording goes on:
+  set <channel> <file>             the program that <file> lists is in force from now on
+and each is answered on standard error, as soon as its answer is known:
+  installed <channel> <version> <mark>   from frame <mark> on, counted from 0
+  refused <channel> <reason>       Line, File, Listing, Program, NoChannel or VersionsFull
+
+At the end it prints on standard output
+  channel <id> versions <n> offered <n> kept <n> <ending>   for each channel, in their order
+  wrote <pieces> <bytes>
+where <ending> is SourceEnd, CountFull, or SourceFault and the fault; none of them changes the
+status. Settings that are refused
+are told as settings <number> <Name> ..; an output that fails as run 2 Output <whole> <bytes>.
+
+Exit status: 0 recorded; 1 a filter was refused, or the recording failed; 2 words or settings;
+3 a file; 4 no memory.
+
+Example:
+  bpfrec record flight.toml flight.ch11 < /dev/null";
+
+/// The command line of the program. Each command has a function of its own here.
+pub(crate) fn bpfrec<'a>(alloc: Global) -> Result<Command<'a>, AllocError>
+    ensures app { IfOk result (λ c. app_of c ≡ bpfrec_app) }
+    ensures local { IfOk result (λ c. (fields_of c).has_globals ≡ false) }
+{
+    with_recordings(alloc)?.subcommand(record(alloc)?)
+}
+
+/// The program with the commands on filters and on recordings.
+fn with_recordings<'a>(alloc: Global) -> Result<Command<'a>, AllocError>
+    ensures app { IfOk result (λ c. app_of c ≡ recordings_app) }
+    ensures local { IfOk result (λ c. (fields_of c).has_globals ≡ false) }
+{
+    with_filters(alloc)?
+        .subcommand(list(alloc)?)?
+        .subcommand(audit(alloc)?)?
+        .subcommand(extract(alloc)?)
+}
+
+/// The program with the commands on filters alone.
+fn with_filters<'a>(alloc: Global) -> Result<Command<'a>, AllocError>
+    ensures app { IfOk result (λ c. app_of c ≡ filters_app) }
+    ensures local { IfOk result (λ c. (fields_of c).has_globals ≡ false) }
+{
+    with_texts(alloc)?
+        .subcommand(verify(alloc)?)?
+        .subcommand(run(alloc)?)
+}
+
+/// The program with the commands on texts alone.
+fn with_texts<'a>(alloc: Global) -> Result<Command<'a>, AllocError>
+    ensures app { IfOk result (λ c. app_of c ≡ texts_app) }
+    ensures local { IfOk result (λ c. (fields_of c).has_globals ≡ false) }
+{
+    top(alloc)?.subcommand(asm(alloc)?)?.subcommand(dis(alloc)?)
+}
+
+/// The program without its commands.
+fn top<'a>(alloc: Global) -> Result<Command<'a>, AllocError>
+    ensures app { IfOk result (λ c. app_of c ≡ top_app) }
+    ensures local { IfOk result (λ c. (fields_of c).has_globals ≡ false) }
+{
+    Ok(
+        Command::new(alloc, "bpfrec")
+            .bin_name("bpfrec")?
+            .about(ABOUT)
+            .after_help(STATUSES)
+            .no_binary_name(true)
+            .subcommand_required(true),
+    )
+}
+
+fn asm<'a>(alloc: Global) -> Result<Command<'a>, AllocError>
+    ensures app { IfOk result (λ c. app_of c ≡ asm_app) }
+    ensures local { IfOk result (λ c. (fields_of c).has_globals ≡ false) }
+{
+    command(
+        alloc,
+        "asm",
+        "bpfrec asm",
+        "Prints the listing of a filter's text",
+        ASM,
+    )?
+    .arg(operand(alloc, "FILE").help("A filter in the text of the Linux kernel's bpf_asm"))
+}
+
+fn dis<'a>(alloc: Global) -> Result<Command<'a>, AllocError>
+    ensures app { IfOk result (λ c. app_of c ≡ dis_app) }
+    ensures local { IfOk result (λ c. (fields_of c).has_globals ≡ false) }
+{
+    command(
+        alloc,
+        "dis",
+        "bpfrec dis",
+        "Prints the text of a program's listing",
+        DIS,
+    )?
+    .arg(file(alloc))
+}
+
+fn verify<'a>(alloc: Global) -> Result<Command<'a>, AllocError>
+    ensures app { IfOk result (λ c. app_of c ≡ verify_app) }
+    ensures local { IfOk result (λ c. (fields_of c).has_globals ≡ false) }
+{
+    command(
+        alloc,
+        "verify",
+        "bpfrec verify",
+        "Says whether a program may be installed",
+        VERIFY,
+    )?
+    .arg(file(alloc))
+}
+
+fn run<'a>(alloc: Global) -> Result<Command<'a>, AllocError>
+    ensures app { IfOk result (λ c. app_of c ≡ run_app) }
+    ensures local { IfOk result (λ c. (fields_of c).has_globals ≡ false) }
+{
+    command(alloc, "run", "bpfrec run", "Runs a program on a view", RUN)?
+        .arg(file(alloc))?
+        .arg(operand(alloc, "HEX").help("The view in hexadecimal"))
+}
+
+fn list<'a>(alloc: Global) -> Result<Command<'a>, AllocError>
+    ensures app { IfOk result (λ c. app_of c ≡ list_app) }
+    ensures local { IfOk result (λ c. (fields_of c).has_globals ≡ false) }
+{
+    command(
+        alloc,
+        "list",
+        "bpfrec list",
+        "Prints a line for each packet of a recording",
+        LIST,
+    )?
+    .arg(recording(alloc))
+}
+
+fn audit<'a>(alloc: Global) -> Result<Command<'a>, AllocError>
+    ensures app { IfOk result (λ c. app_of c ≡ audit_app) }
+    ensures local { IfOk result (λ c. (fields_of c).has_globals ≡ false) }
+{
+    command(
+        alloc,
+        "audit",
+        "bpfrec audit",
+        "Judges a recording by itself",
+        AUDIT,
+    )?
+    .arg(recording(alloc))
+}
+
+fn extract<'a>(alloc: Global) -> Result<Command<'a>, AllocError>
+    ensures app { IfOk result (λ c. app_of c ≡ extract_app) }
+    ensures local { IfOk result (λ c. (fields_of c).has_globals ≡ false) }
+{
+    command(
+        alloc,
+        "extract",
+        "bpfrec extract",
+        "Writes a channel's frames into a feed",
+        EXTRACT,
+    )?
+    .arg(recording(alloc))?
+    .arg(operand(alloc, "CHANNEL").help("The channel, a number from 0 to 65535"))?
+    .arg(operand(alloc, "OUT").help("The feed that is written"))
+}
+
+fn record<'a>(alloc: Global) -> Result<Command<'a>, AllocError>
+    ensures app { IfOk result (λ c. app_of c ≡ record_app) }
+    ensures local { IfOk result (λ c. (fields_of c).has_globals ≡ false) }
+{
+    command(
+        alloc,
+        "record",
+        "bpfrec record",
+        "Records channels through their filters",
+        RECORD,
+    )?
+    .arg(operand(alloc, "SETTINGS").help("The channels, their feeds and filters"))?
+    .arg(operand(alloc, "OUT").help("The recording that is written"))
+}
+
+/// A command without its words: its name alone, and as a user writes it.
+fn command<'a>(
+    alloc: Global,
+    name: &'a str,
+    usage: &'a str,
+    about: &'a str,
+    help: &'a str,
+) -> Result<Command<'a>, AllocError>
+    ensures app { IfOk result (λ c. app_of c ≡ new_app name.entry.now) }
+    ensures local { IfOk result (λ c. (fields_of c).has_globals ≡ false) }
+{
+    Ok(
+        Command::new(alloc, name)
+            .bin_name(usage)?
+            .about(about)
+            .after_help(help),
+    )
+}
+
+/// A file with a listing.
+fn file<'a>(alloc: Global) -> Arg<'a>
+    ensures rule { rule_of result ≡ operand (codes "FILE") }
+    ensures local { result.global ≡ false }
+{
+    operand(alloc, "FILE").help(
+        "A program's listing: the count, then code jt jf k of each instruction",
+    )
+}
+
+/// A file with a recording.
+fn recording<'a>(alloc: Global) -> Arg<'a>
+    ensures rule { rule_of result ≡ operand (codes "FILE") }
+    ensures local { result.global ≡ false }
+{
+    operand(alloc, "FILE").help("A recording: packets, one after the other")
+}
+
+/// A word that must be given.
+fn operand<'a>(alloc: Global, name: &'a str) -> Arg<'a>
+    ensures rule { rule_of result ≡ operand name.entry.now }
+    ensures local { result.global ≡ false }
+{
+    Arg::new(alloc, name).required(true).action(ArgAction::Set)
+}

@@ -1,0 +1,170 @@
+//! Reads the settings of a recording from a TOML document.
+
+ghost use Rattle.std.specs.Prelude.{◌≡◌, ◌↔◌, ◌==◌, [], List, Ok, Some, MatchResult, IsTrue, IsSome, map, codes};
+ghost use Rattle.std.specs.List.{list_any};
+ghost use Rattle.toml.specs.Data.{Members};
+ghost use Rattle.toml.specs.View.{table_view, items_view};
+ghost use Rattle.rec_words.specs.Settings.{settings, settings_in, channel_in, channels_in, channel_tables, tables_in, number_or, repeated};
+ghost use Rattle.rec_words.specs.SettingsViews.{settings_data, channel_data, Reports};
+
+use super::fault::SettingsFault;
+use super::keys::{number_at, number_or, only, text_at, value_at};
+use super::{ChannelSettings, Settings};
+use ch11_packet::{Limit, MAX_ETHERNET_PACKET_LEN, MAX_SPEED, MIN_LIMIT};
+use rec_run::MAX_RING;
+use rec_writer::MAX_CHANNELS;
+use std::alloc::Global;
+use toml::{Table, Value};
+
+/// The settings that a text has.
+///
+/// # Errors
+///
+/// The first fault: that of the text as TOML; at the top a key that means nothing, then what is
+/// wrong with `limit`, `ring`, `version` and `channel`; then the same in each channel's table, its
+/// keys in the order of [`ChannelSettings`]; last an ID that repeats an earlier one.
+pub fn settings_of(alloc: Global, text: &str) -> Result<Settings, SettingsFault>
+    ensures { MatchResult result
+        (λ found. settings text.now ≡ Ok (settings_data found))
+        (Reports (settings text.now)) }
+{
+    match toml::table_from_str(alloc, text) {
+        Ok(table) => settings_in(alloc, &table),
+        Err(error) if error.is_memory() => Err(SettingsFault::Memory),
+        Err(_) => Err(SettingsFault::Syntax),
+    }
+}
+
+/// The settings in a document's table.
+fn settings_in(alloc: Global, table: &Table) -> Result<Settings, SettingsFault>
+    ensures { MatchResult result
+        (λ found. settings_in (table_view table.now) ≡ Ok (settings_data found))
+        (Reports (settings_in (table_view table.now))) }
+{
+    only(alloc, table, &["limit", "ring", "version", "channel"])?;
+    let limit = limit_in(table)?;
+    let ring = number_or(table, "ring", 1, MAX_RING as u64, 64)? as usize;
+    let version = number_or(table, "version", 0, u64::from(u8::MAX), 8)? as u8;
+    let channels = channels_in(alloc, tables_of(table)?)?;
+    if let Some(id) = repeated(channels.as_slice()) {
+        return Err(SettingsFault::SameChannel { id });
+    }
+    Ok(Settings {
+        limit,
+        ring,
+        version,
+        channels,
+    })
+}
+
+/// The limit of packets.
+fn limit_in(table: &Table) -> Result<Limit, SettingsFault>
+    ensures { MatchResult result
+        (λ limit. number_or 65536 16424 524288 (codes "limit") (table_view table.now) ≡ Ok limit)
+        (Reports (number_or 65536 16424 524288 (codes "limit") (table_view table.now))) }
+{
+    let least = u64::from(MIN_LIMIT);
+    let bytes = number_or(
+        table,
+        "limit",
+        least,
+        u64::from(MAX_ETHERNET_PACKET_LEN),
+        65_536,
+    )?;
+    Limit::new(bytes as u32).ok_or(SettingsFault::Value { key: "limit" })
+}
+
+/// The channels, 1 to [`MAX_CHANNELS`] values, each of which is a table.
+fn tables_of(table: &Table) -> Result<&[Value], SettingsFault>
+    ensures { MatchResult result
+        (λ values. (tables : List Members) × (tables_in (items_view values.now) ≡ Some tables)
+        × (channel_tables (table_view table.now) ≡ Ok tables))
+        (Reports (channel_tables (table_view table.now))) }
+{
+    let Some(value) = value_at(table, "channel") else {
+        return Err(SettingsFault::Channels);
+    };
+    let values = match value.as_array() {
+        Some(values) if are_tables(values.as_slice()) => values.as_slice(),
+        _ => return Err(SettingsFault::Value { key: "channel" }),
+    };
+    if values.is_empty() || values.len() > MAX_CHANNELS {
+        return Err(SettingsFault::Channels);
+    }
+    Ok(values)
+}
+
+/// Whether all values are tables.
+fn are_tables(values: &[Value]) -> bool
+    ensures { IsTrue result ↔ IsSome (tables_in (items_view values.now)) }
+{
+    'values: for value in values {
+        if !value.is_table() {
+            return false;
+        }
+    }
+    true
+}
+
+/// The settings of the channels, in order.
+fn channels_in(alloc: Global, values: &[Value]) -> Result<Vec<ChannelSettings>, SettingsFault>
+    ensures { (tables : List Members) → tables_in (items_view values.now) ≡ Some tables
+        → MatchResult result
+        (λ found. channels_in tables ≡ Ok (map channel_data found.items))
+        (Reports (channels_in tables)) }
+{
+    let mut channels = Vec::new(alloc);
+    'values: for value in values {
+        if let Some(table) = value.as_table() {
+            channels.push(channel_in(alloc, table)?)?;
+        }
+    }
+    Ok(channels)
+}
+
+/// The settings of a channel.
+fn channel_in(alloc: Global, table: &Table) -> Result<ChannelSettings, SettingsFault>
+    ensures { MatchResult result
+        (λ found. channel_in (table_view table.now) ≡ Ok (channel_data found))
+        (Reports (channel_in (table_view table.now))) }
+{
+    only(
+        alloc,
+        table,
+        &["id", "feed", "filter", "net", "speed", "max"],
+    )?;
+    let most = i64::MAX as u64;
+    Ok(ChannelSettings {
+        id: number_at(table, "id", 1, u64::from(u16::MAX))? as u16,
+        feed: text_at(alloc, table, "feed")?,
+        filter: text_at(alloc, table, "filter")?,
+        net: number_or(table, "net", 0, u64::from(u8::MAX), 0)? as u8,
+        speed: number_or(table, "speed", 0, u64::from(MAX_SPEED), 0)? as u8,
+        max: number_or(table, "max", 0, most, most)?,
+    })
+}
+
+/// The first ID that repeats an earlier one.
+fn repeated(channels: &[ChannelSettings]) -> Option<u16>
+    ensures { result ≡ repeated [] (map (λ c. c.id) channels.now) }
+{
+    'channels: for k in 0..channels.len() {
+        let id = channels[k].id;
+        if has_id(&channels[..k], id) {
+            return Some(id);
+        }
+    }
+    None
+}
+
+/// Whether one of the channels has this ID.
+fn has_id(channels: &[ChannelSettings], id: u16) -> bool
+    ensures { result ≡ list_any (λ before. before == id) (map (λ c. c.id) channels.now) }
+{
+    'channels: for channel in channels {
+        if channel.id == id {
+            return true;
+        }
+    }
+    false
+}
