@@ -57,6 +57,9 @@ pub(crate) enum Ending<'a> {
     Audit(AuditFault),
     #[error("{0}\n")]
     Settings(#[from] SettingsFault),
+    /// A line of a script is refused; its number.
+    #[error("script line {0}\n")]
+    Script(u64),
     /// A recording did not end.
     #[error("{0}\n")]
     Recording(#[from] RecordingFault),
@@ -132,7 +135,7 @@ impl<'a> Ending<'a> {
             Ending::Memory => MEMORY,
             Ending::Assembler(_) | Ending::Disassembler(_) | Ending::Reading(_) => REFUSED,
             Ending::Listing(_) | Ending::Refused(_) | Ending::View(_) => REFUSED,
-            Ending::Recording(_) | Ending::Audit(_) => REFUSED,
+            Ending::Recording(_) | Ending::Audit(_) | Ending::Script(_) => REFUSED,
         }
     }
 }

@@ -11,6 +11,7 @@ use crate::no_words::answer_lines;
 use crate::output::print_text;
 use crate::packet_list::list_packets;
 use crate::recording::record_channels;
+use crate::simulation::simulate_script;
 use rec_words::{Words, WordsFault, words_of};
 use std::io;
 use std::io::{ErrorKind, Read, Write};
@@ -94,6 +95,7 @@ fn answer<'a, R: AllocGlobal + Files, I: Read, O: Write>(
         Words::Extract { file, channel, out } => extract_frames(
             rt, file, channel, out, input, output,
         ),
+        Words::Simulate { file } => simulate_script(rt, file, input, output),
         Words::Record { .. } | Words::NoCommand => Err(Ending::Words(String::new(rt.alloc()))),
     }
 }

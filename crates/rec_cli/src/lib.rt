@@ -12,6 +12,8 @@ mod no_words;
 mod output;
 mod packet_list;
 mod recording;
+mod script;
+mod simulation;
 
 pub use entry::{program, words_unread};
 pub use rec_words::{

@@ -3,7 +3,7 @@ use Rattle.std.specs.Prelude.{◌≡◌, ◌≢◌, List, [], Option, Some, true
 use Rattle.clap.specs.Words.{App, Row, Rule, Text, first_of, new_app, new_rule, with_rule, with_subcommand}
 use Rattle.clap.specs.declared.builder.ArgAction.TheVariants.{Set}
 use Rattle.rec_words.specs.declared.words.Words.{Words}
-use Rattle.rec_words.specs.declared.words.Words.TheVariants.{NoCommand, Asm, Dis, Verify, Run, List as ListOf, Audit, Extract, Record}
+use Rattle.rec_words.specs.declared.words.Words.TheVariants.{NoCommand, Asm, Dis, Verify, Run, List as ListOf, Audit, Extract, Record, Simulate}
 
 -- a word that must be given
 abbrev pub operand : Text → Rule
@@ -38,6 +38,9 @@ record_app =
     with_rule (with_rule (new_app (codes "record")) (operand (codes "SETTINGS")))
     (operand (codes "OUT"))
 
+abbrev pub simulate_app : App
+simulate_app = with_rule (new_app (codes "simulate")) (operand (codes "FILE"))
+
 -- the program without its commands: a command must stand among the words after its name
 abbrev pub top_app : App
 top_app =
@@ -60,7 +63,8 @@ recordings_app =
 
 -- the program
 abbrev pub bpfrec_app : App
-bpfrec_app = with_subcommand recordings_app record_app.top
+bpfrec_app =
+    with_subcommand (with_subcommand recordings_app record_app.top) simulate_app.top
 
 -- the word given for a name
 abbrev pub word_for : Text → List Row → Text
@@ -73,6 +77,7 @@ AsksFor met NoCommand =
     × (met ≢ Some (codes "verify", rows)) × (met ≢ Some (codes "run", rows))
     × (met ≢ Some (codes "list", rows)) × (met ≢ Some (codes "audit", rows))
     × (met ≢ Some (codes "extract", rows)) × (met ≢ Some (codes "record", rows))
+    × (met ≢ Some (codes "simulate", rows))
 AsksFor met (Asm file) =
     (rows : List Row) × (met ≡ Some (codes "asm", rows)) × (file.now ≡ word_for (codes "FILE") rows)
 AsksFor met (Dis file) =
@@ -95,3 +100,6 @@ AsksFor met (Extract file channel out) =
 AsksFor met (Record settings out) =
     (rows : List Row) × (met ≡ Some (codes "record", rows))
     × (settings.now ≡ word_for (codes "SETTINGS") rows) × (out.now ≡ word_for (codes "OUT") rows)
+AsksFor met (Simulate file) =
+    (rows : List Row) × (met ≡ Some (codes "simulate", rows))
+    × (file.now ≡ word_for (codes "FILE") rows)

@@ -3,7 +3,7 @@
 ghost use Rattle.std.specs.Prelude.{◌≡◌, IfOk, codes, false};
 ghost use Rattle.clap.specs.Words.{app_of, new_app, rule_of};
 ghost use Rattle.clap.specs.declared.builder.Command.TheViews.{out-Command as fields_of};
-ghost use Rattle.rec_words.specs.Commands.{asm_app, audit_app, bpfrec_app, dis_app, extract_app, filters_app, list_app, operand, record_app, recordings_app, run_app, texts_app, top_app, verify_app};
+ghost use Rattle.rec_words.specs.Commands.{asm_app, audit_app, bpfrec_app, dis_app, extract_app, filters_app, list_app, operand, record_app, recordings_app, run_app, simulate_app, texts_app, top_app, verify_app};
 
 use clap::{Arg, ArgAction, Command};
 use std::alloc::{AllocError, Global};
@@ -122,6 +122,42 @@ Exit status: 0 written; 1 not read to its end; 2 words; 3 a file; 4 no memory.
 Example:
   bpfrec extract flight.ch11 1 channel_1.feed";
 
+const SIMULATE: &str = "\
+Runs the recorder's core, without threads and files, by a script: what happens to its channels, one
+event after another, in any order. Prints the answer of each event on standard output. The fields of
+a line are separated by one space, and a listing takes the rest of its line:
+  recorder <limit> <ring> <version>                the first line, as in the settings of record
+  channel <id> <net> <speed> <max> <listing>       1 to 64 of them, each with an id of its own
+  take <channel> <counter> <marks> <frame>         a frame comes, in hexadecimal with its check
+                                                   sequence; marks: 1 CRC error, 2 frame error
+  install <channel> <listing>                      the channel's filter is changed
+  send <channel>                                   its next piece goes to its ring
+  write <channel>                                  the first piece of its ring is written
+  close <channel>                                  no more frames come
+Each event is answered by a line:
+  took <number> <version> <value>                  a value of 0 drops the frame
+  installed <version> <mark>                       from frame <mark> on
+  sent program <version>, sent frames <n>, or sent end
+  wrote <packet>                                   its bytes in hexadecimal
+  closed <offered> <kept>
+  refused <number> <Name>                          NoChannel, Closed, RingFull, NothingToSend,
+                                                   NothingToWrite, VersionsFull or CountFull
+A refused event changes nothing, and the script goes on. A line that is none of these ends it, and is
+told on standard error, counted from 1; 0 is a script that ends before its first channel:
+  script line <n>
+
+Exit status: 0 the script ended; 1 a line is refused; 2 words; 3 the file; 4 no memory.
+
+Example:
+  bpfrec simulate - <<'END'
+  recorder 16424 4 8
+  channel 1 0 3 100 1,6 0 0 1,
+  take 1 16 0 ffffffffffff0200000000010806a1b2c3d4
+  send 1
+  write 1
+  close 1
+  END";
+
 const RECORD: &str = "\
 Records the channels that SETTINGS names into the file OUT, until every feed has ended and so has
 standard input. SETTINGS is a TOML document:
@@ -165,7 +201,9 @@ pub(crate) fn bpfrec<'a>(alloc: Global) -> Result<Command<'a>, AllocError>
     ensures app { IfOk result (λ c. app_of c ≡ bpfrec_app) }
     ensures local { IfOk result (λ c. (fields_of c).has_globals ≡ false) }
 {
-    with_recordings(alloc)?.subcommand(record(alloc)?)
+    with_recordings(alloc)?
+        .subcommand(record(alloc)?)?
+        .subcommand(simulate(alloc)?)
 }
 
 /// The program with the commands on filters and on recordings.
@@ -320,6 +358,20 @@ fn record<'a>(alloc: Global) -> Result<Command<'a>, AllocError>
     )?
     .arg(operand(alloc, "SETTINGS").help("The channels, their feeds and filters"))?
     .arg(operand(alloc, "OUT").help("The recording that is written"))
+}
+
+fn simulate<'a>(alloc: Global) -> Result<Command<'a>, AllocError>
+    ensures app { IfOk result (λ c. app_of c ≡ simulate_app) }
+    ensures local { IfOk result (λ c. (fields_of c).has_globals ≡ false) }
+{
+    command(
+        alloc,
+        "simulate",
+        "bpfrec simulate",
+        "Runs the recorder's core by a script",
+        SIMULATE,
+    )?
+    .arg(operand(alloc, "FILE").help("A script: a recorder, its channels, and events, a line each"))
 }
 
 /// A command without its words: its name alone, and as a user writes it.

@@ -52,6 +52,10 @@ pub enum Words<'a> {
         settings: &'a str,
         out: &'a str,
     },
+    /// `simulate FILE`
+    Simulate {
+        file: &'a str,
+    },
 }
 
 /// Why the words ask for nothing. The texts are those of `clap`, with their line feeds.
@@ -125,6 +129,9 @@ fn command_in<'a>(matches: &ArgMatches<'a>) -> Words<'a>
         let settings = word_for(inner, "SETTINGS");
         let out = word_for(inner, "OUT");
         return Words::Record { settings, out };
+    }
+    if name == "simulate" {
+        return Words::Simulate { file };
     }
     Words::NoCommand
 }
