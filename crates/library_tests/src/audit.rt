@@ -129,8 +129,7 @@ fn after_a_fault_each_call_answers_the_same(rt: HostRuntime) -> Result<(), Fail>
 fn each_of_65535_channels_has_its_line(rt: HostRuntime) -> Result<(), Fail> {
     let alloc = rt.alloc();
     let mut bytes = Vec::new(alloc);
-    let header =
-        Header::new(0, 52, 28, 8, 0, 0, COMPUTER_GENERATED_DATA, 0).ok_or("a header")?;
+    let header = Header::new(0, 52, 28, 8, 0, 0, COMPUTER_GENERATED_DATA, 0).ok_or("a header")?;
     for channel in (1..=u16::MAX).rev() {
         bytes.extend_from_slice(&header.encode())?;
         bytes.extend_from_slice(&end_body(channel, 0, 0))?;

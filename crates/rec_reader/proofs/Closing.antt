@@ -8,7 +8,7 @@ use Rattle.std.specs.Map.{keys_of}
 use Rattle.std.specs.Ordering.{nat_cmp}
 use Rattle.std.specs.BTreeMap.{BTreeMap, get, keys, IsOrdered}
 use Rattle.std.proofs.lemmas.Cmp.{nat_cmp_total, ranked}
-use Rattle.std.proofs.lemmas.List.{map-append}
+use Rattle.std.proofs.lemmas.List.{append_assoc, append-nil, map-append}
 use Rattle.std.proofs.lemmas.List.Elements.{All-nil, All-push, All-contains, Contains-append_cases}
 use Rattle.std.proofs.lemmas.Map.Keys.{sorted_head, sorted_tail, IsStrictlyIncreasing-from_sorted}
 use Rattle.std.proofs.lemmas.Map.Lookups.{exact_unsigned}
@@ -23,6 +23,7 @@ use Rattle.rec_reader.specs.Channels.{IsNamed, last_program, last_end, programs_
 use Rattle.rec_reader.specs.Audits.{IsClosing, Closes, EndsWith, line_with, line_of, AreLines, EachPasses}
 use Rattle.rec_reader.specs.Auditors.{unnamed_state, counted, IsStateOf, state_of, KeepsChannels}
 use Rattle.rec_reader.proofs.ListSplits.{first_or_later, none_in}
+use Rattle.rec_reader.proofs.OneAudit.{in_middle}
 
 -- ---- one channel
 
@@ -74,7 +75,7 @@ one_more_closed channels done lines channel state line there right closes = λ p
     let is = state_found channels packets channel state keeps there in
     let known = right (length (channel_frames channel packets)) is.frames in (
       ap (λ l. l ++ line ∷ []) before.0 ∙ ap (λ x. map (λ (e : ℕ × ChannelState). line_of packets e.0) done ++ x ∷ []) (line_as packets channel state line is known.1)
-        ∙ sym (map-append (λ (e : ℕ × ChannelState). line_of packets e.0) done ((channel, state) ∷ [])),
+          ∙ sym (map-append (λ (e : ℕ × ChannelState). line_of packets e.0) done ((channel, state) ∷ [])),
       All-push (λ (e : ℕ × ChannelState). Closes packets e.0 None) done (channel, state) before.1 (closes_as packets channel state None is known.0),
     )
 
@@ -112,6 +113,22 @@ entry_of channels ordered packets keeps channel named =
     let some = some_state (get nat_cmp channels channel) ((keeps.named channel).1 named) in
     (some.0, (btree_map_get_iff nat_cmp_total exact_unsigned channels ordered channel some.0).0 some.1)
 
+-- ---- a turn of the loop
+
+pub turn_whole : (entries done left rest : List (ℕ × ChannelState)) (e : ℕ × ChannelState) → entries ≡ done ++ left → left ≡ e ∷ rest → entries ≡ done ++ e ∷ rest
+turn_whole entries done left rest e whole first = whole ∙ ap (λ l. done ++ l) first
+
+pub turn_next : (entries done rest : List (ℕ × ChannelState)) (e : ℕ × ChannelState) → entries ≡ done ++ e ∷ rest → entries ≡ (done ++ e ∷ []) ++ rest
+turn_next entries done rest e whole = whole ∙ sym (append_assoc done (e ∷ []) rest)
+
+pub turn_end : (entries done left : List (ℕ × ChannelState)) → entries ≡ done ++ left → left ≡ [] → entries ≡ done
+turn_end entries done left whole none = whole ∙ ap (λ l. done ++ l) none ∙ append-nil done
+
+pub turn_found : (channels : BTreeMap ℕ ChannelState) (done rest : List (ℕ × ChannelState)) (channel : ℕ) (state : ChannelState) → All (λ (e : ℕ × ChannelState). get nat_cmp channels e.0 ≡ Some e.1) channels.entries
+    → channels.entries ≡ done ++ (channel, state) ∷ rest → get nat_cmp channels channel ≡ Some state
+turn_found channels done rest channel state found whole =
+    in_middle (λ (e : ℕ × ChannelState). get nat_cmp channels e.0 ≡ Some e.1) done (channel, state) rest (subst (λ es. All (λ (e : ℕ × ChannelState). get nat_cmp channels e.0 ≡ Some e.1) es) whole found)
+
 -- the channel of this turn has a fault
 pub ends_with : (channels : BTreeMap ℕ ChannelState) (done others : List (ℕ × ChannelState)) (lines : List AuditLine) (channel : ℕ) (state : ChannelState) (fault : AuditFault)
     → IsOrdered nat_cmp channels → channels.entries ≡ done ++ (channel, state) ∷ others → get nat_cmp channels channel ≡ Some state → ClosesThese channels done lines
@@ -124,9 +141,9 @@ ends_with channels done others lines channel state fault ordered whole there clo
       channel = channel;
       named = named_by channels packets channel state keeps there;
       lower = λ other less named. (
-        let entry = entry_of channels ordered packets keeps other named in
-        let before = stands_before done others channel state (other, entry.0) (subst (λ es. IsStrictlySortedBy nat_cmp (keys_of es)) whole ordered) (subst (λ es. Contains es (other, entry.0)) whole entry.1) less in
-        All-contains (λ (e : ℕ × ChannelState). Closes packets e.0 None) done (other, entry.0) (closes packets keeps).1 before);
+          let entry = entry_of channels ordered packets keeps other named in
+          let before = stands_before done others channel state (other, entry.0) (subst (λ es. IsStrictlySortedBy nat_cmp (keys_of es)) whole ordered) (subst (λ es. Contains es (other, entry.0)) whole entry.1) less in
+          All-contains (λ (e : ℕ × ChannelState). Closes packets e.0 None) done (other, entry.0) (closes packets keeps).1 before);
       closed = closes_as packets channel state (Some fault) is (wrong (length (channel_frames channel packets)) is.frames);
     }
 
@@ -139,14 +156,14 @@ pub all_closed : (channels : BTreeMap ℕ ChannelState) (done : List (ℕ × Cha
     → (packets : List PacketData) → KeepsChannels channels packets → ((channel : ℕ) → IsNamed channel packets → Closes packets channel None) × AreLines packets lines
 all_closed channels done lines ordered whole closes packets keeps = (
   λ channel named. (
-    let entry = entry_of channels ordered packets keeps channel named in
-    All-contains (λ (e : ℕ × ChannelState). Closes packets e.0 None) done (channel, entry.0) (closes packets keeps).1 (subst (λ es. Contains es (channel, entry.0)) whole entry.1)),
+      let entry = entry_of channels ordered packets keeps channel named in
+      All-contains (λ (e : ℕ × ChannelState). Closes packets e.0 None) done (channel, entry.0) (closes packets keeps).1 (subst (λ es. Contains es (channel, entry.0)) whole entry.1)),
   record {
     channels = keys channels;
     ascending = IsStrictlyIncreasing-from_sorted (keys channels) ordered;
     all = λ channel. (
-      let iff = btree_map_contains_key_iff nat_cmp_total exact_unsigned channels channel in
-      (λ has. (keeps.named channel).0 (iff.1 has), λ named. iff.0 ((keeps.named channel).1 named)));
+        let iff = btree_map_contains_key_iff nat_cmp_total exact_unsigned channels channel in
+        (λ has. (keeps.named channel).0 (iff.1 has), λ named. iff.0 ((keeps.named channel).1 named)));
     lines_are = (closes packets keeps).0 ∙ ap (map (λ (e : ℕ × ChannelState). line_of packets e.0)) (sym whole) ∙ sym (map_again (line_of packets) channels.entries);
   },
 )

@@ -46,7 +46,7 @@ pub adds : (channel : ℕ) (packets : List PacketData) (packet : PacketData) (sa
     → Adds channel packets packet (frames_said channel said) (program_said channel said) (end_said channel said)
 adds channel packets packet said e = record {
   frames_are = flat_map-one (λ (p : PacketData). cond (p.header.channel == channel) (packet_frames p) []) packets packet
-    ∙ ap (λ l. channel_frames channel packets ++ l) (frames_are channel packet.header.channel packet.what _ ∙ ap (frames_said channel) e);
+      ∙ ap (λ l. channel_frames channel packets ++ l) (frames_are channel packet.header.channel packet.what _ ∙ ap (frames_said channel) e);
   programs_are = flat_map-one (λ (p : PacketData). program_said channel (saying_of p)) packets packet ∙ ap (λ s. programs_of channel packets ++ program_said channel s) e;
   ends_are = flat_map-one (λ (p : PacketData). end_said channel (saying_of p)) packets packet ∙ ap (λ s. ends_of channel packets ++ end_said channel s) e;
 }
@@ -95,7 +95,7 @@ counted_on n more =
     elim (cases_lt n (2 ^ 64)) [
       | inl small ↦ ap (λ b. counted_more (cond b (Some n) None) more) (lt-ltb n (2 ^ 64) small)
       | inr large ↦ ap (λ b. counted_more (cond b (Some n) None) more) (le-ltb n (2 ^ 64) large)
-        ∙ sym (ap (λ b. cond b (Some (n + more)) None) (le-ltb (n + more) (2 ^ 64) (let w : 2 ^ 64 ≤ n + more = omega arith in w)))
+          ∙ sym (ap (λ b. cond b (Some (n + more)) None) (le-ltb (n + more) (2 ^ 64) (let w : 2 ^ 64 ≤ n + more = omega arith in w)))
     ]
 
 -- nothing more is said of the channel

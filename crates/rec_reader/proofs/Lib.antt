@@ -15,3 +15,5 @@ pub mod Standing
 pub mod Closing
 pub mod Stored
 pub mod Accepting
+pub mod Counting
+pub mod Recordings

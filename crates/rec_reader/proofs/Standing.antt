@@ -27,10 +27,10 @@ no_channels channels empty =
     record {
       named = λ channel. (
         λ some. (let wrong : false ≡ true = subst (λ (o : Option ChannelState). IsSome o) (none channel) some in cc),
-        λ named. absurd (none_named channel named)
+        λ named. absurd (none_named channel named),
       );
       states = λ channel. subst (λ (s : ChannelState). IsStateOf channel [] s) (sym (ap (λ (o : Option ChannelState). unwrap_or o unnamed_state) (none channel)))
-        (record { programs = refl; last = refl; frames = refl; end = refl });
+          (record { programs = refl; last = refl; frames = refl; end = refl });
     }
 
 -- ---- one packet
@@ -55,8 +55,8 @@ judged_packet : (packets : List PacketData) (packet : PacketData) (channel : ℕ
 judged_packet packets packet channel saying state place answer says at is judged =
     subst (λ said. JudgesSaying packets said answer) (sym says)
     (subst (λ n. IsJudgement n (last_end channel packets) saying (last_program channel packets) answer) at
-      (subst (λ end. IsJudgement place end saying (last_program channel packets) answer) is.end
-        (subst (λ last. IsJudgement place state.end saying last answer) is.last judged)))
+    (subst (λ end. IsJudgement place end saying (last_program channel packets) answer) is.end
+    (subst (λ last. IsJudgement place state.end saying last answer) is.last judged)))
 
 abbrev Taken : (packets : List PacketData) (packet : PacketData) (other : ℕ) (channels : BTreeMap ℕ ChannelState) → Type 0
 Taken packets packet other channels =

@@ -1,7 +1,8 @@
 -- The program that a packet holds.
-use Rattle.std.proofs.Common.{◌≡◌, ℕ, List, [], ◌∷◌, ◌++◌, length, drop, Option, None, Some, refl, sym, ap, subst, ◌∙◌, true}
-use Rattle.std.specs.Prelude.{Result, Ok, Err, IsOkAnd, option_map}
+use Rattle.std.proofs.Common.{◌≡◌, ℕ, zero, suc, ◌+◌, ◌≤◌, List, [], ◌∷◌, ◌++◌, length, take, drop, slice_get, Option, None, Some, refl, sym, ap, subst, ◌∙◌, arith}
+use Rattle.std.specs.Prelude.{Result, Ok, Err, IsOkAnd, IfSome, option_map}
 use Rattle.std.specs.List.{flat_map}
+use Rattle.std.proofs.lemmas.List.{take_all}
 use Rattle.bpf_insn.specs.declared.insn.Insn.{Insn}
 use Rattle.std.proofs.lemmas.List.Elements.{recursion_from_All}
 use Rattle.bpf_insn.specs.Bytes.{InRange, insn_bytes}
@@ -69,10 +70,24 @@ decoded_program header body bytes what channel version first count answer is hel
       program = program.0;
       is = found.1 ∙ ap (λ (r : Record). Ok (Some r)) program.1;
       says = ap (λ w. saying_in header.channel w bytes) held
-        ∙ ap (λ i. Some (channel, OfProgram (record { version = version; first = first; insns = i }))) (stored_are channel version first count insns bytes spells known.3)
-        ∙ ap (λ p. Some (channel, OfProgram p)) (sym program.3)
-        ∙ ap (λ c. Some (c, OfProgram (program_data program.0))) (sym program.2);
+          ∙ ap (λ i. Some (channel, OfProgram (record { version = version; first = first; insns = i }))) (stored_are channel version first count insns bytes spells known.3)
+          ∙ ap (λ p. Some (channel, OfProgram p)) (sym program.3)
+          ∙ ap (λ c. Some (c, OfProgram (program_data program.0))) (sym program.2);
     }
+
+-- data that hold a program are decoded as one
+pub decoded_other : {E : Type 0} (header : HeaderData) (body bytes : List ℕ) (what : What) (channel version first count : ℕ) (answer other : Result (Option Record) E)
+    → bytes ≡ data_in header body → what ≡ Program channel version first count
+    → ((said : RecordData) → SpellsRecord said bytes → IsOkAnd answer (λ read. option_map record_data read ≡ Some said))
+    → answer ≡ other → ((program : ProgramRecord) → other ≡ Ok (Some (AProgram program)) → ⊥) → Holds header body what → ⊥
+decoded_other header body bytes what channel version first count answer other is held read same apart holds =
+    let decoded = decoded_program header body bytes what channel version first count answer is held read holds in
+    apart decoded.program (sym same ∙ decoded.is)
+
+pub spelled_program : (read : Option Record) (found : Record) (program : ProgramRecord) (bytes : List ℕ) → IfSome read (λ r. SpellsRecord (record_data r) bytes) → read ≡ Some found → found ≡ AProgram program
+    → SpellsRecord (record_data (AProgram program)) bytes
+spelled_program read found program bytes spelled some is =
+    subst (λ (r : Record). SpellsRecord (record_data r) bytes) is (subst (λ (o : Option Record). IfSome o (λ r. SpellsRecord (record_data r) bytes)) some spelled)
 
 -- what a packet says whose record this program is
 pub program_says : (header : HeaderData) (body bytes : List ℕ) (what : What) (program : ProgramRecord) → bytes ≡ data_in header body
@@ -81,7 +96,7 @@ pub program_says : (header : HeaderData) (body bytes : List ℕ) (what : What) (
 program_says header body bytes what program is same spells =
     ap (saying_in header.channel what) (sym is) ∙ ap (λ w. saying_in header.channel w bytes) same
     ∙ ap (λ i. Some (program.channel, OfProgram (record { version = program.version; first = program.first; insns = i })))
-      (stored_are program.channel program.version program.first program.count (record_insns program) bytes spells (length-stored_insns program.count program.insns.now))
+    (stored_are program.channel program.version program.first program.count (record_insns program) bytes spells (length-stored_insns program.count program.insns.now))
 
 -- a packet holds the program that its record is
 pub program_is : ((header : HeaderData) (body : List ℕ) (what other : What) → Holds header body what → Holds header body other → what ≡ other)
@@ -92,3 +107,17 @@ program_is one header body bytes what channel version first count program is hel
     let known = subst (Holds header body) held holds in
     one header body what (Program program.channel program.version program.first program.count) holds
     (known.0, record_insns program, subst (SpellsRecord (record_data (AProgram program))) is spells, length-stored_insns program.count program.insns.now)
+
+-- ---- instructions that are copied
+
+-- one more of the first elements
+pub one_more_taken : {A : Type 0} (xs ys : List A) (n : ℕ) (x : A) → ys ≡ take n xs → Some x ≡ slice_get xs n → ys ++ x ∷ [] ≡ take (n + 1) xs
+one_more_taken [] ys zero x e has = cc
+one_more_taken [] ys (suc n) x e has = cc
+one_more_taken (a ∷ xs) ys zero x e has = let same : x ≡ a = cc in ap (λ l. l ++ x ∷ []) e ∙ ap (λ b. b ∷ []) same
+one_more_taken (a ∷ xs) ys (suc n) x e has =
+    ap (λ l. l ++ x ∷ []) e ∙ ap (λ l. a ∷ l) (one_more_taken xs (take n xs) n x refl has) ∙ ap (λ m. take m (a ∷ xs)) (let same : suc (n + 1) ≡ suc n + 1 = omega arith in same)
+
+pub all_taken : (program : ProgramRecord) (insns : List Insn) (n : ℕ) → insns ≡ take n (record_insns program) → program.count ≤ n → insns ≡ record_insns program
+all_taken program insns n e most =
+    e ∙ take_all n (record_insns program) (let long = length-stored_insns program.count program.insns.now in omega arith)

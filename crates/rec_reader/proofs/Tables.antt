@@ -32,7 +32,7 @@ channels_stay channels packets packet none keeps = record {
     λ named. elim (named_or_now channel packets packet named) [
       | inl before ↦ (keeps.named channel).1 before
       | inr names ↦ absurd (unnamed_packet packet channel names none)
-    ]
+    ],
   );
   states = λ channel. stays channel packets packet (state_of channels channel) (adds channel packets packet None none) (keeps.states channel);
 }
@@ -50,16 +50,16 @@ module _ (old new : BTreeMap ℕ ChannelState) (packets : List PacketData) (pack
   named_of other =
       elim (cases_eq channel other) [
         | inl e ↦ (
-            λ _. named_now other packets packet (saying, subst (λ c. saying_of packet ≡ Some (c, saying)) e says),
-            λ _. found _ _ (set_here other e)
-          )
+          λ _. named_now other packets packet (saying, subst (λ c. saying_of packet ≡ Some (c, saying)) e says),
+          λ _. found _ _ (set_here other e),
+        )
         | inr apart ↦ (
-            λ some. named_then other packets (packet ∷ []) ((keeps.named other).0 (subst (λ (o : Option ChannelState). IsSome o) (set_elsewhere other apart) some)),
-            λ named. elim (named_or_now other packets packet named) [
-              | inl before ↦ subst (λ (o : Option ChannelState). IsSome o) (sym (set_elsewhere other apart)) ((keeps.named other).1 before)
-              | inr names ↦ absurd (apart (same_channel packet other channel saying names says))
-            ]
-          )
+          λ some. named_then other packets (packet ∷ []) ((keeps.named other).0 (subst (λ (o : Option ChannelState). IsSome o) (set_elsewhere other apart) some)),
+          λ named. elim (named_or_now other packets packet named) [
+            | inl before ↦ subst (λ (o : Option ChannelState). IsSome o) (sym (set_elsewhere other apart)) ((keeps.named other).1 before)
+            | inr names ↦ absurd (apart (same_channel packet other channel saying names says))
+          ],
+        )
       ]
 
   states_of : (other : ℕ) → IsStateOf other (packets ++ packet ∷ []) (state_of new other)

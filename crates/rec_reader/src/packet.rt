@@ -71,7 +71,9 @@ impl<'a> Packet<'a> {
         };
         match decode_record(self.data()) {
             Ok(Some(Record::Program(program))) => Some(program),
-            _ => None,
+            Ok(Some(Record::End { .. })) => None,
+            Ok(None) => None,
+            Err(_) => None,
         }
     }
 }

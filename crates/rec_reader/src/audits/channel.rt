@@ -58,12 +58,7 @@ impl ChannelState {
     }
 
     /// Takes what the packet with this number says of the channel, or tells its fault.
-    pub fn take(
-        &mut self,
-        alloc: Global,
-        place: u64,
-        said: &Said<'_>,
-    ) -> Result<(), AuditFault>
+    pub fn take(&mut self, alloc: Global, place: u64, said: &Said<'_>) -> Result<(), AuditFault>
         ensures judged { JudgesState place self.old (said_data said.now) result }
         ensures state { OnOk result (self.new ≡ state_after self.old (said_data said.now)) }
     {
@@ -139,7 +134,8 @@ impl ChannelState {
         let Some(ChannelEnd { offered, kept }) = self.end else {
             return Err(AuditFault::NoEnd { channel });
         };
-        if self.frames != Some(kept) || kept > offered || !self.were_offered(offered) {
+        let right = is_count(self.frames, kept) && kept <= offered && self.were_offered(offered);
+        if !right {
             return Err(AuditFault::Counts { channel });
         }
         Ok(AuditLine {
@@ -176,6 +172,16 @@ fn counted_on(count: Option<u64>, more: u16) -> Option<u64>
     ensures { result ≡ counted_more count more }
 {
     count?.checked_add(u64::from(more))
+}
+
+/// Whether a count is this number.
+fn is_count(count: Option<u64>, number: u64) -> bool
+    ensures { (counting : ℕ) → count ≡ counted counting → (IsTrue result ↔ (number ≡ counting)) }
+{
+    match count {
+        Some(counted) => number == counted,
+        None => false,
+    }
 }
 
 /// The instructions of a record.
