@@ -16,11 +16,11 @@ OneRun = (program : List Insn) (seen : List ℕ) (steps value count other : ℕ)
 not_zero : (value : ℕ) → IsTrue (not (eqb value 0)) → value ≢ 0
 not_zero value test = λ e. (let zero_is : not (eqb value 0) ≡ false = ap not (eq-eqb value 0 e) in let wrong : true ≡ false = sym test ∙ zero_is in cc)
 
-pub accepts_is : OneRun → (program : List Insn) (read : ReadFrameData) (frame : FrameData) (seen : List ℕ) (steps value : ℕ)
-    → Valid program → IsWhole read → frame ≡ frame_in read → seen ≡ view frame → Runs program seen steps value
+pub accepts_is : OneRun → (program : List Insn) (read : ReadFrameData) (frame : FrameData) (steps value : ℕ)
+    → Valid program → IsWhole read → frame ≡ frame_in read → Runs program (view frame) steps value
     → (IsTrue (not (eqb value 0)) → Accepts program read) × (Accepts program read → IsTrue (not (eqb value 0)))
-accepts_is one program read frame seen steps value valid whole same shown runs =
-    let here = subst (λ bytes. Runs program bytes steps value) (shown ∙ ap view same) runs in (
+accepts_is one program read frame steps value valid whole same runs =
+    let here = subst (λ bytes. Runs program bytes steps value) (ap view same) runs in (
       λ test. record { valid = valid; whole = whole; steps = steps; value = value; runs = here; accepted = not_zero value test },
       λ accepts. ap not (ne_eqb value 0 (λ e. accepts.accepted (sym (one program (view (frame_in read)) steps value accepts.steps accepts.value here accepts.runs).1 ∙ e))),
     )

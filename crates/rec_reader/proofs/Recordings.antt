@@ -1,14 +1,16 @@
 -- The packets of a recording, one by one.
-use Rattle.std.proofs.Common.{◌≡◌, ℕ, zero, suc, ◌+◌, ◌<◌, ◌≤◌, ◌⊎◌, inl, inr, List, [], ◌∷◌, ◌++◌, length, take, drop, get_or, map, Result, Ok, Err, IsErrAnd, refl, sym, ap, subst, ◌∙◌, arith}
+use Rattle.std.proofs.Common.{◌≡◌, ℕ, zero, suc, ◌+◌, ◌<◌, ◌≤◌, ◌⊎◌, inl, inr, List, [], ◌∷◌, ◌++◌, length, take, drop, get_or, map, Result, Ok, Err, IsErrAnd, OnOk, refl, sym, ap, subst, ◌∙◌, arith}
 use Rattle.std.proofs.lemmas.List.{take-append-drop, take_all, map-append}
 use Rattle.rec_reader.specs.declared.audits.answer.Audit.{Audit}
 use Rattle.rec_reader.specs.declared.audits.answer.AuditFault.{AuditFault}
 use Rattle.rec_reader.specs.declared.packet.Packet.{Packet}
 use Rattle.rec_reader.specs.Packets.{PacketData}
-use Rattle.rec_reader.specs.Audits.{StopsAt, Audits}
+use Rattle.rec_reader.specs.Channels.{IsNamed}
+use Rattle.rec_reader.specs.Audits.{AreApproved, StopsAt, Audits, EndsWell}
 use Rattle.rec_reader.specs.Auditors.{Walks}
 use Rattle.rec_reader.specs.Views.{packet_data, packets_data}
 use Rattle.rec_reader.proofs.Walking.{stops_then}
+use Rattle.rec_reader.proofs.Approving.{approved, ends_well}
 
 -- one packet more of the first ones
 pub one_more_packet : (items : List Packet) (n : ℕ) (item : Packet) → n < length items → item ≡ get_or items n item → packets_data (take n items) ++ packet_data item ∷ [] ≡ packets_data (take (n + 1) items)
@@ -38,3 +40,13 @@ audits_all items packets n answer all end audits = subst (λ ps. Audits ps answe
 pub passed_on : (packets : List PacketData) (answer : Result Audit AuditFault) (fault : AuditFault) → IsErrAnd answer (λ e. e ≡ fault) → Audits packets (Err fault) → Audits packets answer
 passed_on packets (Ok audit) fault same audits = absurd same
 passed_on packets (Err other) fault same audits = subst (λ f. Audits packets (Err f)) (sym same) audits
+
+-- ---- what a yes means
+
+pub approves : (packets : List PacketData) (answer : Result Audit AuditFault) → Audits packets answer → OnOk answer (AreApproved packets)
+approves packets (Ok audit) audits = approved packets audits.passed
+approves packets (Err fault) audits = tt
+
+pub ends_are : (packets : List PacketData) (answer : Result Audit AuditFault) → Audits packets answer → OnOk answer ((channel : ℕ) → IsNamed channel packets → EndsWell channel packets)
+ends_are packets (Ok audit) audits = ends_well packets audit audits
+ends_are packets (Err fault) audits = tt

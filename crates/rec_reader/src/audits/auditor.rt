@@ -99,8 +99,8 @@ impl Auditor {
     /// # Errors
     ///
     /// The fault that [`take`](Auditor::take) answered; else [`AuditFault::NoEnd`] or
-    /// [`AuditFault::Counts`] of the least channel that has one; [`AuditFault::Memory`] if there was
-    /// no memory for the lines.
+    /// [`AuditFault::Counts`] of the least channel that has one; [`AuditFault::Memory`] if there
+    /// was no memory for the lines.
     pub fn end(self) -> Result<Audit, AuditFault>
         ensures audits { (packets : List PacketData) → StandsFor self packets
             → Audits packets result }

@@ -1,12 +1,11 @@
 //! What an audit keeps of a channel.
 
-ghost use Rattle.std.specs.Prelude.{ℕ, ◌≡◌, ◌≢◌, ◌≤◌, ◌↔◌, ◌⊎◌, List, length, Option, None, Some, IsTrue, IfOk, IfErr, OnOk, MatchResult, MatchOption, All};
-ghost use Rattle.bpf_verify.specs.Validity.{Valid};
-ghost use Rattle.ch11_packet.specs.FramesRead.{ReadFrameData};
+ghost use Rattle.std.specs.Prelude.{ℕ, ◌≡◌, ◌↔◌, None, Some, IsTrue, IfOk, OnOk, MatchResult, MatchOption, All};
+ghost use Rattle.bpf_machine.specs.Machine.{Runs};
+ghost use Rattle.eth_frame.specs.Frame.{view};
+ghost use Rattle.eth_frame.specs.Views.{frame_data};
 ghost use Rattle.ch11_packet.specs.Views.{read_frame_data, record_insns};
-ghost use Rattle.rec_reader.specs.declared.audits.answer.AuditFault.{AuditFault};
-ghost use Rattle.rec_reader.specs.Channels.{Saying};
-ghost use Rattle.rec_reader.specs.Channels.Saying.{OfFrames, OfProgram, OfEnd};
+ghost use Rattle.rec_reader.specs.Channels.Saying.{OfFrames, OfProgram};
 ghost use Rattle.rec_reader.specs.Audits.{Accepts, RefusesFirst, Follows, WereOffered, IsClosing, line_with};
 ghost use Rattle.rec_reader.specs.Auditors.{unnamed_state, counted, counted_more, state_after, JudgesState};
 ghost use Rattle.rec_reader.specs.Views.{program_data, said_data};
@@ -14,9 +13,10 @@ ghost use Rattle.rec_reader.specs.Views.{program_data, said_data};
 use crate::audits::answer::{AuditFault, AuditLine};
 use crate::audits::said::Said;
 use bpf_insn::Insn;
-use bpf_machine::{run, runs_once};
+use bpf_machine::{Outcome, run, runs_once};
 use bpf_verify::{Verified, verify};
 use ch11_packet::{Frames, ProgramRecord, ReadFrame};
+use eth_frame::Frame;
 use std::alloc::{AllocError, Global};
 
 /// A program of a channel, as its record says.
@@ -203,6 +203,7 @@ fn first_refused(program: &Verified, frames: &Frames<'_>) -> Option<u16>
     ensures { MatchOption result (All (Accepts program.now) frames.now)
         (RefusesFirst program.now frames.now) }
 {
+    // a packet has at most 65,535 frames, so each number fits
     let _ = frames.count();
     let mut number = 0;
     'frames: for frame in frames.walk() {
@@ -219,9 +220,17 @@ fn accepts(program: &Verified, read: &ReadFrame<'_>) -> bool
     ensures { IsTrue result ↔ Accepts program.now (read_frame_data read.now) }
 {
     runs_once();
+    // the program is valid by its type
     let _ = program.insns();
     match read.frame() {
-        Some(frame) => run(program, frame.view()).value != 0,
+        Some(frame) => run_on(program, &frame).value != 0,
         None => false,
     }
+}
+
+/// Runs a program on a frame: it sees the frame without its check sequence.
+fn run_on(program: &Verified, frame: &Frame<'_>) -> Outcome
+    ensures { Runs program.now (view (frame_data frame.now)) result.steps result.value }
+{
+    run(program, frame.view())
 }
