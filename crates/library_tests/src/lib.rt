@@ -31,4 +31,6 @@ mod shared;
 #[cfg(test)]
 mod verifier;
 #[cfg(test)]
+mod world;
+#[cfg(test)]
 mod writer;
