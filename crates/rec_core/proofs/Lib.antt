@@ -6,4 +6,5 @@ pub mod Stepping
 pub mod Serves
 pub mod Opening
 pub mod Openings
+pub mod Cores
 pub mod Written

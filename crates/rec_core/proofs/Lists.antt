@@ -1,10 +1,10 @@
 -- What stands at an index of a list, and a list that is put together.
-use Rattle.std.proofs.Common.{ℕ, suc, zero, ◌+◌, ◌≡◌, ◌≢◌, ◌<◌, ◌⊎◌, inl, inr, List, [], ◌∷◌, ◌++◌, length, Option, None, Some, refl, sym, ◌∙◌, ap, subst, arith, map, drop, take, All}
-use Rattle.std.specs.Prelude.{slice_get, slice_set, option_map, AllPairs, get_or}
+use Rattle.std.proofs.Common.{ℕ, suc, zero, ◌+◌, ◌≡◌, ◌≢◌, ◌<◌, ◌⊎◌, inl, inr, List, [], ◌∷◌, ◌++◌, length, Some, refl, sym, ◌∙◌, ap, subst, arith, map, drop, take, All}
+use Rattle.std.specs.Prelude.{slice_get, slice_set, AllPairs, get_or}
 use Rattle.std.specs.List.{AllZip, Any}
 use Rattle.std.proofs.lemmas.List.{take_more, map-append}
 use Rattle.std.proofs.lemmas.Bool.{cases_lt}
-use Rattle.std.proofs.lemmas.Option.{same_Some, none-some, slice_get-map, slice_get_within, get_or_from_slice_get, slice_get-get_or}
+use Rattle.std.proofs.lemmas.Option.{same_Some, none-some, slice_get_within, get_or_from_slice_get, slice_get-get_or}
 use Rattle.std.proofs.lemmas.List.Elements.{All-get_or}
 
 -- the element behind a front
@@ -120,9 +120,15 @@ pub map_more : {A B : Type 0} (f : A → B) (xs : List A) (i : ℕ) (x : A) → 
 map_more f xs i x within is = ap (map f) (take_more xs i x within ∙ ap (λ y. take i xs ++ y ∷ []) (sym is)) ∙ map-append f (take i xs) (x ∷ [])
 
 -- what a map has at an index, of the element there
-pub map_at : {A B : Type 0} (f : A → B) (xs : List A) (k : ℕ) (x : A) (d : B) → k < length xs → x ≡ get_or xs k x → get_or (map f xs) k d ≡ f x
-map_at f xs k x d within is = get_or_from_slice_get (map f xs) k (f x) d (there_map f xs k x (slice_get-get_or xs k x within ∙ ap (λ y. Some y) (sym is)))
+pub map_at : {A B : Type 0} (f : A → B) (xs : List A) (k : ℕ) (e : A) (d : B) → k < length xs → get_or (map f xs) k d ≡ f (get_or xs k e)
+map_at f xs k e d within = get_or_from_slice_get (map f xs) k (f (get_or xs k e)) d (there_map f xs k (get_or xs k e) (slice_get-get_or xs k e within))
 
 -- which value stands in for one past the end makes no difference within
 pub other_default : {X : Type 0} (xs : List X) (k : ℕ) (d e : X) → k < length xs → get_or xs k d ≡ get_or xs k e
 other_default xs k d e within = get_or_from_slice_get xs k (get_or xs k e) d (slice_get-get_or xs k e within)
+
+pub zip_push : {A B : Type 0} (R : A → B → Type 0) (xs : List A) (ys : List B) (x : A) (y : B) → AllZip R xs ys → R x y → AllZip R (xs ++ x ∷ []) (ys ++ y ∷ [])
+zip_push R [] [] x y all r = (r, tt)
+zip_push R [] (v ∷ ys) x y all r = absurd all
+zip_push R (z ∷ zs) [] x y all r = absurd all
+zip_push R (z ∷ zs) (v ∷ ys) x y all r = (all.0, zip_push R zs ys x y all.1 r)

@@ -1,14 +1,14 @@
 -- A core of which nothing was taken stands for the opening world.
-use Rattle.std.proofs.Common.{ℕ, ◌≡◌, ◌≢◌, false, List, [], ◌∷◌, Option, None, Some, refl, sym, ◌∙◌, ap, subst, arith, map, All}
+use Rattle.std.proofs.Common.{ℕ, ◌≡◌, ◌≢◌, false, List, [], ◌∷◌, Option, Some, refl, sym, ◌∙◌, ap, subst, map, All}
 use Rattle.std.specs.List.{AllZip}
 use Rattle.std.proofs.lemmas.Bool.{both_ways}
-use Rattle.rec_channel.specs.Slots.{SlotState, opening_slot}
-use Rattle.rec_lane.specs.Lanes.{LaneState, HasMet, new_lane}
+use Rattle.rec_channel.specs.Slots.{opening_slot}
+use Rattle.rec_lane.specs.Lanes.{HasMet, new_lane}
 use Rattle.rec_writer.specs.Numbers.{channels_in}
 use Rattle.rec_writer.specs.Writers.{WriterState, HasWritten}
 use Rattle.rec_core.specs.Openings.{SpecData, IsFilter, channels_of_specs}
 use Rattle.rec_core.specs.World.{opening_channel, opening_world}
-use Rattle.rec_core.specs.Worlds.{ChannelParts, CoreState, Holds, StandsForWorld, channels_of_parts, IsCore}
+use Rattle.rec_core.specs.Worlds.{ChannelParts, Holds, StandsForWorld, channels_of_parts, IsCore}
 use Rattle.rec_core.proofs.Meeting.{in_order_opening}
 
 -- the parts of a channel of which nothing was taken

@@ -1,38 +1,38 @@
 -- The channel IDs of specs and of channels, one by one.
-use Rattle.std.proofs.Common.{ℕ, ◌+◌, ◌≡◌, ◌≢◌, ◌<◌, ◌≤◌, List, [], ◌∷◌, ◌++◌, length, Some, get_or, refl, sym, ◌∙◌, ap, subst, arith, map, take, All}
+use Rattle.std.proofs.Common.{ℕ, ◌+◌, ◌≡◌, ◌≢◌, ◌<◌, ◌≤◌, List, [], ◌∷◌, ◌++◌, length, Some, get_or, sym, ◌∙◌, ap, subst, arith, map, take, All}
 use Rattle.std.specs.Prelude.{slice_get}
 use Rattle.std.specs.List.{AllZip}
 use Rattle.std.specs.Arc.{arc_value}
 use Rattle.std.proofs.lemmas.List.{length-map, map-append, take_more}
-use Rattle.std.proofs.lemmas.List.Elements.{AllZip-push, All-push}
+use Rattle.std.proofs.lemmas.List.Elements.{All-push}
 use Rattle.rec_lane.specs.declared.spec.LaneSpec.{LaneSpec}
 use Rattle.rec_core.specs.declared.spec.ChannelSpec.{ChannelSpec}
 use Rattle.rec_core.specs.declared.channel.Channel.{Channel}
 use Rattle.rec_core.specs.Openings.{SpecData, IsFilter, HaveFilters, channels_of_specs}
-use Rattle.rec_core.specs.World.{ChannelState, opening_channel}
+use Rattle.rec_core.specs.World.{opening_channel}
 use Rattle.rec_core.specs.Worlds.{ChannelParts, Holds, channels_of_parts}
 use Rattle.rec_core.specs.Views.{spec_data, specs_data, channel_parts, all_parts}
-use Rattle.rec_core.proofs.Lists.{map_at, map_more, there_map, other_default}
+use Rattle.rec_core.proofs.Lists.{zip_push, map_at, map_more, there_map, other_default}
 use Rattle.std.proofs.lemmas.Option.{slice_get-get_or}
 
-pub channel_at : (specs : List ChannelSpec) (k : ℕ) (spec : ChannelSpec) → k < length specs → spec ≡ get_or specs k spec → get_or (channels_of_specs (specs_data specs)) k 0 ≡ spec.lane.channel
-channel_at specs k spec within is =
+pub channel_at : (specs : List ChannelSpec) (k : ℕ) (spec : ChannelSpec) → k < length specs → get_or (channels_of_specs (specs_data specs)) k 0 ≡ (get_or specs k spec).lane.channel
+channel_at specs k spec within =
     map_at (λ (s : SpecData). s.settings.channel) (specs_data specs) k (spec_data spec) 0 (let e = length-map specs spec_data in omega (arith, e, within))
-    (sym (map_at spec_data specs k spec (spec_data spec) within is))
+    ∙ ap (λ (s : SpecData). s.settings.channel) (map_at spec_data specs k spec (spec_data spec) within)
 
 -- the channel IDs of one spec more
-pub channels_more : (specs : List ChannelSpec) (k : ℕ) (spec : ChannelSpec) → k < length specs → spec ≡ get_or specs k spec
-    → take (k + 1) (channels_of_specs (specs_data specs)) ≡ take k (channels_of_specs (specs_data specs)) ++ spec.lane.channel ∷ []
-channels_more specs k spec within is =
+pub channels_more : (specs : List ChannelSpec) (k : ℕ) (spec : ChannelSpec) → k < length specs
+    → take (k + 1) (channels_of_specs (specs_data specs)) ≡ take k (channels_of_specs (specs_data specs)) ++ (get_or specs k spec).lane.channel ∷ []
+channels_more specs k spec within =
     let a = length-map specs spec_data in
     let b = length-map (specs_data specs) (λ (s : SpecData). s.settings.channel) in
-    take_more (channels_of_specs (specs_data specs)) k 0 (omega (arith, a, b, within)) ∙ ap (λ n. take k (channels_of_specs (specs_data specs)) ++ n ∷ []) (channel_at specs k spec within is)
+    take_more (channels_of_specs (specs_data specs)) k 0 (omega (arith, a, b, within)) ∙ ap (λ n. take k (channels_of_specs (specs_data specs)) ++ n ∷ []) (channel_at specs k spec within)
 
-pub parts_at : (channels : List Channel) (k : ℕ) (channel : Channel) → k < length channels → channel ≡ get_or channels k channel → slice_get (all_parts channels) k ≡ Some (channel_parts channel)
-parts_at channels k channel within is = there_map channel_parts channels k channel (slice_get-get_or channels k channel within ∙ ap (λ y. Some y) (sym is))
+pub parts_at : (channels : List Channel) (k : ℕ) (channel : Channel) → k < length channels → slice_get (all_parts channels) k ≡ Some (channel_parts (get_or channels k channel))
+parts_at channels k channel within = there_map channel_parts channels k (get_or channels k channel) (slice_get-get_or channels k channel within)
 
-pub id_at : (channels : List Channel) (k : ℕ) (channel : Channel) → k < length channels → channel ≡ get_or channels k channel → slice_get (channels_of_parts (all_parts channels)) k ≡ Some channel.spec.channel
-id_at channels k channel within is = there_map (λ (p : ChannelParts). p.settings.channel) (all_parts channels) k (channel_parts channel) (parts_at channels k channel within is)
+pub id_at : (channels : List Channel) (k : ℕ) (channel : Channel) → k < length channels → slice_get (channels_of_parts (all_parts channels)) k ≡ Some (get_or channels k channel).spec.channel
+id_at channels k channel within = there_map (λ (p : ChannelParts). p.settings.channel) (all_parts channels) k (channel_parts (get_or channels k channel)) (parts_at channels k channel within)
 
 pub ids_len : (channels : List Channel) → length (channels_of_parts (all_parts channels)) ≡ length channels
 ids_len channels = length-map (all_parts channels) (λ (p : ChannelParts). p.settings.channel) ∙ length-map channels channel_parts
@@ -54,7 +54,7 @@ opened_more size specs k spec channels more channel within is pushed holds zip =
     let states : map opening_channel (specs_data (take (k + 1) specs)) ≡ map opening_channel (specs_data (take k specs)) ++ opening_channel (spec_data spec) ∷ [] = ap (map opening_channel) more_data ∙ map-append opening_channel (specs_data (take k specs)) (spec_data spec ∷ []) in
     subst (λ ps. AllZip (Holds size) ps (map opening_channel (specs_data (take (k + 1) specs)))) (sym parts)
     (subst (λ cs. AllZip (Holds size) (all_parts channels ++ channel_parts channel ∷ []) cs) (sym states)
-    (AllZip-push (Holds size) (all_parts channels) (map opening_channel (specs_data (take k specs))) (channel_parts channel) (opening_channel (spec_data spec)) zip holds))
+    (zip_push (Holds size) (all_parts channels) (map opening_channel (specs_data (take k specs))) (channel_parts channel) (opening_channel (spec_data spec)) zip holds))
 
 pub ids_more : (specs : List ChannelSpec) (k : ℕ) (spec : ChannelSpec) (channels more : List Channel) (channel : Channel)
     → k < length specs → spec ≡ get_or specs k spec → more ≡ channels ++ channel ∷ [] → channel.spec ≡ spec.lane

@@ -1,5 +1,5 @@
 -- What a channel's calls say together: of a send, of a take, and of each event.
-use Rattle.std.proofs.Common.{ℕ, ◌≡◌, ◌≢◌, ◌≤◌, ◌<◌, ◌⊎◌, inl, inr, Bool, true, false, List, [], ◌∷◌, ◌++◌, length, Option, Some, Result, Ok, Err, refl, sym, ◌∙◌, ap, subst}
+use Rattle.std.proofs.Common.{ℕ, ◌≡◌, ◌≢◌, ◌≤◌, ◌<◌, inl, inr, Bool, true, false, List, [], ◌∷◌, ◌++◌, length, Some, Result, Ok, Err, refl, sym, ◌∙◌, ap, subst}
 use Rattle.std.specs.Prelude.{IfOk, IfErr, IsTrue, ◌↔◌}
 use Rattle.std.proofs.lemmas.Bool.{both_ways, cases_lt}
 use Rattle.bpf_insn.specs.declared.insn.Insn.{Insn}
@@ -105,9 +105,9 @@ stays_failed size old new writer after event (Ok reply) serves failed = writes_n
 stays_failed size old new writer after event (Err fault) serves failed = elim (writer_refused writer after old.ring fault serves.1) as (λ _. after ≡ writer) [
   | inl same ↦ same
   | inr f ↦ elim f.fails as (λ _. after ≡ writer) [
-      | inl part ↦ absurd (both_ways writer.failed part.worked failed)
-      | inr before ↦ before.1
-    ]
+    | inl part ↦ absurd (both_ways writer.failed part.worked failed)
+    | inr before ↦ before.1
+  ]
 ]
 
 wrote_one : (size : ℕ) (c : ChannelState) (event : EventData) (bytes : ℕ) (d : ChannelState) (old new : WriterState) (more : List PieceData)

@@ -1,5 +1,5 @@
 -- What the calls of a core's channel did to whatever channel it held.
-use Rattle.std.proofs.Common.{ℕ, suc, zero, ◌+◌, ◌≡◌, ◌≢◌, ◌≤◌, ◌<◌, ◌⊎◌, inl, inr, true, false, if◌then◌else◌, List, [], ◌∷◌, ◌++◌, length, Option, None, Some, refl, sym, ◌∙◌, ap, subst, arith, drop, All}
+use Rattle.std.proofs.Common.{ℕ, suc, zero, ◌+◌, ◌≡◌, ◌≢◌, ◌≤◌, ◌<◌, ◌⊎◌, inl, inr, true, false, if◌then◌else◌, List, [], ◌∷◌, ◌++◌, length, Option, None, Some, refl, sym, ◌∙◌, ap, subst, arith, All}
 use Rattle.std.specs.Prelude.{slice_get}
 use Rattle.std.proofs.lemmas.List.{append_assoc, append-nil, length-append}
 use Rattle.std.proofs.lemmas.Bool.{cases_Bool}
@@ -11,10 +11,10 @@ use Rattle.rec_channel.specs.declared.limits.TheConstants.{MAX_VERSIONS}
 use Rattle.rec_channel.specs.Slots.{SlotState, with_version, one_frame_later, programs_in}
 use Rattle.rec_lane.specs.Offered.{OfferedFrame}
 use Rattle.rec_lane.specs.Parts.{Begins}
-use Rattle.rec_lane.specs.Pieces.{LaneSettings, PieceData, channel_of, channel_pieces, pieces_so_far, last_group}
+use Rattle.rec_lane.specs.Pieces.{LaneSettings, PieceData, channel_of, channel_pieces, pieces_so_far}
 use Rattle.rec_lane.specs.Lanes.{LaneState, HasMet, AreLeft, offered_now, running}
 use Rattle.rec_core.specs.declared.reply.Reply.{Reply}
-use Rattle.rec_core.specs.declared.reply.Reply.TheVariants.{Took, Installed, Sent, Wrote, Closed as HasClosed}
+use Rattle.rec_core.specs.declared.reply.Reply.TheVariants.{Installed, Sent, Wrote, Closed as HasClosed}
 use Rattle.rec_core.specs.declared.fault.CoreFault.{CoreFault}
 use Rattle.rec_core.specs.declared.fault.CoreFault.TheVariants.{Closed, RingFull, NothingToSend, NothingToWrite, VersionsFull, CountFull, Output, Memory}
 use Rattle.rec_core.specs.Openings.{IsFilter}
@@ -117,8 +117,8 @@ take_done size channel old lane met drawn pending frame reply is room o c h =
     let below : length c.offered < c.max = let m = h.max_is in let within = h.in_order.within in omega (arith, count, m, within, room) in
     let there : slice_get (programs_in c.history) o.version ≡ Some o.program = subst (λ (s : SlotState). slice_get (programs_in s.history) o.version ≡ Some o.program) h.slot_is o.program_is in
     let same : running lane.current o.version o.program ≡ o.program =
-        running_is c.history lane.current o.version o.program
-        (subst (λ v. IsOfHistory c.history v) (sym has.2.current_is) (last_is_of_history c.history c.offered h.in_order.met)) there in
+    running_is c.history lane.current o.version o.program
+    (subst (λ v. IsOfHistory c.history v) (sym has.2.current_is) (last_is_of_history c.history c.offered h.in_order.met)) there in
     let f : OfferedFrame = record { number = length c.offered; frame = frame; version = o.version; program = o.program; value = o.value } in
     let is_f : offered_now (lane_ready lane) o.version o.program frame o.value ≡ f = same_frame (lane_ready lane) o.version o.program o.program frame o.value (length c.offered) count same in
     let meets : MeetsLast c f = record {
@@ -130,18 +130,17 @@ take_done size channel old lane met drawn pending frame reply is room o c h =
     let ready = met_ready lane c.offered has.2 in
     let now : HasMet met (c.offered ++ f ∷ []) = subst (λ (x : OfferedFrame). HasMet met (c.offered ++ x ∷ [])) is_f (o.meets c.offered ready) in
     let made : pieces_so_far lane.settings (c.offered ++ f ∷ []) ≡ pieces_so_far lane.settings c.offered ++ o.given =
-        subst (λ (x : OfferedFrame). pieces_so_far lane.settings (c.offered ++ x ∷ []) ≡ pieces_so_far lane.settings c.offered ++ o.given) is_f (o.makes c.offered ready) in
+    subst (λ (x : OfferedFrame). pieces_so_far lane.settings (c.offered ++ x ∷ []) ≡ pieces_so_far lane.settings c.offered ++ o.given) is_f (o.makes c.offered ready) in
     let more : produced (frame_taken c f) ≡ produced c ++ o.given =
-        produced_open (frame_taken c f) has.0
-        ∙ (ap (λ s. pieces_so_far s (c.offered ++ f ∷ [])) (sym has.1)
-        ∙ (made
-        ∙ (ap (λ s. pieces_so_far s c.offered ++ o.given) has.1
-        ∙ ap (λ ps. ps ++ o.given) (sym (produced_open c has.0))))) in
-    (
+    produced_open (frame_taken c f) has.0
+    ∙ (ap (λ s. pieces_so_far s (c.offered ++ f ∷ [])) (sym has.1)
+    ∙ (made
+    ∙ (ap (λ s. pieces_so_far s c.offered ++ o.given) has.1
+    ∙ ap (λ ps. ps ++ o.given) (sym (produced_open c has.0))))) in (
       frame_taken c f,
       (let r = o.reply_is in let number = slot_offered old c size h in
-      subst (λ (answer : Reply). Does size c (OfTake channel frame) answer (frame_taken c f) []) (sym r)
-      (f, has.0, below, meets, refl, number, refl, refl, refl, refl)),
+          subst (λ (answer : Reply). Does size c (OfTake channel frame) answer (frame_taken c f) []) (sym r)
+          (f, has.0, below, meets, refl, number, refl, refl, refl, refl)),
       record {
         settings_are = h.settings_are;
         max_is = h.max_is;
@@ -189,8 +188,7 @@ pub take_refused : (size channel : ℕ) (old : ChannelParts) (lane met : LaneSta
 take_refused size channel old lane met drawn pending frame fault is room n c h =
     let has = its_lane old c size lane is h in
     let count : lane.offered ≡ length c.offered = has.2.offered_is in
-    let below : length c.offered < c.max = let m = h.max_is in let within = h.in_order.within in omega (arith, count, m, within, room) in
-    (
+    let below : length c.offered < c.max = let m = h.max_is in let within = h.in_order.within in omega (arith, count, m, within, room) in (
       subst (λ (e : CoreFault). Refuses size c (OfTake channel frame) e) (sym n.fault_is) (has.0, below),
       still_held size old c lane met drawn pending is n.slot_stays n.lane_stays n.pending_stays h,
     )
@@ -202,8 +200,7 @@ pub install_done : LaterLeave → (size channel : ℕ) (old : ChannelParts) (slo
     → DoesEvent size old (record old { slot = slot }) (OfInstall channel program) (Installed version mark) []
 install_done leave size channel old slot program version mark room filter placed marked added c h =
     let count : length old.slot.history ≡ length c.history = ap (λ (s : SlotState). length s.history) h.slot_is in
-    let below : length c.history < MAX_VERSIONS = omega (arith, count, room) in
-    (
+    let below : length c.history < MAX_VERSIONS = omega (arith, count, room) in (
       program_installed c program,
       (below, filter, placed ∙ count, marked ∙ slot_offered old c size h, refl, refl),
       record {
@@ -232,10 +229,9 @@ send_done size channel old piece rest first room c h =
     let all : produced c ≡ (q.gone ++ old.ring) ++ piece ∷ rest = q.produced_is ∙ (ap (λ ps. q.gone ++ (old.ring ++ ps)) first ∙ sym (append_assoc q.gone old.ring (piece ∷ rest))) in
     let place : length (q.gone ++ old.ring) ≡ c.sent = length-append q.gone old.ring ∙ sym q.sent_is in
     let next : slice_get (produced c) c.sent ≡ Some piece =
-        subst (λ n. slice_get (produced c) n ≡ Some piece) place (ap (λ ps. slice_get ps (length (q.gone ++ old.ring))) all ∙ get_behind (q.gone ++ old.ring) piece rest) in
+    subst (λ n. slice_get (produced c) n ≡ Some piece) place (ap (λ ps. slice_get ps (length (q.gone ++ old.ring))) all ∙ get_behind (q.gone ++ old.ring) piece rest) in
     let longer = length-append old.ring (piece ∷ []) in
-    let o = h.in_order in
-    (
+    let o = h.in_order in (
       piece_sent c,
       (piece, next, (let s = q.sent_is in let w = q.written_is in let e = h.size_is in omega (arith, s, w, e, room)), refl, refl, refl),
       record {
@@ -276,13 +272,12 @@ write_done size channel old piece bytes rest first long c h =
     let q = h.queued in
     let all : produced c ≡ q.gone ++ piece ∷ (rest ++ old.pending) = q.produced_is ∙ ap (λ ps. q.gone ++ (ps ++ old.pending)) first in
     let next : slice_get (produced c) c.written ≡ Some piece =
-        subst (λ n. slice_get (produced c) n ≡ Some piece) (sym q.written_is) (ap (λ ps. slice_get ps (length q.gone)) all ∙ get_behind q.gone piece (rest ++ old.pending)) in
+    subst (λ n. slice_get (produced c) n ≡ Some piece) (sym q.written_is) (ap (λ ps. slice_get ps (length q.gone)) all ∙ get_behind q.gone piece (rest ++ old.pending)) in
     let len = ap (λ (ps : List PieceData). length ps) first in
     let longer = length-append q.gone (piece ∷ []) in
     let s = q.sent_is in
     let w = q.written_is in
-    let o = h.in_order in
-    (
+    let o = h.in_order in (
       piece_written c,
       (piece, next, omega (arith, s, w, len), long, refl, refl),
       record {
@@ -361,11 +356,10 @@ close_done size channel old lane given is left c h =
     let has = its_lane old c size lane is h in
     let o = h.in_order in
     let more : produced (channel_closed c) ≡ produced c ++ given =
-        ap (λ s. channel_pieces s c.offered) (sym has.1)
-        ∙ (left c.offered has.2
-        ∙ (ap (λ s. pieces_so_far s c.offered ++ given) has.1
-        ∙ ap (λ ps. ps ++ given) (sym (produced_open c has.0)))) in
-    (
+    ap (λ s. channel_pieces s c.offered) (sym has.1)
+    ∙ (left c.offered has.2
+    ∙ (ap (λ s. pieces_so_far s c.offered ++ given) has.1
+    ∙ ap (λ ps. ps ++ given) (sym (produced_open c has.0)))) in (
       channel_closed c,
       (has.0, has.2.offered_is, has.2.kept_is, refl, refl),
       record {

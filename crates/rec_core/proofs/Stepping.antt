@@ -1,6 +1,6 @@
 -- A step of one channel is a step of the world, and steps are runs.
-use Rattle.std.proofs.Common.{ℕ, suc, zero, ◌+◌, ◌≡◌, ◌≢◌, ◌≤◌, ◌<◌, ◌⊎◌, inl, inr, Bool, true, false, List, [], ◌∷◌, ◌++◌, length, Option, None, Some, refl, sym, ◌∙◌, ap, subst, arith, map, All}
-use Rattle.std.specs.Prelude.{slice_get, slice_set, Result, Ok, Err, Contains, get_or}
+use Rattle.std.proofs.Common.{ℕ, suc, ◌≡◌, ◌≢◌, ◌⊎◌, inl, inr, true, List, [], ◌∷◌, ◌++◌, Option, Some, refl, sym, ◌∙◌, ap, subst, arith, All}
+use Rattle.std.specs.Prelude.{slice_get, slice_set, Result, Ok, Err, Contains}
 use Rattle.std.specs.List.{AllZip}
 use Rattle.std.proofs.lemmas.List.{append-nil}
 use Rattle.std.proofs.lemmas.Bool.{cases_eq, both_ways}
@@ -16,7 +16,7 @@ use Rattle.rec_core.specs.World.{ChannelState, WorldState, EventData, Refuses, S
 use Rattle.rec_core.specs.World.EventData.{OfTake, OfInstall, OfSend, OfWrite, OfClose}
 use Rattle.rec_core.specs.Worlds.{ChannelParts, CoreState, Holds, IsHeld, IsCutAtFront, StandsForWorld, StepsWorld, RunsWorld, channels_of_parts, IsCore}
 use Rattle.rec_core.specs.Steps.{Serves, Writes, FailsAt, LeavesWriter}
-use Rattle.rec_core.proofs.Lists.{set_there, set_elsewhere, set_unseen, map_there, there_map, All_there, All_from_places, zip_there, zip_back, zip_set, zip_set_left}
+use Rattle.rec_core.proofs.Lists.{set_there, set_elsewhere, there_map, All_there, All_from_places, zip_there, zip_back, zip_set, zip_set_left}
 
 abbrev core : List ChannelParts → WriterState → CoreState
 core channels writer = record { channels = channels; writer = writer }
@@ -144,8 +144,7 @@ pub served : (channels : List ChannelParts) (old new : WriterState) (at : ℕ) (
 served channels old new at p q event (Ok reply) there named grows version serves size first world s =
     let z = zip_there (Holds size) channels world.channels at p s.channels_are there in
     let serve = serves size in
-    let does = serve.1 z.0 z.2 in
-    (
+    let does = serve.1 z.0 z.2 in (
       world_after world at does.0 serve.0,
       (at, z.0, does.0, serve.0, stands_at size p z.0 world.channels (event_channel event) at z.1 z.2 named, does.1, refl),
       written_step size first channels old new world at p q does.0 serve.0 there grows serve.2 (zip_set (Holds size) channels world.channels at q does.0 s.channels_are does.2) s,
@@ -154,16 +153,15 @@ served channels old new at p q event (Err fault) there named grows version serve
     let z = zip_there (Holds size) channels world.channels at p s.channels_are there in
     let serve = serves size in
     let refuses = serve.0 z.0 z.2 in
-    let zip = zip_set_left (Holds size) channels world.channels at q z.0 s.channels_are z.1 refuses.1 in
-    (
+    let zip = zip_set_left (Holds size) channels world.channels at q z.0 s.channels_are z.1 refuses.1 in (
       world,
       refused_step size world event fault at z.0 (stands_at size p z.0 world.channels (event_channel event) at z.1 z.2 named) refuses.0,
       elim (writer_refused old new p.ring fault serve.1) as (λ _. StandsForWorld size first (core (slice_set channels at q) new) world) [
         | inl same ↦ silent size first channels old new world world at p q there grows same zip refl s
         | inr fails ↦ elim fails.fails as (λ _. StandsForWorld size first (core (slice_set channels at q) new) world) [
-            | inl puts ↦ failed_at size first channels old new world at p q fails.piece fails.rest there grows version fails.front puts zip s
-            | inr before ↦ silent size first channels old new world world at p q there grows before.1 zip refl s
-          ]
+          | inl puts ↦ failed_at size first channels old new world at p q fails.piece fails.rest there grows version fails.front puts zip s
+          | inr before ↦ silent size first channels old new world world at p q there grows before.1 zip refl s
+        ]
       ],
     )
 
@@ -171,17 +169,18 @@ served channels old new at p q event (Err fault) there named grows version serve
 pub of_none : (channels : List ChannelParts) (writer : WriterState) (event : EventData)
     → All (λ (other : ℕ). other ≢ event_channel event) (channels_of_parts channels)
     → StepsWorld (core channels writer) (core channels writer) event (Err NoChannel)
-of_none channels writer event none size first world s =
-    (
-      world,
-      (All_from_places (λ (c : ChannelState). c.settings.channel ≢ event_channel event) world.channels (λ k c is.
-          let z = zip_back (Holds size) channels world.channels k c s.channels_are is in
-          subst (λ (l : LaneSettings). l.channel ≢ event_channel event) z.2.settings_are
-          (All_there (λ (other : ℕ). other ≢ event_channel event) (channels_of_parts channels) k z.0.settings.channel none
-          (there_map (λ (p : ChannelParts). p.settings.channel) channels k z.0 z.1))),
-        refl),
-      s,
-    )
+of_none channels writer event none size first world s = (
+  world,
+  (
+    All_from_places (λ (c : ChannelState). c.settings.channel ≢ event_channel event) world.channels (λ k c is.
+        let z = zip_back (Holds size) channels world.channels k c s.channels_are is in
+        subst (λ (l : LaneSettings). l.channel ≢ event_channel event) z.2.settings_are
+        (All_there (λ (other : ℕ). other ≢ event_channel event) (channels_of_parts channels) k z.0.settings.channel none
+        (there_map (λ (p : ChannelParts). p.settings.channel) channels k z.0 z.1))),
+    refl,
+  ),
+  s,
+)
 
 -- ---- a core stays one
 
@@ -202,12 +201,11 @@ core_after old new event answer numbers channels steps is =
 -- its writer knows the channel that stands at an index, and the parts there are those of one
 pub known_at : (old : CoreState) (at : ℕ) (p : ChannelParts) → IsCore old → slice_get old.channels at ≡ Some p → Knows old.writer p.settings.channel
 known_at old at p is there =
-    let there_too : slice_get (channels_of_parts old.channels) at ≡ Some p.settings.channel = there_map (λ (q : ChannelParts). q.settings.channel) old.channels at p there in
-    (
+    let there_too : slice_get (channels_of_parts old.channels) at ≡ Some p.settings.channel = there_map (λ (q : ChannelParts). q.settings.channel) old.channels at p there in (
       All_there (λ (channel : ℕ). channel ≢ 0) (channels_of_parts old.channels) at p.settings.channel is.named there_too,
       subst (λ cs. Contains cs p.settings.channel) (sym is.known)
-      (let within = slice_get_within (channels_of_parts old.channels) at p.settings.channel there_too in
-      (suc at, omega (arith, within), get_or_from_slice_get (channels_of_parts old.channels) at p.settings.channel p.settings.channel there_too)),
+          (let within = slice_get_within (channels_of_parts old.channels) at p.settings.channel there_too in
+          (suc at, omega (arith, within), get_or_from_slice_get (channels_of_parts old.channels) at p.settings.channel p.settings.channel there_too)),
     )
 
 pub held_at : (old : CoreState) (at : ℕ) (p : ChannelParts) → IsCore old → slice_get old.channels at ≡ Some p → IsHeld p

@@ -1,5 +1,5 @@
 -- A write of the first piece of a channel's ring.
-use Rattle.std.proofs.Common.{ℕ, ◌≡◌, ◌⊎◌, inl, inr, true, List, [], ◌∷◌, ◌++◌, Some, refl, sym, subst, drop}
+use Rattle.std.proofs.Common.{ℕ, ◌≡◌, ◌⊎◌, inl, inr, true, List, [], ◌∷◌, Some, sym, subst, drop}
 use Rattle.std.specs.Prelude.{slice_get}
 use Rattle.rec_lane.specs.Pieces.{PieceData, channel_of}
 use Rattle.rec_writer.specs.Writers.{WriterState, Knows, PutsWhole, PutsPart, PutFails}
@@ -27,8 +27,7 @@ fails_of old new piece (Failed whole bytes) p = inr (p.0, p.1)
 pub write_fails : (size channel : ℕ) (parts : ChannelParts) (old new : WriterState) (piece : PieceData) (fault : WriteFault) → slice_get parts.ring 0 ≡ Some piece → PutFails old new piece fault
     → RefusesEvent size parts parts (OfWrite channel) Output × FailsAt old new parts.ring
 write_fails size channel parts old new piece fault first p =
-    let front = first_is parts.ring piece first in
-    (
+    let front = first_is parts.ring piece first in (
       write_failed size channel parts piece (drop 1 parts.ring) front,
       record { piece = piece; rest = drop 1 parts.ring; front = front; fails = fails_of old new piece fault p },
     )
@@ -42,10 +41,9 @@ ring_of parts = record { places = parts.places; pieces = parts.ring }
 
 pub write_writes : (size channel : ℕ) (parts : ChannelParts) (ring : RingState) (old new : WriterState) (piece : PieceData) (bytes : ℕ) → slice_get parts.ring 0 ≡ Some piece → ring ≡ without_first (ring_of parts) → HasPacketLen piece bytes → PutsWhole old new piece
     → (more : List PieceData) × DoesEvent size parts (with_ring parts ring) (OfWrite channel) (Wrote bytes) more × Writes old new more
-write_writes size channel parts ring old new piece bytes first popped long puts =
-    (
-      piece ∷ [],
-      subst (λ (r : RingState). DoesEvent size parts (with_ring parts r) (OfWrite channel) (Wrote bytes) (piece ∷ [])) (sym popped)
+write_writes size channel parts ring old new piece bytes first popped long puts = (
+  piece ∷ [],
+  subst (λ (r : RingState). DoesEvent size parts (with_ring parts r) (OfWrite channel) (Wrote bytes) (piece ∷ [])) (sym popped)
       (write_done size channel parts piece bytes (drop 1 parts.ring) (first_is parts.ring piece first) long),
-      puts,
-    )
+  puts,
+)

@@ -1,5 +1,5 @@
 -- What a run has written of each channel.
-use Rattle.std.proofs.Common.{ℕ, suc, zero, ◌+◌, ◌≡◌, ◌≢◌, ◌≤◌, ◌<◌, ◌⊎◌, inl, inr, Bool, true, false, List, [], ◌∷◌, ◌++◌, length, Option, None, Some, refl, sym, ◌∙◌, ap, subst, arith, map, All, cond, eq-eqb}
+use Rattle.std.proofs.Common.{ℕ, suc, ◌≡◌, ◌≢◌, inl, inr, true, false, List, [], ◌∷◌, ◌++◌, length, Option, None, Some, refl, sym, ◌∙◌, ap, subst, arith, map, All, cond, eq-eqb}
 use Rattle.std.specs.Prelude.{slice_get, slice_set, ◌==◌, Result, Ok, Err}
 use Rattle.std.specs.List.{filter, Any}
 use Rattle.std.proofs.lemmas.Bool.{cases_Bool, both_ways, eqb-true}

@@ -56,11 +56,7 @@ impl Channel {
     ghost use Rattle.rec_core.specs.Views.{spec_data, channel_parts, event_data};
 
     /// A channel of which nothing was taken. Its ring has room for this many pieces.
-    pub(crate) fn new(
-        alloc: Global,
-        spec: &ChannelSpec,
-        ring: usize,
-    ) -> Result<Channel, AllocError>
+    pub(crate) fn new(alloc: Global, spec: &ChannelSpec, ring: usize) -> Result<Channel, AllocError>
         ensures opening { IfOk result (λ c.
             Holds ring (channel_parts c) (opening_channel (spec_data spec.now))) }
         ensures spec { IfOk result (λ c. c.spec ≡ spec.now.lane) }

@@ -1,6 +1,6 @@
 //! The core: channels and the one writer, which do one event after another.
 
-ghost use Rattle.std.specs.Prelude.{ℕ, ◌≡◌, ◌≢◌, ◌<◌, ◌≤◌, ◌∷◌, [], true, length, map, vec_len, Some, slice_get, IfOk, IfErr, IfSome, IfNone, All};
+ghost use Rattle.std.specs.Prelude.{ℕ, ◌≡◌, ◌≢◌, ◌<◌, ◌≤◌, ◌∷◌, [], true, false, length, map, vec_len, Some, slice_get, IfOk, IfErr, IfSome, IfNone, All};
 ghost use Rattle.std.specs.List.{AllZip};
 ghost use Rattle.rec_core.specs.Openings.{HaveFilters, channels_of_specs};
 ghost use Rattle.rec_core.specs.World.{opening_channel};
@@ -65,7 +65,9 @@ impl<W: Write + Drop> World<W> {
         ensures opening { IfOk result (λ world. StandsForWorld ring (W.contents out) world
             (opening_world (specs_data specs.now))) }
         ensures filters { IfOk result (λ world. HaveFilters (specs_data specs.now)) }
+        // Its writer has this version, and its output has not failed.
         ensures version { IfOk result (λ world. world.writer.version ≡ version) }
+        ensures works { IfOk result (λ world. world.writer.failed ≡ false) }
     {
         let channels = open_channels(alloc, specs, ring)?;
         let writer = Writer::new(out, channels_of(specs).as_slice(), version);

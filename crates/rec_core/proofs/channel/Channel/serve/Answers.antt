@@ -1,4 +1,4 @@
-use Rattle.std.proofs.Common.{ℕ, subst, sym, ap}
+use Rattle.std.proofs.Common.{ℕ, subst, sym}
 use Rattle.std.specs.Arc.{arc_value}
 use Rattle.rec_core.specs.declared.event.Event.{Event}
 use Rattle.rec_core.specs.World.EventData.{OfTake, OfInstall, OfSend, OfClose}
