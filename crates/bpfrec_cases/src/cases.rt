@@ -6,7 +6,7 @@ pub(crate) const ARP: &str = "ffffffffffff0200000000010806";
 pub(crate) const IPV4: &str = "ffffffffffff020000000001080045";
 
 /// The words of each run.
-pub(crate) static CASES: [&[&str]; 97] = [
+pub(crate) static CASES: [&[&str]; 108] = [
     // programs that may be installed, and what they return
     &["verify", "arp"],
     &["verify", "arp_lines"],
@@ -87,6 +87,17 @@ pub(crate) static CASES: [&[&str]; 97] = [
     &["list", "recordings/bad_length.ch11"],
     &["list", "recordings/bad_body.ch11"],
     &["list", "arp"],
+    // recordings that are judged, or can't be
+    &["audit", "recordings/two_versions.ch11"],
+    &["audit", "recordings/frames.ch11"],
+    &["audit", "recordings/secondary_header.ch11"],
+    &["audit", "recordings/setup.ch11"],
+    &["audit", "recordings/passed.ch11"],
+    &["audit", "empty"],
+    &["audit", "recordings/cut_to_210.ch11"],
+    &["audit", "recordings/bad_checksum.ch11"],
+    &["audit", "recordings/bad_body.ch11"],
+    &["audit", "nowhere"],
     // files that can't be read, or are no text
     &["verify", "nowhere"],
     &["verify", "."],
@@ -108,6 +119,7 @@ pub(crate) static CASES: [&[&str]; 97] = [
     &["dis", "arp", "arp"],
     &["list"],
     &["list", "arp", "arp"],
+    &["audit"],
     &["extract", "recordings/two_versions.ch11", "1"],
     &["extract"],
     &["assemble", "arp"],
@@ -116,7 +128,7 @@ pub(crate) static CASES: [&[&str]; 97] = [
 ];
 
 /// Words that ask for help.
-pub(crate) static HELP: [&[&str]; 10] = [
+pub(crate) static HELP: [&[&str]; 11] = [
     &["--help"],
     &["-h"],
     &["help"],
@@ -125,6 +137,7 @@ pub(crate) static HELP: [&[&str]; 10] = [
     &["asm", "--help"],
     &["help", "dis"],
     &["list", "--help"],
+    &["audit", "--help"],
     &["extract", "--help"],
     &["help", "extract"],
 ];

@@ -4,11 +4,13 @@
 //! is the record of all that the program prints.
 #![tactic(auto)]
 
+mod audits;
 mod cases;
 mod extracts;
 mod records;
 mod texts;
 
+use audits::show_audits;
 use cases::{CASES, HELP};
 use extracts::{EXTRACTS, ExtractCase};
 use records::{show_answers, show_records};
@@ -42,7 +44,8 @@ fn main(rt: HostRuntime) -> io::Result<()> {
     }
     show_piped(&rt)?;
     show_closed_output(&rt)?;
-    show_records(&rt)
+    show_records(&rt)?;
+    show_audits(&rt)
 }
 
 /// One case.
@@ -158,11 +161,7 @@ struct Run {
 }
 
 /// Runs the program on these words and this input.
-fn run_program<
-    R: AllocGlobal + Files + Threads + Wait + Sync,
-    I: Read + Send + Drop,
-    O: Write,
->(
+fn run_program<R: AllocGlobal + Files + Threads + Wait + Sync, I: Read + Send + Drop, O: Write>(
     rt: &R,
     words: &[&str],
     input: I,
@@ -191,7 +190,7 @@ where
     let Run { errors, status } = run_program(rt, words, b"".as_slice(), &mut output)?;
     title(rt, words)?;
     for name in [
-        "asm", "dis", "verify", "run", "extract", "FILE", "HEX", "CHANNEL", "OUT", "Usage",
+        "asm", "dis", "verify", "run", "audit", "extract", "FILE", "HEX", "CHANNEL", "OUT", "Usage",
     ] {
         if text(&output).contains(name) {
             println!(rt; "names {name}")?;
@@ -216,6 +215,7 @@ where
             "recordings/two_versions.ch11",
             &["extract", "-", "1", "feed_piped"],
         ),
+        ("recordings/two_versions.ch11", &["audit", "-"]),
         ("recordings/cut_to_210.ch11", &["list", "-"]),
         (
             "recordings/cut_to_210.ch11",
@@ -256,6 +256,8 @@ where
         &["verify", "no_return"],
         &["run", "arp", ""],
         &["list", "recordings/two_versions.ch11"],
+        &["audit", "recordings/two_versions.ch11"],
+        &["audit", "recordings/frames.ch11"],
         &[
             "extract",
             "recordings/two_versions.ch11",

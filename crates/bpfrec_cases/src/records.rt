@@ -104,11 +104,7 @@ where
 pub(crate) fn show_answers<
     R: AllocGlobal + Files + Print + Threads + Wait + Sync,
     I: Read + Send + Drop,
->(
-    rt: &R,
-    words: &[&str],
-    input: I,
-) -> io::Result<()>
+>(rt: &R, words: &[&str], input: I) -> io::Result<()>
 where
     R::File: Send,
     R::Dir: Send,

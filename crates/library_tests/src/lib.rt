@@ -5,6 +5,8 @@
 #[cfg(test)]
 mod assembler;
 #[cfg(test)]
+mod audit;
+#[cfg(test)]
 mod channel;
 #[cfg(test)]
 mod command_line;
@@ -30,5 +32,7 @@ mod settings;
 mod shared;
 #[cfg(test)]
 mod verifier;
+#[cfg(test)]
+mod world;
 #[cfg(test)]
 mod writer;

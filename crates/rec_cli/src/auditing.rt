@@ -27,7 +27,7 @@ pub(crate) fn audit_recording<'a, R: AllocGlobal + Files, I: Read, O: Write>(
 
 /// Prints a line for each channel, and how many packets hold something else.
 fn print_audit<O: Write>(output: &mut O, audited: &Audit) -> io::Result<()> {
-    'channels: for line in &audited.channels {
+    'channels: for line in audited.channels.as_slice() {
         let AuditLine {
             channel,
             programs,
