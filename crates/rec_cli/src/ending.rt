@@ -4,13 +4,12 @@ ghost use Rattle.std.specs.Prelude.{◌<◌};
 
 use crate::output::finish;
 use crate::recording::RecordingFault;
-use rec_words::SettingsFault;
-use rec_words::ViewFault;
 use bpf_asm::AsmFault;
 use bpf_dis::DisFault;
 use bpf_insn::ListingFault;
 use bpf_verify::Refused;
 use rec_reader::{AuditFault, ReadEnd, ReadFaultKind};
+use rec_words::{SettingsFault, ViewFault};
 use std::alloc::{AllocError, AllocFailed};
 use std::io;
 use std::io::{ErrorKind, Write};

@@ -7,10 +7,10 @@ ghost use Rattle.rec_cli.specs.Lines.{AnswersLines, RunsOn, without_return};
 use crate::ending::Ending;
 use crate::input::whole_text;
 use crate::output::print_outcome;
-use rec_words::view_of;
 use bpf_insn::parse_listing;
 use bpf_machine::{Outcome, run};
 use bpf_verify::verify;
+use rec_words::view_of;
 use std::alloc::Global;
 use std::io::{Read, Write};
 

@@ -80,7 +80,9 @@ pub(crate) fn channel_of(
     fields: &str,
     limit: Limit,
 ) -> Result<ChannelSpec, LineFault> {
-    let (lane, fields) = lane_in(fields, limit).ok_or(LineFault::Shape)?;
+    let Some((lane, fields)) = lane_in(fields, limit) else {
+        return Err(LineFault::Shape);
+    };
     let (max, listing) = fields.split_once(' ').ok_or(LineFault::Shape)?;
     Ok(ChannelSpec {
         lane,
@@ -129,11 +131,11 @@ fn take_of(alloc: Global, channel: u16, fields: &str) -> Result<Event, LineFault
     let counter = number_in(counter, u64::MAX).ok_or(LineFault::Shape)?;
     let marks = number_in(marks, 3).ok_or(LineFault::Shape)?;
     let bytes = hex::decode(alloc, digits)?;
-    let frame = Frame::new(counter, marks % 2 == 1, marks / 2 == 1, bytes.as_slice());
-    Ok(Event::Take {
-        channel,
-        frame: frame.ok_or(LineFault::Shape)?.to_owned(alloc)?,
-    })
+    let frame = match Frame::new(counter, marks % 2 == 1, marks / 2 == 1, bytes.as_slice()) {
+        Some(frame) => frame.to_owned(alloc)?,
+        None => return Err(LineFault::Shape),
+    };
+    Ok(Event::Take { channel, frame })
 }
 
 /// The program that a listing has, if it is valid.

@@ -48,7 +48,11 @@ pub(crate) fn simulate_script<'a, R: AllocGlobal + Files, I: Read, O: Write>(
         return Err(Ending::Script(first.number));
     };
     let (channels, events) = split_channels(rest);
-    let Recorder { limit, ring, version } = recorder;
+    let Recorder {
+        limit,
+        ring,
+        version,
+    } = recorder;
     let specs = specs_of(alloc, limit, channels)?;
     if !specs_ok(specs.as_slice()) {
         // each was tested where it was read, so there is none

@@ -2,11 +2,11 @@
 
 use super::programs::{ProgramFault, program_in};
 use crate::ending::Ending;
-use rec_words::{ChannelSettings, Settings};
 use ch11_packet::Limit;
 use eth_frame::FeedSource;
 use rec_lane::LaneSpec;
 use rec_run::Job;
+use rec_words::{ChannelSettings, Settings};
 use std::fs;
 use std::io::BufReader;
 use std::rt::Files;
