@@ -6,7 +6,7 @@ pub(crate) const ARP: &str = "ffffffffffff0200000000010806";
 pub(crate) const IPV4: &str = "ffffffffffff020000000001080045";
 
 /// The words of each run.
-pub(crate) static CASES: [&[&str]; 108] = [
+pub(crate) static CASES: [&[&str]; 111] = [
     // programs that may be installed, and what they return
     &["verify", "arp"],
     &["verify", "arp_lines"],
@@ -122,13 +122,16 @@ pub(crate) static CASES: [&[&str]; 108] = [
     &["audit"],
     &["extract", "recordings/two_versions.ch11", "1"],
     &["extract"],
+    &["simulate"],
+    &["simulate", "nowhere"],
+    &["simulate", "not_utf8"],
     &["assemble", "arp"],
     &["--quiet"],
     &["verify", "--", "--arp"],
 ];
 
 /// Words that ask for help.
-pub(crate) static HELP: [&[&str]; 11] = [
+pub(crate) static HELP: [&[&str]; 12] = [
     &["--help"],
     &["-h"],
     &["help"],
@@ -140,4 +143,5 @@ pub(crate) static HELP: [&[&str]; 11] = [
     &["audit", "--help"],
     &["extract", "--help"],
     &["help", "extract"],
+    &["simulate", "--help"],
 ];

@@ -8,12 +8,14 @@ mod audits;
 mod cases;
 mod extracts;
 mod records;
+mod scripts;
 mod texts;
 
 use audits::show_audits;
 use cases::{CASES, HELP};
 use extracts::{EXTRACTS, ExtractCase};
 use records::{show_answers, show_records};
+use scripts::show_scripts;
 use std::alloc::AllocError;
 use std::io::{ErrorKind, Read, Write};
 use std::rt::Files;
@@ -45,7 +47,8 @@ fn main(rt: HostRuntime) -> io::Result<()> {
     show_piped(&rt)?;
     show_closed_output(&rt)?;
     show_records(&rt)?;
-    show_audits(&rt)
+    show_audits(&rt)?;
+    show_scripts(&rt)
 }
 
 /// One case.
@@ -190,7 +193,8 @@ where
     let Run { errors, status } = run_program(rt, words, b"".as_slice(), &mut output)?;
     title(rt, words)?;
     for name in [
-        "asm", "dis", "verify", "run", "audit", "extract", "FILE", "HEX", "CHANNEL", "OUT", "Usage",
+        "asm", "dis", "verify", "run", "audit", "extract", "simulate", "FILE", "HEX", "CHANNEL",
+        "OUT", "Usage",
     ] {
         if text(&output).contains(name) {
             println!(rt; "names {name}")?;

@@ -156,7 +156,13 @@ where
     println!(rt; "# {} events", ROUNDS.wrapping_mul(5))?;
     title(rt, &words)?;
     for word in [
-        "took", "installed", "sent", "wrote", "refused 4", "refused 5", "refused 6",
+        "took",
+        "installed",
+        "sent",
+        "wrote",
+        "refused 4",
+        "refused 5",
+        "refused 6",
     ] {
         let count = text(&output)
             .lines()
