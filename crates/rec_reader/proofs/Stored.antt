@@ -14,13 +14,11 @@ use Rattle.ch11_packet.specs.declared.records.record.Record.{Record}
 use Rattle.ch11_packet.specs.declared.records.record.Record.TheVariants.{Program as AProgram, End as AnEnd}
 use Rattle.ch11_packet.specs.Header.{HeaderData}
 use Rattle.ch11_packet.specs.Classes.{Holds, data_in}
-use Rattle.ch11_packet.specs.Records.{program_spelling}
 use Rattle.ch11_packet.specs.RecordsRead.{RecordData, SpellsRecord, stored_insns}
 use Rattle.ch11_packet.specs.RecordsRead.RecordData.{OfProgram as ProgramSaid}
 use Rattle.ch11_packet.specs.Views.{record_data, record_insns}
 use Rattle.ch11_packet.proofs.StoredInsns.{length-stored_insns, stored_insns-flat_map}
-use Rattle.rec_reader.specs.declared.audits.channel.ChannelProgram.{ChannelProgram}
-use Rattle.rec_reader.specs.Channels.{Saying, saying_in, stored_program}
+use Rattle.rec_reader.specs.Channels.{saying_in}
 use Rattle.rec_reader.specs.Channels.Saying.{OfProgram}
 use Rattle.rec_reader.specs.Views.{program_data}
 
@@ -31,49 +29,27 @@ stored_are channel version first count insns bytes spells e =
     ∙ ap (λ n. stored_insns n (flat_map insn_bytes insns)) (sym e)
     ∙ stored_insns-flat_map insns (recursion_from_All InRange insns spells.0.insns_fit)
 
-same_program : (version first : ℕ) (insns : List Insn) (v f : ℕ) (i : List Insn) → version ≡ v → first ≡ f → insns ≡ i
-    → ◌≡◌ {A = ChannelProgram} (record { version = version; first = first; insns = insns }) (record { version = v; first = f; insns = i })
-same_program version first insns v f i ev ef ei = cc
-
--- a record that says this is a program, and it says this
-is_program : (found : Record) (channel version first : ℕ) (insns : List Insn) → record_data found ≡ ProgramSaid channel version first insns
-    → (program : ProgramRecord) × (found ≡ AProgram program) × (program.channel ≡ channel) × (program_data program ≡ record { version = version; first = first; insns = insns })
-is_program (AProgram program) channel version first insns e =
-    let v : program.version ≡ version = cc in
-    let f : program.first ≡ first = cc in
-    let i : record_insns program ≡ insns = cc in
-    (program, refl, cc, same_program program.version program.first (record_insns program) version first insns v f i)
+-- a record that says this is a program
+is_program : (found : Record) (channel version first : ℕ) (insns : List Insn) → record_data found ≡ ProgramSaid channel version first insns → (program : ProgramRecord) × (found ≡ AProgram program)
+is_program (AProgram program) channel version first insns e = (program, refl)
 is_program (AnEnd channel offered kept) other version first insns e = cc
-
--- what is decoded of data that hold a program
-pub record Decoded {E : Type 0} (answer : Result (Option Record) E) (own : ℕ) (what : What) (bytes : List ℕ) : Type 0 where
-  pub program : ProgramRecord
-  pub is : answer ≡ Ok (Some (AProgram program))
-  pub says : saying_in own what bytes ≡ Some (program.channel, OfProgram (program_data program))
 
 decoded_some : {E : Type 0} (answer : Result (Option Record) E) (said : RecordData) → IsOkAnd answer (λ read. option_map record_data read ≡ Some said) → (found : Record) × (answer ≡ Ok (Some found)) × (record_data found ≡ said)
 decoded_some (Ok None) said h = cc
 decoded_some (Ok (Some found)) said h = (found, refl, cc)
 decoded_some (Err fault) said h = absurd h
 
-pub decoded_program : {E : Type 0} (header : HeaderData) (body bytes : List ℕ) (what : What) (channel version first count : ℕ) (answer : Result (Option Record) E)
+decoded_program : {E : Type 0} (header : HeaderData) (body bytes : List ℕ) (what : What) (channel version first count : ℕ) (answer : Result (Option Record) E)
     → bytes ≡ data_in header body → what ≡ Program channel version first count
     → ((said : RecordData) → SpellsRecord said bytes → IsOkAnd answer (λ read. option_map record_data read ≡ Some said))
-    → Holds header body what → Decoded answer header.channel what bytes
+    → Holds header body what → (program : ProgramRecord) × (answer ≡ Ok (Some (AProgram program)))
 decoded_program header body bytes what channel version first count answer is held read holds =
     let known = subst (Holds header body) held holds in
     let insns = known.1 in
     let spells = subst (SpellsRecord (ProgramSaid channel version first insns)) (sym is) known.2 in
     let found = decoded_some answer (ProgramSaid channel version first insns) (read (ProgramSaid channel version first insns) spells) in
     let program = is_program found.0 channel version first insns found.2 in
-    record {
-      program = program.0;
-      is = found.1 ∙ ap (λ (r : Record). Ok (Some r)) program.1;
-      says = ap (λ w. saying_in header.channel w bytes) held
-          ∙ ap (λ i. Some (channel, OfProgram (record { version = version; first = first; insns = i }))) (stored_are channel version first count insns bytes spells known.3)
-          ∙ ap (λ p. Some (channel, OfProgram p)) (sym program.3)
-          ∙ ap (λ c. Some (c, OfProgram (program_data program.0))) (sym program.2);
-    }
+    (program.0, found.1 ∙ ap (λ (r : Record). Ok (Some r)) program.1)
 
 -- data that hold a program are decoded as one
 pub decoded_other : {E : Type 0} (header : HeaderData) (body bytes : List ℕ) (what : What) (channel version first count : ℕ) (answer other : Result (Option Record) E)
@@ -82,7 +58,7 @@ pub decoded_other : {E : Type 0} (header : HeaderData) (body bytes : List ℕ) (
     → answer ≡ other → ((program : ProgramRecord) → other ≡ Ok (Some (AProgram program)) → ⊥) → Holds header body what → ⊥
 decoded_other header body bytes what channel version first count answer other is held read same apart holds =
     let decoded = decoded_program header body bytes what channel version first count answer is held read holds in
-    apart decoded.program (sym same ∙ decoded.is)
+    apart decoded.0 (sym same ∙ decoded.1)
 
 pub spelled_program : (read : Option Record) (found : Record) (program : ProgramRecord) (bytes : List ℕ) → IfSome read (λ r. SpellsRecord (record_data r) bytes) → read ≡ Some found → found ≡ AProgram program
     → SpellsRecord (record_data (AProgram program)) bytes

@@ -18,7 +18,7 @@ use Rattle.rec_reader.specs.Audits.{Judges, EachPasses, StopsAt, IsJudgement, ot
 abbrev pub counted : ℕ → Option ℕ
 counted n = if nat_lt n (2 ^ 64) then Some n else None
 
--- a count with so many more
+-- a count with a number more
 abbrev pub counted_more : Option ℕ → (more : ℕ) → Option ℕ
 counted_more None more = None
 counted_more (Some n) more = counted (n + more)
@@ -100,7 +100,7 @@ Walks packets (Err fault) = (fault ≡ Memory) ⊎ StopsAt packets fault
 
 -- this was answered of a packet that says this of a channel of which this is kept
 abbrev pub JudgesState :
-    (place : ℕ) → ChannelState → Saying → Result (Unit {0}) AuditFault → Type 0
-JudgesState place state saying (Ok answer) = IsJudgement place state.end saying state.last None
-JudgesState place state saying (Err fault) =
-    (fault ≡ Memory) ⊎ IsJudgement place state.end saying state.last (Some fault)
+    (number : ℕ) → ChannelState → Saying → Result (Unit {0}) AuditFault → Type 0
+JudgesState number state saying (Ok answer) = IsJudgement number state.end saying state.last None
+JudgesState number state saying (Err fault) =
+    (fault ≡ Memory) ⊎ IsJudgement number state.end saying state.last (Some fault)

@@ -8,7 +8,7 @@ use Rattle.bpf_machine.specs.Machine.{Runs}
 use Rattle.eth_frame.specs.declared.frame.TheConstants.{MIN_FRAME_LEN}
 use Rattle.eth_frame.specs.Frame.{view}
 use Rattle.ch11_packet.specs.declared.class.What.{What}
-use Rattle.ch11_packet.specs.declared.class.What.TheVariants.{Frames, Program, End, Other}
+use Rattle.ch11_packet.specs.declared.class.What.TheVariants.{Other}
 use Rattle.ch11_packet.specs.FramesRead.{ReadFrameData, frame_in}
 use Rattle.rec_reader.specs.declared.audits.answer.Audit.{Audit}
 use Rattle.rec_reader.specs.declared.audits.answer.AuditLine.{AuditLine}
@@ -65,23 +65,23 @@ abbrev pub Follows : Option ChannelProgram → ChannelProgram → Type 0
 Follows None program = program.first ≡ 0
 Follows (Some last) program = (last.version < program.version) × (last.first < program.first)
 
--- what is answered of a packet that says this of its channel, by the place of the packet and the
+-- what is answered of a packet that says this of its channel, by the packet's number and the
 -- channel's end and last program before it: a fault, or none.
 -- A packet after the end is out of order. Frames need a program, and it accepts each; else the
 -- first one that it doesn't accept is answered. A program may come next, or is out of order; and it
 -- is valid. An end is in order.
 abbrev pub IsJudgement :
-    (place : ℕ) → Option ChannelEnd → Saying → Option ChannelProgram → Option AuditFault → Type 0
-IsJudgement place (Some end) saying last answer = answer ≡ Some (Order place)
-IsJudgement place None (OfFrames frames) None answer = answer ≡ Some (NoProgram place)
-IsJudgement place None (OfFrames frames) (Some program) None = All (Accepts program.insns) frames
-IsJudgement place None (OfFrames frames) (Some program) (Some fault) =
-    (number : ℕ) × (fault ≡ NotAccepted place number) × RefusesFirst program.insns frames number
-IsJudgement place None (OfProgram program) last None = Follows last program × Valid program.insns
-IsJudgement place None (OfProgram program) last (Some fault) =
-    ((fault ≡ Order place) × ¬ Follows last program)
-    ⊎ ((fault ≡ BadProgram place) × Follows last program × ¬ Valid program.insns)
-IsJudgement place None (OfEnd end) last answer = answer ≡ None
+    (number : ℕ) → Option ChannelEnd → Saying → Option ChannelProgram → Option AuditFault → Type 0
+IsJudgement number (Some end) saying last answer = answer ≡ Some (Order number)
+IsJudgement number None (OfFrames frames) None answer = answer ≡ Some (NoProgram number)
+IsJudgement number None (OfFrames frames) (Some program) None = All (Accepts program.insns) frames
+IsJudgement number None (OfFrames frames) (Some program) (Some fault) =
+    (frame : ℕ) × (fault ≡ NotAccepted number frame) × RefusesFirst program.insns frames frame
+IsJudgement number None (OfProgram program) last None = Follows last program × Valid program.insns
+IsJudgement number None (OfProgram program) last (Some fault) =
+    ((fault ≡ Order number) × ¬ Follows last program)
+    ⊎ ((fault ≡ BadProgram number) × Follows last program × ¬ Valid program.insns)
+IsJudgement number None (OfEnd end) last answer = answer ≡ None
 
 -- what is answered of a packet after these, by the channel that it names and what it says of it; a
 -- packet that names no channel has no fault

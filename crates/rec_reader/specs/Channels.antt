@@ -84,6 +84,6 @@ last_program channel packets = last_or None (programs_of channel packets)
 abbrev pub last_end : (channel : ℕ) → List PacketData → Option ChannelEnd
 last_end channel packets = last_or None (ends_of channel packets)
 
--- a count or a place as it is told: at 2^64 - 1 it stays
+-- a count or a number as it is reported: from 2^64 - 1 on it stays there
 abbrev pub capped : ℕ → ℕ
 capped n = min n (2 ^ 64 - 1)

@@ -57,7 +57,7 @@ impl Auditor {
         // The answer.
         ensures walks { (packets : List PacketData) → StandsFor self.old packets
             → Walks (packets ++ packet_data packet.now ∷ []) result }
-        ensures told { MatchResult result
+        ensures fault { MatchResult result
             (λ _. fault_in self.new ≡ None) (λ fault. fault_in self.new ≡ Some fault) }
         ensures again { (fault : AuditFault) → fault_in self.old ≡ Some fault
             → (self.new ≡ self.old) × (result ≡ Err fault) }
@@ -124,19 +124,19 @@ impl Auditor {
 fn take_said(
     alloc: Global,
     channels: &mut BTreeMap<u16, ChannelState>,
-    place: u64,
+    number: u64,
     channel: u16,
     said: &Said<'_>,
 ) -> Result<(), AuditFault>
-    ensures judged { JudgesState place (state_of channels.old channel) (said_data said.now) result }
+    ensures judged { JudgesState number (state_of channels.old channel) (said_data said.now) result }
     ensures set { OnOk result (SetsState channels.old channel
         (state_after (state_of channels.old channel) (said_data said.now)) channels.new) }
 {
     match channels.get_mut(&channel) {
-        Some(state) => state.take(alloc, place, said),
+        Some(state) => state.take(alloc, number, said),
         None => {
             let mut state = ChannelState::unnamed();
-            state.take(alloc, place, said)?;
+            state.take(alloc, number, said)?;
             channels.insert(channel, state)?;
             Ok(())
         }

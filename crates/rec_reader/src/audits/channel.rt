@@ -57,17 +57,17 @@ impl ChannelState {
         }
     }
 
-    /// Takes what the packet with this number says of the channel, or tells its fault.
-    pub fn take(&mut self, alloc: Global, place: u64, said: &Said<'_>) -> Result<(), AuditFault>
-        ensures judged { JudgesState place self.old (said_data said.now) result }
+    /// Takes what the packet with this number says of the channel, or returns its fault.
+    pub fn take(&mut self, alloc: Global, number: u64, said: &Said<'_>) -> Result<(), AuditFault>
+        ensures judged { JudgesState number self.old (said_data said.now) result }
         ensures state { OnOk result (self.new ≡ state_after self.old (said_data said.now)) }
     {
         if self.end.is_some() {
-            return Err(AuditFault::Order { packet: place });
+            return Err(AuditFault::Order { packet: number });
         }
         match said {
-            Said::Frames(frames) => self.take_frames(place, frames),
-            Said::Program(program) => self.take_program(alloc, place, program),
+            Said::Frames(frames) => self.take_frames(number, frames),
+            Said::Program(program) => self.take_program(alloc, number, program),
             Said::End(end) => {
                 self.end = Some(*end);
                 Ok(())
@@ -76,17 +76,17 @@ impl ChannelState {
     }
 
     /// Takes the frames of a packet, before the channel's end.
-    fn take_frames(&mut self, place: u64, frames: &Frames<'_>) -> Result<(), AuditFault>
+    fn take_frames(&mut self, number: u64, frames: &Frames<'_>) -> Result<(), AuditFault>
         requires { self.old.end ≡ None }
-        ensures judged { JudgesState place self.old (OfFrames frames.now) result }
+        ensures judged { JudgesState number self.old (OfFrames frames.now) result }
         ensures state { OnOk result (self.new ≡ state_after self.old (OfFrames frames.now)) }
     {
         let Some(last) = &self.last else {
-            return Err(AuditFault::NoProgram { packet: place });
+            return Err(AuditFault::NoProgram { packet: number });
         };
         if let Some(frame) = first_refused(&last.insns, frames) {
             return Err(AuditFault::NotAccepted {
-                packet: place,
+                packet: number,
                 frame,
             });
         }
@@ -98,20 +98,20 @@ impl ChannelState {
     fn take_program(
         &mut self,
         alloc: Global,
-        place: u64,
+        number: u64,
         program: &ProgramRecord<'_>,
     ) -> Result<(), AuditFault>
         requires { self.old.end ≡ None }
-        ensures judged { JudgesState place self.old (OfProgram (program_data program.now)) result }
+        ensures judged { JudgesState number self.old (OfProgram (program_data program.now)) result }
         ensures state { OnOk result
             (self.new ≡ state_after self.old (OfProgram (program_data program.now))) }
     {
         if !self.is_followed_by(program) {
-            return Err(AuditFault::Order { packet: place });
+            return Err(AuditFault::Order { packet: number });
         }
         let insns = match verify(stored_insns(alloc, program)?) {
             Ok(insns) => insns,
-            Err(_) => return Err(AuditFault::BadProgram { packet: place }),
+            Err(_) => return Err(AuditFault::BadProgram { packet: number }),
         };
         self.programs = self.programs.saturating_add(1);
         self.last = Some(ChannelProgram {
@@ -156,7 +156,7 @@ impl ChannelState {
         }
     }
 
-    /// Whether so many frames may have been offered.
+    /// Whether this number of frames may have been offered.
     fn were_offered(&self, offered: u64) -> bool
         ensures { IsTrue result ↔ WereOffered self.now.last offered }
     {
@@ -167,7 +167,7 @@ impl ChannelState {
     }
 }
 
-/// A count with so many more: `None` past `u64::MAX`.
+/// A count with a number more: `None` past `u64::MAX`.
 fn counted_on(count: Option<u64>, more: u16) -> Option<u64>
     ensures { result ≡ counted_more count more }
 {

@@ -19,7 +19,7 @@ use std::alloc::Global;
 /// [`AuditFault::Counts`] of the least channel that has one; [`AuditFault::Memory`] if there was no
 /// memory for a program, a further channel or the lines.
 pub fn audit(alloc: Global, recording: &Recording<'_>) -> Result<Audit, AuditFault>
-    // The answer; no count and no number of a packet in it stays below what it is.
+    // The answer. A recording has fewer than 2^64 packets, so no number in it is capped.
     ensures audits { Audits recording.now result }
     ensures counted { length recording.now < 2 ^ 64 }
 
