@@ -1,5 +1,8 @@
 //! The script that drives the recorder's core: a recorder, its channels, and events, a line each.
 
+ghost use Rattle.std.specs.Prelude.{◌<◌, ◌≤◌, IfSome};
+ghost use Rattle.rec_core.specs.declared.ring.TheConstants.{MAX_RING};
+
 use crate::channel_word::channel_in;
 use bpf_insn::{ListingFault, parse_listing};
 use bpf_verify::{Verified, verify};
@@ -56,6 +59,7 @@ pub(crate) struct Recorder {
     pub(crate) limit: Limit,
     pub(crate) ring: usize,
     pub(crate) version: u8,
+    ghost ring_fits: { (0 < ring) × (ring ≤ MAX_RING) },
 }
 
 /// `recorder <limit> <ring> <version>`
@@ -147,7 +151,9 @@ fn program_of(alloc: Global, listing: &str) -> Result<Arc<Verified, Global>, Lin
 }
 
 /// The number of a word in decimal digits alone, if it is at most this.
-fn number_in(word: &str, most: u64) -> Option<u64> {
+fn number_in(word: &str, most: u64) -> Option<u64>
+    ensures { IfSome result (λ number. number ≤ most) }
+{
     match word.parse() {
         Ok(number) if number <= most && !word.starts_with('+') => Some(number),
         _ => None,
