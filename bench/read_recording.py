@@ -1,12 +1,13 @@
 #!/usr/bin/env python3
-"""Times `bpfrec list` and `bpfrec extract` on a recording beside `cat` of the same file.
+"""Times `bpfrec list`, `bpfrec audit` and `bpfrec extract` on a recording beside `cat` of the same file.
 
 usage: bench/read_recording.py BPFREC BENCH [LENGTH [MEGABYTES]]
 
 BPFREC and BENCH are the programs that `tools/build` and `tools/build bench` leave in bin/. BENCH makes
 a recording of MEGABYTES (100) of packets that are full of frames of LENGTH (1518) bytes, in a
 temporary folder. Each command runs nine times, in turn with the others, with its output to a file there.
-It prints, for each, the best time and the median in milliseconds, and the most memory of any run.
+It prints, for each, the best time and the median in milliseconds, and the most memory of any run; and
+the time that the runs of the filter take by themselves, which the audit makes for each frame.
 """
 import os
 import statistics
@@ -16,6 +17,9 @@ import tempfile
 import time
 
 ROUNDS = 9
+
+# the filter that BENCH puts into the recording
+FILTER = "4,40 0 0 12,21 0 1 23130,6 0 0 4294967295,6 0 0 0,"
 
 
 def run(words, output):
@@ -31,6 +35,18 @@ def run(words, output):
     return spent, used.ru_maxrss
 
 
+def filter_runs(bench, work, length, count):
+    """The milliseconds of so many runs of the filter on the view of a frame of this length."""
+    view = length - 4
+    with open(f"{work}/filter", "w") as listing:
+        listing.write(FILTER)
+    with open(f"{work}/views", "wb") as views:
+        views.write(b"\x5a" * view * 32)
+    words = [bench, "machine", "time", f"{work}/filter", f"{work}/views", str(view), str(count // 32)]
+    lines = subprocess.run(words, check=True, capture_output=True, text=True).stdout.splitlines()
+    return min(float(line.split()[2]) for line in lines if line.startswith("machine.frame")) * count / 1e6
+
+
 def main():
     if not 3 <= len(sys.argv) <= 5:
         print(__doc__.strip())
@@ -44,6 +60,7 @@ def main():
         commands = {
             "cat": ["cat", recording],
             "list": [bpfrec, "list", recording],
+            "audit": [bpfrec, "audit", recording],
             "extract": [bpfrec, "extract", recording, "1", f"{work}/feed"],
         }
         runs = {name: [] for name in commands}
@@ -55,6 +72,8 @@ def main():
             times = sorted(seconds * 1000 for seconds, _ in done)
             memory = max(kilobytes for _, kilobytes in done) / 1000
             print(f"{name:8} best {times[0]:7.1f} ms  median {statistics.median(times):7.1f} ms  memory {memory:6.1f} MB")
+        count = int(open(f"{work}/audit.out").read().split()[5])
+        print(f"filter   {count:,} runs by themselves {filter_runs(bench, work, int(length), count):7.1f} ms")
     return 0
 
 

@@ -2,15 +2,22 @@
 
 use crate::words::{number, word};
 use anyhow::{Context, Result, bail};
+use bpf_insn::parse_listing;
+use bpf_verify::verify;
 use ch11_packet::{Blank, DataBody, DataBuilder, Limit};
 use eth_frame::Frame;
-use rec_lane::{DataPiece, EndPiece, Piece};
+use rec_lane::{DataPiece, EndPiece, Piece, ProgramPiece};
 use rec_writer::Writer;
+use std::alloc::Global;
 use std::io::{BufWriter, Write};
+use std::sync::Arc;
 use std::{fs, io};
 
 /// The greatest length of its packets.
 const LIMIT: u32 = 65_536;
+
+/// The filter of its channel, which tests the type of each frame and keeps them all.
+const FILTER: &str = "4,40 0 0 12,21 0 1 23130,6 0 0 4294967295,6 0 0 0,";
 
 /// The bytes of a recording of ten full packets, added up modulo 2^64.
 pub(crate) fn self_check(rt: &HostRuntime) -> Result<u64> {
@@ -19,7 +26,7 @@ pub(crate) fn self_check(rt: &HostRuntime) -> Result<u64> {
 }
 
 /// `recording FILE LENGTH MEGABYTES`: writes a recording of about that many megabytes into the
-/// file, of channel 1, whose packets are full of frames of that length.
+/// file, of channel 1, whose packets are full of frames of that length, with its filter ahead.
 pub(crate) fn make(rt: &HostRuntime, words: &[String]) -> Result<()> {
     let file = word(words, 0)?;
     let length = number(words, 1)? as usize;
@@ -52,7 +59,21 @@ impl Write for Sum {
     }
 }
 
-/// Writes that many packets full of frames of these bytes, with counters from 0 on, and the end.
+/// The record of the filter.
+fn program(alloc: Global) -> Result<Piece> {
+    let program = verify(parse_listing(alloc, FILTER)?)
+        .ok()
+        .context("a valid program")?;
+    Ok(Piece::Program(ProgramPiece {
+        channel: 1,
+        counter: 0,
+        version: 0,
+        first: 0,
+        program: Arc::new(alloc, program)?,
+    }))
+}
+
+/// Writes the filter's record, that many packets full of frames of these bytes, with counters from 0 on, and the end.
 fn write_packets<W: Write + Drop>(
     rt: &HostRuntime,
     out: W,
@@ -62,6 +83,7 @@ fn write_packets<W: Write + Drop>(
     let mut writer = Writer::new(out, &[1], 8);
     let mut frames = 0u64;
     let limit = Limit::new(LIMIT).context("a limit")?;
+    put(&mut writer, program(rt.alloc())?)?;
     for _ in 0..packets {
         let body = full_body(Blank::with_limit(rt.alloc(), limit)?, bytes, frames)?;
         frames = frames.wrapping_add(u64::from(body.count()));
