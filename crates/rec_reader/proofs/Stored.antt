@@ -18,7 +18,8 @@ use Rattle.ch11_packet.specs.RecordsRead.{RecordData, SpellsRecord, stored_insns
 use Rattle.ch11_packet.specs.RecordsRead.RecordData.{OfProgram as ProgramSaid}
 use Rattle.ch11_packet.specs.Views.{record_data, record_insns}
 use Rattle.ch11_packet.proofs.StoredInsns.{length-stored_insns, stored_insns-flat_map}
-use Rattle.rec_reader.specs.Channels.{saying_in}
+use Rattle.rec_reader.specs.Packets.{PacketData}
+use Rattle.rec_reader.specs.Channels.{saying_in, saying_of}
 use Rattle.rec_reader.specs.Channels.Saying.{OfProgram}
 use Rattle.rec_reader.specs.Views.{program_data}
 
@@ -97,3 +98,11 @@ one_more_taken (a ∷ xs) ys (suc n) x e has =
 pub all_taken : (program : ProgramRecord) (insns : List Insn) (n : ℕ) → insns ≡ take n (record_insns program) → program.count ≤ n → insns ≡ record_insns program
 all_taken program insns n e most =
     e ∙ take_all n (record_insns program) (let long = length-stored_insns program.count program.insns.now in omega arith)
+
+-- ---- what a packet says
+
+pub says_record : (packet : PacketData) (channel version first : ℕ) (insns : List Insn) → packet.what ≡ Program channel version first (length insns)
+    → SpellsRecord (ProgramSaid channel version first insns) (data_in packet.header packet.body) → saying_of packet ≡ Some (channel, OfProgram (record { version = version; first = first; insns = insns }))
+says_record packet channel version first insns held spells =
+    ap (λ w. saying_in packet.header.channel w (data_in packet.header packet.body)) held
+    ∙ ap (λ i. Some (channel, OfProgram (record { version = version; first = first; insns = i }))) (stored_are channel version first (length insns) insns (data_in packet.header packet.body) spells refl)

@@ -1,6 +1,6 @@
 //! Laws of recordings, which run nothing.
 
-ghost use Rattle.std.specs.Prelude.{ℕ, ◌≡◌, ◌≢◌, ◌+◌, ◌++◌, List, [], length, Option, None, Result, Ok, Err};
+ghost use Rattle.std.specs.Prelude.{ℕ, ◌≡◌, ◌≢◌, ◌+◌, ◌++◌, List, [], length, Option, None, Some, Result, Ok, Err};
 ghost use Rattle.eth_frame.specs.Bytes.{AreBytes};
 ghost use Rattle.ch11_packet.specs.declared.header.TheConstants.{HEADER_LEN};
 ghost use Rattle.ch11_packet.specs.Header.{HeaderData, IsHeader, header_bytes};
@@ -11,7 +11,12 @@ ghost use Rattle.rec_reader.specs.Reading.{HasReadFault, Reads, ReadsAsFront};
 ghost use Rattle.rec_reader.specs.ChannelFrames.{packet_frames, channel_frames};
 ghost use Rattle.rec_reader.specs.declared.audits.answer.Audit.{Audit};
 ghost use Rattle.rec_reader.specs.declared.audits.answer.AuditFault.{AuditFault};
-ghost use Rattle.rec_reader.specs.Channels.{IsNamed};
+ghost use Rattle.bpf_insn.specs.declared.insn.Insn.{Insn};
+ghost use Rattle.ch11_packet.specs.declared.class.What.{What};
+ghost use Rattle.ch11_packet.specs.RecordsRead.{SpellsRecord};
+ghost use Rattle.ch11_packet.specs.RecordsRead.RecordData.{OfProgram as Spelled};
+ghost use Rattle.rec_reader.specs.Channels.{IsNamed, saying_of};
+ghost use Rattle.rec_reader.specs.Channels.Saying.{OfProgram};
 ghost use Rattle.rec_reader.specs.Audits.{AreApproved, Judges, Audits, EndsWell};
 
 use ch11_packet::{a_packet_holds_one_thing, header_has_one_spelling};
@@ -74,6 +79,20 @@ pub fn what_is_not_judged_makes_no_difference()
 {
     a_packet_holds_one_thing();
 }
+
+/// Law: a packet that holds the record of a program says the record's own channel, version, first
+/// frame and instructions.
+pub fn a_packet_says_what_its_record_spells()
+    ensures { (packet : PacketData) (channel version first : ℕ) (insns : List Insn)
+        → packet.what ≡ What.Program channel version first (length insns)
+        → SpellsRecord (Spelled channel version first insns)
+        (data_in packet.header packet.body)
+        → saying_of packet ≡ Some (
+          channel,
+          OfProgram
+              (record { version = version; first = first; insns = insns }),
+        ) }
+{}
 
 /// Law: packets have one audit, but for memory; and what is answered of a packet after those before
 /// it is one answer.

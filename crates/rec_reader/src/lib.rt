@@ -16,9 +16,9 @@ pub use extract::{ExtractFault, Extracted, extract_channel};
 pub use fault::{ReadEnd, ReadFault, ReadFaultKind};
 pub use frames::frames_of;
 pub use laws::{
-    a_cut_recording_reads_as_its_front, all_bytes_have_a_reading,
-    an_approved_recording_is_what_it_says, bytes_have_one_reading, packets_have_one_audit,
-    what_is_not_judged_makes_no_difference,
+    a_cut_recording_reads_as_its_front, a_packet_says_what_its_record_spells,
+    all_bytes_have_a_reading, an_approved_recording_is_what_it_says, bytes_have_one_reading,
+    packets_have_one_audit, what_is_not_judged_makes_no_difference,
 };
 pub use packet::Packet;
 pub use read::{check_recording, read_recording};
