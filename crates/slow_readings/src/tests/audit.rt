@@ -11,11 +11,11 @@ use crate::shared::{
     lane_spec, offer, programs,
 };
 use bpf_verify::Verified;
-use ch11_packet::{HEADER_LEN, Header};
+use ch11_packet::{ETHERNET_DATA, HEADER_LEN, Header};
 use eth_frame::MAX_FRAME_LEN;
 use rec_channel::Slot;
 use rec_lane::{Lane, Piece};
-use rec_reader::{Recording, read_recording};
+use rec_reader::{AuditFault, Recording, audit, read_recording};
 use rec_writer::Writer;
 use std::alloc::Global;
 use std::process::Abort;
@@ -26,14 +26,14 @@ use std::test::Fail;
 type Program = Arc<Verified, Global>;
 
 /// How many recordings are drawn.
-const RECORDINGS: usize = 2_500;
+const RECORDINGS: usize = 2_000;
 
 /// How often each kind of answer has to come up at least.
 const FEW: usize = 20;
 
 /// The lengths of the frames that are drawn. No two of the longest fit a packet.
 const LENGTHS: [usize; 16] = [
-    18, 18, 18, 18, 18, 18, 18, 19, 19, 20, 20, 21, 61, 64, 65, 8_300,
+    18, 18, 18, 18, 18, 18, 18, 19, 19, 20, 20, 20, 21, 61, 64, 8_300,
 ];
 
 /// The programs of the recordings that are drawn.
@@ -46,6 +46,9 @@ const PROGRAMS: [&str; 5] = [
     // the length of the view modulo 3, by way of a scratch word
     "5,128 0 0 0,148 0 0 3,2 0 0 1,96 0 0 1,22 0 0 0,",
 ];
+
+/// The number of bytes of an end's packet.
+const END_LEN: usize = 52;
 
 /// A setup record's packet.
 const SETUP: &str = "25eb 0000 1c000000 04000000 08 00 00 01 000000000000 4dec 00000000";
@@ -61,6 +64,9 @@ const SECONDARY: &str = "25eb 0100 3c000000 22000000 08 00 80 68 100000000000 1c
 /// The end of a channel of no frames.
 const EMPTY_END: &str = "25eb 0000 34000000 1c000000 08 00 00 00 000000000000 7deb \
     00000000 43425052 0200 0100 0000000000000000 0000000000000000";
+
+/// A packet of no frames of channel 1.
+const NO_FRAMES: &str = "25eb 0100 1c000000 04000000 08 00 00 68 000000000000 4e53 00000000";
 
 /// What is said of the recording of 232 bytes.
 const WHOLE: ChannelLine = ChannelLine {
@@ -94,8 +100,9 @@ enum Kind {
 #[test]
 fn worked_recordings_are_answered_as_they_should(rt: HostRuntime) -> Result<(), Fail> {
     let whole = [REJECTING, ACCEPTING, FRAMES, END];
-    let yes: [(&[&str], &[ChannelLine], u64); 5] = [
+    let yes: [(&[&str], &[ChannelLine], u64); 6] = [
         (&whole, &[WHOLE], 0),
+        (&[REJECTING, ACCEPTING, NO_FRAMES, FRAMES, END], &[WHOLE], 0),
         (&[SECONDARY], &[], 1),
         (&[SETUP], &[], 1),
         (&[EMPTY_END], &[EMPTY], 0),
@@ -109,8 +116,11 @@ fn worked_recordings_are_answered_as_they_should(rt: HostRuntime) -> Result<(), 
         };
         assert_eq!(rt; (said.as_slice(), other), (lines, others), "{texts:?}");
     }
-    let no: [(&[&str], Wrong); 2] = [
+    let no: [(&[&str], Wrong); 5] = [
         (&[LONE], Wrong::NoProgram { packet: 0 }),
+        (&[NO_FRAMES], Wrong::NoProgram { packet: 0 }),
+        (&[EMPTY_END, NO_FRAMES], Wrong::Order { packet: 1 }),
+        (&[EMPTY_END, REJECTING], Wrong::Order { packet: 1 }),
         (
             &[REJECTING, ACCEPTING, FRAMES, END, END],
             Wrong::Order { packet: 4 },
@@ -132,7 +142,11 @@ fn worked_damage_is_answered_as_it_should(rt: HostRuntime) -> Result<(), Fail> {
         packet: 2,
         frame: 0,
     };
-    let table: [(&[&str], usize, u8, Wrong); 4] = [
+    let table: [(&[&str], usize, u8, Wrong); 8] = [
+        (&whole, 40, 0x01, Wrong::Order { packet: 0 }),
+        (&whole, 96, 0x00, Wrong::Order { packet: 1 }),
+        (&whole, 100, 0x00, Wrong::Order { packet: 1 }),
+        (&whole, 216, 0x01, Wrong::Counts { channel: 1 }),
         (&whole, 116, 0x00, not_accepted),
         (&whole, 112, 0xff, Wrong::BadProgram { packet: 1 }),
         (&whole, 224, 0x02, Wrong::Counts { channel: 1 }),
@@ -157,8 +171,7 @@ fn a_cut_recording_has_no_end(rt: HostRuntime) -> Result<(), Fail> {
         let Err(fault) = read_recording(rt.alloc(), bytes.get(..len).unwrap_or(&[])) else {
             return Err("a recording that is cut")?;
         };
-        let before = fault.into_before();
-        let answer = answer_of(rt.alloc(), before.packets())?;
+        let answer = compared_answer(&rt, rt.alloc(), &fault.into_before())?;
         let wrong = Wrong::NoEnd { channel: 1 };
         assert_eq!(rt; answer, Answer::No(wrong), "{len} bytes");
     }
@@ -247,10 +260,54 @@ fn compared_answer(
     recording: &Recording<'_>,
 ) -> Result<Answer, Fail> {
     let answer = answer_of(alloc, recording.packets())?;
+    assert_eq!(rt; given_answer(alloc, recording)?, answer);
     if let Answer::Yes { .. } = answer {
         assert!(rt; is_yes_true(alloc, recording.packets())?, "{answer:?}");
     }
     Ok(answer)
+}
+
+/// What the audit of a recording answers.
+fn given_answer(alloc: Global, recording: &Recording<'_>) -> Result<Answer, Fail> {
+    let audited = match audit(alloc, recording) {
+        Ok(audited) => audited,
+        Err(fault) => return Ok(Answer::No(wrong_of(fault)?)),
+    };
+    let mut lines = Vec::new(alloc);
+    for line in audited.channels.as_slice() {
+        lines.push(ChannelLine {
+            channel: line.channel,
+            programs: line.programs,
+            frames: line.frames,
+            offered: line.offered,
+        })?;
+    }
+    Ok(Answer::Yes {
+        lines,
+        other: audited.other,
+    })
+}
+
+/// What is wrong by a fault of an audit.
+fn wrong_of(fault: AuditFault) -> Result<Wrong, Fail> {
+    Ok(match fault {
+        AuditFault::NoProgram { packet } => Wrong::NoProgram {
+            packet: packet as usize,
+        },
+        AuditFault::BadProgram { packet } => Wrong::BadProgram {
+            packet: packet as usize,
+        },
+        AuditFault::NotAccepted { packet, frame } => Wrong::NotAccepted {
+            packet: packet as usize,
+            frame: frame as usize,
+        },
+        AuditFault::Order { packet } => Wrong::Order {
+            packet: packet as usize,
+        },
+        AuditFault::NoEnd { channel } => Wrong::NoEnd { channel },
+        AuditFault::Counts { channel } => Wrong::Counts { channel },
+        AuditFault::Memory => return Err("memory for the audit")?,
+    })
 }
 
 /// The kind of an answer.
@@ -337,8 +394,8 @@ fn drawn_pieces(
     let mut slot = Slot::new(alloc, drawn_program(draws, programs)?, u64::MAX)?;
     let mut lane = Lane::new(alloc, lane_spec(channel)?)?;
     let mut pieces = Vec::new(alloc);
-    for _ in 0..draws.below(6) {
-        if draws.below(3) == 0 {
+    for _ in 0..draws.below(9) {
+        if draws.below(5) == 0 {
             slot.install(drawn_program(draws, programs)?)?;
         }
         let len = drawn_length(draws, &LENGTHS)?.min(MAX_FRAME_LEN);
@@ -358,7 +415,7 @@ fn change(alloc: Global, draws: &mut Draws, packets: &mut Vec<Vec<u8>>) -> Resul
     }
     let one = drawn_index(draws, packets.len());
     let other = drawn_index(draws, packets.len());
-    match draws.below(12) {
+    match draws.below(16) {
         0 => {
             let _dropped = packets.remove(one);
         }
@@ -367,10 +424,21 @@ fn change(alloc: Global, draws: &mut Draws, packets: &mut Vec<Vec<u8>>) -> Resul
             packets.insert(other, copy)?;
         }
         2 => packets.swap(one, other),
-        3 | 4 => change_header(draws, &mut packets[one])?,
+        3 => packets.insert(other, empty_packet(alloc, draws)?)?,
+        4 | 5 => change_header(draws, &mut packets[one])?,
+        6 | 7 => change_counts(draws, packets),
         _ => change_body(draws, &mut packets[one]),
     }
     Ok(())
+}
+
+/// A packet of no frames of a drawn channel.
+fn empty_packet(alloc: Global, draws: &mut Draws) -> Result<Vec<u8>, Fail> {
+    let channel = u16::from(draws.below(4));
+    let header = Header::new(channel, 28, 4, 8, 0, 0, ETHERNET_DATA, 0).ok_or("a header")?;
+    let mut packet = header.encode().to_vec(alloc)?;
+    packet.extend_from_slice(&[0; 4])?;
+    Ok(packet)
 }
 
 /// An index below `len`.
@@ -416,20 +484,35 @@ fn change_header(draws: &mut Draws, packet: &mut Vec<u8>) -> Result<(), Fail> {
     Ok(())
 }
 
-/// Sets a byte of a packet's body: as often as any other of a record's kind, channel, version, first
-/// frame or counts.
+/// Changes the number of frames offered or kept in some ends by one.
+fn change_counts(draws: &mut Draws, packets: &mut Vec<Vec<u8>>) {
+    for packet in packets.iter_mut() {
+        let at = if draws.below(2) == 0 { 36 } else { 44 };
+        let further = if draws.below(2) == 0 { 1 } else { 0xff };
+        let is_end = packet.len() == END_LEN && draws.below(2) == 0;
+        if let Some(byte) = packet.get_mut(at)
+            && is_end
+        {
+            *byte = byte.wrapping_add(further);
+        }
+    }
+}
+
+/// Sets a byte of a packet's body, as often as any other one of a record's kind, channel, version,
+/// first frame or counts, or of a frame's word.
 fn change_body(draws: &mut Draws, packet: &mut Vec<u8>) {
-    let fields = [32, 34, 36, 40, 44, 52, 56];
+    let fields = [32, 34, 36, 39, 40, 44, 52, 56];
     let at = match draws.below(2) {
-        0 => fields[usize::from(draws.below(7))],
-        _ => HEADER_LEN.saturating_add(usize::from(draws.below(60))),
-    };
-    let value = match draws.below(3) {
-        0 => draws.below(4),
-        1 => draws.below(255),
-        _ => 0xff,
+        0 => fields[usize::from(draws.below(8))],
+        _ => HEADER_LEN.saturating_add(usize::from(draws.below(90))),
     };
     if let Some(byte) = packet.get_mut(at) {
-        *byte = value;
+        *byte = match draws.below(5) {
+            0 => draws.below(4),
+            1 => draws.below(255),
+            2 => byte.wrapping_add(1),
+            3 => byte.wrapping_sub(1),
+            _ => 0xff,
+        };
     }
 }

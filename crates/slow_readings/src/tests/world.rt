@@ -4,12 +4,13 @@ use crate::approval::{Answer, answer_of};
 use crate::draws::Draws;
 use crate::pieces::{Channel, PlainFrame};
 use crate::shared::{
-    ACCEPTING, END, FRAMES, REJECTING, drawn_frame, drawn_length, drawn_program, joined_bytes,
-    program, programs,
+    ACCEPTING, END, FRAMES, REJECTING, drawn_frame, drawn_length, drawn_program, frame_of,
+    joined_bytes, lane_spec, program, programs,
 };
 use crate::world::{PlainAnswer, PlainEvent, PlainReply, PlainWorld, Refusal};
 use bpf_verify::Verified;
 use eth_frame::MAX_FRAME_LEN;
+use rec_core::{ChannelSpec, CoreFault, Event, MAX_RING, Reply, Which, World, run_world, specs_ok};
 use rec_reader::read_recording;
 use std::alloc::Global;
 use std::process::Abort;
@@ -314,12 +315,17 @@ fn compare(
     plan: Plan,
     events: Vec<(u16, PlainEvent)>,
 ) -> Result<Vec<PlainAnswer>, Fail> {
+    let (given, written) = given_answers(alloc, &plan, events.as_slice())?;
     let mut world = model_of(alloc, plan)?;
     let mut answers = Vec::new(alloc);
     for (channel, event) in events {
         answers.push(world.step(alloc, channel, event)?)?;
     }
+    let first = (0..answers.len()).find(|at| given.get(*at) != answers.get(*at));
+    assert_eq!(rt; first, None, "the first answer that differs");
+    assert_eq!(rt; given.len(), answers.len());
     let bytes = world.output(alloc)?;
+    assert_eq!(rt; written.as_slice(), bytes.as_slice());
     if world.is_written(alloc)? {
         let Ok(recording) = read_recording(alloc, bytes.as_slice()) else {
             return Err("a recording that is read")?;
@@ -328,6 +334,115 @@ fn compare(
         assert!(rt; matches!(answer, Answer::Yes { .. }), "{answer:?}");
     }
     Ok(answers)
+}
+
+/// What the core of a recorder that is made by this plan answers each event, and the bytes that it
+/// writes.
+fn given_answers(
+    alloc: Global,
+    plan: &Plan,
+    events: &[(u16, PlainEvent)],
+) -> Result<(Vec<PlainAnswer>, Vec<u8>), Fail> {
+    let specs = specs_of(plan)?;
+    if !specs_ok(&specs) || plan.ring == 0 || plan.ring > MAX_RING {
+        return Err("channels and a ring that a recorder may have")?;
+    }
+    let mut world = World::new(alloc, &specs, plan.ring, VERSION, Vec::new(alloc))?;
+    let mut given = Vec::new(alloc);
+    for (channel, event) in events {
+        given.push(core_event(alloc, *channel, event)?)?;
+    }
+    let mut answers = Vec::new(alloc);
+    for answer in run_world(alloc, &mut world, given.as_slice())? {
+        answers.push(plain_answer(&answer)?)?;
+    }
+    Ok((answers, world.out().clone()?))
+}
+
+/// The core's settings of the two channels.
+fn specs_of(plan: &Plan) -> Result<[ChannelSpec; 2], Fail> {
+    let [one, other] = channels();
+    Ok([
+        ChannelSpec {
+            lane: lane_spec(one)?,
+            program: Arc::try_clone(&plan.programs[0])?,
+            max: plan.maxima[0] as u64,
+        },
+        ChannelSpec {
+            lane: lane_spec(other)?,
+            program: Arc::try_clone(&plan.programs[1])?,
+            max: plan.maxima[1] as u64,
+        },
+    ])
+}
+
+/// The core's form of an event.
+fn core_event(alloc: Global, channel: u16, event: &PlainEvent) -> Result<Event, Fail> {
+    Ok(match event {
+        PlainEvent::Take(frame) => Event::Take {
+            channel,
+            frame: frame_of(frame)?.to_owned(alloc)?,
+        },
+        PlainEvent::Install(program) => Event::Install {
+            channel,
+            program: Arc::try_clone(program)?,
+        },
+        PlainEvent::Send => Event::Send { channel },
+        PlainEvent::Write => Event::Write { channel },
+        PlainEvent::Close => Event::Close { channel },
+    })
+}
+
+/// The model's form of an answer.
+fn plain_answer(answer: &Result<Reply, CoreFault>) -> Result<PlainAnswer, Fail> {
+    match answer {
+        Ok(reply) => Ok(Ok(plain_reply(*reply))),
+        Err(fault) => Ok(Err(refusal_of(fault)?)),
+    }
+}
+
+/// The model's form of a reply.
+fn plain_reply(reply: Reply) -> PlainReply {
+    match reply {
+        Reply::Took {
+            number,
+            version,
+            value,
+        } => PlainReply::Took {
+            number: number as usize,
+            version: Some(version as usize),
+            value: Some(value),
+        },
+        Reply::Installed { version, mark } => PlainReply::Installed {
+            version: version as usize,
+            mark: mark as usize,
+        },
+        Reply::Sent(Which::Program(version)) => PlainReply::SentProgram(version as usize),
+        Reply::Sent(Which::Frames(count)) => PlainReply::SentFrames(usize::from(count)),
+        Reply::Sent(Which::End) => PlainReply::SentEnd,
+        Reply::Wrote { bytes } => PlainReply::Wrote {
+            bytes: bytes as usize,
+        },
+        Reply::Closed { offered, kept } => PlainReply::Closed {
+            offered: offered as usize,
+            kept: kept as usize,
+        },
+    }
+}
+
+/// The model's form of a refusal. Memory and the output work here.
+fn refusal_of(fault: &CoreFault) -> Result<Refusal, Fail> {
+    Ok(match fault {
+        CoreFault::NoChannel => Refusal::NoChannel,
+        CoreFault::Closed => Refusal::Closed,
+        CoreFault::RingFull => Refusal::RingFull,
+        CoreFault::NothingToSend => Refusal::NothingToSend,
+        CoreFault::NothingToWrite => Refusal::NothingToWrite,
+        CoreFault::VersionsFull => Refusal::VersionsFull,
+        CoreFault::CountFull => Refusal::CountFull,
+        CoreFault::Output => return Err("an output that works")?,
+        CoreFault::Memory => return Err("memory for the core")?,
+    })
 }
 
 /// The model of a recorder that is made by this plan.
