@@ -5,6 +5,8 @@
 #[cfg(test)]
 mod assembler;
 #[cfg(test)]
+mod audit;
+#[cfg(test)]
 mod channel;
 #[cfg(test)]
 mod command_line;

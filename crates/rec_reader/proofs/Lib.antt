@@ -5,3 +5,15 @@ pub mod OneReading
 pub mod Cuts
 pub mod EveryReading
 pub mod Feeds
+pub mod ListSplits
+pub mod Walking
+pub mod Keeping
+pub mod Tables
+pub mod OneAudit
+pub mod Approving
+pub mod Standing
+pub mod Closing
+pub mod Stored
+pub mod Accepting
+pub mod Counting
+pub mod Recordings

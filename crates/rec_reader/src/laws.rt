@@ -1,6 +1,6 @@
 //! Laws of recordings, which run nothing.
 
-ghost use Rattle.std.specs.Prelude.{ℕ, ◌≡◌, ◌+◌, ◌++◌, List, [], length, Option, None};
+ghost use Rattle.std.specs.Prelude.{ℕ, ◌≡◌, ◌≢◌, ◌+◌, ◌++◌, List, [], length, Option, None, Result, Ok, Err};
 ghost use Rattle.eth_frame.specs.Bytes.{AreBytes};
 ghost use Rattle.ch11_packet.specs.declared.header.TheConstants.{HEADER_LEN};
 ghost use Rattle.ch11_packet.specs.Header.{HeaderData, IsHeader, header_bytes};
@@ -9,6 +9,10 @@ ghost use Rattle.rec_reader.specs.declared.fault.ReadFaultKind.{ReadFaultKind};
 ghost use Rattle.rec_reader.specs.Packets.{PacketData, SpellsPacket, Begins, packet_of};
 ghost use Rattle.rec_reader.specs.Reading.{HasReadFault, Reads, ReadsAsFront};
 ghost use Rattle.rec_reader.specs.ChannelFrames.{packet_frames, channel_frames};
+ghost use Rattle.rec_reader.specs.declared.audits.answer.Audit.{Audit};
+ghost use Rattle.rec_reader.specs.declared.audits.answer.AuditFault.{AuditFault};
+ghost use Rattle.rec_reader.specs.Channels.{IsNamed};
+ghost use Rattle.rec_reader.specs.Audits.{AreApproved, Judges, Audits, EndsWell};
 
 use ch11_packet::{a_packet_holds_one_thing, header_has_one_spelling};
 
@@ -70,3 +74,26 @@ pub fn what_is_not_judged_makes_no_difference()
 {
     a_packet_holds_one_thing();
 }
+
+/// Law: packets have one audit, but for memory; and what is answered of a packet after those before
+/// it is one answer.
+pub fn packets_have_one_audit()
+    ensures packet { (before : List PacketData) (packet : PacketData)
+        (answer other : Option AuditFault) → Judges before packet answer
+        → Judges before packet other → answer ≡ other }
+    ensures one { (packets : List PacketData) (answer other : Result Audit AuditFault)
+        → Audits packets answer → Audits packets other
+        → answer ≢ Err AuditFault.Memory → other ≢ Err AuditFault.Memory → answer ≡ other }
+{}
+
+/// Law: what the yes of an audit means. Each frame is whole, with its check sequence, and the last
+/// program of its channel before it is valid and returns a value other than 0 on it. And for each
+/// channel that a packet of frames, a program or an end names, the last such packet is its one end,
+/// which says as many frames kept as the channel has, and none offered exactly if no program of the
+/// channel is there.
+pub fn an_approved_recording_is_what_it_says()
+    ensures approved { (packets : List PacketData) (audit : Audit)
+        → Audits packets (Ok audit) → AreApproved packets }
+    ensures ends { (packets : List PacketData) (audit : Audit) → Audits packets (Ok audit)
+        → (channel : ℕ) → IsNamed channel packets → EndsWell channel packets }
+{}

@@ -5,7 +5,10 @@ ghost use Rattle.ch11_packet.specs.declared.header.TheConstants.{HEADER_LEN};
 ghost use Rattle.ch11_packet.specs.Classes.{Holds};
 ghost use Rattle.ch11_packet.specs.Views.{header_data};
 
-use ch11_packet::{Frames, Header, What, a_packet_holds_one_thing, decode_frames};
+use ch11_packet::{
+    Frames, Header, ProgramRecord, Record, What, a_packet_holds_one_thing, decode_frames,
+    decode_record,
+};
 
 /// A packet of a recording (IRIG 106-17 Chapter 11, in this project's profile), with what it holds
 /// by its header and its data. Its body is borrowed from the recording's bytes. Only the readers
@@ -31,7 +34,9 @@ impl<'a> Packet<'a> {
     ghost use Rattle.ch11_packet.specs.Views.{header_data};
     ghost use Rattle.ch11_packet.specs.declared.class.What.{What};
     ghost use Rattle.rec_reader.specs.ChannelFrames.{packet_frames};
-    ghost use Rattle.rec_reader.specs.Views.{packet_data};
+    ghost use Rattle.rec_reader.specs.Channels.{saying_of};
+    ghost use Rattle.rec_reader.specs.Channels.Saying.{OfProgram};
+    ghost use Rattle.rec_reader.specs.Views.{packet_data, program_data};
 
     /// The packet's data: its body without the trailing filler.
     pub fn data(&self) -> &'a [u8]
@@ -50,6 +55,25 @@ impl<'a> Packet<'a> {
         match self.what {
             What::Frames(_) => decode_frames(self.data()).ok(),
             _ => None,
+        }
+    }
+
+    /// The packet's program, by its record: `None` if it holds something else.
+    pub fn program(&self) -> Option<ProgramRecord<'a>>
+        ensures some { IsSome result ↔ ((channel : ℕ) × (version : ℕ) × (first : ℕ) × (count : ℕ)
+            × (self.now.what ≡ What.Program channel version first count)) }
+        ensures program { IfSome result (λ program. saying_of (packet_data self.now)
+            ≡ Some (program.channel, OfProgram (program_data program))) }
+    {
+        a_packet_holds_one_thing();
+        let What::Program { .. } = self.what else {
+            return None;
+        };
+        match decode_record(self.data()) {
+            Ok(Some(Record::Program(program))) => Some(program),
+            Ok(Some(Record::End { .. })) => None,
+            Ok(None) => None,
+            Err(_) => None,
         }
     }
 }
