@@ -33,4 +33,6 @@ mod shared;
 #[cfg(test)]
 mod verifier;
 #[cfg(test)]
+mod world;
+#[cfg(test)]
 mod writer;

@@ -1,0 +1,276 @@
+//! The core by lists of events.
+
+ghost use Rattle.std.specs.Prelude.{◌<◌, ◌≤◌};
+ghost use Rattle.rec_core.specs.declared.ring.TheConstants.{MAX_RING};
+
+use crate::shared::{ACCEPTING, END, FRAMES, REJECTING, all_bytes, joined_bytes, program};
+use ch11_packet::Limit;
+use eth_frame::Frame;
+use rec_core::*;
+use rec_lane::LaneSpec;
+use std::alloc::Global;
+use std::io;
+use std::io::{ErrorKind, Write};
+use std::test::Fail;
+
+/// A broadcast ARP frame without a payload, with its check sequence.
+const ARP: &str = "ffffffffffff 020000000001 0806 a1b2c3d4";
+
+/// Accepts each frame.
+const ACCEPT: &str = "1,6 0 0 1,";
+
+/// Drops each frame.
+const REJECT: &str = "1,6 0 0 0,";
+
+/// What happens on a channel.
+#[derive(Clone, Copy)]
+enum Step {
+    /// The ARP frame comes at a counter.
+    Take(u64),
+    /// The program of a listing is installed.
+    Install(&'static str),
+    Send,
+    Write,
+    Close,
+}
+
+/// A program that drops a frame is followed by one that keeps the next, and all is written.
+const INTERLEAVING: [(Step, &str); 13] = [
+    (Step::Take(16), "took 0 0 0"),
+    (Step::Install(ACCEPT), "installed 1 1"),
+    (Step::Take(32), "took 1 1 1"),
+    (Step::Send, "sent program 0"),
+    (Step::Write, "wrote 60"),
+    (Step::Send, "sent program 1"),
+    (Step::Write, "wrote 60"),
+    (Step::Close, "closed 2 1"),
+    (Step::Send, "sent frames 1"),
+    (Step::Write, "wrote 60"),
+    (Step::Send, "sent end"),
+    (Step::Write, "wrote 52"),
+    (Step::Write, "refused 5 NothingToWrite"),
+];
+
+/// The event of a step on a channel.
+fn event_of(alloc: Global, channel: u16, step: Step) -> Result<Event, Fail> {
+    Ok(match step {
+        Step::Take(counter) => {
+            let bytes = all_bytes(alloc, ARP)?;
+            let frame = Frame::new(counter, false, false, bytes.as_slice()).ok_or("a frame")?;
+            Event::Take {
+                channel,
+                frame: frame.to_owned(alloc)?,
+            }
+        }
+        Step::Install(listing) => Event::Install {
+            channel,
+            program: program(alloc, listing)?,
+        },
+        Step::Send => Event::Send { channel },
+        Step::Write => Event::Write { channel },
+        Step::Close => Event::Close { channel },
+    })
+}
+
+/// An answer in words: what was done, with its numbers, or the refusal.
+fn words(alloc: Global, answer: &Result<Reply, CoreFault>) -> Result<String, Fail> {
+    Ok(match answer {
+        Ok(Reply::Took {
+            number,
+            version,
+            value,
+        }) => format!(in alloc; "took {number} {version} {value}")?,
+        Ok(Reply::Installed { version, mark }) => {
+            format!(in alloc; "installed {version} {mark}")?
+        }
+        Ok(Reply::Sent(Which::Program(version))) => format!(in alloc; "sent program {version}")?,
+        Ok(Reply::Sent(Which::Frames(count))) => format!(in alloc; "sent frames {count}")?,
+        Ok(Reply::Sent(Which::End)) => String::from_str(alloc, "sent end")?,
+        Ok(Reply::Wrote { bytes }) => format!(in alloc; "wrote {bytes}")?,
+        Ok(Reply::Closed { offered, kept }) => format!(in alloc; "closed {offered} {kept}")?,
+        Err(fault) => format!(in alloc; "{fault}")?,
+    })
+}
+
+/// A channel with network identifier 0 and speed 3, whose packets are of the least limit.
+fn spec_of(alloc: Global, channel: u16, max: u64, listing: &str) -> Result<ChannelSpec, Fail> {
+    let limit = Limit::new(16_424).ok_or("a limit")?;
+    Ok(ChannelSpec {
+        lane: LaneSpec::new(channel, 0, 3, limit).ok_or("settings in range")?,
+        program: program(alloc, listing)?,
+        max,
+    })
+}
+
+/// A core of these channels, whose packets have data type version 8.
+fn core_of<W: Write + Drop>(
+    alloc: Global,
+    specs: &[ChannelSpec],
+    ring: usize,
+    out: W,
+) -> Result<World<W>, Fail>
+    requires some { 0 < ring }
+    requires few { ring ≤ MAX_RING }
+{
+    if !specs_ok(specs) {
+        return Err("channels that a core may have")?;
+    }
+    Ok(World::new(alloc, specs, ring, 8, out)?)
+}
+
+/// Does steps on a channel; each answer has to be the one beside the step.
+fn run_steps<W: Write + Drop>(
+    rt: &HostRuntime,
+    world: &mut World<W>,
+    channel: u16,
+    steps: &[(Step, &str)],
+) -> Result<(), Fail> {
+    let alloc = rt.alloc();
+    let mut events = Vec::new(alloc);
+    for (step, _) in steps {
+        events.push(event_of(alloc, channel, *step)?)?;
+    }
+    let answers = run_world(alloc, world, events.as_slice())?;
+    assert_eq!(rt; answers.len(), steps.len());
+    for (answer, (_, want)) in answers.iter().zip(steps) {
+        assert_eq!(rt; words(alloc, answer)?.as_str(), *want);
+    }
+    Ok(())
+}
+
+#[test]
+fn an_interleaving_is_written_to_the_byte(rt: HostRuntime) -> Result<(), Fail> {
+    let specs = [spec_of(rt.alloc(), 1, 100, REJECT)?];
+    let mut world = core_of(rt.alloc(), &specs, 4, Vec::new(rt.alloc()))?;
+    run_steps(&rt, &mut world, 1, &INTERLEAVING)?;
+    let want = joined_bytes(rt.alloc(), &[REJECTING, ACCEPTING, FRAMES, END])?;
+    assert_eq!(rt; world.out().as_slice(), want.as_slice());
+    Ok(())
+}
+
+#[test]
+fn refusals_come_in_their_order(rt: HostRuntime) -> Result<(), Fail> {
+    let specs = [spec_of(rt.alloc(), 7, 1, ACCEPT)?];
+    let mut world = core_of(rt.alloc(), &specs, 1, Vec::new(rt.alloc()))?;
+    let steps = [
+        (Step::Take(1), "took 0 0 1"),
+        (Step::Take(2), "refused 7 CountFull"),
+        (Step::Send, "sent program 0"),
+        (Step::Send, "refused 4 NothingToSend"),
+        (Step::Close, "closed 1 1"),
+        (Step::Send, "refused 3 RingFull"),
+        (Step::Close, "refused 2 Closed"),
+        (Step::Take(3), "refused 2 Closed"),
+        (Step::Install(REJECT), "installed 1 1"),
+    ];
+    run_steps(&rt, &mut world, 7, &steps)?;
+    run_steps(
+        &rt,
+        &mut world,
+        9,
+        &[
+            (Step::Send, "refused 1 NoChannel"),
+            (Step::Take(1), "refused 1 NoChannel"),
+            (Step::Install(ACCEPT), "refused 1 NoChannel"),
+            (Step::Write, "refused 1 NoChannel"),
+            (Step::Close, "refused 1 NoChannel"),
+        ],
+    )?;
+    assert!(rt; world.out().is_empty());
+    Ok(())
+}
+
+#[test]
+fn a_channel_has_1024_versions(rt: HostRuntime) -> Result<(), Fail> {
+    let specs = [spec_of(rt.alloc(), 1, 1, ACCEPT)?];
+    let mut world = core_of(rt.alloc(), &specs, 1, Vec::new(rt.alloc()))?;
+    let install = event_of(rt.alloc(), 1, Step::Install(REJECT))?;
+    for number in 1..1024 {
+        let installed = Reply::Installed {
+            version: number,
+            mark: 0,
+        };
+        assert_eq!(rt; world.step(&install), Ok(installed));
+    }
+    assert_eq!(rt; world.step(&install), Err(CoreFault::VersionsFull));
+    Ok(())
+}
+
+/// The end of a channel with no frame, as its packet with a sequence number and its checksum.
+const FIRST_END: &str = "25eb 0000 34000000 1c000000 08 00 00 00 000000000000 7deb \
+    00000000 43425052 0200 0200 0000000000000000 0000000000000000";
+
+const SECOND_END: &str = "25eb 0000 34000000 1c000000 08 01 00 00 000000000000 7dec \
+    00000000 43425052 0200 0100 0000000000000000 0000000000000000";
+
+#[test]
+fn channels_are_written_beside_one_another(rt: HostRuntime) -> Result<(), Fail> {
+    let specs = [
+        spec_of(rt.alloc(), 1, 1, ACCEPT)?,
+        spec_of(rt.alloc(), 2, 1, ACCEPT)?,
+    ];
+    let mut world = core_of(rt.alloc(), &specs, 1, Vec::new(rt.alloc()))?;
+    let end = [(Step::Close, "closed 0 0"), (Step::Send, "sent end")];
+    run_steps(&rt, &mut world, 1, &end)?;
+    run_steps(&rt, &mut world, 2, &end)?;
+    run_steps(&rt, &mut world, 2, &[(Step::Write, "wrote 52")])?;
+    run_steps(&rt, &mut world, 1, &[(Step::Write, "wrote 52")])?;
+    let want = joined_bytes(rt.alloc(), &[FIRST_END, SECOND_END])?;
+    assert_eq!(rt; world.out().as_slice(), want.as_slice());
+    Ok(())
+}
+
+/// An output that takes some bytes and then fails.
+#[derive(Debug, Drop)]
+struct Short {
+    bytes: Vec<u8>,
+    room: usize,
+}
+
+impl Write for Short {
+    fn write(&mut self, buf: &[u8]) -> io::Result<usize> {
+        let count = self.room.min(buf.len());
+        if count == 0 && !buf.is_empty() {
+            return Err(io::Error::from(ErrorKind::StorageFull));
+        }
+        self.bytes
+            .extend_from_slice(&buf[..count])
+            .map_err(|_| io::Error::from(ErrorKind::OutOfMemory))?;
+        self.room -= count;
+        Ok(count)
+    }
+
+    fn flush(&mut self) -> io::Result<()> {
+        Ok(())
+    }
+}
+
+/// What is answered to the steps of the interleaving by a core whose output takes `room` bytes: the
+/// writes that end past these are refused.
+fn cut_steps(room: usize) -> [(Step, &'static str); 13] {
+    let mut steps = INTERLEAVING;
+    for (at, end) in [(4, 60), (6, 120), (9, 180), (11, 232), (12, 232)] {
+        if end > room {
+            steps[at].1 = "refused 8 Output";
+        }
+    }
+    steps
+}
+
+#[test]
+fn an_output_that_fails_holds_its_first_bytes(rt: HostRuntime) -> Result<(), Fail> {
+    let want = joined_bytes(rt.alloc(), &[REJECTING, ACCEPTING, FRAMES, END])?;
+    let specs = [spec_of(rt.alloc(), 1, 100, REJECT)?];
+    for room in 0..232 {
+        let out = Short {
+            bytes: Vec::new(rt.alloc()),
+            room,
+        };
+        let mut world = core_of(rt.alloc(), &specs, 4, out)?;
+        run_steps(&rt, &mut world, 1, &cut_steps(room))?;
+        assert_eq!(rt; Some(world.out().bytes.as_slice()), want.get(..room));
+        run_steps(&rt, &mut world, 1, &[(Step::Write, "refused 8 Output")])?;
+        assert_eq!(rt; world.out().bytes.len(), room);
+    }
+    Ok(())
+}

@@ -1,0 +1,10 @@
+pub mod Lists
+pub mod Meeting
+pub mod Serving
+pub mod Writing
+pub mod Stepping
+pub mod Serves
+pub mod Opening
+pub mod Openings
+pub mod Cores
+pub mod Written

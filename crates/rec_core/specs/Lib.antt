@@ -1,0 +1,7 @@
+pub mod Openings
+pub mod World
+pub mod Rings
+pub mod Worlds
+pub mod Written
+pub mod Steps
+pub mod Views

@@ -1,0 +1,64 @@
+//! Laws of runs, which run nothing.
+
+ghost use Rattle.std.specs.Prelude.{ℕ, ◌≡◌, ◌≤◌, true, List, All, Some, Result};
+ghost use Rattle.rec_writer.specs.Recording.{AreOfChannels};
+ghost use Rattle.rec_writer.specs.Writers.{HoldsRecording};
+ghost use Rattle.rec_core.specs.declared.reply.Reply.{Reply};
+ghost use Rattle.rec_core.specs.declared.fault.CoreFault.{CoreFault};
+ghost use Rattle.rec_core.specs.Openings.{SpecData, AreSpecs, HaveFilters};
+ghost use Rattle.rec_core.specs.World.{WorldState, ChannelState, EventData, IsInOrder};
+ghost use Rattle.rec_core.specs.Worlds.{CoreState, StandsForWorld};
+ghost use Rattle.rec_core.specs.Written.{RunsFromOpening, WritesInOrder, WritesAll, AreEnded, recorded_channels, IsCutShort};
+
+use rec_lane::{
+    later_versions_leave_the_frames, pieces_are_of_their_channel, pieces_so_far_begin_all_pieces,
+};
+use rec_writer::what_a_writer_put_is_a_recording;
+
+/// Law: whatever the events and the answers, each channel's history is one and its frames met it,
+/// and what is written of the channel begins its pieces; where it is closed and all that it produced is
+/// written, all its pieces are written.
+pub fn a_run_writes_each_channel_in_order()
+    ensures channels { (ring : ℕ) (specs : List SpecData) (new : WorldState)
+        → RunsFromOpening ring specs new → All IsInOrder new.channels }
+    ensures in_order { (ring : ℕ) (specs : List SpecData) (new : WorldState)
+        → RunsFromOpening ring specs new → All (WritesInOrder new) new.channels }
+    ensures whole { (ring : ℕ) (specs : List SpecData) (new : WorldState)
+        → RunsFromOpening ring specs new → All (WritesAll new) new.channels }
+{
+    later_versions_leave_the_frames();
+    pieces_are_of_their_channel();
+    pieces_so_far_begin_all_pieces();
+}
+
+/// Law: whatever the events and the answers, where each channel is closed and all that it produced is
+/// written, the pieces that were written are those of the channels.
+pub fn a_run_that_ended_is_a_recording()
+    ensures { (ring : ℕ) (specs : List SpecData) (new : WorldState)
+        → RunsFromOpening ring specs new → AreEnded new
+        → AreOfChannels (recorded_channels new) new.out }
+{
+    later_versions_leave_the_frames();
+    pieces_are_of_their_channel();
+    pieces_so_far_begin_all_pieces();
+}
+
+/// Law: so a core that stands for such a world has, since its output held some bytes, written a
+/// recording of its channels.
+pub fn an_ended_world_holds_its_recording()
+    ensures { (ring : ℕ) (specs : List SpecData) (before : List ℕ) (core : CoreState)
+        (new : WorldState) → RunsFromOpening ring specs new → AreEnded new
+        → StandsForWorld ring (Some before) core new
+        → HoldsRecording before core.writer (recorded_channels new) }
+{
+    a_run_that_ended_is_a_recording();
+    what_a_writer_put_is_a_recording();
+}
+
+/// Law: where the output of a core failed, it took the packets of the written pieces, and then the
+/// beginning of the packet of the piece that stands first in some channel's ring, and not all of it.
+pub fn a_failed_output_is_cut_in_one_piece()
+    ensures { (ring : ℕ) (before : List ℕ) (core : CoreState) (world : WorldState)
+        → StandsForWorld ring (Some before) core world → core.writer.failed ≡ true
+        → IsCutShort before core.writer world }
+{}
