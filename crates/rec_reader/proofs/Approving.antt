@@ -1,8 +1,8 @@
 -- What the yes of an audit means.
-use Rattle.std.proofs.Common.{◌≡◌, ◌≢◌, ℕ, ◌<◌, ◌⊎◌, ◌↔◌, inl, inr, ◌==◌, cond, List, [], ◌∷◌, ◌++◌, length, All, Option, None, Some, Ok, refl, sym, ap, subst, ◌∙◌, arith}
-use Rattle.std.specs.List.{flat_map, last_or}
+use Rattle.std.proofs.Common.{◌≡◌, ℕ, ◌<◌, ◌⊎◌, ◌↔◌, inl, inr, List, [], ◌∷◌, ◌++◌, length, All, Option, None, Some, refl, sym, ap, subst, ◌∙◌, arith}
+use Rattle.std.specs.List.{last_or}
 use Rattle.std.proofs.lemmas.Bool.{cases_eq}
-use Rattle.std.proofs.lemmas.List.{append_assoc, append-nil}
+use Rattle.std.proofs.lemmas.List.{append_assoc}
 use Rattle.std.proofs.lemmas.List.Concat.{flat_map-append}
 use Rattle.std.proofs.lemmas.List.Elements.{All-nil, All-weaker}
 use Rattle.ch11_packet.specs.declared.class.What.{What}
@@ -13,8 +13,8 @@ use Rattle.rec_reader.specs.declared.audits.answer.Audit.{Audit}
 use Rattle.rec_reader.specs.declared.audits.channel.ChannelProgram.{ChannelProgram}
 use Rattle.rec_reader.specs.declared.audits.channel.ChannelEnd.{ChannelEnd}
 use Rattle.rec_reader.specs.Packets.{PacketData}
-use Rattle.rec_reader.specs.ChannelFrames.{frames_held, packet_frames, channel_frames}
-use Rattle.rec_reader.specs.Channels.{Saying, saying_in, saying_of, Names, IsNamed, end_said, ends_of, programs_of, last_program, last_end, capped}
+use Rattle.rec_reader.specs.ChannelFrames.{frames_held, channel_frames}
+use Rattle.rec_reader.specs.Channels.{Saying, saying_in, saying_of, IsNamed, end_said, ends_of, programs_of, last_program, last_end, capped}
 use Rattle.rec_reader.specs.Channels.Saying.{OfFrames, OfProgram, OfEnd}
 use Rattle.rec_reader.specs.Audits.{Accepts, AreApproved, IsJudgement, JudgesSaying, Judges, EachPasses, WereOffered, HasCounts, IsClosing, IsAudit, EndsWell}
 use Rattle.rec_reader.proofs.Keeping.{here, elsewhere}

@@ -1,5 +1,5 @@
 -- The channels that are kept, at the end.
-use Rattle.std.proofs.Common.{◌≡◌, ℕ, ◌+◌, ◌<◌, ◌↔◌, inl, inr, Bool, true, false, cond, is_some, IsSome, List, [], ◌∷◌, ◌++◌, length, map, All, Contains, Option, None, Some, Result, Ok, Err, refl, sym, ap, subst, ◌∙◌, arith}
+use Rattle.std.proofs.Common.{◌≡◌, ℕ, ◌<◌, inl, inr, true, false, is_some, IsSome, List, [], ◌∷◌, ◌++◌, length, map, All, Contains, Option, None, Some, refl, sym, ap, subst, ◌∙◌, arith}
 use Rattle.std.specs.Prelude.{unwrap_or}
 use Rattle.std.specs.List.{AllByRecursion}
 use Rattle.std.specs.List.Sorted.{IsStrictlySortedBy}
@@ -13,15 +13,14 @@ use Rattle.std.proofs.lemmas.List.Elements.{All-nil, All-push, All-contains, Con
 use Rattle.std.proofs.lemmas.Map.Keys.{sorted_head, sorted_tail, IsStrictlyIncreasing-from_sorted}
 use Rattle.std.proofs.lemmas.Map.Lookups.{exact_unsigned}
 use Rattle.std.proofs.lemmas.Map.Views.{btree_map_contains_key_iff, btree_map_get_iff}
-use Rattle.rec_reader.specs.declared.audits.answer.Audit.{Audit}
 use Rattle.rec_reader.specs.declared.audits.answer.AuditLine.{AuditLine}
 use Rattle.rec_reader.specs.declared.audits.answer.AuditFault.{AuditFault}
 use Rattle.rec_reader.specs.declared.audits.channel.ChannelState.{ChannelState}
 use Rattle.rec_reader.specs.Packets.{PacketData}
 use Rattle.rec_reader.specs.ChannelFrames.{channel_frames}
-use Rattle.rec_reader.specs.Channels.{IsNamed, last_program, last_end, programs_of, capped}
+use Rattle.rec_reader.specs.Channels.{IsNamed, last_program, programs_of, capped}
 use Rattle.rec_reader.specs.Audits.{IsClosing, Closes, EndsWith, line_with, line_of, AreLines, EachPasses}
-use Rattle.rec_reader.specs.Auditors.{unnamed_state, counted, IsStateOf, state_of, KeepsChannels}
+use Rattle.rec_reader.specs.Auditors.{unnamed_state, counted, IsStateOf, KeepsChannels}
 use Rattle.rec_reader.proofs.ListSplits.{first_or_later, none_in}
 use Rattle.rec_reader.proofs.OneAudit.{in_middle}
 

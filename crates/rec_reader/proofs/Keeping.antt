@@ -1,5 +1,5 @@
 -- What is kept of channels, packet by packet.
-use Rattle.std.proofs.Common.{◌≡◌, ◌≢◌, ℕ, ◌+◌, ◌-◌, ◌^◌, ◌≤◌, ◌<◌, min, ◌⊎◌, inl, inr, Bool, true, false, cond, ◌==◌, eqb, nat_lt, List, [], ◌∷◌, ◌++◌, length, Option, None, Some, refl, sym, ap, subst, ◌∙◌, arith, eq-eqb, ne_eqb, lt-ltb, le-ltb}
+use Rattle.std.proofs.Common.{◌≡◌, ℕ, ◌+◌, ◌^◌, ◌≤◌, inl, inr, Bool, true, false, cond, ◌==◌, List, [], ◌∷◌, ◌++◌, length, Option, None, Some, refl, sym, ap, subst, ◌∙◌, arith, eq-eqb, ne_eqb, lt-ltb, le-ltb}
 use Rattle.std.specs.List.{flat_map, last_or}
 use Rattle.std.proofs.lemmas.Bool.{cases_lt}
 use Rattle.std.proofs.lemmas.List.{append-nil, length-append}
@@ -12,7 +12,7 @@ use Rattle.rec_reader.specs.declared.audits.channel.ChannelEnd.{ChannelEnd}
 use Rattle.rec_reader.specs.declared.audits.channel.ChannelState.{ChannelState}
 use Rattle.rec_reader.specs.Packets.{PacketData}
 use Rattle.rec_reader.specs.ChannelFrames.{frames_held, packet_frames, channel_frames}
-use Rattle.rec_reader.specs.Channels.{Saying, saying_in, saying_of, program_said, end_said, programs_of, ends_of, last_program, last_end, capped}
+use Rattle.rec_reader.specs.Channels.{Saying, saying_in, saying_of, program_said, end_said, programs_of, ends_of, capped}
 use Rattle.rec_reader.specs.Channels.Saying.{OfFrames, OfProgram, OfEnd}
 use Rattle.rec_reader.specs.Auditors.{counted, counted_more, state_after, IsStateOf}
 

@@ -1,5 +1,5 @@
 -- Packets have one audit.
-use Rattle.std.proofs.Common.{◌≡◌, ◌≢◌, ℕ, zero, suc, ◌+◌, ◌<◌, ◌≤◌, ◌⊎◌, inl, inr, List, [], ◌∷◌, ◌++◌, length, map, All, Contains, Option, None, Some, Result, Ok, Err, refl, sym, ap, subst, ◌∙◌, arith}
+use Rattle.std.proofs.Common.{◌≡◌, ◌≢◌, ℕ, ◌<◌, inl, inr, List, [], ◌∷◌, ◌++◌, length, map, All, Contains, Option, None, Some, Result, Ok, Err, refl, sym, ap, subst, ◌∙◌, arith}
 use Rattle.std.specs.List.Sorted.{IsStrictlySortedBy, IsStrictlyIncreasing}
 use Rattle.std.specs.Ordering.{nat_cmp}
 use Rattle.std.specs.declared.cmp.Ordering.TheVariants.{Less}
@@ -13,13 +13,13 @@ use Rattle.ch11_packet.specs.FramesRead.{ReadFrameData}
 use Rattle.rec_reader.specs.declared.audits.answer.Audit.{Audit}
 use Rattle.rec_reader.specs.declared.audits.answer.AuditLine.{AuditLine}
 use Rattle.rec_reader.specs.declared.audits.answer.AuditFault.{AuditFault}
-use Rattle.rec_reader.specs.declared.audits.answer.AuditFault.TheVariants.{NotAccepted, NoEnd, Counts, Memory}
+use Rattle.rec_reader.specs.declared.audits.answer.AuditFault.TheVariants.{NotAccepted, Memory}
 use Rattle.rec_reader.specs.declared.audits.channel.ChannelProgram.{ChannelProgram}
 use Rattle.rec_reader.specs.declared.audits.channel.ChannelEnd.{ChannelEnd}
 use Rattle.rec_reader.specs.Packets.{PacketData}
-use Rattle.rec_reader.specs.Channels.{Saying, saying_of, IsNamed, last_program, last_end, capped}
+use Rattle.rec_reader.specs.Channels.{Saying, saying_of, last_program, last_end, capped}
 use Rattle.rec_reader.specs.Channels.Saying.{OfFrames, OfProgram, OfEnd}
-use Rattle.rec_reader.specs.Audits.{Accepts, RefusesFirst, Follows, IsJudgement, JudgesSaying, Judges, EachPasses, StopsAt, IsClosing, Closes, EndsWith, line_of, AreLines, IsAudit, Audits}
+use Rattle.rec_reader.specs.Audits.{Accepts, RefusesFirst, IsJudgement, JudgesSaying, Judges, EachPasses, StopsAt, IsClosing, Closes, EndsWith, line_of, AreLines, IsAudit, Audits}
 use Rattle.rec_reader.proofs.ListSplits.{meets, first_of, later_of, first_or_later, none_in}
 
 -- ---- one packet

@@ -1,5 +1,5 @@
 -- What an auditor stands for, packet by packet.
-use Rattle.std.proofs.Common.{◌≡◌, ℕ, ◌+◌, ◌-◌, ◌^◌, min, ◌⊎◌, inl, inr, Bool, true, false, cond, List, [], ◌∷◌, ◌++◌, length, count_by, Option, None, Some, Result, Ok, Err, OnOk, MatchOption, MatchResult, is_some, IsSome, refl, sym, ap, subst, ◌∙◌, arith}
+use Rattle.std.proofs.Common.{◌≡◌, ℕ, ◌+◌, ◌-◌, ◌^◌, min, ◌⊎◌, inl, inr, Bool, true, false, cond, List, [], ◌∷◌, ◌++◌, length, Option, None, Some, Result, Ok, Err, OnOk, MatchOption, MatchResult, IsSome, refl, sym, ap, subst, ◌∙◌, arith}
 use Rattle.std.specs.Ordering.{nat_cmp}
 use Rattle.std.specs.BTreeMap.{BTreeMap, get, is_at}
 use Rattle.std.specs.Map.{lookup}
@@ -13,10 +13,10 @@ use Rattle.rec_reader.specs.declared.audits.answer.AuditFault.TheVariants.{Memor
 use Rattle.rec_reader.specs.declared.audits.channel.ChannelState.{ChannelState}
 use Rattle.rec_reader.specs.declared.audits.auditor.Auditor.{Auditor}
 use Rattle.rec_reader.specs.Packets.{PacketData}
-use Rattle.rec_reader.specs.Channels.{Saying, saying_in, saying_of, IsNamed, last_program, last_end, capped}
+use Rattle.rec_reader.specs.Channels.{Saying, saying_in, saying_of, last_program, last_end, capped}
 use Rattle.rec_reader.specs.Audits.{IsJudgement, JudgesSaying, Judges, EachPasses, StopsAt, is_other, other_count}
-use Rattle.rec_reader.specs.Auditors.{unnamed_state, state_after, IsStateOf, state_of, SetsState, KeepsChannels, Keeps, fault_in, StandsFor, TakesPacket, Walks, JudgesState}
-use Rattle.rec_reader.proofs.Walking.{none_named, none_pass, passes_one_more, stops_now, stops_then}
+use Rattle.rec_reader.specs.Auditors.{unnamed_state, state_after, IsStateOf, state_of, SetsState, KeepsChannels, Keeps, StandsFor, TakesPacket, Walks, JudgesState}
+use Rattle.rec_reader.proofs.Walking.{none_named, passes_one_more, stops_now, stops_then}
 use Rattle.rec_reader.proofs.Tables.{channels_stay, channels_on}
 
 -- ---- no packets

@@ -14,13 +14,11 @@ use Rattle.ch11_packet.specs.declared.records.record.Record.{Record}
 use Rattle.ch11_packet.specs.declared.records.record.Record.TheVariants.{Program as AProgram, End as AnEnd}
 use Rattle.ch11_packet.specs.Header.{HeaderData}
 use Rattle.ch11_packet.specs.Classes.{Holds, data_in}
-use Rattle.ch11_packet.specs.Records.{program_spelling}
 use Rattle.ch11_packet.specs.RecordsRead.{RecordData, SpellsRecord, stored_insns}
 use Rattle.ch11_packet.specs.RecordsRead.RecordData.{OfProgram as ProgramSaid}
 use Rattle.ch11_packet.specs.Views.{record_data, record_insns}
 use Rattle.ch11_packet.proofs.StoredInsns.{length-stored_insns, stored_insns-flat_map}
-use Rattle.rec_reader.specs.declared.audits.channel.ChannelProgram.{ChannelProgram}
-use Rattle.rec_reader.specs.Channels.{Saying, saying_in, stored_program}
+use Rattle.rec_reader.specs.Channels.{saying_in}
 use Rattle.rec_reader.specs.Channels.Saying.{OfProgram}
 use Rattle.rec_reader.specs.Views.{program_data}
 

@@ -8,7 +8,7 @@ use Rattle.bpf_machine.specs.Machine.{Runs}
 use Rattle.eth_frame.specs.declared.frame.TheConstants.{MIN_FRAME_LEN}
 use Rattle.eth_frame.specs.Frame.{view}
 use Rattle.ch11_packet.specs.declared.class.What.{What}
-use Rattle.ch11_packet.specs.declared.class.What.TheVariants.{Frames, Program, End, Other}
+use Rattle.ch11_packet.specs.declared.class.What.TheVariants.{Other}
 use Rattle.ch11_packet.specs.FramesRead.{ReadFrameData, frame_in}
 use Rattle.rec_reader.specs.declared.audits.answer.Audit.{Audit}
 use Rattle.rec_reader.specs.declared.audits.answer.AuditLine.{AuditLine}

@@ -1,5 +1,3 @@
-use Rattle.std.proofs.Common.{refl, sym, subst, ◌∙◌}
-use Rattle.rec_reader.specs.Auditors.{StandsFor}
 use Rattle.rec_reader.proofs.Recordings.{audit_stops, audits_all, passed_on, approves, ends_are}
 use Rattle.rec_reader.proofs.audits.recording.audit.Goals as goal
 

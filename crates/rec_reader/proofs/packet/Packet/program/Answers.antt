@@ -1,4 +1,4 @@
-use Rattle.std.proofs.Common.{refl, Err}
+use Rattle.std.proofs.Common.{Err}
 use Rattle.std.proofs.Props.{props}
 use Rattle.std.proofs.Math.Logic.{∥∥₁_elim}
 use Rattle.ch11_packet.specs.Views.{header_data}

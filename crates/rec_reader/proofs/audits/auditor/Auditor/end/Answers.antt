@@ -1,7 +1,6 @@
-use Rattle.std.proofs.Common.{◌≡◌, ◌∷◌, [], ◌++◌, refl, sym, subst, ◌∙◌, inl, inr}
-use Rattle.rec_reader.specs.declared.audits.answer.AuditLine.{AuditLine}
+use Rattle.std.proofs.Common.{◌∷◌, [], ◌++◌, sym, subst, inr}
 use Rattle.rec_reader.specs.Audits.{AreLines}
-use Rattle.rec_reader.proofs.Closing.{ClosesThese, one_more_closed, none_closed, turn_whole, turn_next, turn_end, turn_found, ends_with, all_closed}
+use Rattle.rec_reader.proofs.Closing.{ClosesThese, one_more_closed, turn_whole, turn_next, turn_end, turn_found, ends_with, all_closed}
 use Rattle.rec_reader.proofs.Standing.{keeps_these}
 use Rattle.rec_reader.proofs.Recordings.{passed_on}
 use Rattle.rec_reader.proofs.audits.auditor.Auditor.end.Goals as goal

@@ -1,4 +1,4 @@
-use Rattle.std.proofs.Common.{refl, sym, ◌∙◌, ap}
+use Rattle.std.proofs.Common.{refl, sym}
 use Rattle.rec_reader.specs.Views.{packet_data, said_data}
 use Rattle.rec_reader.proofs.Standing.{takes_said, takes_other}
 use Rattle.rec_reader.proofs.audits.auditor.Auditor.judge.Goals as goal

@@ -1,4 +1,4 @@
-use Rattle.std.proofs.Common.{◌+◌, ◌-◌, ◌^◌, min, [], ◌∷◌, Ok, Err, Some, refl, sym, ◌∙◌, ap}
+use Rattle.std.proofs.Common.{◌+◌, ◌-◌, ◌^◌, min, [], ◌∷◌, Ok, Err, Some, refl, ◌∙◌, ap}
 use Rattle.rec_reader.specs.Views.{packet_data}
 use Rattle.rec_reader.proofs.Standing.{still_stands, stopped_before, keeps_these, stands_ok, stands_err, walks_on}
 use Rattle.rec_reader.proofs.audits.auditor.Auditor.take.Goals as goal
