@@ -11,6 +11,7 @@ use rec_lane::LaneSpec;
 use std::alloc::Global;
 use std::io;
 use std::io::{ErrorKind, Write};
+use std::process::Abort;
 use std::test::Fail;
 
 /// A broadcast ARP frame without a payload, with its check sequence.
@@ -74,21 +75,26 @@ fn event_of(alloc: Global, channel: u16, step: Step) -> Result<Event, Fail> {
 
 /// An answer in words: what was done, with its numbers, or the refusal.
 fn words(alloc: Global, answer: &Result<Reply, CoreFault>) -> Result<String, Fail> {
-    Ok(match answer {
-        Ok(Reply::Took {
+    match answer {
+        Ok(reply) => reply_words(alloc, reply),
+        Err(fault) => Ok(format!(in alloc; "{fault}")?),
+    }
+}
+
+/// What was done, with its numbers.
+fn reply_words(alloc: Global, reply: &Reply) -> Result<String, Fail> {
+    Ok(match reply {
+        Reply::Took {
             number,
             version,
             value,
-        }) => format!(in alloc; "took {number} {version} {value}")?,
-        Ok(Reply::Installed { version, mark }) => {
-            format!(in alloc; "installed {version} {mark}")?
-        }
-        Ok(Reply::Sent(Which::Program(version))) => format!(in alloc; "sent program {version}")?,
-        Ok(Reply::Sent(Which::Frames(count))) => format!(in alloc; "sent frames {count}")?,
-        Ok(Reply::Sent(Which::End)) => String::from_str(alloc, "sent end")?,
-        Ok(Reply::Wrote { bytes }) => format!(in alloc; "wrote {bytes}")?,
-        Ok(Reply::Closed { offered, kept }) => format!(in alloc; "closed {offered} {kept}")?,
-        Err(fault) => format!(in alloc; "{fault}")?,
+        } => format!(in alloc; "took {number} {version} {value}")?,
+        Reply::Installed { version, mark } => format!(in alloc; "installed {version} {mark}")?,
+        Reply::Sent(Which::Program(version)) => format!(in alloc; "sent program {version}")?,
+        Reply::Sent(Which::Frames(count)) => format!(in alloc; "sent frames {count}")?,
+        Reply::Sent(Which::End) => String::from_str(alloc, "sent end")?,
+        Reply::Wrote { bytes } => format!(in alloc; "wrote {bytes}")?,
+        Reply::Closed { offered, kept } => format!(in alloc; "closed {offered} {kept}")?,
     })
 }
 
@@ -120,12 +126,12 @@ fn core_of<W: Write + Drop>(
 
 /// Does steps on a channel; each answer has to be the one beside the step.
 fn run_steps<W: Write + Drop>(
-    rt: &HostRuntime,
+    rt: &impl Abort,
+    alloc: Global,
     world: &mut World<W>,
     channel: u16,
     steps: &[(Step, &str)],
 ) -> Result<(), Fail> {
-    let alloc = rt.alloc();
     let mut events = Vec::new(alloc);
     for (step, _) in steps {
         events.push(event_of(alloc, channel, *step)?)?;
@@ -142,7 +148,7 @@ fn run_steps<W: Write + Drop>(
 fn an_interleaving_is_written_to_the_byte(rt: HostRuntime) -> Result<(), Fail> {
     let specs = [spec_of(rt.alloc(), 1, 100, REJECT)?];
     let mut world = core_of(rt.alloc(), &specs, 4, Vec::new(rt.alloc()))?;
-    run_steps(&rt, &mut world, 1, &INTERLEAVING)?;
+    run_steps(&rt, rt.alloc(), &mut world, 1, &INTERLEAVING)?;
     let want = joined_bytes(rt.alloc(), &[REJECTING, ACCEPTING, FRAMES, END])?;
     assert_eq!(rt; world.out().as_slice(), want.as_slice());
     Ok(())
@@ -163,9 +169,10 @@ fn refusals_come_in_their_order(rt: HostRuntime) -> Result<(), Fail> {
         (Step::Take(3), "refused 2 Closed"),
         (Step::Install(REJECT), "installed 1 1"),
     ];
-    run_steps(&rt, &mut world, 7, &steps)?;
+    run_steps(&rt, rt.alloc(), &mut world, 7, &steps)?;
     run_steps(
         &rt,
+        rt.alloc(),
         &mut world,
         9,
         &[
@@ -211,10 +218,10 @@ fn channels_are_written_beside_one_another(rt: HostRuntime) -> Result<(), Fail> 
     ];
     let mut world = core_of(rt.alloc(), &specs, 1, Vec::new(rt.alloc()))?;
     let end = [(Step::Close, "closed 0 0"), (Step::Send, "sent end")];
-    run_steps(&rt, &mut world, 1, &end)?;
-    run_steps(&rt, &mut world, 2, &end)?;
-    run_steps(&rt, &mut world, 2, &[(Step::Write, "wrote 52")])?;
-    run_steps(&rt, &mut world, 1, &[(Step::Write, "wrote 52")])?;
+    run_steps(&rt, rt.alloc(), &mut world, 1, &end)?;
+    run_steps(&rt, rt.alloc(), &mut world, 2, &end)?;
+    run_steps(&rt, rt.alloc(), &mut world, 2, &[(Step::Write, "wrote 52")])?;
+    run_steps(&rt, rt.alloc(), &mut world, 1, &[(Step::Write, "wrote 52")])?;
     let want = joined_bytes(rt.alloc(), &[FIRST_END, SECOND_END])?;
     assert_eq!(rt; world.out().as_slice(), want.as_slice());
     Ok(())
@@ -267,9 +274,15 @@ fn an_output_that_fails_holds_its_first_bytes(rt: HostRuntime) -> Result<(), Fai
             room,
         };
         let mut world = core_of(rt.alloc(), &specs, 4, out)?;
-        run_steps(&rt, &mut world, 1, &cut_steps(room))?;
+        run_steps(&rt, rt.alloc(), &mut world, 1, &cut_steps(room))?;
         assert_eq!(rt; Some(world.out().bytes.as_slice()), want.get(..room));
-        run_steps(&rt, &mut world, 1, &[(Step::Write, "refused 8 Output")])?;
+        run_steps(
+            &rt,
+            rt.alloc(),
+            &mut world,
+            1,
+            &[(Step::Write, "refused 8 Output")],
+        )?;
         assert_eq!(rt; world.out().bytes.len(), room);
     }
     Ok(())

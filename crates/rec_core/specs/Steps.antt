@@ -16,19 +16,22 @@ use Rattle.rec_core.specs.Worlds.{ChannelParts, Holds}
 
 -- whatever channel the parts held, the channel did what the event asks for, these pieces are
 -- written, and the parts hold what it is now
-abbrev pub DoesEvent : (size : ℕ) → ChannelParts → ChannelParts → EventData → Reply → List PieceData → Type 0
+abbrev pub DoesEvent :
+    (size : ℕ) → ChannelParts → ChannelParts → EventData → Reply → List PieceData → Type 0
 DoesEvent size old new event reply more =
     (c : ChannelState) → Holds size old c
     → (d : ChannelState) × Does size c event reply d more × Holds size new d
 
 -- whatever channel the parts held, it may refuse the event, and they hold it as it was
-abbrev pub RefusesEvent : (size : ℕ) → ChannelParts → ChannelParts → EventData → CoreFault → Type 0
+abbrev pub RefusesEvent :
+    (size : ℕ) → ChannelParts → ChannelParts → EventData → CoreFault → Type 0
 RefusesEvent size old new event fault =
     (c : ChannelState) → Holds size old c
     → Refuses size c event fault × Holds size new c
 
 -- an event at which nothing is written was answered
-abbrev pub Answers : (size : ℕ) → ChannelParts → ChannelParts → EventData → Result Reply CoreFault → Type 0
+abbrev pub Answers :
+    (size : ℕ) → ChannelParts → ChannelParts → EventData → Result Reply CoreFault → Type 0
 Answers size old new event (Ok reply) = DoesEvent size old new event reply []
 Answers size old new event (Err fault) = RefusesEvent size old new event fault
 
@@ -89,7 +92,9 @@ LeavesWriter old new ring Output = FailsAt old new ring
 LeavesWriter old new ring fault = new ≡ old
 
 -- what an event did to a channel and to the writer
-abbrev pub Serves : (size : ℕ) → ChannelParts → ChannelParts → WriterState → WriterState → EventData → Result Reply CoreFault → Type 0
+abbrev pub Serves :
+    (size : ℕ) → ChannelParts → ChannelParts → WriterState → WriterState
+    → EventData → Result Reply CoreFault → Type 0
 Serves size old new writer after event (Ok reply) =
     (more : List PieceData)
     × DoesEvent size old new event reply more × Writes writer after more

@@ -120,7 +120,8 @@ channel_closed c = record c { closed = true }
 
 -- with rings of this size, a channel may give this answer to the event: it is `new` from then on, and
 -- these pieces are written
-abbrev pub Does : (ring : ℕ) → ChannelState → EventData → Reply → ChannelState → List PieceData → Type 0
+abbrev pub Does :
+    (ring : ℕ) → ChannelState → EventData → Reply → ChannelState → List PieceData → Type 0
 Does ring c (OfTake channel frame) (Took number version value) new more =
     (f : OfferedFrame)
     × (c.closed ≡ false)
@@ -196,7 +197,8 @@ world_after world at c more =
 
 -- from `old`, with rings of this size, the world may give this answer to the event, and is `new` from
 -- then on; a refusal leaves it as it was
-abbrev pub WorldStep : (ring : ℕ) → WorldState → EventData → Result Reply CoreFault → WorldState → Type 0
+abbrev pub WorldStep :
+    (ring : ℕ) → WorldState → EventData → Result Reply CoreFault → WorldState → Type 0
 WorldStep ring old event (Ok reply) new =
     (at : ℕ)
     × (c d : ChannelState)
@@ -215,7 +217,8 @@ WorldStep ring old event (Err fault) new =
     × (new ≡ old)
 
 -- the world may give these answers to these events, one after the other
-abbrev pub WorldRun : (ring : ℕ) → WorldState → List EventData → List (Result Reply CoreFault) → WorldState → Type 0
+abbrev pub WorldRun :
+    (ring : ℕ) → WorldState → List EventData → List (Result Reply CoreFault) → WorldState → Type 0
 WorldRun ring old [] [] new = new ≡ old
 WorldRun ring old (event ∷ events) (answer ∷ answers) new =
     (mid : WorldState)

@@ -94,7 +94,8 @@ StepsWorld old new event answer =
     × WorldStep size world event answer after × StandsForWorld size first new after
 
 -- and so do these answers to these events, one after the other
-abbrev pub RunsWorld : CoreState → CoreState → List EventData → List (Result Reply CoreFault) → Type 0
+abbrev pub RunsWorld :
+    CoreState → CoreState → List EventData → List (Result Reply CoreFault) → Type 0
 RunsWorld old new events answers =
     (size : ℕ) (first : Option (List ℕ)) (world : WorldState)
     → StandsForWorld size first old world

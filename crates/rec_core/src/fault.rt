@@ -7,10 +7,13 @@ use std::alloc::AllocError;
 use thiserror::Error;
 
 /// Why a core refuses an event. A refused event changes nothing but an output that failed in it.
-/// Where several faults stand, the first is answered in the order of the event: a take has
-/// `NoChannel`, `Closed`, `CountFull`, `Memory`; an install `NoChannel`, `VersionsFull`, `Memory`; a
-/// send `NoChannel`, `NothingToSend`, `RingFull`; a write `NoChannel`, `NothingToWrite`, `Output`;
-/// a close `NoChannel`, `Closed`, `Memory`.
+/// Where several faults stand, the first is answered in the order of the event:
+///
+/// - a take: `NoChannel`, `Closed`, `CountFull`, `Memory`;
+/// - an install: `NoChannel`, `VersionsFull`, `Memory`;
+/// - a send: `NoChannel`, `NothingToSend`, `RingFull`;
+/// - a write: `NoChannel`, `NothingToWrite`, `Output`;
+/// - a close: `NoChannel`, `Closed`, `Memory`.
 #[derive(Clone, Copy, Debug, Drop, PartialEq, Eq, Error)]
 pub enum CoreFault {
     /// No channel has this ID.

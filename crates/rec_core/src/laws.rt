@@ -16,8 +16,8 @@ use rec_lane::{
 use rec_writer::what_a_writer_put_is_a_recording;
 
 /// Law: whatever the events and the answers, each channel's history is one and its frames met it,
-/// and what is written of the channel begins its pieces; where it is closed and all that it produced is
-/// written, all its pieces are written.
+/// and what is written of the channel begins its pieces; where it is closed and all that it
+/// produced is written, all its pieces are written.
 pub fn a_run_writes_each_channel_in_order()
     ensures channels { (ring : ℕ) (specs : List SpecData) (new : WorldState)
         → RunsFromOpening ring specs new → All IsInOrder new.channels }
@@ -31,8 +31,8 @@ pub fn a_run_writes_each_channel_in_order()
     pieces_so_far_begin_all_pieces();
 }
 
-/// Law: whatever the events and the answers, where each channel is closed and all that it produced is
-/// written, the pieces that were written are those of the channels.
+/// Law: whatever the events and the answers, where each channel is closed and all that it produced
+/// is written, the pieces that were written are those of the channels.
 pub fn a_run_that_ended_is_a_recording()
     ensures { (ring : ℕ) (specs : List SpecData) (new : WorldState)
         → RunsFromOpening ring specs new → AreEnded new
@@ -56,7 +56,8 @@ pub fn an_ended_world_holds_its_recording()
 }
 
 /// Law: where the output of a core failed, it took the packets of the written pieces, and then the
-/// beginning of the packet of the piece that stands first in some channel's ring, and not all of it.
+/// beginning of one further packet, and not all of it: that of the piece that stands first in some
+/// channel's ring.
 pub fn a_failed_output_is_cut_in_one_piece()
     ensures { (ring : ℕ) (before : List ℕ) (core : CoreState) (world : WorldState)
         → StandsForWorld ring (Some before) core world → core.writer.failed ≡ true

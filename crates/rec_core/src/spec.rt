@@ -23,7 +23,8 @@ pub struct ChannelSpec {
     pub max: u64,
 }
 
-/// Whether a core may have these channels: 1 to [`MAX_CHANNELS`] of them, each with an ID of its own.
+/// Whether a core may have these channels: 1 to [`MAX_CHANNELS`] of them, each with an ID of its
+/// own.
 pub fn specs_ok(specs: &[ChannelSpec]) -> bool
     ensures { IsTrue result ↔ AreSpecs (specs_data specs.now) }
 {

@@ -18,8 +18,8 @@ use std::alloc::{AllocError, Global};
 use std::io::Write;
 use std::marker::Model;
 
-/// The recorder's core: the channels of a recording, and the one writer of their pieces. It does one
-/// event after another, and each refusal leaves it as it was.
+/// The recorder's core: the channels of a recording, and the one writer of their pieces. It does
+/// one event after another, and each refusal leaves it as it was.
 #[derive(Debug, Drop)]
 pub struct World<W: Write> {
     channels: Vec<Channel>,
@@ -43,9 +43,9 @@ impl<W: Write + Drop> World<W> {
     ghost use Rattle.rec_core.specs.Worlds.{StandsForWorld, StepsWorld, WritesOnlyWhileItWorks};
     ghost use Rattle.rec_core.specs.Views.{event_data};
 
-    /// A core of these channels, of which nothing was taken. Each channel's ring has room for `ring`
-    /// pieces, 1 to [`MAX_RING`]; packets have this data type version. [`crate::specs_ok`] tells whether a core
-    /// may have these channels.
+    /// A core of these channels, of which nothing was taken. Each channel's ring has room for
+    /// `ring` pieces, 1 to [`MAX_RING`]; packets have this data type version.
+    /// [`specs_ok`](crate::specs_ok) tells whether a core may have these channels.
     ///
     /// # Errors
     ///
