@@ -2,5 +2,6 @@
 
 mod audit;
 mod lane;
+mod strangers;
 mod verifier;
 mod world;

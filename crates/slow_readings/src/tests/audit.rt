@@ -86,7 +86,7 @@ const EMPTY: ChannelLine = ChannelLine {
 
 /// What an answer says, in one word.
 #[derive(Clone, Copy, Debug, PartialEq, Eq)]
-enum Kind {
+pub(crate) enum Kind {
     Yes,
     NoProgram,
     BadProgram,
@@ -95,6 +95,17 @@ enum Kind {
     NoEnd,
     Counts,
 }
+
+/// All kinds of answers.
+pub(crate) const KINDS: [Kind; 7] = [
+    Kind::Yes,
+    Kind::NoProgram,
+    Kind::BadProgram,
+    Kind::NotAccepted,
+    Kind::Order,
+    Kind::NoEnd,
+    Kind::Counts,
+];
 
 /// Recordings that are read to their end, and what is said of them, worked by hand.
 #[test]
@@ -220,16 +231,7 @@ fn answers_agree_on_changed_recordings(rt: HostRuntime) -> Result<(), Fail> {
             kinds.push(kind)?;
         }
     }
-    let all = [
-        Kind::Yes,
-        Kind::NoProgram,
-        Kind::BadProgram,
-        Kind::NotAccepted,
-        Kind::Order,
-        Kind::NoEnd,
-        Kind::Counts,
-    ];
-    for kind in all {
+    for kind in KINDS {
         let count = count_of(kinds.as_slice(), kind);
         assert!(rt; count >= FEW, "{kind:?} came up {count} times");
     }
@@ -246,7 +248,7 @@ fn slow_answer(rt: &impl Abort, alloc: Global, bytes: &[u8]) -> Result<Answer, F
 
 /// Stops unless the audit of a recording answers what is read, where it is read to its end; what
 /// kind of answer this is.
-fn compare(rt: &impl Abort, alloc: Global, bytes: &[u8]) -> Result<Option<Kind>, Fail> {
+pub(crate) fn compare(rt: &impl Abort, alloc: Global, bytes: &[u8]) -> Result<Option<Kind>, Fail> {
     match read_recording(alloc, bytes) {
         Ok(recording) => Ok(Some(kind_of(&compared_answer(rt, alloc, &recording)?))),
         Err(_) => Ok(None),
@@ -324,7 +326,7 @@ fn kind_of(answer: &Answer) -> Kind {
 }
 
 /// How many answers are of a kind.
-fn count_of(kinds: &[Kind], kind: Kind) -> usize {
+pub(crate) fn count_of(kinds: &[Kind], kind: Kind) -> usize {
     kinds.iter().filter(|found| **found == kind).count()
 }
 
