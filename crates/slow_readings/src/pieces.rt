@@ -155,7 +155,7 @@ fn all_met<'a>(
 }
 
 /// The last version whose mark is at most a frame's number, with its place.
-fn in_force(versions: &[PlainVersion], number: usize) -> Option<(usize, &PlainVersion)> {
+pub(crate) fn in_force(versions: &[PlainVersion], number: usize) -> Option<(usize, &PlainVersion)> {
     versions
         .iter()
         .enumerate()
@@ -290,7 +290,7 @@ fn frame_word(channel: Channel, frame: &PlainFrame) -> u64 {
 }
 
 /// Adds the lowest bytes of a number, the lowest first.
-fn add_number(bytes: &mut Vec<u8>, number: u64, count: usize) -> Result<(), AllocError> {
+pub(crate) fn add_number(bytes: &mut Vec<u8>, number: u64, count: usize) -> Result<(), AllocError> {
     let mut left = number;
     for _ in 0..count {
         bytes.push((left % 256) as u8)?;

@@ -1,17 +1,13 @@
 //! The lane beside the slow reader, on drawn frames under several versions.
 
-ghost use Rattle.std.specs.Prelude.{◌≤◌};
-
 use crate::draws::Draws;
 use crate::pieces::{
     Channel, Holds, PlainFrame, PlainVersion, ReadPiece, all_pieces, last_value, pieces_so_far,
 };
-use bpf_insn::parse_listing;
-use bpf_verify::{Verified, verify};
-use ch11_packet::Limit;
-use eth_frame::{Frame, MAX_FRAME_LEN};
+use crate::shared::{drawn_frame, drawn_length, lane_spec, offer, version};
+use eth_frame::MAX_FRAME_LEN;
 use rec_channel::Slot;
-use rec_lane::{Lane, LaneSpec, Piece};
+use rec_lane::{Lane, Piece};
 use std::alloc::Global;
 use std::process::Abort;
 use std::sync::Arc;
@@ -182,15 +178,6 @@ fn ten_versions(alloc: Global, marks: [usize; 10]) -> Result<Vec<PlainVersion>, 
     Ok(versions)
 }
 
-/// A version of the program with this listing.
-fn version(alloc: Global, mark: usize, listing: &str) -> Result<PlainVersion, Fail> {
-    let program = verify(parse_listing(alloc, listing)?)?;
-    Ok(PlainVersion {
-        mark,
-        program: Arc::new(alloc, program)?,
-    })
-}
-
 /// So many frames whose lengths are drawn from a list.
 fn drawn_frames(
     alloc: Global,
@@ -200,31 +187,10 @@ fn drawn_frames(
 ) -> Result<Vec<PlainFrame>, Fail> {
     let mut frames = Vec::new(alloc);
     for _ in 0..count {
-        let at = usize::from(draws.below(255)) % lengths.len().max(1);
-        let len = lengths.get(at).copied().ok_or("a length")?;
+        let len = drawn_length(draws, lengths)?;
         frames.push(drawn_frame(alloc, draws, len.min(MAX_FRAME_LEN))?)?;
     }
     Ok(frames)
-}
-
-/// A frame of drawn bytes, with a drawn counter and drawn marks.
-fn drawn_frame(alloc: Global, draws: &mut Draws, len: usize) -> Result<PlainFrame, Fail>
-    requires { len ≤ MAX_FRAME_LEN }
-{
-    let mut counter = [0u8; 8];
-    for byte in counter[..6].iter_mut() {
-        *byte = draws.below(255);
-    }
-    let mut bytes = vec![in alloc; 0u8; len]?;
-    for byte in bytes.iter_mut() {
-        *byte = draws.below(255);
-    }
-    Ok(PlainFrame {
-        counter: u64::from_le_bytes(counter),
-        crc_error: draws.below(4) == 0,
-        frame_error: draws.below(4) == 0,
-        bytes,
-    })
 }
 
 /// How many pieces of a channel are programs, and how many are packets of frames.
@@ -243,7 +209,7 @@ fn compare(
     frames: &[PlainFrame],
     versions: &[PlainVersion],
 ) -> Result<Counts, Fail> {
-    let mut lane = new_lane(alloc, channel)?;
+    let mut lane = Lane::new(alloc, lane_spec(channel)?)?;
     let mut slot = new_slot(alloc, versions)?;
     let mut given = Vec::new(alloc);
     for number in 0..frames.len() {
@@ -265,13 +231,6 @@ fn compare(
     Ok(counts_of(given.as_slice()))
 }
 
-/// A lane of this channel.
-fn new_lane(alloc: Global, channel: Channel) -> Result<Lane, Fail> {
-    let limit = Limit::new(u32::try_from(channel.limit)?).ok_or("a limit in range")?;
-    let spec = LaneSpec::new(channel.id, channel.net, channel.speed, limit);
-    Ok(Lane::new(alloc, spec.ok_or("settings in range")?)?)
-}
-
 /// A slot whose first version is that of the list.
 fn new_slot(alloc: Global, versions: &[PlainVersion]) -> Result<Slot, Fail> {
     let first = versions.first().ok_or("a first version")?;
@@ -286,28 +245,6 @@ fn install_at(slot: &mut Slot, versions: &[PlainVersion], number: usize) -> Resu
         }
     }
     Ok(())
-}
-
-/// Draws a frame from the slot and offers it to the lane; what the filter returned.
-fn offer(
-    lane: &mut Lane,
-    slot: &mut Slot,
-    frame: &PlainFrame,
-    given: &mut Vec<Piece>,
-) -> Result<u32, Fail> {
-    let bytes = frame.bytes.as_slice();
-    let frame = Frame::new(frame.counter, frame.crc_error, frame.frame_error, bytes);
-    let frame = frame.ok_or("a frame in range")?;
-    lane.ready()?;
-    let drawn = slot.draw()?;
-    if drawn.number != lane.offered() {
-        return Err("the number of the lane's next frame")?;
-    }
-    let offered = lane.offer(&frame, drawn);
-    for piece in offered.pieces {
-        given.push(piece)?;
-    }
-    Ok(offered.value)
 }
 
 /// The index of the first piece that isn't the one that is read there, or that one of the two
