@@ -169,10 +169,7 @@ fn a_failing_stream_is_reported_as_a_file(rt: HostRuntime) {
         ),
         3
     );
-    assert_eq!(rt;
-        run(&rt, b"0,".as_slice(), &mut Broken, &mut err),
-        3
-    );
+    assert_eq!(rt; run(&rt, b"0,".as_slice(), &mut Broken, &mut err), 3);
     assert_eq!(rt; err.as_slice(), b"file -\nfile -\nfile -\n".as_slice());
     // a failed write to standard error is passed over
     assert_eq!(rt; run(&rt, b"".as_slice(), &mut out, Broken), 1);
