@@ -14,7 +14,7 @@ use std::sync::Arc;
 const MOST_VERSIONS: usize = 1_024;
 
 /// What may happen to a channel.
-#[derive(Debug, Drop)]
+#[derive(Drop)]
 pub(crate) enum PlainEvent {
     /// A frame comes.
     Take(PlainFrame),
@@ -76,7 +76,7 @@ pub(crate) type PlainAnswer = Result<PlainReply, Refusal>;
 
 /// A channel: what it is set to, its frames and versions, whether it is closed, and how many of its
 /// pieces were sent and written.
-#[derive(Debug, Drop)]
+#[derive(Drop)]
 pub(crate) struct PlainChannel {
     channel: Channel,
     max: usize,
@@ -88,7 +88,7 @@ pub(crate) struct PlainChannel {
 }
 
 /// The channels of a recorder, and the pieces that were written.
-#[derive(Debug, Drop)]
+#[derive(Drop)]
 pub(crate) struct PlainWorld {
     channels: Vec<PlainChannel>,
     ring: usize,

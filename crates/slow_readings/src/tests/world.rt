@@ -236,7 +236,7 @@ fn answers_agree_past_1024_versions(rt: HostRuntime) -> Result<(), Fail> {
 }
 
 /// What a recorder is made of: its rings' room, and each channel's first program and most frames.
-#[derive(Debug, Drop)]
+#[derive(Drop)]
 struct Plan {
     ring: usize,
     programs: [Program; 2],
