@@ -17,8 +17,8 @@ As FILE, - is standard input, so commands can be joined by pipes:
 Without words, bpfrec reads a listing and a view in hexadecimal, a line each, from standard
 input, and prints what run prints.
 
-Exit status: 0 answered; 1 a text, listing, program, view or recording was refused; 2 the words
-are no command; 3 a file could not be read or written, or standard output not; 4 no memory.";
+Exit status: 0 answered; 1 a text, listing, program, view, script or recording was refused; 2 the
+words are no command; 3 a file could not be read or written, or standard output not; 4 no memory.";
 
 const ASM: &str = "\
 Reads a filter in the text of the Linux kernel's bpf_asm, and prints its listing on standard
