@@ -1,6 +1,6 @@
 //! Recordings that are judged: parts of `two_versions.ch11`, whole or with a byte changed.
 
-use crate::records::show_answers;
+use crate::run::{Input, NOTHING, show_run};
 use std::rt::Files;
 use std::sync::Wait;
 use std::thread::Threads;
@@ -74,8 +74,10 @@ where
     for part in &PARTS {
         show_audit(rt, recording.as_slice(), part)?;
     }
-    show_answers(rt, &["audit", "none.ch11"], b"".as_slice())?;
-    show_answers(rt, &["audit", "two.ch11"], b"".as_slice())
+    for name in ["none.ch11", "two.ch11"] {
+        show_run(rt, &["audit", name], NOTHING)?;
+    }
+    Ok(())
 }
 
 /// Judges a part.
@@ -102,5 +104,6 @@ where
         print!(rt; ", and the end again")?;
     }
     println!(rt)?;
-    show_answers(rt, &["audit", "-"], bytes.as_slice())
+    show_run(rt, &["audit", "-"], Input::Bytes(bytes.as_slice()))?;
+    Ok(())
 }

@@ -8,16 +8,16 @@ mod audits;
 mod cases;
 mod extracts;
 mod records;
+mod run;
 mod scripts;
 mod texts;
 
 use audits::show_audits;
 use cases::{CASES, HELP};
 use extracts::{EXTRACTS, ExtractCase};
-use records::{show_answers, show_records};
+use records::show_records;
+use run::{Input, NOTHING, run_program, show_closed, show_run, title};
 use scripts::show_scripts;
-use std::alloc::AllocError;
-use std::io::{ErrorKind, Read, Write};
 use std::rt::Files;
 use std::sync::Wait;
 use std::thread::Threads;
@@ -29,7 +29,7 @@ const LONG: u64 = 40_000;
 
 fn main(rt: HostRuntime) -> io::Result<()> {
     for words in CASES {
-        show(&rt, words)?;
+        show_run(&rt, words, NOTHING)?;
     }
     for case in &EXTRACTS {
         show_extract(&rt, case)?;
@@ -51,19 +51,6 @@ fn main(rt: HostRuntime) -> io::Result<()> {
     show_scripts(&rt)
 }
 
-/// One case.
-fn show<R: AllocGlobal + Files + Print + Threads + Wait + Sync>(
-    rt: &R,
-    words: &[&str],
-) -> io::Result<()>
-where
-    R::File: Send,
-    R::Dir: Send,
-{
-    answered(rt, words)?;
-    Ok(())
-}
-
 /// A text: its listing is stored as the file `listing`, and then checked and run on each view.
 fn show_text<R: AllocGlobal + Files + Print + Threads + Wait + Sync>(
     rt: &R,
@@ -73,11 +60,11 @@ where
     R::File: Send,
     R::Dir: Send,
 {
-    let listing = answered(rt, &["asm", text.file])?;
-    fs::write(rt, "listing", listing.as_slice())?;
-    show(rt, &["verify", "listing"])?;
+    let listing = show_run(rt, &["asm", text.file], NOTHING)?;
+    fs::write(rt, "listing", listing.output().as_bytes())?;
+    show_run(rt, &["verify", "listing"], NOTHING)?;
     for view in text.views {
-        show(rt, &["run", "listing", view])?;
+        show_run(rt, &["run", "listing", view], NOTHING)?;
     }
     Ok(())
 }
@@ -97,11 +84,10 @@ where
     }
     fs::write(rt, "long.ch11", bytes.as_slice())?;
     let words = ["list", "long.ch11"];
-    let mut output = Vec::new(rt.alloc());
-    let Run { errors, status } = run_program(rt, &words, b"".as_slice(), &mut output)?;
+    let run = run_program(rt, &words, NOTHING)?;
     title(rt, &words)?;
     let mut packets = 0u64;
-    for line in text(&output).lines() {
+    for line in run.output().lines() {
         let want = format!(in rt.alloc();
             "{} 0 00 2 52 28 32 end 1 2 1",
             packets.wrapping_mul(52)
@@ -113,7 +99,7 @@ where
         }
     }
     println!(rt; "{packets} packets at their places")?;
-    println!(rt; "= {status}, {} bytes of errors", errors.len())
+    println!(rt; "= {}, {} bytes of errors", run.status, run.errors().len())
 }
 
 /// A channel's feed: what is printed, and then the bytes of the feed, if it was created.
@@ -125,7 +111,11 @@ where
     R::File: Send,
     R::Dir: Send,
 {
-    show(rt, &["extract", case.recording, case.channel, case.feed])?;
+    show_run(
+        rt,
+        &["extract", case.recording, case.channel, case.feed],
+        NOTHING,
+    )?;
     let Ok(bytes) = fs::read(rt, case.feed) else {
         return println!(rt; "no feed");
     };
@@ -134,50 +124,6 @@ where
         print!(rt; " {byte:02x}")?;
     }
     println!(rt)
-}
-
-/// Runs the program on these words, and shows and gives its output.
-fn answered<R: AllocGlobal + Files + Print + Threads + Wait + Sync>(
-    rt: &R,
-    words: &[&str],
-) -> io::Result<Vec<u8>>
-where
-    R::File: Send,
-    R::Dir: Send,
-{
-    let mut output = Vec::new(rt.alloc());
-    let run = run_program(rt, words, b"".as_slice(), &mut output)?;
-    title(rt, words)?;
-    print!(rt; "{}", text(&output))?;
-    for line in text(&run.errors).lines() {
-        println!(rt; "! {line}")?;
-    }
-    println!(rt; "= {}", run.status)?;
-    Ok(output)
-}
-
-/// A run of the program.
-#[derive(Drop)]
-struct Run {
-    errors: Vec<u8>,
-    status: u8,
-}
-
-/// Runs the program on these words and this input.
-fn run_program<R: AllocGlobal + Files + Threads + Wait + Sync, I: Read + Send + Drop, O: Write>(
-    rt: &R,
-    words: &[&str],
-    input: I,
-    output: &mut O,
-) -> io::Result<Run>
-where
-    R::File: Send,
-    R::Dir: Send,
-{
-    let owned = words_of(rt, words)?;
-    let mut errors = Vec::new(rt.alloc());
-    let status = rec_cli::program(rt, owned.as_slice(), input, output, &mut errors);
-    Ok(Run { errors, status })
 }
 
 /// Help is shown by its stream, its status and the commands that it names, not by its text.
@@ -189,18 +135,17 @@ where
     R::File: Send,
     R::Dir: Send,
 {
-    let mut output = Vec::new(rt.alloc());
-    let Run { errors, status } = run_program(rt, words, b"".as_slice(), &mut output)?;
+    let run = run_program(rt, words, NOTHING)?;
     title(rt, words)?;
     for name in [
         "asm", "dis", "verify", "run", "audit", "extract", "simulate", "FILE", "HEX", "CHANNEL",
         "OUT", "Usage",
     ] {
-        if text(&output).contains(name) {
+        if run.output().contains(name) {
             println!(rt; "names {name}")?;
         }
     }
-    println!(rt; "= {status}, {} bytes of errors", errors.len())
+    println!(rt; "= {}, {} bytes of errors", run.status, run.errors().len())
 }
 
 /// Each command that reads a file, by `-` from standard input.
@@ -228,23 +173,9 @@ where
         ("not_utf8", &["asm", "-"]),
     ] {
         let input = fs::read(rt, file)?;
-        show_answers(rt, words, input.as_slice())?;
+        show_run(rt, words, Input::Bytes(input.as_slice()))?;
     }
     Ok(())
-}
-
-/// A standard output that can't be written.
-#[derive(Clone, Copy)]
-struct Closed;
-
-impl Write for Closed {
-    fn write(&mut self, _buf: &[u8]) -> io::Result<usize> {
-        Err(io::Error::from(ErrorKind::BrokenPipe))
-    }
-
-    fn flush(&mut self) -> io::Result<()> {
-        Err(io::Error::from(ErrorKind::BrokenPipe))
-    }
 }
 
 fn show_closed_output<R: AllocGlobal + Files + Print + Threads + Wait + Sync>(
@@ -254,7 +185,6 @@ where
     R::File: Send,
     R::Dir: Send,
 {
-    let mut closed = Closed;
     for words in [
         ["verify", "arp"].as_slice(),
         &["verify", "no_return"],
@@ -270,30 +200,7 @@ where
         ],
         &["--help"],
     ] {
-        let Run { errors, status } = run_program(rt, words, b"".as_slice(), &mut closed)?;
-        title(rt, words)?;
-        print!(rt; "! {}", text(&errors))?;
-        println!(rt; "= {status}, with a closed output")?;
+        show_closed(rt, words)?;
     }
     Ok(())
-}
-
-fn title<R: Print>(rt: &R, words: &[&str]) -> io::Result<()> {
-    print!(rt; "$ bpfrec")?;
-    for word in words {
-        print!(rt; " {}", if word.is_empty() { "''" } else { *word })?;
-    }
-    println!(rt)
-}
-
-fn words_of<R: AllocGlobal>(rt: &R, words: &[&str]) -> Result<Vec<String>, AllocError> {
-    let mut owned = Vec::new(rt.alloc());
-    for word in words {
-        owned.push(String::from_str(rt.alloc(), word)?)?;
-    }
-    Ok(owned)
-}
-
-fn text(bytes: &Vec<u8>) -> &str {
-    str::from_utf8(bytes.as_slice()).unwrap_or("not UTF-8")
 }

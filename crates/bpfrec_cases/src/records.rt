@@ -1,7 +1,6 @@
 //! Recordings.
 
-use crate::{Closed, Run, run_program, text, title};
-use std::io::{ErrorKind, Read, Write};
+use crate::run::{Input, NOTHING, run_program, show_closed, show_run, title};
 use std::rt::Files;
 use std::sync::Wait;
 use std::thread::Threads;
@@ -41,21 +40,6 @@ const CHANGE: &[u8] = b"set 1 records/keeps\n";
 
 const VERSIONS: u64 = 1_024;
 
-/// An input that gives its bytes, and then has no memory for more.
-#[derive(Clone, Copy)]
-struct Exhausted<'b> {
-    left: &'b [u8],
-}
-
-impl Read for Exhausted<'_> {
-    fn read(&mut self, buf: &mut [u8]) -> io::Result<usize> {
-        if self.left.is_empty() {
-            return Err(io::Error::from(ErrorKind::OutOfMemory));
-        }
-        self.left.read(buf)
-    }
-}
-
 /// The recordings of the table, the endings of several channels, long inputs, as many changes as a
 /// channel may have, an input without memory, and a closed output.
 pub(crate) fn show_records<R: AllocGlobal + Files + Print + Threads + Wait + Sync>(
@@ -69,13 +53,13 @@ where
         show_record(rt, settings, out, lines)?;
     }
     let endings = ["record", "records/endings.toml", "endings.ch11"];
-    show_answers(rt, &endings, b"".as_slice())?;
+    show_run(rt, &endings, NOTHING)?;
     show_long_input(rt, "no change\n", 65_537)?;
     show_long_input(rt, "0123456789abcdef", 1_048_577)?;
     show_full_versions(rt)?;
     let exhausted = ["record", "records/none.toml", "exhausted.ch11"];
-    show_answers(rt, &exhausted, Exhausted { left: CHANGE })?;
-    show_closed_record(rt)
+    show_run(rt, &exhausted, Input::Exhausted(CHANGE))?;
+    show_closed(rt, &["record", "records/none.toml", "closed.ch11"])
 }
 
 /// A recording: what is printed, and then its bytes, if it was created.
@@ -89,7 +73,11 @@ where
     R::File: Send,
     R::Dir: Send,
 {
-    show_answers(rt, &["record", settings, out], lines.as_bytes())?;
+    show_run(
+        rt,
+        &["record", settings, out],
+        Input::Bytes(lines.as_bytes()),
+    )?;
     let Ok(bytes) = fs::read(rt, out) else {
         return println!(rt; "no recording");
     };
@@ -98,25 +86,6 @@ where
         print!(rt; " {byte:02x}")?;
     }
     println!(rt)
-}
-
-/// Runs the program on these words and this input, and shows what it prints.
-pub(crate) fn show_answers<
-    R: AllocGlobal + Files + Print + Threads + Wait + Sync,
-    I: Read + Send + Drop,
->(rt: &R, words: &[&str], input: I) -> io::Result<()>
-where
-    R::File: Send,
-    R::Dir: Send,
-{
-    let mut output = Vec::new(rt.alloc());
-    let Run { errors, status } = run_program(rt, words, input, &mut output)?;
-    title(rt, words)?;
-    print!(rt; "{}", text(&output))?;
-    for line in text(&errors).lines() {
-        println!(rt; "! {line}")?;
-    }
-    println!(rt; "= {status}")
 }
 
 /// An input that is longer than what is read of it: how many lines of it are answered.
@@ -134,15 +103,15 @@ where
     for _ in 0..count {
         input.extend_from_slice(part.as_bytes())?;
     }
-    let mut output = Vec::new(rt.alloc());
-    let Run { errors, status } = run_program(rt, &words, input.as_slice(), &mut output)?;
+    let run = run_program(rt, &words, Input::Bytes(input.as_slice()))?;
     title(rt, &words)?;
-    let answered = text(&errors)
+    let answered = run
+        .errors()
         .lines()
         .filter(|line| *line == "refused 0 Line")
         .count();
     println!(rt; "{answered} lines answered of {} bytes", input.len())?;
-    println!(rt; "= {status}")
+    println!(rt; "= {}", run.status)
 }
 
 /// One change more than the channel may have: how many are answered by their versions, in order,
@@ -159,12 +128,11 @@ where
     for _ in 0..VERSIONS {
         input.extend_from_slice(CHANGE)?;
     }
-    let mut output = Vec::new(rt.alloc());
-    let Run { errors, status } = run_program(rt, &words, input.as_slice(), &mut output)?;
+    let run = run_program(rt, &words, Input::Bytes(input.as_slice()))?;
     title(rt, &words)?;
-    print!(rt; "{}", text(&output))?;
+    print!(rt; "{}", run.output())?;
     let mut versions = 1u64;
-    for line in text(&errors).lines() {
+    for line in run.errors().lines() {
         let want = format!(in rt.alloc(); "installed 1 {versions} 0")?;
         if line == want.as_str() {
             versions = versions.wrapping_add(1);
@@ -173,20 +141,5 @@ where
         }
     }
     println!(rt; "{versions} versions in their order")?;
-    println!(rt; "= {status}")
-}
-
-/// A recording whose lines can't be printed.
-fn show_closed_record<R: AllocGlobal + Files + Print + Threads + Wait + Sync>(
-    rt: &R,
-) -> io::Result<()>
-where
-    R::File: Send,
-    R::Dir: Send,
-{
-    let words = ["record", "records/none.toml", "closed.ch11"];
-    let Run { errors, status } = run_program(rt, &words, b"".as_slice(), &mut Closed)?;
-    title(rt, &words)?;
-    print!(rt; "! {}", text(&errors))?;
-    println!(rt; "= {status}, with a closed output")
+    println!(rt; "= {}", run.status)
 }

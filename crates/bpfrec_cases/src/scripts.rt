@@ -1,7 +1,6 @@
 //! Scripts of `simulate`.
 
-use crate::records::show_answers;
-use crate::{Closed, Run, run_program, text, title};
+use crate::run::{Input, NOTHING, run_program, show_closed, show_run, title};
 use std::io;
 use std::rt::Files;
 use std::sync::Wait;
@@ -89,7 +88,7 @@ where
     R::Dir: Send,
 {
     for name in ["scripts/changed_filter.script", "scripts/full_ring.script"] {
-        show_answers(rt, &["simulate", name], b"".as_slice())?;
+        show_run(rt, &["simulate", name], NOTHING)?;
     }
     for script in &OPENINGS {
         show_script(rt, script, script)?;
@@ -101,7 +100,7 @@ where
     show_channels(rt, 64)?;
     show_channels(rt, 65)?;
     show_long_script(rt)?;
-    show_closed_script(rt)
+    show_closed(rt, &["simulate", "scripts/changed_filter.script"])
 }
 
 /// A script, after what is told of it.
@@ -115,7 +114,8 @@ where
     R::Dir: Send,
 {
     println!(rt; "# {told:?}")?;
-    show_answers(rt, &["simulate", "-"], script.as_bytes())
+    show_run(rt, &["simulate", "-"], Input::Bytes(script.as_bytes()))?;
+    Ok(())
 }
 
 /// A script of so many channels.
@@ -150,9 +150,8 @@ where
     for _ in 0..ROUNDS {
         script.push_str(ROUND)?;
     }
-    let mut output = Vec::new(rt.alloc());
     let words = ["simulate", "-"];
-    let Run { errors, status } = run_program(rt, &words, script.as_bytes(), &mut output)?;
+    let run = run_program(rt, &words, Input::Bytes(script.as_bytes()))?;
     println!(rt; "# {} events", ROUNDS.wrapping_mul(5))?;
     title(rt, &words)?;
     for word in [
@@ -164,26 +163,12 @@ where
         "refused 5",
         "refused 6",
     ] {
-        let count = text(&output)
+        let count = run
+            .output()
             .lines()
             .filter(|line| line.starts_with(word))
             .count();
         println!(rt; "{count} {word}")?;
     }
-    println!(rt; "= {status}, {} bytes of errors", errors.len())
-}
-
-/// A script whose answers can't be printed.
-fn show_closed_script<R: AllocGlobal + Files + Print + Threads + Wait + Sync>(
-    rt: &R,
-) -> io::Result<()>
-where
-    R::File: Send,
-    R::Dir: Send,
-{
-    let words = ["simulate", "scripts/changed_filter.script"];
-    let Run { errors, status } = run_program(rt, &words, b"".as_slice(), &mut Closed)?;
-    title(rt, &words)?;
-    print!(rt; "! {}", text(&errors))?;
-    println!(rt; "= {status}, with a closed output")
+    println!(rt; "= {}, {} bytes of errors", run.status, run.errors().len())
 }
