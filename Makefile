@@ -2,7 +2,7 @@
 RT ?= rt
 export RT
 
-.PHONY: help demo build check test refused-growth bench clean
+.PHONY: help demo build check test refused-growth fuzz bench clean
 
 help: ## lists the targets
 	@grep -E '^[a-z-]+:.*## ' Makefile | sed -E 's/:[^#]*## /\t/' | expand -t 18
@@ -29,17 +29,21 @@ test: ## the gate: all proofs from scratch, each edit that must fail, all tests,
 refused-growth: build ## refuses each growth of memory of each command in turn; about a minute
 	tools/refused_growth
 
-bench: bin/pcap_filter ## times the filter machine beside libpcap's, and compares their values
+fuzz: build ## drawn and damaged inputs for an hour; SECONDS=60 for a minute, SEED=2 for others
+	tools/fuzz --seed $(or $(SEED),1) --seconds $(or $(SECONDS),3600)
+
+bench: build bin/pcap_filter bin/record_feed ## times the filter machine and the whole recorder beside libpcap's
 	@command -v python3 || { echo "make bench wants libpcap-dev, python3 and cc: python3 is missing"; exit 1; }
 	tools/build bench
 	bench/compare.py bin/bench bin/pcap_filter bin/bench_work
+	bench/record.py bin/bpfrec bin/record_feed
 
-bin/pcap_filter: bench/pcap_filter.c
+bin/pcap_filter bin/record_feed: bin/%: bench/%.c
 	@command -v $(CC) || { echo "make bench wants libpcap-dev, python3 and cc: $(CC) is missing"; exit 1; }
 	@test -f /usr/include/pcap/bpf.h || \
 		{ echo "make bench wants libpcap-dev, python3 and cc: libpcap-dev is missing"; exit 1; }
 	@mkdir -p bin
-	$(CC) -O2 -o $@ bench/pcap_filter.c -lpcap
+	$(CC) -O2 -o $@ $< -lpcap -lpthread
 
 clean: ## removes what a build has made
 	rm -rf bin crates/*/out
