@@ -1,14 +1,12 @@
 //! What jobs a recording may have.
 
 ghost use Rattle.std.specs.Prelude.{ℕ, ◌≡◌, ◌≢◌, ◌<◌, ◌++◌, ◌↔◌, [], length, map, IsTrue, IfOk, All};
-ghost use Rattle.rec_run.specs.Jobs.{channel_of_job, channels_of_jobs, AreJobs, IsNew};
+ghost use Rattle.rec_core.specs.Openings.{IsNew};
+ghost use Rattle.rec_run.specs.Jobs.{channel_of_job, channels_of_jobs, AreJobs};
 
 use crate::job::Job;
 use rec_writer::MAX_CHANNELS;
 use std::alloc::{AllocError, Global};
-
-/// How many pieces a channel's ring may have room for.
-pub const MAX_RING: usize = 4096;
 
 /// Whether these jobs may be recorded: 1 to [`MAX_CHANNELS`] of them, each with a channel of its own.
 pub fn jobs_ok<S: Drop>(jobs: &[Job<S>]) -> bool

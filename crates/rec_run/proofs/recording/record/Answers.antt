@@ -2,6 +2,7 @@ use Rattle.std.proofs.Common.{◌≡◌, ◌≢◌, ℕ, ◌∷◌, All, arith, 
 use Rattle.rec_writer.specs.Numbers.{AreDistinct}
 use Rattle.rec_run.specs.Jobs.{channels_of_jobs}
 use Rattle.rec_run.proofs.Judging.{written_of, whole_recording, cut_recording, whole_control}
+use Rattle.rec_run.proofs.Tying.{recorded_run}
 use Rattle.rec_run.proofs.recording.record.Goals as goal
 
 pub new-requires-clause-named : goal.new-requires-clause-named
@@ -50,6 +51,11 @@ returns-clause-controlled g c =
     let w = written_of left failures ended_as first (record { writer = c.new.result; bytes = 0 }) c.args.version _ c.args.jobs.items o c.new.ensures.stands c.new.ensures.version c.in_ok-prepared.ensures.jobs (c.in_ok-outcome.ensures.joined first) in
     let same : c.as_slice-6.result.now ≡ channels_of_jobs c.args.jobs.items = c.as_slice-6.ensures.value ∙ c.in_ok-channels.ensures.channels ∙ ap (λ js. channels_of_jobs js) c.as_slice.ensures.value in
     whole_control left failures ended_as g.W.Write.contents o c.args.jobs.items first c.args.version w.1 w.0 g.C.Control.given g.C.Control.answered g.C.Control.ended _ c.args.control same c.in_ok-outcome.ensures.control c.conclude.result c.conclude.ensures.controlled
+
+pub returns-clause-run : goal.returns-clause-run
+returns-clause-run g c =
+    recorded_run g.S.FrameSource.left g.S.FrameSource.failures g.S.FrameSource.ending g.W.Write.contents g.C.Control.given g.C.Control.answered g.C.Control.ended c.a_recording_is_a_run.ensures
+    c.args.jobs.items c.requires.jobs c.args.version c.args.ring c.requires.ring.0 (g.W.Write.contents c.args.out) c.args.control c.conclude.result (returns-clause-recorded g c) (returns-clause-controlled g c)
 
 pub returns-clause-cut : goal.returns-clause-cut
 returns-clause-cut g c =
