@@ -23,5 +23,5 @@ pub use laws::{
 pub use reply::{Reply, Which};
 pub use ring::MAX_RING;
 pub use run::run_world;
-pub use spec::{ChannelSpec, specs_ok};
+pub use spec::{ChannelSpec, are_distinct, specs_ok};
 pub use world::World;

@@ -68,7 +68,7 @@ pub fn record<
     ensures cut { IfErr result
         (CutsShort S.left S.failures S.ending W.contents jobs.items version (W.contents out)) }
 {
-    let channels = channels_of(alloc, jobs.as_slice())?;
+    let channels = channels_of(jobs.as_slice());
     let slots = slots_of(alloc, jobs.as_slice())?;
     let prepared = prepare_all(alloc, ring, jobs)?;
     let count = prepared.len();
