@@ -8,3 +8,7 @@ pub mod Opening
 pub mod Openings
 pub mod Cores
 pub mod Written
+pub mod Runs
+pub mod Moves
+pub mod Passing
+pub mod Ties

@@ -17,6 +17,20 @@ set_there [] k x y is = absurd (none-some x is)
 set_there (z ∷ zs) zero x y is = refl
 set_there (z ∷ zs) (suc k) x y is = set_there zs k x y is
 
+pub set_same : {X : Type 0} (xs : List X) (k : ℕ) (x : X) → slice_get xs k ≡ Some x → slice_set xs k x ≡ xs
+set_same [] k x is = refl
+set_same (z ∷ zs) zero x is = ap (λ w. w ∷ zs) (sym (same_Some z x is))
+set_same (z ∷ zs) (suc k) x is = ap (λ ws. z ∷ ws) (set_same zs k x is)
+
+pub set_twice : {X : Type 0} (xs : List X) (k : ℕ) (x y : X) → slice_set (slice_set xs k x) k y ≡ slice_set xs k y
+set_twice [] k x y = refl
+set_twice (z ∷ zs) zero x y = refl
+set_twice (z ∷ zs) (suc k) x y = ap (λ ws. z ∷ ws) (set_twice zs k x y)
+
+pub set_between : {X : Type 0} (xs : List X) (x y : X) (ys : List X) → slice_set (xs ++ x ∷ ys) (length xs) y ≡ xs ++ y ∷ ys
+set_between [] x y ys = refl
+set_between (z ∷ zs) x y ys = ap (λ ws. z ∷ ws) (set_between zs x y ys)
+
 -- what stands in a list of which one element was changed
 pub set_cases : {X : Type 0} (xs : List X) (k : ℕ) (y : X) (j : ℕ) (b : X) → slice_get (slice_set xs k y) j ≡ Some b → ((j ≡ k) × (b ≡ y)) ⊎ ((j ≢ k) × (slice_get xs j ≡ Some b))
 set_cases [] k y j b is = absurd (none-some b is)
@@ -56,6 +70,21 @@ pub there_map : {A B : Type 0} (f : A → B) (xs : List A) (k : ℕ) (x : A) →
 there_map f [] k x is = absurd (none-some x is)
 there_map f (z ∷ zs) zero x is = ap (λ w. Some (f w)) (same_Some z x is)
 there_map f (z ∷ zs) (suc k) x is = there_map f zs k x is
+
+-- two maps that agree
+pub map_same : {A B : Type 0} (f g : A → B) (xs : List A) → ((j : ℕ) (x : A) → slice_get xs j ≡ Some x → f x ≡ g x) → map f xs ≡ map g xs
+map_same f g [] same = refl
+map_same f g (x ∷ xs) same = ap (λ w. w ∷ map f xs) (same zero x refl) ∙ ap (λ ws. g x ∷ ws) (map_same f g xs (λ j y there. same (suc j) y there))
+
+-- and two that agree but at one index
+pub set_map : {A B : Type 0} (f g : A → B) (xs : List A) (k : ℕ) (x : A) → slice_get xs k ≡ Some x → ((j : ℕ) (y : A) → slice_get xs j ≡ Some y → j ≢ k → f y ≡ g y) → slice_set (map f xs) k (g x) ≡ map g xs
+set_map f g [] k x is same = refl
+set_map f g (z ∷ zs) zero x is same =
+    ap (λ w. g w ∷ map f zs) (sym (same_Some z x is))
+    ∙ ap (λ ws. g z ∷ ws) (map_same f g zs (λ j y there. same (suc j) y there (λ bad. omega (arith, bad))))
+set_map f g (z ∷ zs) (suc k) x is same =
+    ap (λ w. w ∷ slice_set (map f zs) k (g x)) (same zero z refl (λ bad. omega (arith, bad)))
+    ∙ ap (λ ws. g z ∷ ws) (set_map f g zs k x is (λ j y there other. same (suc j) y there (λ bad. other (omega (arith, bad)))))
 
 -- what holds of each element holds of the one at an index
 pub All_there : {X : Type 0} (P : X → Type 0) (xs : List X) (k : ℕ) (x : X) → All P xs → slice_get xs k ≡ Some x → P x

@@ -28,7 +28,7 @@ use Rattle.rec_core.proofs.Meeting.{LaterLeave, in_order_taken, in_order_install
 use Rattle.rec_core.proofs.Serving.{OfTheirChannel, BeginAll, begins_there, produced_begins, produced_is_of, produced_open, produced_closed}
 
 -- the pieces of a channel
-abbrev of : ℕ → List PieceData → List PieceData
+abbrev pub of : ℕ → List PieceData → List PieceData
 of channel pieces = filter (is_of channel) pieces
 
 -- what was written of the channel begins its pieces, whatever frames follow where it is open; it is
@@ -48,12 +48,12 @@ begins_next (z ∷ zs) ys x b is =
     let r = begins_next zs (zs ++ b.0) x (b.0, refl) (subst (λ ws. slice_get ws (suc (length zs)) ≡ Some x) (sym b.1) is) in
     (r.0, ap (λ ws. z ∷ ws) r.1 ∙ b.1)
 
-own_piece : (channel : ℕ) (out : List PieceData) (piece : PieceData) → channel_of piece ≡ channel → of channel (out ++ piece ∷ []) ≡ of channel out ++ piece ∷ []
+pub own_piece : (channel : ℕ) (out : List PieceData) (piece : PieceData) → channel_of piece ≡ channel → of channel (out ++ piece ∷ []) ≡ of channel out ++ piece ∷ []
 own_piece channel out piece is =
     filter-append (is_of channel) out (piece ∷ [])
     ∙ ap (λ b. of channel out ++ cond b (piece ∷ []) []) (eq-eqb (channel_of piece) channel is)
 
-other_piece : (channel : ℕ) (out : List PieceData) (piece : PieceData) → channel_of piece ≢ channel → of channel (out ++ piece ∷ []) ≡ of channel out
+pub other_piece : (channel : ℕ) (out : List PieceData) (piece : PieceData) → channel_of piece ≢ channel → of channel (out ++ piece ∷ []) ≡ of channel out
 other_piece channel out piece differs = elim (cases_Bool (channel_of piece == channel)) as (λ _. of channel (out ++ piece ∷ []) ≡ of channel out) [
   | inl same ↦ absurd (differs (eqb-true (channel_of piece) channel same))
   | inr not_same ↦ filter-append (is_of channel) out (piece ∷ []) ∙ (ap (λ b. of channel out ++ cond b (piece ∷ []) []) not_same ∙ append-nil (of channel out))

@@ -1,15 +1,17 @@
 //! Laws of runs, which run nothing.
 
-ghost use Rattle.std.specs.Prelude.{ℕ, ◌≡◌, ◌≤◌, true, List, All, Some, Result};
-ghost use Rattle.rec_writer.specs.Recording.{AreOfChannels};
+ghost use Rattle.std.specs.Prelude.{ℕ, ◌≡◌, ◌<◌, true, List, All, Some};
+ghost use Rattle.std.specs.List.{AllZip};
+ghost use Rattle.rec_lane.specs.Pieces.{PieceData};
+ghost use Rattle.rec_writer.specs.Recording.{RecordedChannel, AreOfChannels};
 ghost use Rattle.rec_writer.specs.Writers.{HoldsRecording};
-ghost use Rattle.rec_core.specs.declared.reply.Reply.{Reply};
-ghost use Rattle.rec_core.specs.declared.fault.CoreFault.{CoreFault};
-ghost use Rattle.rec_core.specs.Openings.{SpecData, AreSpecs, HaveFilters};
-ghost use Rattle.rec_core.specs.World.{WorldState, ChannelState, EventData, IsInOrder};
+ghost use Rattle.rec_core.specs.Openings.{SpecData, AreSpecs};
+ghost use Rattle.rec_core.specs.Ties.{IsOfSpec, IsRunOfWorld};
+ghost use Rattle.rec_core.specs.World.{WorldState, IsInOrder};
 ghost use Rattle.rec_core.specs.Worlds.{CoreState, StandsForWorld};
 ghost use Rattle.rec_core.specs.Written.{RunsFromOpening, WritesInOrder, WritesAll, AreEnded, recorded_channels, IsCutShort};
 
+use ch11_packet::packets_have_their_lengths;
 use rec_lane::{
     later_versions_leave_the_frames, pieces_are_of_their_channel, pieces_so_far_begin_all_pieces,
 };
@@ -53,6 +55,18 @@ pub fn an_ended_world_holds_its_recording()
 {
     a_run_that_ended_is_a_recording();
     what_a_writer_put_is_a_recording();
+}
+
+/// Law: the other way round, a recording is a run. Where rings have room for a piece, these events,
+/// done from the opening world, have no refusal: the takes and installs of each channel in the order
+/// of the marks, then each channel's close, then a send and a write of each piece in its order. They
+/// end with each channel closed and exactly these pieces written.
+pub fn a_recording_is_a_run()
+    ensures { (ring : ℕ) (specs : List SpecData) (channels : List RecordedChannel)
+        (pieces : List PieceData) → 0 < ring → AreSpecs specs → AllZip IsOfSpec specs channels
+        → AreOfChannels channels pieces → IsRunOfWorld ring specs channels pieces }
+{
+    packets_have_their_lengths();
 }
 
 /// Law: where the output of a core failed, it took the packets of the written pieces, and then the

@@ -2,6 +2,7 @@
 
 ghost use Rattle.std.specs.Prelude.{ℕ, ◌≡◌, ◌≢◌, ◌<◌, ◌≤◌, ◌↔◌, length, All, IsTrue};
 ghost use Rattle.arrayvec.specs.ArrayVec.{array_vec_len};
+ghost use Rattle.rec_writer.specs.Numbers.{AreDistinct};
 ghost use Rattle.rec_core.specs.Openings.{AreSpecs, channels_of_specs, IsNew};
 ghost use Rattle.rec_core.specs.Views.{specs_data};
 
@@ -31,21 +32,28 @@ pub fn specs_ok(specs: &[ChannelSpec]) -> bool
     if specs.is_empty() || specs.len() > MAX_CHANNELS {
         return false;
     }
-    'specs: for k in 0..specs.len() {
-        if !is_new(specs, k) {
+    are_distinct(channels_of(specs).as_slice())
+}
+
+/// Whether no two of these channel IDs are the same.
+pub fn are_distinct(channels: &[u16]) -> bool
+    ensures { IsTrue result ↔ AreDistinct channels.now }
+{
+    'channels: for k in 0..channels.len() {
+        if !is_new(channels, k) {
             return false;
         }
     }
     true
 }
 
-/// Whether no channel before this one has its ID.
-fn is_new(specs: &[ChannelSpec], k: usize) -> bool
-    requires { k < length specs.now }
-    ensures { IsTrue result ↔ IsNew (channels_of_specs (specs_data specs.now)) k }
+/// Whether no channel ID before this one is the same.
+fn is_new(channels: &[u16], k: usize) -> bool
+    requires { k < length channels.now }
+    ensures { IsTrue result ↔ IsNew channels.now k }
 {
     'earlier: for i in 0..k {
-        if specs[i].lane.channel == specs[k].lane.channel {
+        if channels[i] == channels[k] {
             return false;
         }
     }

@@ -12,3 +12,4 @@ pub mod Running
 pub mod Concluding
 pub mod Answered
 pub mod Judging
+pub mod Tying

@@ -1,12 +1,11 @@
 -- What jobs a recording may have.
-use Rattle.std.specs.Prelude.{ℕ, ◌≢◌, ◌<◌, ◌≤◌, List, length, map, slice_index}
+use Rattle.std.specs.Prelude.{ℕ, ◌<◌, ◌≤◌, List, length, map}
+use Rattle.std.specs.Arc.{arc_value}
+use Rattle.rec_core.specs.Openings.{SpecData}
+use Rattle.rec_lane.specs.Settings.{spec_data}
 use Rattle.rec_writer.specs.Numbers.{AreDistinct}
 use Rattle.rec_writer.specs.declared.writer.TheConstants.{MAX_CHANNELS}
 use Rattle.rec_run.specs.declared.job.Job.{Job}
-
--- no channel before this one is the same
-abbrev pub IsNew : List ℕ → ℕ → Type 0
-IsNew channels k = (i : ℕ) → i < k → slice_index channels i ≢ slice_index channels k
 
 module _ {S : Type 0} where
   abbrev pub channel_of_job : Job S → ℕ
@@ -20,3 +19,11 @@ module _ {S : Type 0} where
     pub some : 0 < length jobs
     pub few : length jobs ≤ MAX_CHANNELS
     pub distinct : AreDistinct (channels_of_jobs jobs)
+
+  -- what the core's channel of a job would be set to
+  abbrev pub core_spec : Job S → SpecData
+  core_spec job =
+      record { settings = spec_data job.spec; program = arc_value job.program; max = job.max }
+
+  abbrev pub core_specs : List (Job S) → List SpecData
+  core_specs jobs = map core_spec jobs

@@ -5,6 +5,7 @@ use Rattle.std.specs.Arc.{arc_value}
 use Rattle.std.specs.Io.KnownBytes.{Appends}
 use Rattle.eth_frame.specs.Source.{Left}
 use Rattle.eth_frame.specs.declared.source.SourceEnding.{SourceEnding}
+use Rattle.rec_core.specs.Ties.{IsRunOfWorld}
 use Rattle.rec_lane.specs.Parts.{Begins}
 use Rattle.rec_lane.specs.Pieces.{PieceData, channel_of, ArePieces}
 use Rattle.rec_writer.specs.Encoding.{writer_output}
@@ -16,7 +17,7 @@ use Rattle.rec_run.specs.Answering.{IsChanged}
 use Rattle.rec_run.specs.Changes.{Given, Answered}
 use Rattle.rec_run.specs.Counting.{shown, bytes_of}
 use Rattle.rec_run.specs.Endings.{IsOver}
-use Rattle.rec_run.specs.Jobs.{channels_of_jobs}
+use Rattle.rec_run.specs.Jobs.{channels_of_jobs, core_specs}
 use Rattle.rec_run.specs.Reports.{history_of, AreReports}
 use Rattle.rec_run.specs.declared.change.Answer.TheVariants.{NoChannel}
 use Rattle.rec_run.specs.declared.job.Job.{Job}
@@ -51,6 +52,14 @@ module _ {S : Type 0}
     pub over : All (λ (r : ChannelReport S). IsOver r.ending) report.channels.items
     pub pieces_is : report.pieces ≡ shown (length recording.0)
     pub bytes_is : report.bytes ≡ shown (length bytes)
+
+  -- a recording that ended is a run of the model of the core, with rings of this size: its channels
+  -- and the pieces of its bytes are those of a run from the opening world of these jobs
+  pub record IsRecordedRun
+      (jobs : List (Job S)) (version ring : ℕ) (first held : Option (List ℕ)) (report : Report S)
+      : Type 0 where
+    pub recorded : IsRecorded jobs version first held report
+    pub run : IsRunOfWorld ring (core_specs jobs) recorded.channels recorded.recording.0
 
   -- a recording that was cut short: its output took these pieces, and then the beginning of the
   -- piece after them, if one was begun; and what was taken of each channel begins its pieces

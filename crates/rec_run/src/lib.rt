@@ -34,6 +34,7 @@ pub use change::{Answer, Change, Told};
 pub use control::Control;
 pub use ending::Ending;
 pub use job::Job;
-pub use jobs::{MAX_RING, jobs_ok};
+pub use jobs::jobs_ok;
+pub use rec_core::MAX_RING;
 pub use recording::record;
 pub use report::{ChannelReport, Done, Report, RunFault};

@@ -4,10 +4,10 @@ ghost use Rattle.std.specs.Prelude.{◌≡◌, ◌≤◌, [], IfOk, IfErr, IfSom
 ghost use Rattle.std.specs.List.{AllZip};
 ghost use Rattle.rec_run.specs.Changes.{MayBeAsked};
 ghost use Rattle.rec_run.specs.Jobs.{AreJobs};
-ghost use Rattle.rec_run.specs.Recorded.{IsRecorded, IsControlled};
+ghost use Rattle.rec_run.specs.Recorded.{IsRecorded, IsRecordedRun, IsControlled};
 ghost use Rattle.rec_run.specs.Verdicts.{CutsShort, Concludes, ConcludesControl, ConcludesCut, TellsOf, EndsWell, EndsAtFlush};
 ghost use Rattle.std.specs.Io.KnownBytes.{Keeps};
-ghost use Rattle.rec_run.specs.declared.jobs.TheConstants.{MAX_RING};
+ghost use Rattle.rec_core.specs.declared.ring.TheConstants.{MAX_RING};
 
 use crate::agreement::are_of_some;
 use crate::change::Logged;
@@ -26,6 +26,7 @@ use crate::threads::run_threads;
 use crate::writing::Wrote;
 use eth_frame::FrameSource;
 use rec_channel::SharedSlot;
+use rec_core::a_recording_is_a_run;
 use rec_writer::Writer;
 use std::alloc::Global;
 use std::io::Write;
@@ -62,10 +63,12 @@ pub fn record<
         (W.contents out) (W.contents done.out) done.report) }
     ensures controlled { IfOk result (λ done. IsControlled C.given C.answered C.ended control
         done.control jobs.items done.report.channels.items) }
+    ensures run { IfOk result (λ done. IsRecordedRun S.left S.failures S.ending jobs.items version
+        ring (W.contents out) (W.contents done.out) done.report) }
     ensures cut { IfErr result
         (CutsShort S.left S.failures S.ending W.contents jobs.items version (W.contents out)) }
 {
-    let channels = channels_of(alloc, jobs.as_slice())?;
+    let channels = channels_of(jobs.as_slice());
     let slots = slots_of(alloc, jobs.as_slice())?;
     let prepared = prepare_all(alloc, ring, jobs)?;
     let count = prepared.len();
@@ -89,6 +92,7 @@ pub fn record<
         log,
         tape,
     )?;
+    a_recording_is_a_run();
     conclude(outcome, slots, channels.as_slice(), reports)
 }
 

@@ -1,7 +1,7 @@
 //! The settings of a recording, and of its channels.
 
 ghost use Rattle.std.specs.Prelude.{◌≤◌, ◌<◌};
-ghost use Rattle.rec_run.specs.declared.jobs.TheConstants.{MAX_RING};
+ghost use Rattle.rec_core.specs.declared.ring.TheConstants.{MAX_RING};
 ghost use Rattle.ch11_packet.specs.declared.frames.word.TheConstants.{MAX_SPEED};
 
 mod fault;
