@@ -1,0 +1,83 @@
+//! Recordings that commands read, packet by packet.
+
+use crate::ending::{Ending, STREAM};
+use rec_reader::{OwnedPacket, Reader};
+use std::alloc::Global;
+use std::fs;
+use std::io::{BufReader, Read};
+use std::rt::Files;
+
+/// How many bytes of a recording are read at once.
+const PIECE: usize = 65_536;
+
+/// The next packet of a recording: `None` at its end.
+pub(crate) fn next_packet<'a, R: Read>(
+    file: &'a str,
+    reader: &mut Reader<R>,
+) -> Result<Option<OwnedPacket>, Ending<'a>> {
+    match reader.next() {
+        Ok(packet) => Ok(packet),
+        Err(end) => Err(Ending::of_reading(file, end)),
+    }
+}
+
+/// The next packet of a recording that is read again. Where there is none, it isn't what it was, and
+/// that is the file's fault.
+pub(crate) fn packet_again<'a, R: Read>(
+    file: &'a str,
+    reader: &mut Reader<R>,
+) -> Result<OwnedPacket, Ending<'a>> {
+    match next_packet(file, reader) {
+        Ok(Some(packet)) => Ok(packet),
+        Ok(None) | Err(Ending::Reading(_)) => Err(Ending::File(file)),
+        Err(ending) => Err(ending),
+    }
+}
+
+/// The reader of a recording in a file.
+pub(crate) fn reader_of<'a, R: AllocGlobal + Files>(
+    rt: &R,
+    file: &'a str,
+) -> Result<Reader<BufReader<R::File>>, Ending<'a>> {
+    match fs::open(rt, file) {
+        Ok(recording) => reader_over(rt.alloc(), recording),
+        Err(error) => Err(Ending::of_read(file, &error)),
+    }
+}
+
+/// The reader of the recording that an input gives.
+pub(crate) fn reader_over<'a, I: Read + Drop>(
+    alloc: Global,
+    input: I,
+) -> Result<Reader<BufReader<I>>, Ending<'a>> {
+    match BufReader::with_capacity(alloc, PIECE, input) {
+        Ok(input) => Ok(Reader::new(alloc, input)),
+        Err(_) => Err(Ending::Memory),
+    }
+}
+
+/// Whether a file can be read twice, as a regular file can. Standard input and a pipe can't.
+pub(crate) fn is_read_twice<R: Files>(rt: &R, file: &str) -> bool {
+    if file == STREAM {
+        return false;
+    }
+    match rt.metadata(file) {
+        Ok(found) => found.is_file(),
+        Err(_) => false,
+    }
+}
+
+/// Whether two names may be of one file. There is no telling but by what is known of the files: two
+/// names of one file have the same length and the same time of the last change.
+pub(crate) fn may_be_same<R: Files>(rt: &R, file: &str, other: &str) -> bool {
+    if file == other {
+        return true;
+    }
+    let (Ok(found), Ok(beside)) = (rt.metadata(file), rt.metadata(other)) else {
+        return false;
+    };
+    let (Ok(changed), Ok(beside_changed)) = (found.modified(), beside.modified()) else {
+        return true;
+    };
+    found.len() == beside.len() && changed == beside_changed
+}
