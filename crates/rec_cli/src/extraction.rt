@@ -4,7 +4,7 @@ use crate::channel_word::channel_in;
 use crate::ending::Ending;
 use crate::input::bytes_in;
 use crate::output::finish;
-use crate::reading::{is_read_twice, may_be_same, next_packet, packet_again, reader_of};
+use crate::reading::{Counts, counts_of, is_read_twice, may_be_same, packet_again, reader_of};
 use rec_reader::{ExtractFault, Extracted, check_recording, extract_channel, extract_packet};
 use std::alloc::Global;
 use std::io::{BufWriter, ErrorKind, Read, Write};
@@ -64,24 +64,23 @@ fn extract_twice<'a, R: AllocGlobal + Files>(
     channel: u16,
     out: &'a str,
 ) -> Result<Extracted, Ending<'a>> {
-    let mut judged = reader_of(rt, file)?;
-    let mut packets = 0u64;
-    'judged: for _ in 0..u64::MAX {
-        let Some(_) = next_packet(file, &mut judged)? else {
-            break 'judged;
-        };
-        packets = packets.saturating_add(1);
-    }
+    let judged = counts_of(file, &mut reader_of(rt, file)?)?;
     let mut reader = reader_of(rt, file)?;
     let mut feed = feed_of(rt, out)?;
     let mut extracted = Extracted {
         frames: 0,
         passed: 0,
     };
-    'packets: for _ in 0..packets {
+    let mut counts = Counts::NONE;
+    'packets: for _ in 0..judged.packets {
         let owned = packet_again(file, &mut reader)?;
-        let written = extract_packet(&owned.packet(), channel, &mut feed, &mut extracted);
+        let packet = owned.packet();
+        counts.count(&packet);
+        let written = extract_packet(&packet, channel, &mut feed, &mut extracted);
         written.map_err(|_| Ending::File(out))?;
+    }
+    if counts != judged {
+        return Err(Ending::File(file));
     }
     feed.flush().map_err(|_| Ending::File(out))?;
     Ok(extracted)

@@ -2,42 +2,15 @@
 
 use crate::ending::{Ending, STREAM};
 use crate::output::finish;
-use crate::reading::{is_read_twice, next_packet, reader_of, reader_over};
+use crate::reading::{
+    Counts, counts_of, is_read_twice, next_packet, packet_again, reader_of, reader_over,
+};
 use ch11_packet::{Header, What};
 use rec_reader::{Packet, Reader};
 use std::alloc::Global;
 use std::io;
 use std::io::{BufWriter, Read, Write};
 use std::rt::Files;
-
-/// How many packets were listed.
-#[derive(Clone, Copy, PartialEq, Eq)]
-struct Listed {
-    packets: u64,
-    /// Those that are of no kind that is read.
-    others: u64,
-    /// The place of what follows them.
-    end: u64,
-}
-
-impl Listed {
-    /// No packets.
-    const NONE: Listed = Listed {
-        packets: 0,
-        others: 0,
-        end: 0,
-    };
-
-    /// Counts a packet.
-    fn count(&mut self, packet: &Packet<'_>) {
-        self.packets = self.packets.saturating_add(1);
-        if packet.what == What::Other {
-            self.others = self.others.saturating_add(1);
-        }
-        let len = u64::from(packet.header.packet_len);
-        self.end = packet.at.saturating_add(len);
-    }
-}
 
 /// `list FILE`: prints a line for each packet, and their number. Nothing is printed of a recording
 /// that isn't read to its end: a file is read once to see that it is, and once more to print it,
@@ -55,7 +28,7 @@ pub(crate) fn list_packets<'a, R: AllocGlobal + Files, I: Read, O: Write>(
     if !is_read_twice(rt, file) {
         return list_held(alloc, file, &mut reader_of(rt, file)?, output);
     }
-    let judged = list_into(file, &mut reader_of(rt, file)?, u64::MAX, &mut io::sink())?;
+    let judged = counts_of(file, &mut reader_of(rt, file)?)?;
     list_again(alloc, file, &mut reader_of(rt, file)?, judged, output)
 }
 
@@ -65,18 +38,21 @@ fn list_again<'a, R: Read, O: Write>(
     alloc: Global,
     file: &'a str,
     reader: &mut Reader<R>,
-    judged: Listed,
+    judged: Counts,
     output: &mut O,
 ) -> Result<(), Ending<'a>> {
     let Ok(mut lines) = BufWriter::new(alloc, output) else {
         return Err(Ending::Memory);
     };
-    match list_into(file, reader, judged.packets, &mut lines) {
-        Ok(listed) if listed == judged => {}
-        Ok(_) | Err(Ending::Reading(_)) => return Err(Ending::File(file)),
-        Err(ending) => return Err(ending),
+    let mut counts = Counts::NONE;
+    'packets: for _ in 0..judged.packets {
+        let owned = packet_again(file, reader)?;
+        add_line(&mut lines, &owned.packet(), &mut counts)?;
     }
-    let written = print_counts(&mut lines, judged);
+    if counts != judged {
+        return Err(Ending::File(file));
+    }
+    let written = print_counts(&mut lines, counts);
     finish(&mut lines, written)
 }
 
@@ -88,37 +64,35 @@ fn list_held<'a, R: Read, O: Write>(
     output: &mut O,
 ) -> Result<(), Ending<'a>> {
     let mut lines = Vec::new(alloc);
-    let listed = list_into(file, reader, u64::MAX, &mut lines)?;
-    let written = output.write_all(lines.as_slice());
-    finish(output, written)?;
-    let written = print_counts(output, listed);
-    finish(output, written)
-}
-
-/// Prints the lines of the packets that a reader gives, `most` of them at most.
-fn list_into<'a, R: Read, W: Write>(
-    file: &'a str,
-    reader: &mut Reader<R>,
-    most: u64,
-    lines: &mut W,
-) -> Result<Listed, Ending<'a>> {
-    let mut listed = Listed::NONE;
-    'packets: for _ in 0..most {
+    let mut counts = Counts::NONE;
+    'packets: for _ in 0..u64::MAX {
         let Some(owned) = next_packet(file, reader)? else {
             break 'packets;
         };
-        let packet = owned.packet();
-        if let Err(error) = print_packet(lines, &packet) {
-            return Err(Ending::of_read(STREAM, &error));
-        }
-        listed.count(&packet);
+        add_line(&mut lines, &owned.packet(), &mut counts)?;
     }
-    Ok(listed)
+    let written = output.write_all(lines.as_slice());
+    finish(output, written)?;
+    let written = print_counts(output, counts);
+    finish(output, written)
+}
+
+/// Prints a packet's line, and counts the packet.
+fn add_line<W: Write>(
+    lines: &mut W,
+    packet: &Packet<'_>,
+    counts: &mut Counts,
+) -> Result<(), Ending<'static>> {
+    counts.count(packet);
+    match print_packet(lines, packet) {
+        Ok(()) => Ok(()),
+        Err(error) => Err(Ending::of_read(STREAM, &error)),
+    }
 }
 
 /// Prints how many packets there are.
-fn print_counts<W: Write>(lines: &mut W, listed: Listed) -> io::Result<()> {
-    writeln!(lines, "packets {} other {}", listed.packets, listed.others)
+fn print_counts<W: Write>(lines: &mut W, counts: Counts) -> io::Result<()> {
+    writeln!(lines, "packets {} other {}", counts.packets, counts.others)
 }
 
 /// Prints a packet's line: its place, its header's fields, and what it holds.

@@ -1,7 +1,8 @@
 //! Recordings that commands read, packet by packet.
 
 use crate::ending::{Ending, STREAM};
-use rec_reader::{OwnedPacket, Reader};
+use ch11_packet::What;
+use rec_reader::{OwnedPacket, Packet, Reader};
 use std::alloc::Global;
 use std::fs;
 use std::io::{BufReader, Read};
@@ -9,6 +10,51 @@ use std::rt::Files;
 
 /// How many bytes of a recording are read at once.
 const PIECE: usize = 65_536;
+
+/// The packets that a pass over a recording met.
+#[derive(Clone, Copy, PartialEq, Eq)]
+pub(crate) struct Counts {
+    /// Their number.
+    pub packets: u64,
+    /// The number of those of no kind that is read.
+    pub others: u64,
+    /// The place of what follows them.
+    end: u64,
+}
+
+impl Counts {
+    /// No packets.
+    pub(crate) const NONE: Counts = Counts {
+        packets: 0,
+        others: 0,
+        end: 0,
+    };
+
+    /// Counts a packet.
+    pub(crate) fn count(&mut self, packet: &Packet<'_>) {
+        self.packets = self.packets.saturating_add(1);
+        if packet.what == What::Other {
+            self.others = self.others.saturating_add(1);
+        }
+        let len = u64::from(packet.header.packet_len);
+        self.end = packet.at.saturating_add(len);
+    }
+}
+
+/// The packets of a recording that is read to its end.
+pub(crate) fn counts_of<'a, R: Read>(
+    file: &'a str,
+    reader: &mut Reader<R>,
+) -> Result<Counts, Ending<'a>> {
+    let mut counts = Counts::NONE;
+    'packets: for _ in 0..u64::MAX {
+        let Some(owned) = next_packet(file, reader)? else {
+            break 'packets;
+        };
+        counts.count(&owned.packet());
+    }
+    Ok(counts)
+}
 
 /// The next packet of a recording: `None` at its end.
 pub(crate) fn next_packet<'a, R: Read>(
