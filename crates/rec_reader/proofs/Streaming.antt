@@ -1,18 +1,18 @@
 -- A reader's answers, and the packets of all bytes.
-use Rattle.std.proofs.Common.{◌≡◌, ℕ, ◌+◌, ◌-◌, ◌^◌, ◌<◌, ◌≤◌, min, ◌⊎◌, inl, inr, List, [], ◌∷◌, ◌++◌, length, take, Option, None, Some, IfSome, Result, Ok, Err, IsErrAnd, IfErr, refl, sym, ap, subst, ◌∙◌, arith, length-append}
+use Rattle.std.proofs.Common.{◌≡◌, ℕ, ◌+◌, ◌-◌, ◌^◌, ◌<◌, min, ◌⊎◌, inl, inr, List, [], ◌∷◌, ◌++◌, length, take, Option, None, Some, IfSome, Result, Ok, Err, IsErrAnd, IfErr, refl, sym, ap, subst, ◌∙◌, arith, length-append}
 use Rattle.std.proofs.lemmas.List.{take_at}
 use Rattle.std.specs.Io.KnownBytes.{Consumes}
 use Rattle.ch11_packet.specs.declared.header.TheConstants.{HEADER_LEN}
 use Rattle.ch11_packet.specs.declared.header.HeaderFault.{HeaderFault}
 use Rattle.ch11_packet.specs.declared.class.What.{What}
 use Rattle.ch11_packet.specs.Header.{HeaderData, HasFault}
-use Rattle.ch11_packet.specs.Classes.{Holds, HoldsNothing}
+use Rattle.ch11_packet.specs.Classes.{Holds}
 use Rattle.rec_reader.specs.declared.fault.ReadEnd.{ReadEnd}
 use Rattle.rec_reader.specs.declared.fault.ReadFaultKind.{ReadFaultKind}
-use Rattle.rec_reader.specs.declared.fault.ReadFaultKind.TheVariants.{Truncated, Body, Device, Memory}
+use Rattle.rec_reader.specs.declared.fault.ReadFaultKind.TheVariants.{Truncated, Device, Memory}
 use Rattle.rec_reader.specs.Reading.{HasHeader, HasReadFault, header_kind}
 use Rattle.rec_reader.proofs.Splitting.{bad_header, cut_packet, first_packet}
-use Rattle.rec_reader.specs.Packets.{PacketData, packet_of, StandsFirst, Begins, packets_len}
+use Rattle.rec_reader.specs.Packets.{PacketData, packet_of, StandsFirst, packets_len}
 use Rattle.rec_reader.specs.Readers.{ReaderState, StopsOn, TakesFirst, TakesHeader, TakesRest, IsBefore, HasRead}
 use Rattle.rec_reader.proofs.Chains.{length-first, length-Begins, Begins-snoc}
 

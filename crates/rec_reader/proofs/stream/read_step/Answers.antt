@@ -1,4 +1,4 @@
-use Rattle.std.proofs.Common.{◌≡◌, ◌≤◌, ◌+◌, ◌-◌, ◌++◌, length, take, ap, subst, ◌∙◌, arith, take_all, replicate}
+use Rattle.std.proofs.Common.{◌≡◌, ◌+◌, ◌-◌, ◌++◌, length, take, ap, subst, ◌∙◌, arith, take_all, replicate}
 use Rattle.std.specs.Io.KnownBytes.{Consumes}
 use Rattle.std.specs.Vec.{vec_len}
 use Rattle.rec_reader.proofs.Filled.{lent_to_end, grown_front, length-room}

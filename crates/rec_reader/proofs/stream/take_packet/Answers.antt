@@ -1,4 +1,4 @@
-use Rattle.std.proofs.Common.{◌≡◌, IfSome, Option, Some, ap, subst}
+use Rattle.std.proofs.Common.{IfSome, Option, ap, subst}
 use Rattle.std.specs.Option.{option_map}
 use Rattle.ch11_packet.specs.Header.{HeaderData}
 use Rattle.ch11_packet.specs.Views.{header_data}
