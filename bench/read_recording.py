@@ -6,8 +6,10 @@ usage: bench/read_recording.py BPFREC BENCH [LENGTH [MEGABYTES]]
 BPFREC and BENCH are the programs that `tools/build` and `tools/build bench` leave in bin/. BENCH makes
 a recording of MEGABYTES (100) of packets that are full of frames of LENGTH (1518) bytes, in a
 temporary folder. Each command runs nine times, in turn with the others, with its output to a file there.
-It prints, for each, the best time and the median in milliseconds, and the most memory of any run; and
-the time that the runs of the filter take by themselves, which the audit makes for each frame.
+It prints, for each, the best time and the median in milliseconds, and the memory of a further run by
+itself; and the time that the runs of the filter take by themselves, which the audit makes for each frame.
+At the end it says whether `list` and `audit` took less than 16 MB, and at best no longer than twice the
+best `cat` and the runs of the filter together; the status is 1 if one of them didn't.
 """
 import os
 import statistics
@@ -18,21 +20,30 @@ import time
 
 ROUNDS = 9
 
+# what `list` and `audit` may take: megabytes, and times as long as `cat` and the runs of the filter
+MOST_MEMORY = 16
+MOST_TIMES = 2
+
 # the filter that BENCH puts into the recording
 FILTER = "4,40 0 0 12,21 0 1 23130,6 0 0 4294967295,6 0 0 0,"
 
 
 def run(words, output):
-    """The seconds that a run takes, and its greatest memory in kilobytes."""
+    """The seconds that a run takes."""
     with open(output, "wb") as out:
         begin = time.monotonic()
-        child = subprocess.Popen(words, stdout=out)
-        _, status, used = os.wait4(child.pid, 0)
+        status = subprocess.run(words, stdout=out).returncode
         spent = time.monotonic() - begin
-    child.returncode = os.waitstatus_to_exitcode(status)
-    if child.returncode != 0:
-        sys.exit(f"{' '.join(words)} ended with status {child.returncode}")
-    return spent, used.ru_maxrss
+    if status != 0:
+        sys.exit(f"{' '.join(words)} ended with status {status}")
+    return spent
+
+
+def memory_of(words):
+    """The most memory of a run in megabytes. A child of this script would have the script's own."""
+    timed = ["/usr/bin/time", "-f", "%M", *words]
+    ran = subprocess.run(timed, stdout=subprocess.DEVNULL, stderr=subprocess.PIPE, text=True, check=True)
+    return int(ran.stderr.split()[-1]) * 1024 / 1e6
 
 
 def filter_runs(bench, work, length, count):
@@ -66,15 +77,21 @@ def main():
         runs = {name: [] for name in commands}
         for _ in range(ROUNDS):
             for name, words in commands.items():
-                runs[name].append(run(words, f"{work}/{name}.out"))
+                runs[name].append(run(words, f"{work}/{name}.out") * 1000)
         print(f"a recording of {size:,} bytes, frames of {length}")
-        for name, done in runs.items():
-            times = sorted(seconds * 1000 for seconds, _ in done)
-            memory = max(kilobytes for _, kilobytes in done) / 1000
-            print(f"{name:8} best {times[0]:7.1f} ms  median {statistics.median(times):7.1f} ms  memory {memory:6.1f} MB")
+        memory = {name: memory_of(words) for name, words in commands.items()}
+        for name, times in runs.items():
+            print(f"{name:8} best {min(times):7.1f} ms  median {statistics.median(times):7.1f} ms  memory {memory[name]:6.1f} MB")
         count = int(open(f"{work}/audit.out").read().split()[5])
-        print(f"filter   {count:,} runs by themselves {filter_runs(bench, work, int(length), count):7.1f} ms")
-    return 0
+        alone = filter_runs(bench, work, int(length), count)
+        print(f"filter   {count:,} runs by themselves {alone:7.1f} ms")
+        within = True
+        for name in ("list", "audit"):
+            times = min(runs[name]) / (min(runs["cat"]) + alone)
+            well = memory[name] < MOST_MEMORY and times <= MOST_TIMES
+            within = within and well
+            print(f"{name:8} {times:.2f} times cat and the filter, {memory[name]:.1f} MB: {'as it should' if well else 'TOO MUCH'}")
+    return 0 if within else 1
 
 
 sys.exit(main())

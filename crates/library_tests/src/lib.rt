@@ -15,6 +15,8 @@ mod disassembler;
 #[cfg(test)]
 mod frame_and_feed;
 #[cfg(test)]
+mod index;
+#[cfg(test)]
 mod insn;
 #[cfg(test)]
 mod lane;
@@ -30,6 +32,8 @@ mod recorder;
 mod settings;
 #[cfg(test)]
 mod shared;
+#[cfg(test)]
+mod stream;
 #[cfg(test)]
 mod verifier;
 #[cfg(test)]

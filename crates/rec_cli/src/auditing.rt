@@ -1,28 +1,48 @@
 //! The command that judges a recording by itself.
 
-use crate::ending::Ending;
-use crate::input::bytes_in;
+use crate::ending::{Ending, STREAM};
 use crate::output::finish;
-use rec_reader::{Audit, AuditLine, audit, read_recording};
+use crate::reading::{next_packet, reader_of, reader_over};
+use rec_reader::{Audit, AuditLine, Auditor, Reader};
+use std::alloc::Global;
 use std::io;
 use std::io::{Read, Write};
 use std::rt::Files;
 
 /// `audit FILE`: prints a line for each channel, and how many packets hold something else; or the
-/// first thing that is wrong with the recording.
+/// first thing that is wrong with the recording. It holds one packet at a time.
 pub(crate) fn audit_recording<'a, R: AllocGlobal + Files, I: Read, O: Write>(
     rt: &R,
     file: &'a str,
     input: &mut I,
     output: &mut O,
 ) -> Result<(), Ending<'a>> {
-    let bytes = bytes_in(rt, file, input)?;
-    let audited = match read_recording(rt.alloc(), bytes.as_slice()) {
-        Ok(recording) => audit(rt.alloc(), &recording)?,
-        Err(fault) => return Err(Ending::of_reading(file, fault.end())),
+    let alloc = rt.alloc();
+    let audited = if file == STREAM {
+        audit_packets(alloc, file, &mut reader_over(alloc, input)?)?
+    } else {
+        audit_packets(alloc, file, &mut reader_of(rt, file)?)?
     };
     let written = print_audit(output, &audited);
     finish(output, written)
+}
+
+/// The audit of the packets that a reader gives. It goes on to their end also after a fault of the
+/// audit, since a fault of the reading goes first.
+fn audit_packets<'a, R: Read>(
+    alloc: Global,
+    file: &'a str,
+    reader: &mut Reader<R>,
+) -> Result<Audit, Ending<'a>> {
+    let mut auditor = Auditor::new(alloc);
+    'packets: for _ in 0..u64::MAX {
+        let Some(packet) = next_packet(file, reader)? else {
+            break 'packets;
+        };
+        // the auditor keeps its fault, and answers it at the end
+        let _ = auditor.take(&packet.packet());
+    }
+    Ok(auditor.end()?)
 }
 
 /// Prints a line for each channel, and how many packets hold something else.

@@ -4,7 +4,8 @@ use crate::channel_word::channel_in;
 use crate::ending::Ending;
 use crate::input::bytes_in;
 use crate::output::finish;
-use rec_reader::{ExtractFault, Extracted, check_recording, extract_channel};
+use crate::reading::{Counts, counts_of, is_read_twice, may_be_same, packet_again, reader_of};
+use rec_reader::{ExtractFault, Extracted, check_recording, extract_channel, extract_packet};
 use std::alloc::Global;
 use std::io::{BufWriter, ErrorKind, Read, Write};
 use std::rt::Files;
@@ -34,8 +35,9 @@ impl<F: Write> Write for FeedFile<F> {
 }
 
 /// `extract FILE CHANNEL OUT`: writes the channel's frames into a feed, and prints how many. The
-/// feed's file is created only if the recording is read to its end. Memory is taken for the
-/// recording's bytes and a small buffer, and not for its packets or frames.
+/// feed's file is created only if the recording is read to its end: a file is read once to see that
+/// it is, and once more to write the frames, with one packet at a time; what can't be read twice, or
+/// is the feed's file itself, is held in memory.
 pub(crate) fn extract_frames<'a, R: AllocGlobal + Files, I: Read, O: Write>(
     rt: &R,
     file: &'a str,
@@ -45,20 +47,75 @@ pub(crate) fn extract_frames<'a, R: AllocGlobal + Files, I: Read, O: Write>(
     output: &mut O,
 ) -> Result<(), Ending<'a>> {
     let channel = channel_of(rt.alloc(), channel)?;
+    let Extracted { frames, passed } = if is_read_twice(rt, file) && !may_be_same(rt, file, out) {
+        extract_twice(rt, file, channel, out)?
+    } else {
+        extract_held(rt, file, channel, out, input)?
+    };
+    let written = writeln!(output, "frames {frames} passed {passed}");
+    finish(output, written)
+}
+
+/// Extracts a channel of a recording that is read twice. If it isn't what was judged at first, that
+/// is the file's fault; then some of its frames may have been written.
+fn extract_twice<'a, R: AllocGlobal + Files>(
+    rt: &R,
+    file: &'a str,
+    channel: u16,
+    out: &'a str,
+) -> Result<Extracted, Ending<'a>> {
+    let judged = counts_of(file, &mut reader_of(rt, file)?)?;
+    let mut reader = reader_of(rt, file)?;
+    let mut feed = feed_of(rt, out)?;
+    let mut extracted = Extracted {
+        frames: 0,
+        passed: 0,
+    };
+    let mut counts = Counts::NONE;
+    'packets: for _ in 0..judged.packets {
+        let owned = packet_again(file, &mut reader)?;
+        let packet = owned.packet();
+        counts.count(&packet);
+        let written = extract_packet(&packet, channel, &mut feed, &mut extracted);
+        written.map_err(|_| Ending::File(out))?;
+    }
+    if counts != judged {
+        return Err(Ending::File(file));
+    }
+    feed.flush().map_err(|_| Ending::File(out))?;
+    Ok(extracted)
+}
+
+/// Extracts a channel of a recording that is held in memory.
+fn extract_held<'a, R: AllocGlobal + Files, I: Read>(
+    rt: &R,
+    file: &'a str,
+    channel: u16,
+    out: &'a str,
+    input: &mut I,
+) -> Result<Extracted, Ending<'a>> {
     let bytes = bytes_in(rt, file, input)?;
     check_recording(bytes.as_slice()).map_err(|end| Ending::of_reading(file, end))?;
-    let uncreated = FeedFile { file: None };
-    let mut feed = BufWriter::new(rt.alloc(), uncreated).map_err(|_| Ending::Memory)?;
-    let created = fs::create(rt, out).map_err(|error| Ending::of_read(out, &error))?;
-    feed.get_mut().file = Some(created);
-    let Extracted { frames, passed } = match extract_channel(bytes.as_slice(), channel, &mut feed) {
+    let mut feed = feed_of(rt, out)?;
+    let extracted = match extract_channel(bytes.as_slice(), channel, &mut feed) {
         Ok(extracted) => extracted,
         Err(ExtractFault::Reading(end)) => return Err(Ending::of_reading(file, end)),
         Err(ExtractFault::Device) => return Err(Ending::File(out)),
     };
     feed.flush().map_err(|_| Ending::File(out))?;
-    let written = writeln!(output, "frames {frames} passed {passed}");
-    finish(output, written)
+    Ok(extracted)
+}
+
+/// A feed's file, created after the buffer before it.
+fn feed_of<'a, R: AllocGlobal + Files>(
+    rt: &R,
+    out: &'a str,
+) -> Result<BufWriter<FeedFile<R::File>>, Ending<'a>> {
+    let uncreated = FeedFile { file: None };
+    let mut feed = BufWriter::new(rt.alloc(), uncreated).map_err(|_| Ending::Memory)?;
+    let created = fs::create(rt, out).map_err(|error| Ending::of_read(out, &error))?;
+    feed.get_mut().file = Some(created);
+    Ok(feed)
 }
 
 /// The channel that a word names: a number from 0 to 65,535, in decimal digits alone.

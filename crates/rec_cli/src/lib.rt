@@ -11,6 +11,7 @@ mod input;
 mod no_words;
 mod output;
 mod packet_list;
+mod reading;
 mod recording;
 mod script;
 mod simulation;

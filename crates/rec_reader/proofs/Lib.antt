@@ -17,3 +17,6 @@ pub mod Stored
 pub mod Accepting
 pub mod Counting
 pub mod Recordings
+pub mod Filled
+pub mod Streaming
+pub mod Indexing

@@ -4,4 +4,6 @@ pub mod ChannelFrames
 pub mod Channels
 pub mod Audits
 pub mod Auditors
+pub mod Readers
+pub mod Indexes
 pub mod Views

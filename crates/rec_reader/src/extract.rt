@@ -80,8 +80,10 @@ pub fn extract_channel<W: Write>(
     Ok(extracted)
 }
 
-/// Writes a packet's frames into a feed, if it is of the channel.
-fn extract_packet<W: Write>(
+/// Writes a packet's frames that have their check sequence into a feed, if it is of the channel, and
+/// counts them and those that it passes over. It takes no memory, and doesn't flush the feed. After
+/// [`FeedWriteFault::Device`] it isn't known how much of them was written.
+pub fn extract_packet<W: Write>(
     packet: &Packet<'_>,
     channel: u16,
     feed: &mut W,

@@ -2,14 +2,14 @@
 
 ghost use Rattle.std.specs.Prelude.{◌≡◌};
 ghost use Rattle.rec_reader.specs.Reading.{header_kind};
-ghost use Rattle.rec_reader.specs.declared.fault.ReadFaultKind.TheVariants.{Memory};
+ghost use Rattle.rec_reader.specs.declared.fault.ReadFaultKind.TheVariants.{Device, Memory};
 
 use crate::recording::Recording;
 use ch11_packet::HeaderFault;
-use std::alloc::AllocFailed;
+use std::alloc::{AllocError, AllocFailed};
 use std::error::Error;
-use std::fmt;
 use std::marker::Model;
+use std::{fmt, io};
 use thiserror::Error;
 
 /// Why no packet follows, in the order in which faults are looked for; but a packet is cut also
@@ -57,6 +57,23 @@ impl<T: Drop> From<AllocFailed<T>> for ReadFaultKind {
 
     fn from(_error: AllocFailed<T>) -> ReadFaultKind {
         ReadFaultKind::Memory
+    }
+}
+
+impl From<AllocError> for ReadFaultKind {
+    ghost from_gives = { λ _ kind. kind ≡ Memory };
+
+    fn from(_error: AllocError) -> ReadFaultKind {
+        ReadFaultKind::Memory
+    }
+}
+
+/// Each error of an input is its device's.
+impl From<io::Error> for ReadFaultKind {
+    ghost from_gives = { λ _ kind. kind ≡ Device };
+
+    fn from(_error: io::Error) -> ReadFaultKind {
+        ReadFaultKind::Device
     }
 }
 

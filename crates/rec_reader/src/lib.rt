@@ -1,25 +1,32 @@
-//! The reader of a recording: its packets, or the first fault and the packets before it; the frames
-//! of a channel; and the audit, whether a recording is what its own programs and ends say.
+//! The reader of a recording: its packets, or the first fault and the packets before it, from bytes
+//! or packet by packet from a stream; the frames of a channel, and where they are; and the audit,
+//! whether a recording is what its own programs and ends say.
 #![tactic(auto)]
 
 mod audits;
 mod extract;
 mod fault;
 mod frames;
+mod index;
 mod laws;
+mod owned;
 mod packet;
 mod read;
 mod recording;
+mod stream;
 
 pub use audits::{Audit, AuditFault, AuditLine, AuditLines, Auditor, audit};
-pub use extract::{ExtractFault, Extracted, extract_channel};
+pub use extract::{ExtractFault, Extracted, extract_channel, extract_packet};
 pub use fault::{ReadEnd, ReadFault, ReadFaultKind};
 pub use frames::frames_of;
+pub use index::{Entry, Index};
 pub use laws::{
     a_cut_recording_reads_as_its_front, a_packet_says_what_its_record_spells,
     all_bytes_have_a_reading, an_approved_recording_is_what_it_says, bytes_have_one_reading,
     packets_have_one_audit, what_is_not_judged_makes_no_difference,
 };
+pub use owned::OwnedPacket;
 pub use packet::Packet;
 pub use read::{check_recording, read_recording};
 pub use recording::Recording;
+pub use stream::Reader;
