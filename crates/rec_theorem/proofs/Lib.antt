@@ -6,3 +6,4 @@ pub mod Recorded
 pub mod Passing
 pub mod Audited
 pub mod ReadBack
+pub mod CutShort

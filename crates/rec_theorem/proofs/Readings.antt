@@ -1,8 +1,9 @@
 -- What is written of pieces, packet by packet, is what a reader finds.
-use Rattle.std.proofs.Common.{ℕ, ◌+◌, ◌^◌, ◌≡◌, ◌<◌, Bool, inl, inr, List, [], ◌∷◌, ◌++◌, length, None, All, refl, sym, ap, ◌∙◌, arith}
+use Rattle.std.proofs.Common.{ℕ, ◌+◌, ◌%◌, ◌^◌, ◌≡◌, ◌<◌, ◌==◌, Bool, inl, inr, List, [], ◌∷◌, ◌++◌, length, map, None, Some, All, refl, sym, ap, subst, ◌∙◌, arith}
 use Rattle.std.specs.Prelude.{if◌then◌else◌}
 use Rattle.std.specs.List.{flat_map, filter}
 use Rattle.std.proofs.lemmas.Bool.{cases_Bool}
+use Rattle.std.proofs.lemmas.List.{append_assoc, append-nil}
 use Rattle.std.proofs.lemmas.List.Elements.{All-head, All-tail}
 use Rattle.ch11_packet.specs.PacketLen.{packet_len}
 use Rattle.rec_lane.specs.Pieces.{PieceData}
@@ -24,26 +25,30 @@ packets_after version at earlier (p ∷ ps) =
 abbrev pub packets_of : (version : ℕ) → List PieceData → List PacketData
 packets_of version pieces = packets_after version 0 [] pieces
 
-sequence_fits : (earlier : List PieceData) (channel : ℕ) → next_sequence earlier channel < 2 ^ 8
+pub sequence_fits : (earlier : List PieceData) (channel : ℕ) → next_sequence earlier channel < 2 ^ 8
 sequence_fits earlier channel = omega arith
 
-they_begin : (version at : ℕ) (earlier pieces : List PieceData) → version < 2 ^ 8 → All IsWritable pieces → Begins at (packets_after version at earlier pieces) (output_after version earlier pieces) []
-they_begin version at earlier [] small all = refl
-they_begin version at earlier (p ∷ ps) small all =
-    let sequence = next_sequence earlier (packet_channel p) in (
-      output_after version (earlier ++ p ∷ []) ps,
+-- the bytes of pieces, and then any others, begin with the packets of the pieces
+pub they_begin : (version at : ℕ) (earlier pieces : List PieceData) (tail : List ℕ) → version < 2 ^ 8 → All IsWritable pieces → Begins at (packets_after version at earlier pieces) (output_after version earlier pieces ++ tail) tail
+they_begin version at earlier [] tail small all = refl
+they_begin version at earlier (p ∷ ps) tail small all =
+    let sequence = next_sequence earlier (packet_channel p) in
+    let rest = output_after version (earlier ++ p ∷ []) ps in (
+      rest ++ tail,
       record {
         place = refl;
         spelling = packet_of p version sequence;
         spelled = spells_piece p version sequence at (All-head IsWritable p ps all) small (sequence_fits earlier (packet_channel p));
-        whole = refl;
+        whole = append_assoc (packet_of p version sequence) rest tail;
       },
-      they_begin version (at + packet_len (length (piece_bytes p))) (earlier ++ p ∷ []) ps small (All-tail IsWritable p ps all),
+      they_begin version (at + packet_len (length (piece_bytes p))) (earlier ++ p ∷ []) ps tail small (All-tail IsWritable p ps all),
     )
 
 -- so the bytes of pieces have a reading without fault
 pub reads_pieces : (version : ℕ) (pieces : List PieceData) → version < 2 ^ 8 → All IsWritable pieces → Reads (writer_output version pieces) (packets_of version pieces) None
-reads_pieces version pieces small all = record { rest = []; held = they_begin version 0 [] pieces small all; ends = refl }
+reads_pieces version pieces small all =
+    subst (λ bs. Reads bs (packets_of version pieces) None) (append-nil (writer_output version pieces))
+    (record { rest = []; held = they_begin version 0 [] pieces [] small all; ends = refl })
 
 -- ---- packets beside their pieces
 

@@ -46,7 +46,7 @@ module _ (P : PieceData → Type 0) (channels : List RecordedChannel) (pieces : 
       let c = found_among (λ (x : RecordedChannel). All P (filter (is_of x.settings.channel) pieces)) (λ (x : RecordedChannel). x.settings.channel ≡ channel_of piece) channels each (named k d within) in
       All_passing (is_of c.0.settings.channel) P pieces c.1 k d within (eq-eqb (channel_of piece) c.0.settings.channel (sym c.2))
 
-writable_channel : (c : RecordedChannel) (pieces : List PieceData) → IsRecordable c → ArePieces c.settings c.frames c.history pieces → All IsWritable pieces
+pub writable_channel : (c : RecordedChannel) (pieces : List PieceData) → IsRecordable c → ArePieces c.settings c.frames c.history pieces → All IsWritable pieces
 writable_channel c pieces is are = subst (All IsWritable) are.3 (all_writable c are.0 is are.1 are.2)
 
 pub writable_pieces : (channels : List RecordedChannel) (pieces : List PieceData) → AreRecordable channels → AreOfChannels channels pieces → All IsWritable pieces

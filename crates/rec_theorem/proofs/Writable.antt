@@ -75,7 +75,7 @@ all_known c offered is met same =
 abbrev Packs : ℕ → List FrameData → Type 0
 Packs limit frames = FitsLimit limit frames × (0 < length frames)
 
-some_long : {X : Type 0} (xs : List X) → (xs ≡ [] → ⊥) → 0 < length xs
+pub some_long : {X : Type 0} (xs : List X) → (xs ≡ [] → ⊥) → 0 < length xs
 some_long [] some = absurd (some refl)
 some_long (x ∷ xs) some = omega arith
 

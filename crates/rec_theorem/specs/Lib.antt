@@ -1,2 +1,3 @@
 pub mod Recordable
 pub mod Found
+pub mod Cut

@@ -2,6 +2,8 @@
 //! nothing.
 #![tactic(auto)]
 
+mod cut;
 mod reading;
 
+pub use cut::a_cut_recording_is_read_back;
 pub use reading::a_recording_is_read_back;
