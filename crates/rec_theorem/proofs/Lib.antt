@@ -7,3 +7,4 @@ pub mod Passing
 pub mod Audited
 pub mod ReadBack
 pub mod CutShort
+pub mod Worlds

@@ -1,3 +1,4 @@
 pub mod Recordable
 pub mod Found
 pub mod Cut
+pub mod Events

@@ -3,7 +3,9 @@
 #![tactic(auto)]
 
 mod cut;
+mod interleaving;
 mod reading;
 
 pub use cut::a_cut_recording_is_read_back;
+pub use interleaving::every_interleaving_is_read_back;
 pub use reading::a_recording_is_read_back;
