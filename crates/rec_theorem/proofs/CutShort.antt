@@ -1,30 +1,29 @@
 -- Packets of pieces and then a part of one more: how they are read.
-use Rattle.std.proofs.Common.{ℕ, ◌+◌, ◌^◌, ◌≡◌, ◌≢◌, ◌<◌, ◌⊎◌, inl, inr, List, [], ◌∷◌, ◌++◌, length, Option, Some, None, All, get_or, refl, sym, ap, subst, ◌∙◌, arith}
-use Rattle.std.specs.List.{flat_map, filter, Any}
-use Rattle.std.proofs.lemmas.List.{append_assoc, append-nil, length-append, map-append}
-use Rattle.std.proofs.lemmas.List.Elements.{All-nil, All-cons, All-head, All-weaker, filter-append}
+use Rattle.std.proofs.Common.{ℕ, ◌^◌, ◌≡◌, ◌≢◌, ◌<◌, ◌⊎◌, inl, inr, List, [], ◌∷◌, ◌++◌, length, Some, None, All, refl, sym, ap, subst, ◌∙◌, arith}
+use Rattle.std.specs.List.{flat_map, filter}
+use Rattle.std.proofs.lemmas.List.{append_assoc, append-nil, length-append}
+use Rattle.std.proofs.lemmas.List.Elements.{All-head, All-weaker, filter-append}
 use Rattle.std.proofs.lemmas.Grind.{flat_map-append}
 use Rattle.ch11_packet.proofs.Lengths.{length-packet}
 use Rattle.rec_lane.specs.Offered.{accepted}
-use Rattle.rec_lane.specs.Parts.{Begins}
-use Rattle.rec_lane.specs.Pieces.{PieceData, channel_of, channel_pieces, ArePieces}
+use Rattle.rec_lane.specs.Pieces.{PieceData}
 use Rattle.rec_lane.proofs.Meeting.{heads}
-use Rattle.rec_writer.specs.Encoding.{packet_of, packet_channel, next_sequence, piece_bytes, piece_header, writer_output, output_after}
-use Rattle.rec_writer.specs.Recording.{RecordedChannel, IsRecording, is_of}
-use Rattle.rec_writer.specs.Writers.{IsCut}
+use Rattle.rec_writer.specs.Encoding.{packet_of, packet_channel, next_sequence, piece_bytes, piece_header, writer_output}
+use Rattle.rec_writer.specs.Recording.{RecordedChannel, is_of}
 use Rattle.rec_reader.specs.declared.fault.ReadFaultKind.TheVariants.{Truncated}
 use Rattle.rec_reader.specs.Packets.{PacketData, StandsFirst}
-use Rattle.rec_reader.specs.Reading.{IsCut as IsCutPacket, Reads, ReadsAsFront}
+use Rattle.rec_reader.specs.Reading.{IsCut as IsCutPacket, Reads}
 use Rattle.rec_reader.specs.ChannelFrames.{channel_frames}
 use Rattle.rec_reader.proofs.Cuts.{reads_as_front}
 use Rattle.rec_theorem.specs.Recordable.{IsRecordable, AreRecordable}
-use Rattle.rec_theorem.specs.Found.{read_frames, HasAccepted, BeginsAccepted, ReadsBack, ReadsBackCut}
+use Rattle.rec_theorem.specs.Found.{HasAccepted, BeginsAccepted, ReadsBack, ReadsBackCut}
 use Rattle.rec_run.specs.Recorded.{IsCutOf, BeginsChannel}
 use Rattle.rec_theorem.specs.Cut.{IsCutRecording}
 use Rattle.rec_theorem.proofs.Lists.{All_front, All_back, All_with}
 use Rattle.rec_theorem.proofs.Spelled.{IsWritable, read_packet, spells_piece, frames_read}
-use Rattle.rec_theorem.proofs.Readings.{packets_of, reads_pieces, they_begin, all_reflect, frames_reflected, sequence_fits}
+use Rattle.rec_theorem.proofs.Readings.{packets_of, they_begin, all_reflect, frames_reflected, sequence_fits}
 use Rattle.rec_theorem.proofs.Writable.{some_long}
+use Rattle.rec_theorem.proofs.ReadBack.{OneReading}
 use Rattle.rec_theorem.proofs.Recorded.{All_pieces, writable_channel, channel_read}
 
 -- ---- a beginning of a recording
@@ -41,10 +40,15 @@ front_accepted channels packets some more whole all =
       );
     }) channels all
 
-pub front_read_back : (channels : List RecordedChannel) (front rest : List ℕ) → ReadsBack channels (front ++ rest) → ReadsBackCut channels front
-front_read_back channels front rest back =
+-- a reading that ends or is truncated
+either_read : OneReading → (channels : List RecordedChannel) (bytes : List ℕ) (packets : List PacketData) → Reads bytes packets None ⊎ Reads bytes packets (Some Truncated) → All (BeginsAccepted packets) channels → ReadsBackCut channels bytes
+either_read one channels bytes packets (inl reads) frames = record { packets = packets; fault = None; cut = inl refl; reads = reads; only = λ others other o. one bytes packets others None other reads o; frames = frames }
+either_read one channels bytes packets (inr reads) frames = record { packets = packets; fault = Some Truncated; cut = inr refl; reads = reads; only = λ others other o. one bytes packets others (Some Truncated) other reads o; frames = frames }
+
+pub front_read_back : OneReading → (channels : List RecordedChannel) (front rest : List ℕ) → ReadsBack channels (front ++ rest) → ReadsBackCut channels front
+front_read_back one channels front rest back =
     let cut = reads_as_front front rest back.packets back.reads in
-    record { packets = cut.some; reads = cut.reads; frames = front_accepted channels back.packets cut.some cut.more cut.whole back.frames }
+    either_read one channels front cut.some cut.reads (front_accepted channels back.packets cut.some cut.more cut.whole back.frames)
 
 -- ---- a part of a packet
 
@@ -118,16 +122,14 @@ taken_frames version pieces begun c all begin =
       );
     }
 
-pub cut_read_back : (version : ℕ) (channels : List RecordedChannel) (bytes : List ℕ) → version < 2 ^ 8 → AreRecordable channels → IsCutRecording version channels bytes → ReadsBackCut channels bytes
-cut_read_back version channels bytes small are is =
+pub cut_read_back : OneReading → (version : ℕ) (channels : List RecordedChannel) (bytes : List ℕ) → version < 2 ^ 8 → AreRecordable channels → IsCutRecording version channels bytes → ReadsBackCut channels bytes
+cut_read_back one version channels bytes small are is =
     let taken = is.pieces ++ is.begun in
     let all = All_pieces IsWritable channels taken
     (All_with IsRecordable (BeginsChannel taken) (λ (c : RecordedChannel). All IsWritable (filter (is_of c.settings.channel) taken)) (taken_writable taken) channels are is.begin) is.named in
     let whole = All_front IsWritable is.pieces is.begun all in
     let packets = packets_of version is.pieces in
-    record {
-      packets = packets;
-      reads = subst (λ bs. Reads bs packets None ⊎ Reads bs packets (Some Truncated)) (sym is.bytes_are)
-          (cut_read version is.pieces is.cut small whole (cut_of version is.pieces is.begun is.cut small (All_back IsWritable is.pieces is.begun all) is.cut_is));
-      frames = All-weaker (BeginsChannel taken) (BeginsAccepted packets) (λ c begin. taken_frames version is.pieces is.begun c whole begin) channels is.begin;
-    }
+    either_read one channels bytes packets
+    (subst (λ bs. Reads bs packets None ⊎ Reads bs packets (Some Truncated)) (sym is.bytes_are)
+    (cut_read version is.pieces is.cut small whole (cut_of version is.pieces is.begun is.cut small (All_back IsWritable is.pieces is.begun all) is.cut_is)))
+    (All-weaker (BeginsChannel taken) (BeginsAccepted packets) (λ c begin. taken_frames version is.pieces is.begun c whole begin) channels is.begin)

@@ -8,3 +8,4 @@ pub mod Audited
 pub mod ReadBack
 pub mod CutShort
 pub mod Worlds
+pub mod Runs

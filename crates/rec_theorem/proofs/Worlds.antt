@@ -1,31 +1,31 @@
 -- The channels of a world to which events led can be recorded, and an output that failed has the
 -- beginning of their recording.
-use Rattle.std.proofs.Common.{ℕ, ◌+◌, ◌^◌, ◌≡◌, ◌≤◌, ◌<◌, inl, inr, List, [], ◌∷◌, ◌++◌, length, map, Option, Some, All, refl, sym, ap, subst, ◌∙◌, arith}
-use Rattle.std.specs.Prelude.{slice_get, slice_set, Result, Ok, Err}
-use Rattle.std.specs.List.{Any, filter}
+use Rattle.std.proofs.Common.{ℕ, ◌^◌, ◌≡◌, ◌<◌, inl, inr, List, [], ◌∷◌, ◌++◌, length, map, All, refl, sym, subst, arith}
+use Rattle.std.specs.Prelude.{slice_set, Result, Ok, Err}
+use Rattle.std.specs.List.{Any}
 use Rattle.std.proofs.lemmas.List.{length-map, map-append}
 use Rattle.std.proofs.lemmas.List.Elements.{All-nil, All-cons, All-head, All-tail, All-append, All-map, All-weaker}
-use Rattle.eth_frame.specs.Frame.{FrameData, IsFrame}
+use Rattle.eth_frame.specs.Frame.{IsFrame}
 use Rattle.ch11_packet.specs.PacketLen.{packet_len}
 use Rattle.ch11_packet.proofs.Lengths.{length-packet}
 use Rattle.rec_channel.specs.History.{IsHistory}
 use Rattle.rec_lane.specs.Offered.{OfferedFrame, frames_of}
 use Rattle.rec_lane.specs.Pieces.{PieceData, channel_of, channel_pieces}
 use Rattle.rec_writer.specs.Encoding.{piece_bytes, piece_header, writer_output}
-use Rattle.rec_writer.specs.Recording.{RecordedChannel, is_of}
+use Rattle.rec_writer.specs.Recording.{RecordedChannel}
 use Rattle.rec_writer.specs.Writers.{WriterState}
 use Rattle.rec_core.specs.declared.reply.Reply.{Reply}
 use Rattle.rec_core.specs.declared.reply.Reply.TheVariants.{Took, Installed, Sent, Wrote, Closed as HasClosed}
 use Rattle.rec_core.specs.declared.fault.CoreFault.{CoreFault}
 use Rattle.rec_core.specs.declared.fault.CoreFault.TheVariants.{NoChannel}
 use Rattle.rec_core.specs.Openings.{SpecData}
-use Rattle.rec_core.specs.World.{ChannelState, WorldState, EventData, Does, IsInOrder, WorldStep, WorldRun, opening_channel, opening_world, frame_taken, program_installed, piece_sent, piece_written, channel_closed, world_after}
+use Rattle.rec_core.specs.World.{ChannelState, WorldState, EventData, Does, IsInOrder, WorldStep, WorldRun, opening_channel, opening_world, piece_written, world_after}
 use Rattle.rec_core.specs.World.EventData.{OfTake, OfInstall, OfSend, OfWrite, OfClose}
 use Rattle.rec_core.specs.Written.{RunsFromOpening, recorded_channel, recorded_channels, IsCutShort}
 use Rattle.rec_core.proofs.Lists.{set_cases, set_unseen, map_there, there_map, All_there, All_from_places, Any_there}
 use Rattle.rec_core.proofs.Meeting.{LaterLeave}
 use Rattle.rec_core.proofs.Serving.{OfTheirChannel, BeginAll}
-use Rattle.rec_core.proofs.Written.{Sound, Named, SoundWorld, ids, reached}
+use Rattle.rec_core.proofs.Written.{Named, SoundWorld, ids, reached}
 use Rattle.rec_run.specs.Recorded.{BeginsChannel}
 use Rattle.rec_theorem.specs.Recordable.{AreSettings, IsRecordable, AreRecordable}
 use Rattle.rec_theorem.specs.Cut.{IsCutRecording}

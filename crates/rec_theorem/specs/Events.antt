@@ -1,11 +1,11 @@
 -- Events and specifications whose numbers are those of their types.
-use Rattle.std.specs.Prelude.{ℕ, ◌≡◌, ◌<◌, ◌^◌, List, ◌++◌, All, Some}
+use Rattle.std.specs.Prelude.{ℕ, ◌≡◌, ◌<◌, ◌^◌, List, ◌++◌, Some}
 use Rattle.eth_frame.specs.Frame.{IsFrame}
 use Rattle.rec_writer.specs.Recording.{RecordedChannel}
 use Rattle.rec_writer.specs.Writers.{WriterState}
 use Rattle.rec_core.specs.Openings.{SpecData}
 use Rattle.rec_core.specs.World.{EventData}
-use Rattle.rec_core.specs.World.EventData.{OfTake, OfInstall, OfSend, OfWrite, OfClose}
+use Rattle.rec_core.specs.World.EventData.{OfTake}
 use Rattle.rec_theorem.specs.Recordable.{AreSettings}
 use Rattle.rec_theorem.specs.Found.{ReadsBack, ReadsBackCut}
 

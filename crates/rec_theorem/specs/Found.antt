@@ -1,5 +1,5 @@
 -- What a reader finds in the bytes of a recording, channel by channel.
-use Rattle.std.specs.Prelude.{ℕ, ◌≡◌, ◌⊎◌, List, map, All, None, Some, Err}
+use Rattle.std.specs.Prelude.{ℕ, ◌≡◌, ◌⊎◌, List, map, All, None, Some, Err, Option}
 use Rattle.eth_frame.specs.Frame.{FrameData}
 use Rattle.ch11_packet.specs.FramesRead.{ReadFrameData, body_frame}
 use Rattle.rec_lane.specs.Offered.{AreAccepted}
@@ -8,6 +8,7 @@ use Rattle.rec_lane.specs.Pieces.{LaneSettings}
 use Rattle.rec_writer.specs.Recording.{RecordedChannel}
 use Rattle.rec_reader.specs.declared.audits.answer.AuditFault.{AuditFault}
 use Rattle.rec_reader.specs.declared.audits.answer.AuditFault.TheVariants.{Memory}
+use Rattle.rec_reader.specs.declared.fault.ReadFaultKind.{ReadFaultKind}
 use Rattle.rec_reader.specs.declared.fault.ReadFaultKind.TheVariants.{Truncated}
 use Rattle.rec_reader.specs.Packets.{PacketData}
 use Rattle.rec_reader.specs.Reading.{Reads}
@@ -40,17 +41,23 @@ pub record BeginsAccepted (packets : List PacketData) (c : RecordedChannel) : Ty
 abbrev pub IsApproved : List PacketData → Type 0
 IsApproved packets = (fault : AuditFault) → Audits packets (Err fault) → fault ≡ Memory
 
--- the bytes are read to their end, the reading has the accepted frames of each channel, and the
--- audit approves of it
+-- the bytes are read to their end and in no other way, the reading has the accepted frames of each
+-- channel, and the audit approves of it
 pub record ReadsBack (channels : List RecordedChannel) (bytes : List ℕ) : Type 0 where
   pub packets : List PacketData
   pub reads : Reads bytes packets None
+  pub only : (others : List PacketData) (fault : Option ReadFaultKind)
+      → Reads bytes others fault → (packets ≡ others) × (None ≡ fault)
   pub frames : All (HasAccepted packets) channels
   pub approved : IsApproved packets
 
--- the bytes are read as whole packets, and then end or are truncated in the middle of one; what is
--- read of each channel are the first of its accepted frames
+-- the bytes are read as whole packets, and then end or are truncated in the middle of one, in no
+-- other way; what is read of each channel are the first of its accepted frames
 pub record ReadsBackCut (channels : List RecordedChannel) (bytes : List ℕ) : Type 0 where
   pub packets : List PacketData
-  pub reads : Reads bytes packets None ⊎ Reads bytes packets (Some Truncated)
+  pub fault : Option ReadFaultKind
+  pub cut : (fault ≡ None) ⊎ (fault ≡ Some Truncated)
+  pub reads : Reads bytes packets fault
+  pub only : (others : List PacketData) (other : Option ReadFaultKind)
+      → Reads bytes others other → (packets ≡ others) × (fault ≡ other)
   pub frames : All (BeginsAccepted packets) channels

@@ -2,3 +2,4 @@ pub mod Recordable
 pub mod Found
 pub mod Cut
 pub mod Events
+pub mod Theorem

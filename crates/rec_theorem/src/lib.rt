@@ -5,7 +5,9 @@
 mod cut;
 mod interleaving;
 mod reading;
+mod theorem;
 
 pub use cut::a_cut_recording_is_read_back;
 pub use interleaving::every_interleaving_is_read_back;
 pub use reading::a_recording_is_read_back;
+pub use theorem::what_is_recorded_is_found;
