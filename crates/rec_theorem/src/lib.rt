@@ -4,10 +4,12 @@
 
 mod cut;
 mod interleaving;
+mod ranges;
 mod reading;
 mod theorem;
 
 pub use cut::a_cut_recording_is_read_back;
 pub use interleaving::every_interleaving_is_read_back;
+pub use ranges::{a_job_is_in_range, a_spec_is_in_range, an_event_is_in_range};
 pub use reading::a_recording_is_read_back;
 pub use theorem::what_is_recorded_is_found;
