@@ -9,3 +9,4 @@ pub mod ReadBack
 pub mod CutShort
 pub mod Worlds
 pub mod Runs
+pub mod SomeRecordings
