@@ -1,5 +1,5 @@
 -- The packets of a recording pass the audit one by one, and each channel is right at the end.
-use Rattle.std.proofs.Common.{ℕ, ◌≡◌, ◌==◌, Bool, true, false, inl, inr, List, [], ◌∷◌, ◌++◌, length, Option, Some, None, All, get_or, eq-eqb, refl, sym, ap, subst, ◌∙◌}
+use Rattle.std.proofs.Common.{ℕ, ◌≡◌, ◌==◌, inl, inr, List, [], ◌∷◌, ◌++◌, length, Option, Some, None, All, get_or, eq-eqb, refl, sym, ap, subst, ◌∙◌}
 use Rattle.std.specs.Prelude.{if◌then◌else◌}
 use Rattle.std.specs.List.{flat_map, filter, last_or}
 use Rattle.std.proofs.lemmas.List.{append_assoc, append-nil, length-map}
@@ -21,7 +21,7 @@ use Rattle.rec_reader.proofs.OneAudit.{in_middle, stops_or_passes}
 use Rattle.rec_reader.proofs.Walking.{none_pass, passes_one_more}
 use Rattle.rec_theorem.specs.Recordable.{IsRecordable, AreRecordable}
 use Rattle.rec_theorem.specs.Found.{IsApproved}
-use Rattle.rec_theorem.proofs.Lists.{All_with}
+use Rattle.rec_theorem.proofs.Lists.{All_with, nothing_if}
 use Rattle.rec_theorem.proofs.Spelled.{said_by, Reflects, frames_read}
 use Rattle.rec_theorem.proofs.Readings.{AllReflect, flat_filter, frames_reflected}
 use Rattle.rec_theorem.proofs.Recorded.{found_among, channel_read}
@@ -30,23 +30,19 @@ use Rattle.rec_theorem.proofs.Passing.{PassFrom, programs_by, ends_by, judged_at
 
 -- ---- what packets say is what their pieces say
 
-abbrev NoneOf : (A : Type 0) → List A
-NoneOf A = []
-
-nothing_there : {A : Type 0} (b : Bool) → NoneOf A ≡ (if b then NoneOf A else NoneOf A)
-nothing_there true = refl
-nothing_there false = refl
-
+-- the programs that a piece's saying tells of a channel: the piece's own, if it is of the channel
 program_told : (channel : ℕ) (piece : PieceData) → program_said channel (Some (channel_of piece, said_by piece)) ≡ (if is_of channel piece then programs_by piece else [])
 program_told channel (OfProgram named counter version first program) = refl
-program_told channel (OfFrames named body) = nothing_there (named == channel)
-program_told channel (OfEnd named counter offered kept) = nothing_there (named == channel)
+program_told channel (OfFrames named body) = nothing_if (named == channel)
+program_told channel (OfEnd named counter offered kept) = nothing_if (named == channel)
 
+-- and the ends
 end_told : (channel : ℕ) (piece : PieceData) → end_said channel (Some (channel_of piece, said_by piece)) ≡ (if is_of channel piece then ends_by piece else [])
-end_told channel (OfProgram named counter version first program) = nothing_there (named == channel)
-end_told channel (OfFrames named body) = nothing_there (named == channel)
+end_told channel (OfProgram named counter version first program) = nothing_if (named == channel)
+end_told channel (OfFrames named body) = nothing_if (named == channel)
 end_told channel (OfEnd named counter offered kept) = refl
 
+-- so the programs of a channel in the packets are those of its pieces, packet by packet
 programs_reflected : (channel : ℕ) (packets : List PacketData) (pieces : List PieceData) → AllReflect packets pieces → programs_of channel packets ≡ flat_map programs_by (filter (is_of channel) pieces)
 programs_reflected channel [] [] all = refl
 programs_reflected channel [] (p ∷ ps) all = absurd all
@@ -57,6 +53,7 @@ programs_reflected channel (q ∷ qs) (p ∷ ps) all =
     ∙ (ap (λ xs. (if is_of channel p then programs_by p else []) ++ xs) (programs_reflected channel qs ps all.1)
     ∙ sym (flat_filter (is_of channel) programs_by p ps)))
 
+-- and the ends
 ends_reflected : (channel : ℕ) (packets : List PacketData) (pieces : List PieceData) → AllReflect packets pieces → ends_of channel packets ≡ flat_map ends_by (filter (is_of channel) pieces)
 ends_reflected channel [] [] all = refl
 ends_reflected channel [] (p ∷ ps) all = absurd all
@@ -73,12 +70,14 @@ ends_reflected channel (q ∷ qs) (p ∷ ps) all =
 abbrev ChannelPasses : List PieceData → PieceData → Type 0
 ChannelPasses pieces piece = PassFrom None (filter (is_of (channel_of piece)) pieces)
 
+-- the pieces of a piece's own channel are split where the piece stands
 own_split : (earlier : List PieceData) (piece : PieceData) (later : List PieceData) → filter (is_of (channel_of piece)) (earlier ++ piece ∷ later) ≡ filter (is_of (channel_of piece)) earlier ++ piece ∷ filter (is_of (channel_of piece)) later
 own_split earlier piece later =
     let channel = channel_of piece in
     filter-append (is_of channel) earlier (piece ∷ later)
     ∙ ap (λ b. filter (is_of channel) earlier ++ (if b then piece ∷ filter (is_of channel) later else filter (is_of channel) later)) (eq-eqb channel channel refl)
 
+-- a packet passes: what its channel said before it is what the earlier pieces of the channel say
 one_judged : (before : List PacketData) (packet : PacketData) (earlier : List PieceData) (piece : PieceData) (later : List PieceData) → AllReflect before earlier → Reflects packet piece → ChannelPasses (earlier ++ piece ∷ later) piece → Judges before packet None
 one_judged before packet earlier piece later all reflects pass =
     let channel = channel_of piece in
@@ -89,12 +88,14 @@ one_judged before packet earlier piece later all reflects pass =
     let full = subst (λ ps. IsJudgement number (last_end channel before) (said_by piece) (last_or None ps) None) (sym (programs_reflected channel before earlier all)) ended in
     subst (λ s. JudgesSaying before s None) (sym reflects.says) full
 
+-- one more packet and its piece
 reflect_more : (before : List PacketData) (earlier : List PieceData) (packet : PacketData) (piece : PieceData) → AllReflect before earlier → Reflects packet piece → AllReflect (before ++ packet ∷ []) (earlier ++ piece ∷ [])
 reflect_more [] [] packet piece all is = (is, tt)
 reflect_more [] (p ∷ ps) packet piece all is = absurd all
 reflect_more (q ∷ qs) [] packet piece all is = absurd all
 reflect_more (q ∷ qs) (p ∷ ps) packet piece all is = (all.0, reflect_more qs ps packet piece all.1 is)
 
+-- packet after packet passes: those before it reflect the earlier pieces
 passes_from : (before qs : List PacketData) (earlier ps : List PieceData) → AllReflect before earlier → EachPasses before → AllReflect qs ps → All (ChannelPasses (earlier ++ ps)) (earlier ++ ps) → EachPasses (before ++ qs)
 passes_from before [] earlier [] all passed more pass = subst EachPasses (sym (append-nil before)) passed
 passes_from before [] earlier (p ∷ ps) all passed more pass = absurd more
@@ -145,12 +146,15 @@ module _ (channels : List RecordedChannel) (packets : List PacketData) (pieces :
       let c = found_among (λ (x : RecordedChannel). P x.settings.channel) (λ (x : RecordedChannel). x.settings.channel ≡ channel_of piece) channels each (of.named k d within) in
       subst P c.2 c.1
 
+  -- the pieces of a recorded channel pass among themselves
   channel_pass : (c : RecordedChannel) → IsRecordable c → ArePieces c.settings c.frames c.history (filter (is_of c.settings.channel) pieces) → PassFrom None (filter (is_of c.settings.channel) pieces)
   channel_pass c is pieces_are = subst (PassFrom None) pieces_are.3 (channel_passes c.settings c.history (length c.frames) pieces_are.0 pieces_are.1 (all_known c pieces_are.0 is pieces_are.1 pieces_are.2))
 
+  -- so each packet passes
   each_passes : EachPasses packets
   each_passes = passes_from [] packets [] pieces tt none_pass all (each_piece (λ channel. PassFrom None (filter (is_of channel) pieces)) channel_pass)
 
+  -- and each channel that a packet names is right at the end: it is that of some piece, and so a recorded one
   named_closes : (channel : ℕ) → IsNamed channel packets → Closes packets channel None
   named_closes channel named =
       let every = named_all (λ n. Closes packets n None) packets pieces all (each_piece (λ n. Closes packets n None) (λ c is pieces_are. closes_channel packets pieces c all is pieces_are)) in
@@ -158,6 +162,7 @@ module _ (channels : List RecordedChannel) (packets : List PacketData) (pieces :
       (subst (All (λ (q : PacketData). (n : ℕ) (saying : Saying) → saying_of q ≡ Some (n, saying) → Closes packets n None)) named.whole every)
       channel named.names.0 named.names.1
 
+  -- what has right counts has no wrong ones
   not_both : (channel : ℕ) (end : Option ChannelEnd) (last : Option ChannelProgram) (frames : ℕ) (fault : AuditFault) → IsClosing channel end last frames None → IsClosing channel end last frames (Some fault) → ⊥
   not_both channel None last frames fault a b = cc
   not_both channel (Some end) last frames fault a b = b.1 a

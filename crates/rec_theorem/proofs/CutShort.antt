@@ -45,6 +45,7 @@ either_read : OneReading → (channels : List RecordedChannel) (bytes : List ℕ
 either_read one channels bytes packets (inl reads) frames = record { packets = packets; fault = None; cut = inl refl; reads = reads; only = λ others other o. one bytes packets others None other reads o; frames = frames }
 either_read one channels bytes packets (inr reads) frames = record { packets = packets; fault = Some Truncated; cut = inr refl; reads = reads; only = λ others other o. one bytes packets others (Some Truncated) other reads o; frames = frames }
 
+-- a beginning of a recording is read as the first of its packets
 pub front_read_back : OneReading → (channels : List RecordedChannel) (front rest : List ℕ) → ReadsBack channels (front ++ rest) → ReadsBackCut channels front
 front_read_back one channels front rest back =
     let cut = reads_as_front front rest back.packets back.reads in
@@ -86,6 +87,7 @@ part_read version sequence piece cut rest is small fits whole some =
     let front = reads_as_front cut rest (packet ∷ []) reads in
     part_of packet cut front.some front.more front.whole (omega (arith, long, both, sum, left)) front.reads
 
+-- packets of pieces and then such a beginning are read as these packets
 cut_read : (version : ℕ) (pieces : List PieceData) (cut : List ℕ) → version < 2 ^ 8 → All IsWritable pieces → (cut ≡ []) ⊎ IsCutPacket cut
     → Reads (writer_output version pieces ++ cut) (packets_of version pieces) None ⊎ Reads (writer_output version pieces ++ cut) (packets_of version pieces) (Some Truncated)
 cut_read version pieces cut small all (inl none) = inl (record { rest = cut; held = they_begin version 0 [] pieces cut small all; ends = none })
@@ -104,6 +106,7 @@ taken_writable : (pieces : List PieceData) (c : RecordedChannel) → IsRecordabl
 taken_writable pieces c is begin =
     All_front IsWritable (filter (is_of c.settings.channel) pieces) begin.2.0 (subst (All IsWritable) (sym begin.2.1) (writable_channel c begin.0 is begin.1))
 
+-- the frames in these packets begin those of all pieces, since the pieces do
 taken_frames : (version : ℕ) (pieces begun : List PieceData) (c : RecordedChannel) → All IsWritable pieces → BeginsChannel (pieces ++ begun) c → BeginsAccepted (packets_of version pieces) c
 taken_frames version pieces begun c all begin =
     let channel = c.settings.channel in
@@ -122,6 +125,7 @@ taken_frames version pieces begun c all begin =
       );
     }
 
+-- so a recording that was cut short is read back: a piece that was begun is not in the reading
 pub cut_read_back : OneReading → (version : ℕ) (channels : List RecordedChannel) (bytes : List ℕ) → version < 2 ^ 8 → AreRecordable channels → IsCutRecording version channels bytes → ReadsBackCut channels bytes
 cut_read_back one version channels bytes small are is =
     let taken = is.pieces ++ is.begun in

@@ -1,5 +1,6 @@
 -- Lists of lists, and what holds of each element of a list that is put together.
-use Rattle.std.proofs.Common.{List, [], ◌∷◌, ◌++◌, All, get_or}
+use Rattle.std.proofs.Common.{◌≡◌, refl, List, [], ◌∷◌, ◌++◌, All, get_or}
+use Rattle.std.specs.Prelude.{Bool, true, false, if◌then◌else◌}
 use Rattle.std.specs.List.{flat_map}
 use Rattle.std.proofs.lemmas.List.Elements.{All-nil, All-cons, All-head, All-tail, All-append}
 
@@ -8,6 +9,7 @@ pub All_front : {X : Type 0} (P : X → Type 0) (xs ys : List X) → All P (xs +
 All_front P [] ys all = All-nil P
 All_front P (x ∷ xs) ys all = All-cons P x xs (All-head P x (xs ++ ys) all) (All_front P xs ys (All-tail P x (xs ++ ys) all))
 
+-- the same of the second list
 pub All_back : {X : Type 0} (P : X → Type 0) (xs ys : List X) → All P (xs ++ ys) → All P ys
 All_back P [] ys all = all
 All_back P (x ∷ xs) ys all = All_back P xs ys (All-tail P x (xs ++ ys) all)
@@ -29,3 +31,11 @@ All_flat {X} P f (x ∷ xs) all =
 -- two facts of each element give a third
 pub All_with : {X : Type 0} (P Q R : X → Type 0) → ((x : X) → P x → Q x → R x) → (xs : List X) → All P xs → All Q xs → All R xs
 All_with P Q R f xs a b = λ k d within. f (get_or xs k d) (a k d within) (b k d within)
+
+-- no element, whatever a test says
+abbrev pub NoneOf : (A : Type 0) → List A
+NoneOf A = []
+
+pub nothing_if : {A : Type 0} (b : Bool) → NoneOf A ≡ (if b then NoneOf A else NoneOf A)
+nothing_if true = refl
+nothing_if false = refl

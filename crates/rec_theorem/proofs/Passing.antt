@@ -51,14 +51,17 @@ ends_by other = []
 
 -- ---- one piece is judged by those before it
 
+-- frames are judged by the last program, which there is
 frames_judged : (number : ℕ) (last : Option ChannelProgram) (channel : ℕ) (body : EthernetBody) (program : ChannelProgram) → last ≡ Some program
     → All (Accepts program.insns) (map (body_frame body.net body.speed) body.frames) → IsJudgement number None (said_by (OfFrames channel body)) last None
 frames_judged number last channel body program is all = subst (λ o. IsJudgement number None (said_by (OfFrames channel body)) o None) (sym is) all
 
+-- a list with an element is not empty
 not_none : {X : Type 0} (xs : List X) (x : X) (ys : List X) → xs ++ x ∷ ys ≡ [] → ⊥
 not_none [] x ys e = cc
 not_none (z ∷ xs) x ys e = cc
 
+-- pieces that pass are judged well, each by the last program before it; no end stands before it
 pub judged_at : (number : ℕ) (last : Option ChannelProgram) (before : List PieceData) (piece : PieceData) (after : List PieceData) → PassFrom last (before ++ piece ∷ after)
     → IsJudgement number (last_or None (flat_map ends_by before)) (said_by piece) (last_or last (flat_map programs_by before)) None
 judged_at number last [] (OfProgram channel counter version first program) after pass = (pass.0, pass.1)
@@ -70,6 +73,7 @@ judged_at number last (OfEnd channel counter offered kept ∷ before) piece afte
 
 -- ---- the pieces of a group
 
+-- the program that an offered frame met, as a record says it
 abbrev pub program_in : OfferedFrame → ChannelProgram
 program_in f = record { version = f.version; first = f.number; insns = f.program }
 
@@ -77,9 +81,11 @@ program_in f = record { version = f.version; first = f.number; insns = f.program
 abbrev AcceptsRead : LaneSettings → List Insn → FrameData → Type 0
 AcceptsRead s program frame = Accepts program (body_frame s.net s.speed frame)
 
+-- a frame is accepted by a value that is not 0
 not_zero : (f : OfferedFrame) → is_accepted f ≡ true → f.value ≢ 0
 not_zero f yes_it = λ zero_it. let off : is_accepted f ≡ false = ap (λ v. not (v == 0)) zero_it in let both = sym off ∙ yes_it in cc
 
+-- an offered frame that was accepted is accepted by its program as it is read: the run is the same, since the view is
 one_accepts : (s : LaneSettings) (history : List Version) (count : ℕ) (program : List Insn) (x : OfferedFrame) → IsKnown history count x × (x.program ≡ program) → is_accepted x ≡ true → AcceptsRead s program x.frame
 one_accepts s history count program x known passes = record {
   valid = subst Valid known.1 known.0.valid;
@@ -99,6 +105,7 @@ group_accepts s history count program group known =
     (All-filter is_accepted (λ (x : OfferedFrame). IsKnown history count x × (x.program ≡ program)) group known)
     (filter_passes is_accepted group))
 
+-- packets of frames that the last program accepts pass
 packets_pass : (s : LaneSettings) (program : ChannelProgram) (ps : List (List FrameData)) (more : List PieceData) → All (λ (p : List FrameData). All (AcceptsRead s program.insns) p) ps → PassFrom (Some program) more → PassFrom (Some program) (map (data_piece s) ps ++ more)
 packets_pass s program [] more all pass = pass
 packets_pass s program (p ∷ ps) more all pass = (
@@ -114,6 +121,7 @@ same_program history count f x a b same = some_is x.program f.program (sym b.met
 
 -- ---- groups one after the other
 
+-- later frames are numbered on
 met_back : (history : List Version) (number : ℕ) (fs gs : List OfferedFrame) → MetFrom history number (fs ++ gs) → MetFrom history (number + length fs) gs
 met_back history number [] gs met = subst (λ n. MetFrom history n gs) (omega arith) met
 met_back history number (f ∷ fs) gs met = subst (λ n. MetFrom history n gs) (let e : number + 1 + length fs ≡ number + length (f ∷ fs) = omega arith in e) (met_back history (number + 1) fs gs met.2)
@@ -130,12 +138,14 @@ versions_rise history count f x a b later =
     let begun = force.begun in
     b.met.in_force.last f.version force.entry force.stands (omega (arith, begun, later))
 
+-- a number that is at least another one and differs is greater
 below : (m n : ℕ) → m ≤ n → n ≢ m → m < n
 below m n most differs = elim (cases_lt m n) [
   | inl less ↦ less
   | inr not_less ↦ absurd (differs (omega (arith, most, not_less)))
 ]
 
+-- after a group comes another version, which is greater, with a later first frame
 goes_on : (history : List Version) (count number version : ℕ) (f : OfferedFrame) (fs rest : List OfferedFrame) → f.version ≡ version → IsKnown history count f → f.number ≡ number
     → ((x : OfferedFrame) → slice_get rest 0 ≡ Some x → x.version ≢ version) → MetFrom history (number + length (f ∷ fs)) rest → All (IsKnown history count) rest → Goes (Some (program_in f)) rest
 goes_on history count number version f fs [] is known at ended met all = tt
@@ -145,6 +155,7 @@ goes_on history count number version f fs (x ∷ xs) is known at ended met all =
     let differs : x.version ≢ f.version = λ same. ended x refl (same ∙ is) in
     (below f.version x.version rises differs, omega (arith, next, at))
 
+-- groups pass one after the other, each with its program first, by induction on the groups
 groups_pass : (s : LaneSettings) (history : List Version) (count number : ℕ) (last : Option ChannelProgram) (frames : List OfferedFrame) (gs : List (List OfferedFrame)) (more : List PieceData)
     → AreGroups frames gs → MetFrom history number frames → All (IsKnown history count) frames → Goes last frames → ((l : Option ChannelProgram) → PassFrom l more) → PassFrom last (flat_map (group_pieces s) gs ++ more)
 groups_pass s history count number last frames [] more are met known goes pass = pass last
@@ -169,6 +180,7 @@ groups_pass s history count number last frames ((f ∷ fs) ∷ gs) more are met 
       subst (PassFrom (Some (program_in f))) (sym (append_assoc (map (data_piece s) ps) (flat_map (group_pieces s) gs) more)) (packets_pass s (program_in f) ps (flat_map (group_pieces s) gs ++ more) accepts tail),
     )
 
+-- the first program came into force at frame 0
 goes_first : (history : List Version) (offered : List OfferedFrame) → AllMet history offered → Goes None offered
 goes_first history [] met = tt
 goes_first history (f ∷ fs) met = met.0
@@ -180,10 +192,12 @@ channel_passes s history count offered met known =
 
 -- ---- the end
 
+-- the program of a group
 group_program : List OfferedFrame → List ChannelProgram
 group_program [] = []
 group_program (f ∷ fs) = program_in f ∷ []
 
+-- packets of frames have no end and no program
 no_ends_packed : (s : LaneSettings) (ps : List (List FrameData)) → flat_map ends_by (map (data_piece s) ps) ≡ []
 no_ends_packed s [] = refl
 no_ends_packed s (p ∷ ps) = no_ends_packed s ps
@@ -192,6 +206,7 @@ no_programs_packed : (s : LaneSettings) (ps : List (List FrameData)) → flat_ma
 no_programs_packed s [] = refl
 no_programs_packed s (p ∷ ps) = no_programs_packed s ps
 
+-- a group has no end, and its one program
 group_ends : (s : LaneSettings) (g : List OfferedFrame) → flat_map ends_by (group_pieces s g) ≡ []
 group_ends s [] = no_ends_packed s (packets s.limit (accepted []))
 group_ends s (f ∷ fs) = no_ends_packed s (packets s.limit (accepted (f ∷ fs)))
@@ -201,6 +216,7 @@ unfolding group_program
 group_programs s [] = no_programs_packed s (packets s.limit (accepted []))
 group_programs s (f ∷ fs) = ap (λ ps. program_in f ∷ ps) (no_programs_packed s (packets s.limit (accepted (f ∷ fs))))
 
+-- so groups have no end, and the program of each
 groups_end : (s : LaneSettings) (gs : List (List OfferedFrame)) → flat_map ends_by (flat_map (group_pieces s) gs) ≡ []
 groups_end s [] = refl
 groups_end s (g ∷ gs) =
@@ -220,6 +236,7 @@ channel_end s offered =
     flat_map-append ends_by (flat_map (group_pieces s) (groups offered)) (end_piece s offered ∷ [])
     ∙ ap (λ es. es ++ flat_map ends_by (end_piece s offered ∷ [])) (groups_end s (groups offered))
 
+-- the programs of a channel are those of its groups
 channel_programs : (s : LaneSettings) (offered : List OfferedFrame) → flat_map programs_by (channel_pieces s offered) ≡ flat_map group_program (groups offered)
 channel_programs s offered =
     flat_map-append programs_by (flat_map (group_pieces s) (groups offered)) (end_piece s offered ∷ [])
@@ -230,9 +247,11 @@ last_of : {X : Type 0} (P : X → Type 0) (x : X) (xs : List X) → P x → All 
 last_of P x [] is all = (x, refl, is)
 last_of P x (y ∷ ys) is all = last_of P y ys (All-head P y ys all) (All-tail P y ys all)
 
+-- the program came into force before so many frames were offered
 abbrev Early : ℕ → ChannelProgram → Type 0
 Early count program = program.first < count
 
+-- that of a group did, since the group has a frame
 group_early : (history : List Version) (count : ℕ) (g : List OfferedFrame) → All (IsKnown history count) g → All (Early count) (group_program g)
 unfolding group_program
 group_early history count [] all = All-nil (Early count)
@@ -242,6 +261,7 @@ groups_early : (history : List Version) (count : ℕ) (gs : List (List OfferedFr
 groups_early history count gs all =
     All_flat (Early count) group_program gs (All-weaker (λ (g : List OfferedFrame). All (IsKnown history count) g) (λ (g : List OfferedFrame). All (Early count) (group_program g)) (group_early history count) gs all)
 
+-- as many frames were offered as the last program asks, and none where there is no program
 were_offered : (history : List Version) (offered : List OfferedFrame) (gs : List (List OfferedFrame)) → AreGroups offered gs → All (λ (g : List OfferedFrame). All (IsKnown history (length offered)) g) gs → WereOffered (last_or None (flat_map group_program gs)) (length offered)
 unfolding group_program
 were_offered history offered [] are all = ap length are

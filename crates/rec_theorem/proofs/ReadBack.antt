@@ -14,6 +14,7 @@ use Rattle.rec_theorem.proofs.Audited.{approved}
 abbrev pub OneReading : Type 0
 OneReading = (bytes : List ℕ) (packets others : List PacketData) (fault other : Option ReadFaultKind) → Reads bytes packets fault → Reads bytes others other → (packets ≡ others) × (fault ≡ other)
 
+-- the packets of the pieces are the reading; each fact on it comes from the pieces beside them
 pub read_back : OneReading → (version : ℕ) (channels : List RecordedChannel) (bytes : List ℕ) → version < 2 ^ 8 → AreRecordable channels → IsRecording version channels bytes → ReadsBack channels bytes
 read_back one version channels bytes small are recording =
     let pieces = recording.0 in

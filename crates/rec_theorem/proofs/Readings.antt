@@ -25,6 +25,7 @@ packets_after version at earlier (p ∷ ps) =
 abbrev pub packets_of : (version : ℕ) → List PieceData → List PacketData
 packets_of version pieces = packets_after version 0 [] pieces
 
+-- a sequence number is a byte
 pub sequence_fits : (earlier : List PieceData) (channel : ℕ) → next_sequence earlier channel < 2 ^ 8
 sequence_fits earlier channel = omega arith
 
@@ -59,6 +60,7 @@ AllReflect [] (p ∷ ps) = ⊥
 AllReflect (q ∷ qs) [] = ⊥
 AllReflect (q ∷ qs) (p ∷ ps) = Reflects q p × AllReflect qs ps
 
+-- packets reflect their pieces, one by one
 they_reflect : (version at : ℕ) (earlier pieces : List PieceData) → All IsWritable pieces → AllReflect (packets_after version at earlier pieces) pieces
 they_reflect version at earlier [] all = tt
 they_reflect version at earlier (p ∷ ps) all = (

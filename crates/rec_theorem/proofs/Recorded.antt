@@ -46,9 +46,11 @@ module _ (P : PieceData → Type 0) (channels : List RecordedChannel) (pieces : 
       let c = found_among (λ (x : RecordedChannel). All P (filter (is_of x.settings.channel) pieces)) (λ (x : RecordedChannel). x.settings.channel ≡ channel_of piece) channels each (named k d within) in
       All_passing (is_of c.0.settings.channel) P pieces c.1 k d within (eq-eqb (channel_of piece) c.0.settings.channel (sym c.2))
 
+-- all pieces of a channel that can be recorded are writable
 pub writable_channel : (c : RecordedChannel) (pieces : List PieceData) → IsRecordable c → ArePieces c.settings c.frames c.history pieces → All IsWritable pieces
 writable_channel c pieces is are = subst (All IsWritable) are.3 (all_writable c are.0 is are.1 are.2)
 
+-- each piece is of some channel, and stands among its pieces
 pub writable_pieces : (channels : List RecordedChannel) (pieces : List PieceData) → AreRecordable channels → AreOfChannels channels pieces → All IsWritable pieces
 writable_pieces channels pieces are of =
     All_pieces IsWritable channels pieces
@@ -62,14 +64,17 @@ writable_pieces channels pieces are of =
 abbrev ReadsAs : LaneSettings → PieceData → Type 0
 ReadsAs s piece = frames_read piece ≡ read_frames s (frames_in piece)
 
+-- a program has no frames
 program_reads : (s : LaneSettings) (group : List OfferedFrame) → All (ReadsAs s) (program_piece s group)
 program_reads s [] = All-nil (ReadsAs s)
 program_reads s (f ∷ fs) = All-cons (ReadsAs s) _ [] refl (All-nil (ReadsAs s))
 
+-- packets of frames were made with the channel's settings
 packets_read : (s : LaneSettings) (ps : List (List FrameData)) → All (ReadsAs s) (map (data_piece s) ps)
 packets_read s [] = All-nil (ReadsAs s)
 packets_read s (p ∷ ps) = All-cons (ReadsAs s) (data_piece s p) (map (data_piece s) ps) refl (packets_read s ps)
 
+-- so groups
 groups_read : (s : LaneSettings) (gs : List (List OfferedFrame)) → All (ReadsAs s) (flat_map (group_pieces s) gs)
 groups_read s [] = All-nil (ReadsAs s)
 groups_read s (g ∷ gs) =
@@ -77,6 +82,7 @@ groups_read s (g ∷ gs) =
     (All-append (ReadsAs s) (program_piece s g) (map (data_piece s) (packets s.limit (accepted g))) (program_reads s g) (packets_read s (packets s.limit (accepted g))))
     (groups_read s gs)
 
+-- and all pieces of a channel
 pieces_read : (s : LaneSettings) (offered : List OfferedFrame) → All (ReadsAs s) (channel_pieces s offered)
 pieces_read s offered =
     All-append (ReadsAs s) (flat_map (group_pieces s) (groups offered)) (end_piece s offered ∷ [])
@@ -91,9 +97,7 @@ read_as s (p ∷ ps) all =
     ∙ (ap (λ fs. read_frames s (frames_in p) ++ fs) (read_as s ps (All-tail (ReadsAs s) p ps all))
     ∙ sym (map-append (body_frame s.net s.speed) (frames_in p) (flat_map frames_in ps)))
 
-pub reads_as_all : (s : LaneSettings) (offered : List OfferedFrame) → All (ReadsAs s) (channel_pieces s offered)
-reads_as_all s offered = pieces_read s offered
-
+-- the frames that are read of all pieces of a channel are its accepted ones
 pub channel_read : (s : LaneSettings) (offered : List OfferedFrame) → flat_map frames_read (channel_pieces s offered) ≡ read_frames s (accepted offered)
 channel_read s offered = read_as s (channel_pieces s offered) (pieces_read s offered) ∙ ap (read_frames s) (pieces_frames s offered)
 
@@ -105,6 +109,7 @@ has_accepted packets pieces c all are = record {
   found = frames_reflected c.settings.channel packets pieces all ∙ (ap (flat_map frames_read) (sym are.3) ∙ channel_read c.settings are.0);
 }
 
+-- so of each channel
 pub have_accepted : (packets : List PacketData) (pieces : List PieceData) (channels : List RecordedChannel) → AllReflect packets pieces → AreOfChannels channels pieces → All (HasAccepted packets) channels
 have_accepted packets pieces channels all of =
     All-weaker (λ (c : RecordedChannel). ArePieces c.settings c.frames c.history (filter (is_of c.settings.channel) pieces)) (HasAccepted packets) (λ c are. has_accepted packets pieces c all are) channels of.each

@@ -42,14 +42,17 @@ use Rattle.rec_theorem.specs.Theorem.{IsJob, HasRecorded, HasFailed, HasTaken, F
 begins_taken : {X : Type 0} (taken told : List X) (n : ℕ) → n ≡ length taken → Begins taken told → taken ≡ take n told
 begins_taken taken told n count begins = sym (ap (λ l. take n l) (sym begins.1) ∙ take_at taken begins.0 n (sym count))
 
+-- frames that the source said first are as many of its first ones
 first_taken : (before : Option Left) (taken : List FrameData) (n : ℕ) → n ≡ length taken → AreFirst before taken → IfSome before (λ told. taken ≡ take n told.frames)
 first_taken None taken n count first = tt
 first_taken (Some told) taken n count first = begins_taken taken told.frames n count first
 
+-- all that a source said begin what it said
 all_first : (before : Option Left) (frames : List FrameData) (ending : SourceEnding) → AreAll before frames ending → AreFirst before frames
 all_first None frames ending all = tt
 all_first (Some told) frames ending all = ([], append-nil frames ∙ sym all.0)
 
+-- and so do those before what it says now
 taken_first : (before after : Option Left) (frames : List FrameData) → AreTaken before frames after → AreFirst before frames
 taken_first None after frames taken = tt
 taken_first (Some told) None frames taken = absurd taken
@@ -69,6 +72,7 @@ module _ {S : Type 0} (left : S → Option Left) (failures : S → ℕ) (ended_a
 
   -- ---- channels and their jobs
 
+  -- the channel of a job's report can be recorded
   report_recordable : (job : Job S) (r : ChannelReport S) (c : RecordedChannel) → IsJob job → IsReport left failures ended_as job r c → IsRecordable c
   report_recordable job r c is report =
       let offered = report.offered_is in
@@ -82,6 +86,7 @@ module _ {S : Type 0} (left : S → Option Left) (failures : S → ℕ) (ended_a
         few_versions = report.few;
       }
 
+  -- so can those of all reports
   pub reports_recordable : (jobs : List (Job S)) (reports : List (ChannelReport S)) (channels : List RecordedChannel) → All IsJob jobs → AreReports left failures ended_as jobs reports channels → AreRecordable channels
   reports_recordable [] [] [] all are = All-nil IsRecordable
   reports_recordable [] [] (c ∷ cs) all are = absurd are
@@ -161,6 +166,7 @@ module _ {S : Type 0} (left : S → Option Left) (failures : S → ℕ) (ended_a
 
 -- ---- the bytes that an output took
 
+-- what was added to known bytes is what stands behind them
 same_bytes : (before bytes others : List ℕ) (first held : Option (List ℕ)) → first ≡ Some before → held ≡ Some (before ++ bytes) → Appends first held others → others ≡ bytes
 same_bytes before bytes others first held was is appends =
     let moved : Appends (Some before) (Some (before ++ bytes)) others = subst (λ o. Appends (Some before) o others) is (subst (λ o. Appends o held others) was appends) in
@@ -168,6 +174,7 @@ same_bytes before bytes others first held was is appends =
 
 -- ---- runs
 
+-- accepted frames are one list; a recording is read back, and so is one that was cut short
 abbrev OneAccepted : Type 0
 OneAccepted = (history : List Version) (frames kept other : List FrameData) → AreAccepted history frames kept → AreAccepted history frames other → kept ≡ other
 
@@ -195,6 +202,7 @@ module _ {S C W : Type 0} (left : S → Option Left) (failures : S → ℕ) (end
       }
 
 module _ {S W : Type 0} (left : S → Option Left) (failures : S → ℕ) (ended_as : S → Option SourceEnding) (contents : W → Option (List ℕ)) where
+  -- what is known of the jobs is known of their channels
   cut_recording : (jobs : List (Job S)) (version : ℕ) (first held : Option (List ℕ)) (fault : WriteFault) (report : Report S) (bytes : List ℕ)
       → (cut : IsCutShort left failures ended_as jobs version first held fault report) → writer_output version cut.pieces ++ cut.cut ≡ bytes → IsCutRecording version cut.channels bytes
   cut_recording jobs version first held fault report bytes cut same = record {

@@ -22,6 +22,7 @@ use Rattle.rec_theorem.specs.Recordable.{AreSettings, IsRecordable}
 
 -- ---- recordings
 
+-- the pieces of the frames that were offered, written
 pub some_recording : ((count : ℕ) (history : List Version) (frames : List FrameData) → IsHistory count history → (offered : List OfferedFrame) × AllMet history offered × (frames_of offered ≡ frames))
     → ((version : ℕ) (channel : RecordedChannel) (bytes : List ℕ) → IsOutputOf version channel bytes → IsRecording version (channel ∷ []) bytes)
     → (version : ℕ) (c : RecordedChannel) → IsRecordable c → (bytes : List ℕ) × IsRecording version (c ∷ []) bytes
@@ -33,6 +34,7 @@ some_recording some recorded version c is =
 
 -- ---- channels
 
+-- a history of one program with mark 0 is one for any number of frames
 pub some_channel : (settings : LaneSettings) (frames : List FrameData) (program : List Insn) → AreSettings settings → All IsFrame frames → length frames < 2 ^ 64 → IsFilter program
     → IsRecordable (record { settings = settings; frames = frames; history = record { program = program; mark = 0 } ∷ [] })
 some_channel settings frames program is framed few filter =
@@ -55,6 +57,7 @@ some_channel settings frames program is framed few filter =
 
 -- ---- a program
 
+-- the instruction RET #1
 abbrev returns_one : Insn
 returns_one = record { code = 6; jt = 0; jf = 0; k = 1 }
 
@@ -67,6 +70,7 @@ only_one (suc at) insn is = absurd (none-some insn is)
 none_of : (P : Insn → Type 0) → (P returns_one → ⊥) → (at : ℕ) → (insn : Insn) × (slice_get (returns_one ∷ []) at ≡ Some insn) × P insn → ⊥
 none_of P fails at found = fails (subst P (only_one at found.0 found.1) found.2)
 
+-- it has a form, and reads, writes, divides and jumps nowhere
 valid_one : Valid (returns_one ∷ [])
 valid_one = record {
   some = omega arith;
@@ -82,6 +86,7 @@ valid_one = record {
   no_unset_read = λ path word (at, unset). none_of (λ (i : Insn). FormReadsWord (form i.code) i word) (λ r. r) at unset.3;
 }
 
+-- so it is a filter
 pub some_program : IsFilter (record { code = 6; jt = 0; jf = 0; k = 1 } ∷ [])
 some_program = record {
   valid = valid_one;

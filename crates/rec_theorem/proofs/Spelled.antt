@@ -1,6 +1,6 @@
 -- The packet of one piece as a reader has it: its bytes spell a packet, whose frames and whose
 -- saying are those of the piece.
-use Rattle.std.proofs.Common.{ℕ, ◌+◌, ◌%◌, ◌^◌, ◌≡◌, ◌≤◌, ◌<◌, ◌==◌, Bool, true, false, List, [], ◌++◌, length, map, Some, refl, sym, ap, subst, ◌∙◌, arith}
+use Rattle.std.proofs.Common.{ℕ, ◌+◌, ◌%◌, ◌^◌, ◌≡◌, ◌≤◌, ◌<◌, ◌==◌, List, [], ◌++◌, length, map, Some, refl, sym, ap, subst, ◌∙◌, arith}
 use Rattle.std.specs.Prelude.{if◌then◌else◌}
 use Rattle.std.proofs.lemmas.List.{take_at, length-map}
 use Rattle.bpf_insn.specs.declared.insn.Insn.{Insn}
@@ -29,6 +29,7 @@ use Rattle.rec_reader.specs.ChannelFrames.{packet_frames}
 use Rattle.rec_reader.specs.Channels.{Saying, saying_of}
 use Rattle.rec_reader.specs.Channels.Saying.{OfFrames as SaysFrames, OfProgram as SaysProgram, OfEnd as SaysEnd}
 use Rattle.rec_reader.proofs.Stored.{says_record}
+use Rattle.rec_theorem.proofs.Lists.{nothing_if}
 
 -- the piece's numbers fit its packet
 abbrev pub IsWritable : PieceData → Type 0
@@ -63,6 +64,7 @@ len_aligned n = omega arith
 len_fits : (n : ℕ) → n < 2 ^ 31 → packet_len n < 2 ^ 32
 len_fits n few = omega (arith, few)
 
+-- a header of numbers in range, with the packet's length from the data's, is one
 made_header : (channel n version sequence kind counter : ℕ) → channel < 2 ^ 16 → packet_len n < 2 ^ 32 → version < 2 ^ 8 → sequence < 2 ^ 8 → kind < 2 ^ 8 → counter < 2 ^ 48
     → (kind ≡ ETHERNET_DATA → packet_len n ≤ MAX_ETHERNET_PACKET_LEN) → IsHeader (header_of channel (packet_len n) n version sequence 0 kind counter)
 made_header channel n version sequence kind counter a b c d e f most = record {
@@ -80,6 +82,7 @@ record_header : (n version sequence counter : ℕ) → n < 2 ^ 31 → version < 
 record_header n version sequence counter few a b c =
     made_header 0 n version sequence COMPUTER_GENERATED_DATA counter (omega arith) (len_fits n few) a b (omega arith) c (λ other. absurd (omega (arith, other)))
 
+-- so is that of each writable piece
 is_header : (piece : PieceData) (version sequence : ℕ) → IsWritable piece → version < 2 ^ 8 → sequence < 2 ^ 8 → IsHeader (piece_header piece version sequence)
 is_header (OfProgram channel counter v first program) version sequence is a b =
     let long = length-program channel v first program in
@@ -95,9 +98,11 @@ is_header (OfEnd channel counter offered kept) version sequence is a b =
 
 -- ---- what it holds
 
+-- flags of 0 are those of a plain packet
 plain : IsPlain 0
 plain = record { no_secondary_header = refl; no_secondary_times = refl; no_checksum_high = refl; no_checksum_low = refl }
 
+-- the written records are spelled with zeros where anything may stand
 spells_program : (channel version first : ℕ) (program : List Insn) → IsProgramRecord channel version first program → SpellsRecord (ProgramRecord channel version first program) (program_bytes channel version first program)
 unfolding program_bytes
 spells_program channel version first program is = (is, 0, 0, refl)
@@ -110,6 +115,7 @@ spells_end end is = (is, 0, refl)
 data_are : (piece : PieceData) (version sequence : ℕ) → data_in (piece_header piece version sequence) (piece_bytes piece ++ packet_filler (length (piece_bytes piece))) ≡ piece_bytes piece
 data_are piece version sequence = take_at (piece_bytes piece) (packet_filler (length (piece_bytes piece))) (length (piece_bytes piece)) refl
 
+-- a piece's body is what its kind says
 has_class : (piece : PieceData) (version sequence : ℕ) → IsWritable piece → HasClass (piece_header piece version sequence) (piece_bytes piece) (held_by piece)
 has_class (OfProgram channel counter v first program) version sequence is = ((plain, refl, refl), program, spells_program channel v first program is.0, refl)
 has_class (OfFrames channel body) version sequence is = ((plain, refl), map (body_frame body.net body.speed) body.frames, SpellsBody-written body is.0, length-map body.frames (body_frame body.net body.speed))
@@ -142,24 +148,17 @@ pub record Reflects (packet : PacketData) (piece : PieceData) : Type 0 where
   pub frames : (channel : ℕ) → (if packet.header.channel == channel then packet_frames packet else []) ≡ (if is_of channel piece then frames_read piece else [])
   pub says : saying_of packet ≡ Some (channel_of piece, said_by piece)
 
-abbrev NoFrames : Bool → List ReadFrameData
-NoFrames b = if b then [] else []
-
-none_either : (b c : Bool) → NoFrames b ≡ NoFrames c
-none_either true true = refl
-none_either true false = refl
-none_either false true = refl
-none_either false false = refl
-
+-- the body of a packet of frames says these frames
 frames_said : (channel : ℕ) (body : EthernetBody) (version sequence : ℕ) → IsEthernetBody body
     → said_frames (data_in (piece_header (OfFrames channel body) version sequence) (piece_bytes (OfFrames channel body) ++ packet_filler (length (piece_bytes (OfFrames channel body))))) ≡ map (body_frame body.net body.speed) body.frames
 frames_said channel body version sequence is =
     ap said_frames (data_are (OfFrames channel body) version sequence)
     ∙ said_by_body (map (body_frame body.net body.speed) body.frames) (data_bytes body.net body.speed body.frames) (SpellsBody-written body is)
 
+-- each kind of piece is reflected by its packet
 pub reflects : (piece : PieceData) (version sequence at : ℕ) → IsWritable piece → Reflects (read_packet piece version sequence at) piece
 reflects (OfProgram channel counter v first program) version sequence at is = record {
-  frames = λ other. none_either (0 == other) (channel == other);
+  frames = λ other. sym (nothing_if (0 == other)) ∙ nothing_if (channel == other);
   says = says_record (read_packet (OfProgram channel counter v first program) version sequence at) channel v first program refl
       (subst (SpellsRecord (ProgramRecord channel v first program)) (sym (data_are (OfProgram channel counter v first program) version sequence)) (spells_program channel v first program is.0));
 }
@@ -168,6 +167,6 @@ reflects (OfFrames channel body) version sequence at is = record {
   says = ap (λ fs. Some (channel, SaysFrames fs)) (frames_said channel body version sequence is.0);
 }
 reflects (OfEnd channel counter offered kept) version sequence at is = record {
-  frames = λ other. none_either (0 == other) (channel == other);
+  frames = λ other. sym (nothing_if (0 == other)) ∙ nothing_if (channel == other);
   says = refl;
 }

@@ -39,11 +39,13 @@ record IsFit (c : ChannelState) : Type 0 where
   most : c.max < 2 ^ 64
   framed : All IsFrame (frames_of c.offered)
 
+-- one more frame
 framed_more : (fs : List OfferedFrame) (f : OfferedFrame) → All IsFrame (frames_of fs) → IsFrame f.frame → All IsFrame (frames_of (fs ++ f ∷ []))
 framed_more fs f all is =
     subst (All IsFrame) (sym (map-append (λ (x : OfferedFrame). x.frame) fs (f ∷ [])))
     (All-append IsFrame (frames_of fs) (f.frame ∷ []) all (All-cons IsFrame f.frame [] is (All-nil IsFrame)))
 
+-- what a channel does keeps it in range, by cases on the event
 fit_after : (ring : ℕ) (c : ChannelState) (event : EventData) (reply : Reply) (d : ChannelState) (more : List PieceData) → Does ring c event reply d more → IsEvent event → IsFit c → IsFit d
 fit_after ring c (OfTake channel frame) (Took number version value) d more does is fit =
     subst IsFit (sym does.8) (record { settings = fit.settings; most = fit.most; framed = framed_more c.offered does.0 fit.framed (subst IsFrame (sym does.4) is) })
@@ -53,15 +55,18 @@ fit_after ring c (OfWrite channel) (Wrote bytes) d more does is fit = subst IsFi
 fit_after ring c (OfClose channel) (HasClosed offered kept) d more does is fit = subst IsFit (sym does.3) (record { settings = fit.settings; most = fit.most; framed = fit.framed })
 fit_after ring c _ _ d more does is fit = absurd does
 
+-- each channel of the world is in range
 abbrev FitWorld : WorldState → Type 0
 FitWorld w = All IsFit w.channels
 
+-- one channel more in range
 set_fit : (channels : List ChannelState) (at : ℕ) (d : ChannelState) → All IsFit channels → IsFit d → All IsFit (slice_set channels at d)
 set_fit channels at d all fit = All_from_places IsFit (slice_set channels at d) (λ k x is. elim (set_cases channels at d k x is) as (λ _. IsFit x) [
   | inl same ↦ subst IsFit (sym same.1) fit
   | inr elsewhere ↦ All_there IsFit channels k x all elsewhere.1
 ])
 
+-- so a step keeps a world in range, and events do
 step_fit : (ring : ℕ) (old : WorldState) (event : EventData) (answer : Result Reply CoreFault) (new : WorldState) → WorldStep ring old event answer new → IsEvent event → FitWorld old → FitWorld new
 step_fit ring old event (Ok reply) new step is fit =
     subst FitWorld (sym step.6)
@@ -76,11 +81,13 @@ run_fit ring (event ∷ events) [] old new run are fit = absurd run
 run_fit ring (event ∷ events) (answer ∷ answers) old new run are fit =
     run_fit ring events answers run.0 new run.2 (All-tail IsEvent event events are) (step_fit ring old event answer run.0 run.1 (All-head IsEvent event events are) fit)
 
+-- the opening world is in range
 opening_fit : (specs : List SpecData) → All IsSpec specs → All IsFit (map opening_channel specs)
 opening_fit specs are =
     All-map IsFit opening_channel specs
     (All-weaker IsSpec (λ (s : SpecData). IsFit (opening_channel s)) (λ s is. record { settings = is.settings; most = is.most; framed = All-nil IsFrame }) specs are)
 
+-- a channel in range and in order can be recorded: it has at most as many frames as it may have
 channel_recordable : (c : ChannelState) → IsFit c → IsInOrder c → IsRecordable (recorded_channel c)
 channel_recordable c fit order =
     let long = length-map c.offered (λ (f : OfferedFrame). f.frame) in
@@ -104,6 +111,7 @@ world_recordable ring specs new run are events orders =
 
 -- ---- one more piece
 
+-- an event more
 run_more : (ring : ℕ) (events : List EventData) (answers : List (Result Reply CoreFault)) (old mid new : WorldState) (event : EventData) (answer : Result Reply CoreFault)
     → WorldRun ring old events answers mid → WorldStep ring mid event answer new → WorldRun ring old (events ++ event ∷ []) (answers ++ answer ∷ []) new
 run_more ring [] [] old mid new event answer run step = (new, subst (λ w. WorldStep ring w event answer new) run step, refl)
@@ -115,6 +123,7 @@ run_more ring (e ∷ events) (a ∷ answers) old mid new event answer run step =
 abbrev completed : WorldState → (at : ℕ) → ChannelState → PieceData → WorldState
 completed w at c piece = world_after w at (piece_written c) (piece ∷ [])
 
+-- that world is reached by writing the piece, which stands in its channel's ring
 completes : (ring : ℕ) (specs : List SpecData) (before : List ℕ) (writer : WriterState) (w : WorldState) → RunsFromOpening ring specs w → (s : IsCutShort before writer w) → RunsFromOpening ring specs (completed w s.at s.channel s.piece)
 completes ring specs before writer w run s =
     let channel = s.channel.settings.channel in
@@ -132,6 +141,7 @@ completes ring specs before writer w run s =
 
 -- ---- what was written of the channels
 
+-- each written piece is of one of the channels
 named_recorded : (w : WorldState) → SoundWorld w → All (λ (piece : PieceData). Any (λ (c : RecordedChannel). c.settings.channel ≡ channel_of piece) (recorded_channels w)) w.out
 named_recorded w s =
     All-weaker (Named (ids w)) (λ (piece : PieceData). Any (λ (c : RecordedChannel). c.settings.channel ≡ channel_of piece) (recorded_channels w))
@@ -140,6 +150,7 @@ named_recorded w s =
     Any_there (λ (c : RecordedChannel). c.settings.channel ≡ channel_of piece) (recorded_channels w) n.0 (recorded_channel from.0) (there_map recorded_channel w.channels n.0 from.0 from.1) from.2)
     w.out s.named
 
+-- and those of each channel begin its pieces
 begin_recorded : (w : WorldState) → SoundWorld w → All (BeginsChannel w.out) (recorded_channels w)
 begin_recorded w s =
     All-map (BeginsChannel w.out) recorded_channel w.channels

@@ -1,5 +1,5 @@
 -- Each piece of a channel that can be recorded has numbers that fit its packet.
-use Rattle.std.proofs.Common.{ℕ, zero, suc, ◌+◌, ◌^◌, ◌≡◌, ◌≤◌, ◌<◌, Bool, true, false, List, [], ◌∷◌, length, map, Some, All, refl, sym, ap, subst, ◌∙◌, arith}
+use Rattle.std.proofs.Common.{ℕ, ◌+◌, ◌^◌, ◌≡◌, ◌≤◌, ◌<◌, Bool, true, false, List, [], ◌∷◌, length, map, Some, All, refl, sym, ap, subst, ◌∙◌, arith}
 use Rattle.std.specs.Prelude.{slice_get, if◌then◌else◌}
 use Rattle.std.specs.List.{flat_map, filter}
 use Rattle.std.proofs.lemmas.List.{length-map}
@@ -15,7 +15,7 @@ use Rattle.rec_lane.specs.Packets.{FitsLimit, AreLongestFronts, packets}
 use Rattle.rec_lane.specs.Pieces.{LaneSettings, has_version, groups, program_piece, data_piece, group_pieces, last_counter_from, end_piece, channel_pieces}
 use Rattle.rec_lane.proofs.Contents.{parts_whole}
 use Rattle.rec_lane.proofs.Fronts.{packets_longest}
-use Rattle.rec_core.proofs.Lists.{map_there}
+use Rattle.rec_core.proofs.Lists.{map_there, All_there}
 use Rattle.rec_writer.specs.Recording.{RecordedChannel}
 use Rattle.rec_theorem.specs.Recordable.{AreSettings, IsRecordable}
 use Rattle.rec_theorem.proofs.Spelled.{IsWritable}
@@ -37,11 +37,7 @@ pub record IsKnown (history : List Version) (count : ℕ) (f : OfferedFrame) : T
 program_of : (history : List Version) (f : OfferedFrame) → Met history f → (v : Version) × (slice_get history f.version ≡ Some v) × (v.program ≡ f.program)
 program_of history f met = map_there (λ (v : Version). v.program) history f.version f.program met.program
 
-there : {X : Type 0} (P : X → Type 0) (xs : List X) (k : ℕ) (x : X) → All P xs → slice_get xs k ≡ Some x → P x
-there P [] k x all is = absurd (let e = slice_get_within [] k x is in omega (arith, e))
-there P (y ∷ ys) zero x all is = subst P (let same : y ≡ x = cc in same) (All-head P y ys all)
-there P (y ∷ ys) (suc k) x all is = there P ys k x (All-tail P y ys all) is
-
+-- the version in force is one of the history, and so its program is valid and in range
 one_known : (history : List Version) (count offered : ℕ) (f : OfferedFrame) → IsHistory offered history → Met history f → IsFrame f.frame → f.number < count → IsKnown history count f
 one_known history count offered f h met framed below =
     let v = program_of history f met in
@@ -49,11 +45,12 @@ one_known history count offered f h met framed below =
       framed = framed;
       below = below;
       version_below = slice_get_within history f.version v.0 v.1;
-      valid = subst Valid v.2 (there (λ (w : Version). Valid w.program) history f.version v.0 h.valid v.1);
-      in_range = subst AreInRange v.2 (there (λ (w : Version). AreInRange w.program) history f.version v.0 h.in_range v.1);
+      valid = subst Valid v.2 (All_there (λ (w : Version). Valid w.program) history f.version v.0 h.valid v.1);
+      in_range = subst AreInRange v.2 (All_there (λ (w : Version). AreInRange w.program) history f.version v.0 h.in_range v.1);
       met = met;
     }
 
+-- so of frames that are numbered on
 all_known_from : (history : List Version) (offered number : ℕ) (fs : List OfferedFrame) → IsHistory offered history → MetFrom history number fs → All IsFrame (frames_of fs) → All (IsKnown history (number + length fs)) fs
 all_known_from history offered number [] h met framed = All-nil (IsKnown history (number + 0))
 all_known_from history offered number (f ∷ fs) h met framed =
@@ -72,17 +69,21 @@ all_known c offered is met same =
 
 -- ---- packets of frames
 
+-- frames that fit the limit, and some
 abbrev Packs : ℕ → List FrameData → Type 0
 Packs limit frames = FitsLimit limit frames × (0 < length frames)
 
+-- a list that is not empty has an element
 pub some_long : {X : Type 0} (xs : List X) → (xs ≡ [] → ⊥) → 0 < length xs
 some_long [] some = absurd (some refl)
 some_long (x ∷ xs) some = omega arith
 
+-- the longest fronts of frames are such
 all_pack : (limit : ℕ) (frames : List FrameData) (ps : List (List FrameData)) → AreLongestFronts limit frames ps → All (Packs limit) ps
 all_pack limit frames [] are = All-nil (Packs limit)
 all_pack limit frames (p ∷ ps) are = All-cons (Packs limit) p ps (are.1.fits, some_long p are.1.some) (all_pack limit are.0 ps are.2)
 
+-- a packet of such frames is writable: at 30 bytes and more for each frame they are few
 writable_packet : (s : LaneSettings) (frames : List FrameData) → AreSettings s → Packs s.limit frames → All IsFrame frames → IsWritable (data_piece s frames)
 writable_packet s frames is packs framed =
     let fits = packs.0 in
@@ -106,6 +107,7 @@ writable_packets s (p ∷ ps) is packs framed =
     (writable_packet s p is (All-head (Packs s.limit) p ps packs) (All-head (λ (q : List FrameData). All IsFrame q) p ps framed))
     (writable_packets s ps is (All-tail (Packs s.limit) p ps packs) (All-tail (λ (q : List FrameData). All IsFrame q) p ps framed))
 
+-- accepted frames are frames
 pub accepted_framed : (history : List Version) (count : ℕ) (group : List OfferedFrame) → All (IsKnown history count) group → All IsFrame (accepted group)
 accepted_framed history count group known =
     All-map IsFrame (λ (f : OfferedFrame). f.frame) (filter is_accepted group)
@@ -114,6 +116,7 @@ accepted_framed history count group known =
 -- ---- the pieces of a group, and of a channel
 
 module _ (s : LaneSettings) (history : List Version) (count : ℕ) (is : AreSettings s) (few : count < 2 ^ 64) (versions : length history ≤ 1024) where
+  -- a group's program is writable: it has at most 512 instructions
   writable_program : (group : List OfferedFrame) → All (IsKnown history count) group → All IsWritable (program_piece s group)
   writable_program [] known = All-nil IsWritable
   writable_program (f ∷ fs) known =
@@ -133,6 +136,7 @@ module _ (s : LaneSettings) (history : List Version) (count : ℕ) (is : AreSett
         first.framed.counter,
       ) (All-nil IsWritable)
 
+  -- so are all pieces of a group
   writable_group : (group : List OfferedFrame) → All (IsKnown history count) group → All IsWritable (group_pieces s group)
   writable_group group known =
       let framed = accepted_framed history count group known in
@@ -143,11 +147,13 @@ module _ (s : LaneSettings) (history : List Version) (count : ℕ) (is : AreSett
       (all_pack s.limit (accepted group) ps (packets_longest s.limit (accepted group) is.least framed))
       (All_parts IsFrame ps (subst (All IsFrame) (sym (parts_whole _ (accepted group))) framed)))
 
+  -- the last counter is one of a frame, or 0
   last_counter_fits : (counter : ℕ) (offered : List OfferedFrame) → counter < 2 ^ 48 → All (IsKnown history count) offered → last_counter_from counter offered < 2 ^ 48
   last_counter_fits counter [] fits known = fits
   last_counter_fits counter (f ∷ fs) fits known =
       last_counter_fits f.frame.counter fs (All-head (IsKnown history count) f fs known).framed.counter (All-tail (IsKnown history count) f fs known)
 
+  -- the end is writable
   writable_end : (offered : List OfferedFrame) → length offered ≤ count → length (accepted offered) ≤ length offered → All (IsKnown history count) offered → IsWritable (end_piece s offered)
   writable_end offered long kept known = (
     record {
@@ -159,6 +165,7 @@ module _ (s : LaneSettings) (history : List Version) (count : ℕ) (is : AreSett
     last_counter_fits 0 offered (omega arith) known,
   )
 
+  -- and so are all pieces
   writable_pieces : (offered : List OfferedFrame) → length offered ≤ count → length (accepted offered) ≤ length offered → All (IsKnown history count) offered → All IsWritable (channel_pieces s offered)
   writable_pieces offered long kept known =
       All-append IsWritable (flat_map (group_pieces s) (groups offered)) (end_piece s offered ∷ [])
@@ -177,6 +184,7 @@ kept_of (f ∷ fs) =
       | false ↦ (λ e. omega (arith, e))
     ] others
 
+-- the pieces of a channel that can be recorded are writable
 pub all_writable : (c : RecordedChannel) (offered : List OfferedFrame) → IsRecordable c → AllMet c.history offered → frames_of offered ≡ c.frames → All IsWritable (channel_pieces c.settings offered)
 all_writable c offered is met same =
     let long : length offered ≡ length c.frames = sym (length-map offered (λ (f : OfferedFrame). f.frame)) ∙ ap length same in
