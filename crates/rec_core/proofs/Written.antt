@@ -33,7 +33,7 @@ of channel pieces = filter (is_of channel) pieces
 
 -- what was written of the channel begins its pieces, whatever frames follow where it is open; it is
 -- as much as the channel says, and the channel is in order
-record Sound (out : List PieceData) (c : ChannelState) : Type 0 where
+pub record Sound (out : List PieceData) (c : ChannelState) : Type 0 where
   pub long : length (of c.settings.channel out) ≡ c.written
   pub begins : Begins (of c.settings.channel out) (channel_pieces c.settings c.offered)
   pub certain : c.closed ≡ false → (more : List OfferedFrame) → Begins (of c.settings.channel out) (channel_pieces c.settings (c.offered ++ more))
@@ -144,15 +144,15 @@ other_sound out more b from differs own s =
 
 -- ---- worlds
 
-abbrev ids : WorldState → List ℕ
+abbrev pub ids : WorldState → List ℕ
 ids w = map (λ (c : ChannelState). c.settings.channel) w.channels
 
 -- a piece is of one of these channels
-abbrev Named : List ℕ → PieceData → Type 0
+abbrev pub Named : List ℕ → PieceData → Type 0
 Named channels piece = (k : ℕ) × (slice_get channels k ≡ Some (channel_of piece))
 
 -- each channel is sound, no two have one ID, and each piece is of one of them
-record SoundWorld (w : WorldState) : Type 0 where
+pub record SoundWorld (w : WorldState) : Type 0 where
   pub distinct : AreDistinct (ids w)
   pub each : (k : ℕ) (c : ChannelState) → slice_get w.channels k ≡ Some c → Sound w.out c
   pub named : All (Named (ids w)) w.out
@@ -211,7 +211,7 @@ opening_sound specs are filters = record {
   named = All-nil (Named (ids (opening_world specs)));
 }
 
-reached : LaterLeave → OfTheirChannel → BeginAll → (ring : ℕ) (specs : List SpecData) (new : WorldState) → RunsFromOpening ring specs new → SoundWorld new
+pub reached : LaterLeave → OfTheirChannel → BeginAll → (ring : ℕ) (specs : List SpecData) (new : WorldState) → RunsFromOpening ring specs new → SoundWorld new
 reached leave theirs begin ring specs new r = run_sound leave theirs begin ring r.0 r.1 (opening_world specs) new r.4 (opening_sound specs r.2 r.3)
 
 -- ---- what the laws say

@@ -1,0 +1,12 @@
+pub mod Spelled
+pub mod Readings
+pub mod Lists
+pub mod Writable
+pub mod Recorded
+pub mod Passing
+pub mod Audited
+pub mod ReadBack
+pub mod CutShort
+pub mod Worlds
+pub mod Runs
+pub mod SomeRecordings

@@ -1,0 +1,11 @@
+use Rattle.rec_theorem.proofs.SomeRecordings.{some_recording, some_channel, some_program}
+use Rattle.rec_theorem.proofs.existence.there_are_recordings.Goals as goal
+
+pub returns-clause-recording : goal.returns-clause-recording
+returns-clause-recording c = some_recording c.accepted_frames_are_one_list.ensures.some c.a_recording_of_one_channel_is_of_its_pieces.ensures.recording
+
+pub returns-clause-channel : goal.returns-clause-channel
+returns-clause-channel c = some_channel
+
+pub returns-clause-program : goal.returns-clause-program
+returns-clause-program c = some_program

@@ -1,0 +1,5 @@
+pub mod Recordable
+pub mod Found
+pub mod Cut
+pub mod Events
+pub mod Theorem
