@@ -32,9 +32,9 @@ use Rattle.rec_run.specs.declared.report.ChannelReport.{ChannelReport}
 use Rattle.rec_run.specs.declared.report.Done.{Done}
 use Rattle.rec_run.specs.declared.report.Report.{Report}
 use Rattle.rec_theorem.specs.Recordable.{AreSettings, IsRecordable, AreRecordable}
-use Rattle.rec_theorem.specs.Found.{read_frames, HasAccepted, BeginsAccepted, ReadsBack, ReadsBackCut}
+use Rattle.rec_theorem.specs.Found.{read_frames, IsApproved, HasAccepted, BeginsAccepted, ReadsBack, ReadsBackCut}
 use Rattle.rec_theorem.specs.Cut.{IsCutRecording}
-use Rattle.rec_theorem.specs.Theorem.{IsJob, HasRecorded, HasFailed, HasTaken, FindsJob, Finds, BeginsJob, FindsCut}
+use Rattle.rec_theorem.specs.Theorem.{IsJob, HasRecorded, HasFailed, HasTaken, FindsJob, Finds, IsAnswered, BeginsJob, FindsCut}
 
 -- ---- the frames that were taken
 
@@ -232,3 +232,11 @@ module _ {S W : Type 0} (left : S → Option Left) (failures : S → ℕ) (ended
         only = back.only;
         each = begins_each left failures ended_as one back.packets jobs report.channels.items cut.channels back.frames cut.reports_are;
       }
+
+-- what is found is what the calls answer, since there is no other reading
+pub are_answered : {S : Type 0} (left : S → Option Left) (jobs : List (Job S)) (reports : List (ChannelReport S)) (changes : List Given) (bytes : List ℕ) → Finds left jobs reports changes bytes → IsAnswered left jobs reports changes bytes
+are_answered left jobs reports changes bytes finds = record {
+  no_fault = λ before kind reads. let same = (finds.only before (Some kind) reads).1 in cc;
+  each = λ recording reads. subst (λ ps. AllZip (FindsJob left ps changes) jobs reports) (finds.only recording None reads).0 finds.each;
+  approved = λ recording reads. subst IsApproved (finds.only recording None reads).0 finds.approved;
+}

@@ -109,6 +109,19 @@ module _ {S : Type 0} (left : S → Option Left) where
     pub each : AllZip (FindsJob packets changes) jobs reports
     pub approved : IsApproved packets
 
+  -- the same by what the reader's calls say: `read_recording` answers no fault of the bytes; at `Ok`
+  -- the recording that it gives has the accepted frames of each job, which `frames_of` gives; and
+  -- `audit` of it answers no fault, unless memory ran out
+  pub record IsAnswered
+      (jobs : List (Job S)) (reports : List (ChannelReport S)) (changes : List Given)
+      (bytes : List ℕ) : Type 0 where
+    pub no_fault : (before : List PacketData) (kind : ReadFaultKind)
+        → ¬ Reads bytes before (Some kind)
+    pub each : (recording : List PacketData) → Reads bytes recording None
+        → AllZip (FindsJob recording changes) jobs reports
+    pub approved : (recording : List PacketData) → Reads bytes recording None
+        → IsApproved recording
+
   -- the frames that the packets have of the job's channel are the first of the accepted ones
   pub record BeginsJob (packets : List PacketData) (job : Job S) (report : ChannelReport S)
       : Type 0 where
