@@ -1,12 +1,12 @@
 -- Packets of pieces and then a part of one more: how they are read.
 use Rattle.std.proofs.Common.{ℕ, ◌^◌, ◌≡◌, ◌≢◌, ◌<◌, ◌⊎◌, inl, inr, List, [], ◌∷◌, ◌++◌, length, Some, None, All, refl, sym, ap, subst, ◌∙◌, arith}
-use Rattle.std.specs.List.{flat_map, filter}
+use Rattle.std.specs.List.{flat_map, filter, Any}
 use Rattle.std.proofs.lemmas.List.{append_assoc, append-nil, length-append}
 use Rattle.std.proofs.lemmas.List.Elements.{All-head, All-weaker, filter-append}
 use Rattle.std.proofs.lemmas.Grind.{flat_map-append}
 use Rattle.ch11_packet.proofs.Lengths.{length-packet}
 use Rattle.rec_lane.specs.Offered.{accepted}
-use Rattle.rec_lane.specs.Pieces.{PieceData}
+use Rattle.rec_lane.specs.Pieces.{PieceData, channel_of}
 use Rattle.rec_lane.proofs.Meeting.{heads}
 use Rattle.rec_writer.specs.Encoding.{packet_of, packet_channel, next_sequence, piece_bytes, piece_header, writer_output}
 use Rattle.rec_writer.specs.Recording.{RecordedChannel, is_of}
@@ -16,7 +16,7 @@ use Rattle.rec_reader.specs.Reading.{IsCut as IsCutPacket, Reads}
 use Rattle.rec_reader.specs.ChannelFrames.{channel_frames}
 use Rattle.rec_reader.proofs.Cuts.{reads_as_front}
 use Rattle.rec_theorem.specs.Recordable.{IsRecordable, AreRecordable}
-use Rattle.rec_theorem.specs.Found.{HasAccepted, BeginsAccepted, ReadsBack, ReadsBackCut}
+use Rattle.rec_theorem.specs.Found.{HasNoOthers, HasAccepted, BeginsAccepted, ReadsBack, ReadsBackCut}
 use Rattle.rec_run.specs.Recorded.{IsCutOf, BeginsChannel}
 use Rattle.rec_theorem.specs.Cut.{IsCutRecording}
 use Rattle.rec_theorem.proofs.Lists.{All_front, All_back, All_with}
@@ -24,7 +24,7 @@ use Rattle.rec_theorem.proofs.Spelled.{IsWritable, read_packet, spells_piece, fr
 use Rattle.rec_theorem.proofs.Readings.{packets_of, they_begin, all_reflect, frames_reflected, sequence_fits}
 use Rattle.rec_theorem.proofs.Writable.{some_long}
 use Rattle.rec_theorem.proofs.ReadBack.{OneReading}
-use Rattle.rec_theorem.proofs.Recorded.{All_pieces, writable_channel, channel_read}
+use Rattle.rec_theorem.proofs.Recorded.{All_pieces, writable_channel, channel_read, no_others}
 
 -- ---- a beginning of a recording
 
@@ -41,15 +41,21 @@ front_accepted channels packets some more whole all =
     }) channels all
 
 -- a reading that ends or is truncated
-either_read : OneReading → (channels : List RecordedChannel) (bytes : List ℕ) (packets : List PacketData) → Reads bytes packets None ⊎ Reads bytes packets (Some Truncated) → All (BeginsAccepted packets) channels → ReadsBackCut channels bytes
-either_read one channels bytes packets (inl reads) frames = record { packets = packets; fault = None; cut = inl refl; reads = reads; only = λ others other o. one bytes packets others None other reads o; frames = frames }
-either_read one channels bytes packets (inr reads) frames = record { packets = packets; fault = Some Truncated; cut = inr refl; reads = reads; only = λ others other o. one bytes packets others (Some Truncated) other reads o; frames = frames }
+either_read : OneReading → (channels : List RecordedChannel) (bytes : List ℕ) (packets : List PacketData) → Reads bytes packets None ⊎ Reads bytes packets (Some Truncated) → All (BeginsAccepted packets) channels → HasNoOthers channels packets → ReadsBackCut channels bytes
+either_read one channels bytes packets (inl reads) frames others_none = record { packets = packets; fault = None; cut = inl refl; reads = reads; only = λ others other o. one bytes packets others None other reads o; frames = frames; no_others = others_none }
+either_read one channels bytes packets (inr reads) frames others_none = record { packets = packets; fault = Some Truncated; cut = inr refl; reads = reads; only = λ others other o. one bytes packets others (Some Truncated) other reads o; frames = frames; no_others = others_none }
+
+-- what begins nothing is nothing
+front_none : {X : Type 0} (xs ys : List X) → xs ++ ys ≡ [] → xs ≡ []
+front_none [] ys none = refl
+front_none (x ∷ xs) ys none = cc
 
 -- a beginning of a recording is read as the first of its packets
 pub front_read_back : OneReading → (channels : List RecordedChannel) (front rest : List ℕ) → ReadsBack channels (front ++ rest) → ReadsBackCut channels front
 front_read_back one channels front rest back =
     let cut = reads_as_front front rest back.packets back.reads in
     either_read one channels front cut.some cut.reads (front_accepted channels back.packets cut.some cut.more cut.whole back.frames)
+    (λ channel apart. front_none (channel_frames channel cut.some) (channel_frames channel cut.more) (sym (flat_map-append _ cut.some cut.more) ∙ (ap (channel_frames channel) (sym cut.whole) ∙ back.no_others channel apart)))
 
 -- ---- a part of a packet
 
@@ -137,3 +143,4 @@ cut_read_back one version channels bytes small are is =
     (subst (λ bs. Reads bs packets None ⊎ Reads bs packets (Some Truncated)) (sym is.bytes_are)
     (cut_read version is.pieces is.cut small whole (cut_of version is.pieces is.begun is.cut small (All_back IsWritable is.pieces is.begun all) is.cut_is)))
     (All-weaker (BeginsChannel taken) (BeginsAccepted packets) (λ c begin. taken_frames version is.pieces is.begun c whole begin) channels is.begin)
+    (no_others packets is.pieces channels (all_reflect version is.pieces whole) (All_front (λ (piece : PieceData). Any (λ (c : RecordedChannel). c.settings.channel ≡ channel_of piece) channels) is.pieces is.begun is.named))

@@ -10,3 +10,4 @@ pub mod CutShort
 pub mod Worlds
 pub mod Runs
 pub mod SomeRecordings
+pub mod EndedWorld

@@ -7,7 +7,7 @@ use Rattle.rec_reader.specs.Reading.{Reads}
 use Rattle.rec_theorem.specs.Recordable.{AreRecordable}
 use Rattle.rec_theorem.specs.Found.{ReadsBack}
 use Rattle.rec_theorem.proofs.Readings.{packets_of, reads_pieces, all_reflect}
-use Rattle.rec_theorem.proofs.Recorded.{writable_pieces, have_accepted}
+use Rattle.rec_theorem.proofs.Recorded.{writable_pieces, have_accepted, no_others}
 use Rattle.rec_theorem.proofs.Audited.{approved}
 
 -- bytes have one reading
@@ -28,5 +28,6 @@ read_back one version channels bytes small are recording =
       reads = reads;
       only = λ others fault other. one bytes packets others None fault reads other;
       frames = have_accepted packets pieces channels all of;
+      no_others = no_others packets pieces channels all of.named;
       approved = approved channels packets pieces all are of;
     }

@@ -1,7 +1,7 @@
 -- The pieces of a recording, and the frames that are read of each channel.
-use Rattle.std.proofs.Common.{◌≡◌, Bool, true, inl, inr, List, [], ◌∷◌, ◌++◌, map, All, get_or, eq-eqb, refl, sym, ap, subst, ◌∙◌}
+use Rattle.std.proofs.Common.{◌≢◌, false, ◌≡◌, Bool, true, inl, inr, List, [], ◌∷◌, ◌++◌, map, All, get_or, eq-eqb, refl, sym, ap, subst, ◌∙◌}
 use Rattle.std.specs.List.{flat_map, filter, Any}
-use Rattle.std.proofs.lemmas.Bool.{cases_Bool}
+use Rattle.std.proofs.lemmas.Bool.{cases_Bool, ne_eqb}
 use Rattle.std.proofs.lemmas.List.{map-append}
 use Rattle.std.proofs.lemmas.List.Elements.{All-nil, All-cons, All-head, All-tail, All-append, All-weaker}
 use Rattle.eth_frame.specs.Frame.{FrameData}
@@ -13,7 +13,7 @@ use Rattle.rec_lane.proofs.Contents.{pieces_frames}
 use Rattle.rec_writer.specs.Recording.{RecordedChannel, AreOfChannels, is_of}
 use Rattle.rec_reader.specs.Packets.{PacketData}
 use Rattle.rec_theorem.specs.Recordable.{IsRecordable, AreRecordable}
-use Rattle.rec_theorem.specs.Found.{read_frames, HasAccepted}
+use Rattle.rec_theorem.specs.Found.{read_frames, HasAccepted, HasNoOthers}
 use Rattle.rec_theorem.proofs.Lists.{All_with}
 use Rattle.rec_theorem.proofs.Spelled.{IsWritable, frames_read}
 use Rattle.rec_theorem.proofs.Readings.{AllReflect, frames_reflected}
@@ -113,3 +113,20 @@ has_accepted packets pieces c all are = record {
 pub have_accepted : (packets : List PacketData) (pieces : List PieceData) (channels : List RecordedChannel) → AllReflect packets pieces → AreOfChannels channels pieces → All (HasAccepted packets) channels
 have_accepted packets pieces channels all of =
     All-weaker (λ (c : RecordedChannel). ArePieces c.settings c.frames c.history (filter (is_of c.settings.channel) pieces)) (HasAccepted packets) (λ c are. has_accepted packets pieces c all are) channels of.each
+
+-- ---- other channels
+
+-- where nothing passes a test, nothing is left
+filter_none : {X : Type 0} (test : X → Bool) (xs : List X) → All (λ (x : X). test x ≡ false) xs → filter test xs ≡ []
+filter_none {X} test [] all = refl
+filter_none {X} test (x ∷ xs) all = rw (All-head (λ (y : X). test y ≡ false) x xs all) (filter_none test xs (All-tail (λ (y : X). test y ≡ false) x xs all))
+
+-- each piece is of one of the channels, so packets that reflect them have no frames of another one
+pub no_others : (packets : List PacketData) (pieces : List PieceData) (channels : List RecordedChannel) → AllReflect packets pieces
+    → All (λ (piece : PieceData). Any (λ (c : RecordedChannel). c.settings.channel ≡ channel_of piece) channels) pieces → HasNoOthers channels packets
+no_others packets pieces channels all named = λ channel apart.
+    frames_reflected channel packets pieces all
+    ∙ ap (flat_map frames_read) (filter_none (is_of channel) pieces (λ k d within.
+    let piece = get_or pieces k d in
+    let c = found_among (λ (x : RecordedChannel). x.settings.channel ≢ channel) (λ (x : RecordedChannel). x.settings.channel ≡ channel_of piece) channels apart (named k d within) in
+    ne_eqb (channel_of piece) channel (λ same. c.1 (c.2 ∙ same))))

@@ -1,5 +1,5 @@
 -- From what a run says of its jobs to what is found of them.
-use Rattle.std.proofs.Common.{ℕ, suc, ◌^◌, ◌≡◌, ◌<◌, inl, inr, Bool, List, [], ◌∷◌, ◌++◌, length, take, drop, Option, None, Some, All, Contains, refl, sym, ap, subst, ◌∙◌, arith}
+use Rattle.std.proofs.Common.{◌≢◌, ℕ, suc, ◌^◌, ◌≡◌, ◌<◌, inl, inr, Bool, List, [], ◌∷◌, ◌++◌, length, take, drop, Option, None, Some, All, Contains, refl, sym, ap, subst, ◌∙◌, arith}
 use Rattle.std.specs.Prelude.{IfSome}
 use Rattle.std.specs.Arc.{arc_value}
 use Rattle.std.specs.List.{Any, AllZip}
@@ -18,7 +18,7 @@ use Rattle.rec_writer.specs.Recording.{RecordedChannel, IsRecording}
 use Rattle.rec_writer.specs.declared.fault.WriteFault.{WriteFault}
 use Rattle.rec_reader.specs.Packets.{PacketData}
 use Rattle.rec_reader.specs.ChannelFrames.{channel_frames}
-use Rattle.rec_reader.proofs.ListSplits.{first_or_later, none_in}
+use Rattle.rec_reader.proofs.ListSplits.{first_of, later_of, first_or_later, none_in}
 use Rattle.rec_run.specs.Answering.{IsChanged}
 use Rattle.rec_run.specs.Changes.{Given, Answered}
 use Rattle.rec_run.specs.Endings.{AreFirst, AreTaken, AreAll, EndsAs}
@@ -32,9 +32,9 @@ use Rattle.rec_run.specs.declared.report.ChannelReport.{ChannelReport}
 use Rattle.rec_run.specs.declared.report.Done.{Done}
 use Rattle.rec_run.specs.declared.report.Report.{Report}
 use Rattle.rec_theorem.specs.Recordable.{AreSettings, IsRecordable, AreRecordable}
-use Rattle.rec_theorem.specs.Found.{read_frames, HasAccepted, BeginsAccepted, ReadsBack, ReadsBackCut}
+use Rattle.rec_theorem.specs.Found.{read_frames, HasNoOthers, IsApproved, HasAccepted, BeginsAccepted, ReadsBack, ReadsBackCut}
 use Rattle.rec_theorem.specs.Cut.{IsCutRecording}
-use Rattle.rec_theorem.specs.Theorem.{IsJob, HasRecorded, HasFailed, HasTaken, FindsJob, Finds, BeginsJob, FindsCut}
+use Rattle.rec_theorem.specs.Theorem.{IsJob, HasRecorded, HasFailed, HasTaken, FindsJob, FindsNoOthers, Finds, IsAnswered, BeginsJob, FindsCut}
 
 -- ---- the frames that were taken
 
@@ -110,6 +110,21 @@ module _ {S : Type 0} (left : S → Option Left) (failures : S → ℕ) (ended_a
         let within = found.2 in
         (suc found.0, found.1, omega (arith, within), found.3, found.4))
   ]
+
+  -- a channel ID that no job has is that of no channel
+  none_there : (jobs : List (Job S)) (reports : List (ChannelReport S)) (channels : List RecordedChannel) (id : ℕ) → AreReports left failures ended_as jobs reports channels → ¬ Contains (channels_of_jobs jobs) id → All (λ (c : RecordedChannel). c.settings.channel ≢ id) channels
+  none_there [] [] [] id are none = All-nil (λ (c : RecordedChannel). c.settings.channel ≢ id)
+  none_there [] [] (c ∷ cs) id are none = absurd are
+  none_there [] (r ∷ rs) cs id are none = absurd are
+  none_there (j ∷ js) [] cs id are none = absurd are
+  none_there (j ∷ js) (r ∷ rs) [] id are none = absurd are
+  none_there (j ∷ js) (r ∷ rs) (c ∷ cs) id are none =
+      All-cons (λ (d : RecordedChannel). d.settings.channel ≢ id) c cs
+      (λ same. none (subst (Contains (channels_of_jobs (j ∷ js))) (sym (ap (λ (s : LaneSettings). s.channel) are.0.settings_are) ∙ same) (first_of j.spec.channel (channels_of_jobs js))))
+      (none_there js rs cs id are.1 (λ later. none (later_of j.spec.channel (channels_of_jobs js) id later)))
+
+  pub finds_no_others : (packets : List PacketData) (jobs : List (Job S)) (reports : List (ChannelReport S)) (channels : List RecordedChannel) → AreReports left failures ended_as jobs reports channels → HasNoOthers channels packets → FindsNoOthers jobs packets
+  finds_no_others packets jobs reports channels are none = λ channel apart. none channel (none_there jobs reports channels channel are apart)
 
   -- ---- what is found of a job
 
@@ -198,6 +213,7 @@ module _ {S C W : Type 0} (left : S → Option Left) (failures : S → ℕ) (end
         reads = back.reads;
         only = back.only;
         each = finds_each left failures ended_as one back.packets recorded.controlled.changes recorded.controlled.answers jobs done.report.channels.items run.channels back.frames run.reports_are recorded.controlled.changed;
+        no_others = finds_no_others left failures ended_as back.packets jobs done.report.channels.items run.channels run.reports_are back.no_others;
         approved = back.approved;
       }
 
@@ -231,4 +247,14 @@ module _ {S W : Type 0} (left : S → Option Left) (failures : S → ℕ) (ended
         reads = back.reads;
         only = back.only;
         each = begins_each left failures ended_as one back.packets jobs report.channels.items cut.channels back.frames cut.reports_are;
+        no_others = finds_no_others left failures ended_as back.packets jobs report.channels.items cut.channels cut.reports_are back.no_others;
       }
+
+-- what is found is what the calls answer, since there is no other reading
+pub are_answered : {S : Type 0} (left : S → Option Left) (jobs : List (Job S)) (reports : List (ChannelReport S)) (changes : List Given) (bytes : List ℕ) → Finds left jobs reports changes bytes → IsAnswered left jobs reports changes bytes
+are_answered left jobs reports changes bytes finds = record {
+  no_fault = λ before kind reads. let same = (finds.only before (Some kind) reads).1 in cc;
+  each = λ recording reads. subst (λ ps. AllZip (FindsJob left ps changes) jobs reports) (finds.only recording None reads).0 finds.each;
+  no_others = λ recording reads. subst (FindsNoOthers jobs) (finds.only recording None reads).0 finds.no_others;
+  approved = λ recording reads. subst IsApproved (finds.only recording None reads).0 finds.approved;
+}

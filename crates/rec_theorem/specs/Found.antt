@@ -1,5 +1,5 @@
 -- What a reader finds in the bytes of a recording, channel by channel.
-use Rattle.std.specs.Prelude.{ℕ, ◌≡◌, ◌⊎◌, List, map, All, None, Some, Err, Option}
+use Rattle.std.specs.Prelude.{ℕ, ◌≡◌, ◌⊎◌, List, map, All, None, Some, Err, Option, ◌≢◌, []}
 use Rattle.eth_frame.specs.Frame.{FrameData}
 use Rattle.ch11_packet.specs.FramesRead.{ReadFrameData, body_frame}
 use Rattle.rec_lane.specs.Offered.{AreAccepted}
@@ -41,18 +41,26 @@ pub record BeginsAccepted (packets : List PacketData) (c : RecordedChannel) : Ty
 abbrev pub IsApproved : List PacketData → Type 0
 IsApproved packets = (fault : AuditFault) → Audits packets (Err fault) → fault ≡ Memory
 
+-- the packets have no frames of a channel that is none of these
+abbrev pub HasNoOthers : List RecordedChannel → List PacketData → Type 0
+HasNoOthers channels packets =
+    (channel : ℕ) → All (λ (c : RecordedChannel). c.settings.channel ≢ channel) channels
+    → channel_frames channel packets ≡ []
+
 -- the bytes are read to their end and in no other way, the reading has the accepted frames of each
--- channel, and the audit approves of it
+-- channel and no others, and the audit approves of it
 pub record ReadsBack (channels : List RecordedChannel) (bytes : List ℕ) : Type 0 where
   pub packets : List PacketData
   pub reads : Reads bytes packets None
   pub only : (others : List PacketData) (fault : Option ReadFaultKind)
       → Reads bytes others fault → (packets ≡ others) × (None ≡ fault)
   pub frames : All (HasAccepted packets) channels
+  pub no_others : HasNoOthers channels packets
   pub approved : IsApproved packets
 
 -- the bytes are read as whole packets, and then end or are truncated in the middle of one, in no
--- other way; what is read of each channel are the first of its accepted frames
+-- other way; what is read of each channel are the first of its accepted frames, and
+-- of others none
 pub record ReadsBackCut (channels : List RecordedChannel) (bytes : List ℕ) : Type 0 where
   pub packets : List PacketData
   pub fault : Option ReadFaultKind
@@ -61,3 +69,4 @@ pub record ReadsBackCut (channels : List RecordedChannel) (bytes : List ℕ) : T
   pub only : (others : List PacketData) (other : Option ReadFaultKind)
       → Reads bytes others other → (packets ≡ others) × (fault ≡ other)
   pub frames : All (BeginsAccepted packets) channels
+  pub no_others : HasNoOthers channels packets

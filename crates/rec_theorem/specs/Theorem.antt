@@ -1,5 +1,5 @@
 -- What a reader finds of each job of a run, and the premises.
-use Rattle.std.specs.Prelude.{ℕ, ◌≡◌, ◌⊎◌, ◌<◌, ◌^◌, Bool, List, ◌∷◌, ◌++◌, length, take, All, Option, None, Some, IfSome}
+use Rattle.std.specs.Prelude.{ℕ, ◌≡◌, ◌⊎◌, ◌<◌, ◌^◌, Bool, List, ◌∷◌, ◌++◌, length, take, All, Option, None, Some, IfSome, [], Contains}
 use Rattle.std.specs.List.{AllZip}
 use Rattle.std.specs.Arc.{arc_value}
 use Rattle.eth_frame.specs.Frame.{FrameData}
@@ -18,6 +18,7 @@ use Rattle.rec_reader.specs.Reading.{Reads}
 use Rattle.rec_reader.specs.ChannelFrames.{channel_frames}
 use Rattle.rec_run.specs.Answering.{given_for, programs_given}
 use Rattle.rec_run.specs.Changes.{Given, Answered}
+use Rattle.rec_run.specs.Jobs.{channels_of_jobs}
 use Rattle.rec_run.specs.Recorded.{IsRecorded, IsControlled, IsCutShort}
 use Rattle.rec_run.specs.Reports.{history_of}
 use Rattle.rec_run.specs.declared.job.Job.{Job}
@@ -72,6 +73,12 @@ module _ {S W : Type 0}
 
 -- ---- what is found
 
+-- the packets have no frames of a channel that no job has
+abbrev pub FindsNoOthers : {S : Type 0} → List (Job S) → List PacketData → Type 0
+FindsNoOthers jobs packets =
+    (channel : ℕ) → ¬ Contains (channels_of_jobs jobs) channel
+    → channel_frames channel packets ≡ []
+
 module _ {S : Type 0} (left : S → Option Left) where
   -- as many frames were taken of the job's source as the report says: the first of those that the
   -- source said, if it said any. Of these the program in force at each frame accepted as many as the
@@ -97,8 +104,8 @@ module _ {S : Type 0} (left : S → Option Left) where
         ≡ take MAX_VERSIONS
         (arc_value job.program ∷ programs_given (given_for job.spec.channel changes))
 
-  -- the bytes are read to their end and in no other way, the accepted frames of each job are found,
-  -- and the audit approves
+  -- the bytes are read to their end and in no other way, the accepted frames of each job are found
+  -- and no others, and the audit approves
   pub record Finds
       (jobs : List (Job S)) (reports : List (ChannelReport S)) (changes : List Given)
       (bytes : List ℕ) : Type 0 where
@@ -107,7 +114,23 @@ module _ {S : Type 0} (left : S → Option Left) where
     pub only : (others : List PacketData) (fault : Option ReadFaultKind)
         → Reads bytes others fault → (packets ≡ others) × (None ≡ fault)
     pub each : AllZip (FindsJob packets changes) jobs reports
+    pub no_others : FindsNoOthers jobs packets
     pub approved : IsApproved packets
+
+  -- the same by what the reader's calls say: `read_recording` answers no fault of the bytes; at `Ok`
+  -- the recording that it gives has the accepted frames of each job, which `frames_of` gives; and
+  -- `audit` of it answers no fault, unless memory ran out
+  pub record IsAnswered
+      (jobs : List (Job S)) (reports : List (ChannelReport S)) (changes : List Given)
+      (bytes : List ℕ) : Type 0 where
+    pub no_fault : (before : List PacketData) (kind : ReadFaultKind)
+        → ¬ Reads bytes before (Some kind)
+    pub each : (recording : List PacketData) → Reads bytes recording None
+        → AllZip (FindsJob recording changes) jobs reports
+    pub no_others : (recording : List PacketData) → Reads bytes recording None
+        → FindsNoOthers jobs recording
+    pub approved : (recording : List PacketData) → Reads bytes recording None
+        → IsApproved recording
 
   -- the frames that the packets have of the job's channel are the first of the accepted ones
   pub record BeginsJob (packets : List PacketData) (job : Job S) (report : ChannelReport S)
@@ -117,7 +140,7 @@ module _ {S : Type 0} (left : S → Option Left) where
         (read_frames (spec_data job.spec) frames.kept)
 
   -- the bytes are read as whole packets, and then end or are truncated, in no other way; and what is
-  -- found of each job are the first of its accepted frames
+  -- found of each job are the first of its accepted frames, and of other channels none
   pub record FindsCut
       (jobs : List (Job S)) (reports : List (ChannelReport S)) (bytes : List ℕ) : Type 0 where
     pub packets : List PacketData
@@ -127,3 +150,4 @@ module _ {S : Type 0} (left : S → Option Left) where
     pub only : (others : List PacketData) (other : Option ReadFaultKind)
         → Reads bytes others other → (packets ≡ others) × (fault ≡ other)
     pub each : AllZip (BeginsJob packets) jobs reports
+    pub no_others : FindsNoOthers jobs packets

@@ -5,7 +5,7 @@ ghost use Rattle.rec_writer.specs.declared.fault.WriteFault.{WriteFault};
 ghost use Rattle.rec_run.specs.declared.job.Job.{Job};
 ghost use Rattle.rec_run.specs.declared.report.Done.{Done};
 ghost use Rattle.rec_run.specs.declared.report.Report.{Report};
-ghost use Rattle.rec_theorem.specs.Theorem.{HasRecorded, HasFailed, Finds, FindsCut};
+ghost use Rattle.rec_theorem.specs.Theorem.{HasRecorded, HasFailed, Finds, IsAnswered, FindsCut};
 
 use crate::cut::a_cut_recording_is_read_back;
 use crate::reading::a_recording_is_read_back;
@@ -18,13 +18,19 @@ use std::io::Write;
 /// order and once each, exactly those of the frames taken from its source that the program in force
 /// at that moment accepted; and the audit answers no fault, unless memory ran out.
 ///
-/// After a run in which the output failed, it finds the first of these.
+/// That is said twice: of the bytes, and of what the reader's calls answer. After a run in which the
+/// output failed, it finds the first of these.
 pub fn what_is_recorded_is_found<S: FrameSource + Drop, C: Control + Drop, W: Write + Drop>()
     ensures found { (jobs : List (Job S)) (version : ℕ) (control : C) (out : W)
         (done : Done S C W) (before bytes : List ℕ)
         → (recorded : HasRecorded S.left S.failures S.ending C.given C.answered C.ended W.contents
         jobs version control out done before bytes)
         → Finds S.left jobs done.report.channels.items recorded.controlled.changes bytes }
+    ensures calls { (jobs : List (Job S)) (version : ℕ) (control : C) (out : W)
+        (done : Done S C W) (before bytes : List ℕ)
+        → (recorded : HasRecorded S.left S.failures S.ending C.given C.answered C.ended W.contents
+        jobs version control out done before bytes)
+        → IsAnswered S.left jobs done.report.channels.items recorded.controlled.changes bytes }
     ensures cut { (jobs : List (Job S)) (version : ℕ) (first last : W) (fault : WriteFault)
         (report : Report S) (before bytes : List ℕ)
         → HasFailed S.left S.failures S.ending W.contents jobs version first last fault report

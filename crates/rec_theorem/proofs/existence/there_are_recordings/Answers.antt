@@ -1,4 +1,5 @@
 use Rattle.rec_theorem.proofs.SomeRecordings.{some_recording, some_channel, some_program}
+use Rattle.rec_theorem.proofs.EndedWorld.{some_world}
 use Rattle.rec_theorem.proofs.existence.there_are_recordings.Goals as goal
 
 pub returns-clause-recording : goal.returns-clause-recording
@@ -9,3 +10,6 @@ returns-clause-channel c = some_channel
 
 pub returns-clause-program : goal.returns-clause-program
 returns-clause-program c = some_program
+
+pub returns-clause-world : goal.returns-clause-world
+returns-clause-world c = some_world
