@@ -64,8 +64,9 @@ pub record IsOfSpec (spec : SpecData) (c : RecordedChannel) : Type 0 where
   pub few : length c.history ≤ MAX_VERSIONS
 
 -- with rings of this size, the events of these channels and pieces, done from the opening world of
--- these specs, have no refusal; they lead to the world of these channels in which each is closed, all
--- its pieces are sent and written, and these pieces are what was written, in their order
+-- these specs, have no refusal; they lead to the world of these channels, each with the most frames
+-- that its spec allows, in which each is closed, all its pieces are sent and written, and what was
+-- written are these pieces, in their order
 pub record IsRunOfWorld
     (ring : ℕ) (specs : List SpecData) (channels : List RecordedChannel) (pieces : List PieceData)
     : Type 0 where
