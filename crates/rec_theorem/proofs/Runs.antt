@@ -34,7 +34,7 @@ use Rattle.rec_run.specs.declared.report.Report.{Report}
 use Rattle.rec_theorem.specs.Recordable.{AreSettings, IsRecordable, AreRecordable}
 use Rattle.rec_theorem.specs.Found.{read_frames, HasNoOthers, IsApproved, HasAccepted, BeginsAccepted, ReadsBack, ReadsBackCut}
 use Rattle.rec_theorem.specs.Cut.{IsCutRecording}
-use Rattle.rec_theorem.specs.Theorem.{IsJob, HasRecorded, HasFailed, HasTaken, FindsJob, FindsNoOthers, Finds, IsAnswered, BeginsJob, FindsCut}
+use Rattle.rec_theorem.specs.Theorem.{IsJob, HasRecorded, HasBeenCut, HasTaken, FindsJob, FindsNoOthers, Finds, IsAnswered, BeginsJob, FindsCut}
 
 -- ---- the frames that were taken
 
@@ -234,7 +234,7 @@ module _ {S W : Type 0} (left : S → Option Left) (failures : S → ℕ) (ended
 
   -- the theorem of a run in which the output failed
   pub cut_found : AllCutReadBack → OneAccepted → (jobs : List (Job S)) (version : ℕ) (first last : W) (fault : WriteFault) (report : Report S) (before bytes : List ℕ)
-      → HasFailed left failures ended_as contents jobs version first last fault report before bytes → FindsCut left jobs report.channels.items bytes
+      → HasBeenCut left failures ended_as contents jobs version first last fault report before bytes → FindsCut left jobs report.channels.items bytes
   cut_found read one jobs version first last fault report before bytes failed =
       let cut = failed.cut in
       let same = same_bytes before bytes (writer_output version cut.pieces ++ cut.cut) (contents first) (contents last) failed.held_before failed.held_after cut.written in

@@ -60,7 +60,7 @@ module _ {S W : Type 0}
     (contents : W → Option (List ℕ)) where
   -- the output failed in the run of these jobs; it says what it holds, and took these bytes since
   -- it held those before
-  pub record HasFailed
+  pub record HasBeenCut
       (jobs : List (Job S)) (version : ℕ) (first last : W) (fault : WriteFault)
       (report : Report S) (before bytes : List ℕ) : Type 0 where
     pub jobs_are : All IsJob jobs
