@@ -210,8 +210,7 @@ module _ {S C W : Type 0} (left : S → Option Left) (failures : S → ℕ) (end
       let back = read version run.channels bytes recorded.version_fits are (subst (IsRecording version run.channels) same run.recording) in
       record {
         packets = back.packets;
-        reads = back.reads;
-        only = back.only;
+        reading = back.reading;
         each = finds_each left failures ended_as one back.packets recorded.controlled.changes recorded.controlled.answers jobs done.report.channels.items run.channels back.frames run.reports_are recorded.controlled.changed;
         no_others = finds_no_others left failures ended_as back.packets jobs done.report.channels.items run.channels run.reports_are back.no_others;
         approved = back.approved;
@@ -244,8 +243,7 @@ module _ {S W : Type 0} (left : S → Option Left) (failures : S → ℕ) (ended
         packets = back.packets;
         fault = back.fault;
         cut = back.cut;
-        reads = back.reads;
-        only = back.only;
+        reading = back.reading;
         each = begins_each left failures ended_as one back.packets jobs report.channels.items cut.channels back.frames cut.reports_are;
         no_others = finds_no_others left failures ended_as back.packets jobs report.channels.items cut.channels cut.reports_are back.no_others;
       }
@@ -253,8 +251,8 @@ module _ {S W : Type 0} (left : S → Option Left) (failures : S → ℕ) (ended
 -- what is found is what the calls answer, since there is no other reading
 pub are_answered : {S : Type 0} (left : S → Option Left) (jobs : List (Job S)) (reports : List (ChannelReport S)) (changes : List Given) (bytes : List ℕ) → Finds left jobs reports changes bytes → IsAnswered left jobs reports changes bytes
 are_answered left jobs reports changes bytes finds = record {
-  no_fault = λ before kind reads. let same = (finds.only before (Some kind) reads).1 in cc;
-  each = λ recording reads. subst (λ ps. AllZip (FindsJob left ps changes) jobs reports) (finds.only recording None reads).0 finds.each;
-  no_others = λ recording reads. subst (FindsNoOthers jobs) (finds.only recording None reads).0 finds.no_others;
-  approved = λ recording reads. subst IsApproved (finds.only recording None reads).0 finds.approved;
+  no_fault = λ before kind reads. let same = (finds.reading.only before (Some kind) reads).1 in cc;
+  each = λ recording reads. subst (λ ps. AllZip (FindsJob left ps changes) jobs reports) (finds.reading.only recording None reads).0 finds.each;
+  no_others = λ recording reads. subst (FindsNoOthers jobs) (finds.reading.only recording None reads).0 finds.no_others;
+  approved = λ recording reads. subst IsApproved (finds.reading.only recording None reads).0 finds.approved;
 }
