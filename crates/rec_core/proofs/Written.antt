@@ -293,7 +293,7 @@ held_recording put size before core w ended s are =
     let none = s.none_cut (works_at_end size before core w ended s) in
     put core.writer before w.out (recorded_channels w) (subst (λ bytes. HasWritten (Some before) w.out bytes core.writer) none s.written) are
 
-held_after : (before sent : List ℕ) (held : Option (List ℕ)) → Appends (Some before) held sent → held ≡ Some (before ++ sent)
+pub held_after : (before sent : List ℕ) (held : Option (List ℕ)) → Appends (Some before) held sent → held ≡ Some (before ++ sent)
 held_after before sent None appends = absurd appends
 held_after before sent (Some held) appends = ap (λ bs. Some bs) appends
 

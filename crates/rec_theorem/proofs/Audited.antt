@@ -42,27 +42,23 @@ end_told channel (OfProgram named counter version first program) = nothing_if (n
 end_told channel (OfFrames named body) = nothing_if (named == channel)
 end_told channel (OfEnd named counter offered kept) = refl
 
--- so the programs of a channel in the packets are those of its pieces, packet by packet
-programs_reflected : (channel : ℕ) (packets : List PacketData) (pieces : List PieceData) → AllReflect packets pieces → programs_of channel packets ≡ flat_map programs_by (filter (is_of channel) pieces)
-programs_reflected channel [] [] all = refl
-programs_reflected channel [] (p ∷ ps) all = absurd all
-programs_reflected channel (q ∷ qs) [] all = absurd all
-programs_reflected channel (q ∷ qs) (p ∷ ps) all =
-    ap (λ s. program_said channel s ++ programs_of channel qs) all.0.says
-    ∙ (ap (λ xs. xs ++ programs_of channel qs) (program_told channel p)
-    ∙ (ap (λ xs. (if is_of channel p then programs_by p else []) ++ xs) (programs_reflected channel qs ps all.1)
-    ∙ sym (flat_filter (is_of channel) programs_by p ps)))
+-- so what is told of a channel by packets is told by its pieces, packet by packet
+told_reflected : {X : Type 0} (channel : ℕ) (said : Option (ℕ × Saying) → List X) (told : PieceData → List X) → ((p : PieceData) → said (Some (channel_of p, said_by p)) ≡ (if is_of channel p then told p else []))
+    → (packets : List PacketData) (pieces : List PieceData) → AllReflect packets pieces → flat_map (λ (q : PacketData). said (saying_of q)) packets ≡ flat_map told (filter (is_of channel) pieces)
+told_reflected channel said told same [] [] all = refl
+told_reflected channel said told same [] (p ∷ ps) all = absurd all
+told_reflected channel said told same (q ∷ qs) [] all = absurd all
+told_reflected channel said told same (q ∷ qs) (p ∷ ps) all =
+    ap (λ s. said s ++ flat_map (λ (x : PacketData). said (saying_of x)) qs) all.0.says
+    ∙ (ap (λ xs. xs ++ flat_map (λ (x : PacketData). said (saying_of x)) qs) (same p)
+    ∙ (ap (λ xs. (if is_of channel p then told p else []) ++ xs) (told_reflected channel said told same qs ps all.1)
+    ∙ sym (flat_filter (is_of channel) told p ps)))
 
--- and the ends
+programs_reflected : (channel : ℕ) (packets : List PacketData) (pieces : List PieceData) → AllReflect packets pieces → programs_of channel packets ≡ flat_map programs_by (filter (is_of channel) pieces)
+programs_reflected channel packets pieces all = told_reflected channel (program_said channel) programs_by (program_told channel) packets pieces all
+
 ends_reflected : (channel : ℕ) (packets : List PacketData) (pieces : List PieceData) → AllReflect packets pieces → ends_of channel packets ≡ flat_map ends_by (filter (is_of channel) pieces)
-ends_reflected channel [] [] all = refl
-ends_reflected channel [] (p ∷ ps) all = absurd all
-ends_reflected channel (q ∷ qs) [] all = absurd all
-ends_reflected channel (q ∷ qs) (p ∷ ps) all =
-    ap (λ s. end_said channel s ++ ends_of channel qs) all.0.says
-    ∙ (ap (λ xs. xs ++ ends_of channel qs) (end_told channel p)
-    ∙ (ap (λ xs. (if is_of channel p then ends_by p else []) ++ xs) (ends_reflected channel qs ps all.1)
-    ∙ sym (flat_filter (is_of channel) ends_by p ps)))
+ends_reflected channel packets pieces all = told_reflected channel (end_said channel) ends_by (end_told channel) packets pieces all
 
 -- ---- one packet after those before it
 

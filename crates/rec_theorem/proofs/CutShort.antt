@@ -42,8 +42,10 @@ front_accepted channels packets some more whole all =
 
 -- a reading that ends or is truncated
 either_read : OneReading → (channels : List RecordedChannel) (bytes : List ℕ) (packets : List PacketData) → Reads bytes packets None ⊎ Reads bytes packets (Some Truncated) → All (BeginsAccepted packets) channels → HasNoOthers channels packets → ReadsBackCut channels bytes
-either_read one channels bytes packets (inl reads) frames others_none = record { packets = packets; fault = None; cut = inl refl; reads = reads; only = λ others other o. one bytes packets others None other reads o; frames = frames; no_others = others_none }
-either_read one channels bytes packets (inr reads) frames others_none = record { packets = packets; fault = Some Truncated; cut = inr refl; reads = reads; only = λ others other o. one bytes packets others (Some Truncated) other reads o; frames = frames; no_others = others_none }
+either_read one channels bytes packets (inl reads) frames others_none =
+    record { packets = packets; fault = None; cut = inl refl; reading = record { reads = reads; only = λ others other o. one bytes packets others None other reads o }; frames = frames; no_others = others_none }
+either_read one channels bytes packets (inr reads) frames others_none =
+    record { packets = packets; fault = Some Truncated; cut = inr refl; reading = record { reads = reads; only = λ others other o. one bytes packets others (Some Truncated) other reads o }; frames = frames; no_others = others_none }
 
 -- what begins nothing is nothing
 front_none : {X : Type 0} (xs ys : List X) → xs ++ ys ≡ [] → xs ≡ []
@@ -53,7 +55,7 @@ front_none (x ∷ xs) ys none = cc
 -- a beginning of a recording is read as the first of its packets
 pub front_read_back : OneReading → (channels : List RecordedChannel) (front rest : List ℕ) → ReadsBack channels (front ++ rest) → ReadsBackCut channels front
 front_read_back one channels front rest back =
-    let cut = reads_as_front front rest back.packets back.reads in
+    let cut = reads_as_front front rest back.packets back.reading.reads in
     either_read one channels front cut.some cut.reads (front_accepted channels back.packets cut.some cut.more cut.whole back.frames)
     (λ channel apart. front_none (channel_frames channel cut.some) (channel_frames channel cut.more) (sym (flat_map-append _ cut.some cut.more) ∙ (ap (channel_frames channel) (sym cut.whole) ∙ back.no_others channel apart)))
 

@@ -25,8 +25,7 @@ read_back one version channels bytes small are recording =
     let reads = subst (λ bs. Reads bs packets None) (sym recording.1) (reads_pieces version pieces small writable) in
     record {
       packets = packets;
-      reads = reads;
-      only = λ others fault other. one bytes packets others None fault reads other;
+      reading = record { reads = reads; only = λ others fault other. one bytes packets others None fault reads other };
       frames = have_accepted packets pieces channels all of;
       no_others = no_others packets pieces channels all of.named;
       approved = approved channels packets pieces all are of;

@@ -34,7 +34,7 @@ use Rattle.rec_run.specs.declared.report.Report.{Report}
 use Rattle.rec_theorem.specs.Recordable.{AreSettings, IsRecordable, AreRecordable}
 use Rattle.rec_theorem.specs.Found.{read_frames, HasNoOthers, IsApproved, HasAccepted, BeginsAccepted, ReadsBack, ReadsBackCut}
 use Rattle.rec_theorem.specs.Cut.{IsCutRecording}
-use Rattle.rec_theorem.specs.Theorem.{IsJob, HasRecorded, HasFailed, HasTaken, FindsJob, FindsNoOthers, Finds, IsAnswered, BeginsJob, FindsCut}
+use Rattle.rec_theorem.specs.Theorem.{IsJob, HasRecorded, HasBeenCut, HasTaken, FindsJob, FindsNoOthers, Finds, IsAnswered, BeginsJob, FindsCut}
 
 -- ---- the frames that were taken
 
@@ -210,8 +210,7 @@ module _ {S C W : Type 0} (left : S → Option Left) (failures : S → ℕ) (end
       let back = read version run.channels bytes recorded.version_fits are (subst (IsRecording version run.channels) same run.recording) in
       record {
         packets = back.packets;
-        reads = back.reads;
-        only = back.only;
+        reading = back.reading;
         each = finds_each left failures ended_as one back.packets recorded.controlled.changes recorded.controlled.answers jobs done.report.channels.items run.channels back.frames run.reports_are recorded.controlled.changed;
         no_others = finds_no_others left failures ended_as back.packets jobs done.report.channels.items run.channels run.reports_are back.no_others;
         approved = back.approved;
@@ -234,7 +233,7 @@ module _ {S W : Type 0} (left : S → Option Left) (failures : S → ℕ) (ended
 
   -- the theorem of a run in which the output failed
   pub cut_found : AllCutReadBack → OneAccepted → (jobs : List (Job S)) (version : ℕ) (first last : W) (fault : WriteFault) (report : Report S) (before bytes : List ℕ)
-      → HasFailed left failures ended_as contents jobs version first last fault report before bytes → FindsCut left jobs report.channels.items bytes
+      → HasBeenCut left failures ended_as contents jobs version first last fault report before bytes → FindsCut left jobs report.channels.items bytes
   cut_found read one jobs version first last fault report before bytes failed =
       let cut = failed.cut in
       let same = same_bytes before bytes (writer_output version cut.pieces ++ cut.cut) (contents first) (contents last) failed.held_before failed.held_after cut.written in
@@ -244,8 +243,7 @@ module _ {S W : Type 0} (left : S → Option Left) (failures : S → ℕ) (ended
         packets = back.packets;
         fault = back.fault;
         cut = back.cut;
-        reads = back.reads;
-        only = back.only;
+        reading = back.reading;
         each = begins_each left failures ended_as one back.packets jobs report.channels.items cut.channels back.frames cut.reports_are;
         no_others = finds_no_others left failures ended_as back.packets jobs report.channels.items cut.channels cut.reports_are back.no_others;
       }
@@ -253,8 +251,8 @@ module _ {S W : Type 0} (left : S → Option Left) (failures : S → ℕ) (ended
 -- what is found is what the calls answer, since there is no other reading
 pub are_answered : {S : Type 0} (left : S → Option Left) (jobs : List (Job S)) (reports : List (ChannelReport S)) (changes : List Given) (bytes : List ℕ) → Finds left jobs reports changes bytes → IsAnswered left jobs reports changes bytes
 are_answered left jobs reports changes bytes finds = record {
-  no_fault = λ before kind reads. let same = (finds.only before (Some kind) reads).1 in cc;
-  each = λ recording reads. subst (λ ps. AllZip (FindsJob left ps changes) jobs reports) (finds.only recording None reads).0 finds.each;
-  no_others = λ recording reads. subst (FindsNoOthers jobs) (finds.only recording None reads).0 finds.no_others;
-  approved = λ recording reads. subst IsApproved (finds.only recording None reads).0 finds.approved;
+  no_fault = λ before kind reads. let same = (finds.reading.only before (Some kind) reads).1 in cc;
+  each = λ recording reads. subst (λ ps. AllZip (FindsJob left ps changes) jobs reports) (finds.reading.only recording None reads).0 finds.each;
+  no_others = λ recording reads. subst (FindsNoOthers jobs) (finds.reading.only recording None reads).0 finds.no_others;
+  approved = λ recording reads. subst IsApproved (finds.reading.only recording None reads).0 finds.approved;
 }

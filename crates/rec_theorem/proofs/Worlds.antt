@@ -1,9 +1,10 @@
 -- The channels of a world to which events led can be recorded, and an output that failed has the
 -- beginning of their recording.
-use Rattle.std.proofs.Common.{ℕ, ◌^◌, ◌≡◌, ◌<◌, inl, inr, List, [], ◌∷◌, ◌++◌, length, map, All, refl, sym, subst, arith}
+use Rattle.std.proofs.Common.{Some, true, ℕ, ◌^◌, ◌≡◌, ◌<◌, inl, inr, List, [], ◌∷◌, ◌++◌, length, map, All, refl, sym, subst, arith}
 use Rattle.std.specs.Prelude.{slice_set, Result, Ok, Err}
 use Rattle.std.specs.List.{Any}
-use Rattle.std.proofs.lemmas.List.{length-map, map-append}
+use Rattle.std.proofs.lemmas.Bool.{cases_Bool}
+use Rattle.std.proofs.lemmas.List.{append-nil, length-map, map-append}
 use Rattle.std.proofs.lemmas.List.Elements.{All-nil, All-cons, All-head, All-tail, All-append, All-map, All-weaker}
 use Rattle.eth_frame.specs.Frame.{IsFrame}
 use Rattle.ch11_packet.specs.PacketLen.{packet_len}
@@ -21,12 +22,13 @@ use Rattle.rec_core.specs.declared.fault.CoreFault.TheVariants.{NoChannel}
 use Rattle.rec_core.specs.Openings.{SpecData}
 use Rattle.rec_core.specs.World.{ChannelState, WorldState, EventData, Does, IsInOrder, WorldStep, WorldRun, opening_channel, opening_world, piece_written, world_after}
 use Rattle.rec_core.specs.World.EventData.{OfTake, OfInstall, OfSend, OfWrite, OfClose}
+use Rattle.rec_core.specs.Worlds.{CoreState, StandsForWorld}
 use Rattle.rec_core.specs.Written.{RunsFromOpening, recorded_channel, recorded_channels, IsCutShort}
 use Rattle.rec_core.proofs.Lists.{set_cases, set_unseen, map_there, there_map, All_there, All_from_places, Any_there}
 use Rattle.rec_core.proofs.Meeting.{LaterLeave}
 use Rattle.rec_core.proofs.Serving.{OfTheirChannel, BeginAll}
-use Rattle.rec_core.proofs.Written.{Named, SoundWorld, ids, reached}
-use Rattle.rec_run.specs.Recorded.{BeginsChannel}
+use Rattle.rec_core.proofs.Written.{Named, SoundWorld, ids, reached, held_after}
+use Rattle.rec_run.specs.Recorded.{IsCutOf, BeginsChannel}
 use Rattle.rec_theorem.specs.Recordable.{AreSettings, IsRecordable, AreRecordable}
 use Rattle.rec_theorem.specs.Cut.{IsCutRecording}
 use Rattle.rec_theorem.specs.Events.{IsSpec, IsEvent}
@@ -157,19 +159,42 @@ begin_recorded w s =
     (All_from_places (λ (c : ChannelState). BeginsChannel w.out (recorded_channel c)) w.channels
     (λ k c is. let sound = s.each k c is in (channel_pieces c.settings c.offered, (c.offered, sound.order.met, refl, refl), sound.begins)))
 
--- so an output that failed has a recording that was cut short
-pub world_cut : LaterLeave → OfTheirChannel → BeginAll → (ring : ℕ) (specs : List SpecData) (before : List ℕ) (writer : WriterState) (w : WorldState) → RunsFromOpening ring specs w → (s : IsCutShort before writer w)
-    → IsCutRecording writer.version (recorded_channels w) (writer_output writer.version w.out ++ s.cut)
-world_cut leave theirs begin ring specs before writer w run s =
-    let after = completed w s.at s.channel s.piece in
-    let sound = reached leave theirs begin ring specs after (completes ring specs before writer w run s) in
-    let same : recorded_channels after ≡ recorded_channels w = set_unseen recorded_channel w.channels s.at s.channel (piece_written s.channel) s.there refl in
-    record {
-      pieces = w.out;
-      begun = s.piece ∷ [];
-      cut = s.cut;
-      cut_is = s.is_cut;
-      bytes_are = refl;
-      named = subst (λ cs. All (λ (piece : PieceData). Any (λ (c : RecordedChannel). c.settings.channel ≡ channel_of piece) cs) after.out) same (named_recorded after sound);
-      begin = subst (All (BeginsChannel after.out)) same (begin_recorded after sound);
-    }
+-- what a world has written of its channels, and then perhaps a part of a piece, is a recording that
+-- was cut short
+taken_cut : (version : ℕ) (channels : List RecordedChannel) (w after : WorldState) (begun : List PieceData) (cut : List ℕ) → SoundWorld after → after.out ≡ w.out ++ begun → recorded_channels after ≡ channels → IsCutOf version w.out begun cut
+    → IsCutRecording version channels (writer_output version w.out ++ cut)
+taken_cut version channels w after begun cut sound out same is = record {
+  pieces = w.out;
+  begun = begun;
+  cut = cut;
+  cut_is = is;
+  bytes_are = refl;
+  named = subst (All (λ (piece : PieceData). Any (λ (c : RecordedChannel). c.settings.channel ≡ channel_of piece) channels)) out
+      (subst (λ cs. All (λ (piece : PieceData). Any (λ (c : RecordedChannel). c.settings.channel ≡ channel_of piece) cs) after.out) same (named_recorded after sound));
+  begin = subst (λ ps. All (BeginsChannel ps) channels) out (subst (All (BeginsChannel after.out)) same (begin_recorded after sound));
+}
+
+module _ (leave : LaterLeave) (theirs : OfTheirChannel) (begin : BeginAll) (ring : ℕ) (specs : List SpecData) (before : List ℕ) (core : CoreState) (w : WorldState) (run : RunsFromOpening ring specs w) where
+  -- where the output failed, one piece was begun
+  failed_cut : (s : IsCutShort before core.writer w) → IsCutRecording core.writer.version (recorded_channels w) (writer_output core.writer.version w.out ++ s.cut)
+  failed_cut s =
+      let after = completed w s.at s.channel s.piece in
+      taken_cut core.writer.version (recorded_channels w) w after (s.piece ∷ []) s.cut
+      (reached leave theirs begin ring specs after (completes ring specs before core.writer w run s)) refl
+      (set_unseen recorded_channel w.channels s.at s.channel (piece_written s.channel) s.there refl) s.is_cut
+
+  -- and where it works, none was
+  working_cut : (cut : List ℕ) → cut ≡ [] → IsCutRecording core.writer.version (recorded_channels w) (writer_output core.writer.version w.out ++ cut)
+  working_cut cut none = taken_cut core.writer.version (recorded_channels w) w w [] cut (reached leave theirs begin ring specs w run) (sym (append-nil w.out)) refl none
+
+  -- so at any time the output has the beginning of a recording
+  pub world_cut : ((core.writer.failed ≡ true) → IsCutShort before core.writer w) → StandsForWorld ring (Some before) core w
+      → (bytes : List ℕ) × (core.writer.held ≡ Some (before ++ bytes)) × IsCutRecording core.writer.version (recorded_channels w) bytes
+  world_cut short stands = elim (cases_Bool core.writer.failed) [
+    | inl fails ↦ (let s = short fails in (writer_output core.writer.version w.out ++ s.cut, s.held_is, failed_cut s))
+    | inr works ↦ (
+      writer_output core.writer.version w.out ++ stands.cut,
+      held_after before (writer_output core.writer.version w.out ++ stands.cut) core.writer.held stands.written.held_is,
+      working_cut stands.cut (stands.none_cut works),
+    )
+  ]

@@ -47,13 +47,18 @@ HasNoOthers channels packets =
     (channel : ℕ) → All (λ (c : RecordedChannel). c.settings.channel ≢ channel) channels
     → channel_frames channel packets ≡ []
 
+-- the bytes are read as these packets and this fault or none, and as nothing else
+pub record IsOneReading
+    (bytes : List ℕ) (packets : List PacketData) (fault : Option ReadFaultKind) : Type 0 where
+  pub reads : Reads bytes packets fault
+  pub only : (others : List PacketData) (other : Option ReadFaultKind)
+      → Reads bytes others other → (packets ≡ others) × (fault ≡ other)
+
 -- the bytes are read to their end and in no other way, the reading has the accepted frames of each
 -- channel and no others, and the audit approves of it
 pub record ReadsBack (channels : List RecordedChannel) (bytes : List ℕ) : Type 0 where
   pub packets : List PacketData
-  pub reads : Reads bytes packets None
-  pub only : (others : List PacketData) (fault : Option ReadFaultKind)
-      → Reads bytes others fault → (packets ≡ others) × (None ≡ fault)
+  pub reading : IsOneReading bytes packets None
   pub frames : All (HasAccepted packets) channels
   pub no_others : HasNoOthers channels packets
   pub approved : IsApproved packets
@@ -65,8 +70,6 @@ pub record ReadsBackCut (channels : List RecordedChannel) (bytes : List ℕ) : T
   pub packets : List PacketData
   pub fault : Option ReadFaultKind
   pub cut : (fault ≡ None) ⊎ (fault ≡ Some Truncated)
-  pub reads : Reads bytes packets fault
-  pub only : (others : List PacketData) (other : Option ReadFaultKind)
-      → Reads bytes others other → (packets ≡ others) × (fault ≡ other)
+  pub reading : IsOneReading bytes packets fault
   pub frames : All (BeginsAccepted packets) channels
   pub no_others : HasNoOthers channels packets

@@ -26,7 +26,7 @@ use Rattle.rec_run.specs.declared.report.ChannelReport.{ChannelReport}
 use Rattle.rec_run.specs.declared.report.Done.{Done}
 use Rattle.rec_run.specs.declared.report.Report.{Report}
 use Rattle.rec_theorem.specs.Recordable.{AreSettings}
-use Rattle.rec_theorem.specs.Found.{read_frames, IsApproved}
+use Rattle.rec_theorem.specs.Found.{read_frames, IsApproved, IsOneReading}
 
 -- ---- the premises
 
@@ -60,7 +60,7 @@ module _ {S W : Type 0}
     (contents : W → Option (List ℕ)) where
   -- the output failed in the run of these jobs; it says what it holds, and took these bytes since
   -- it held those before
-  pub record HasFailed
+  pub record HasBeenCut
       (jobs : List (Job S)) (version : ℕ) (first last : W) (fault : WriteFault)
       (report : Report S) (before bytes : List ℕ) : Type 0 where
     pub jobs_are : All IsJob jobs
@@ -110,9 +110,7 @@ module _ {S : Type 0} (left : S → Option Left) where
       (jobs : List (Job S)) (reports : List (ChannelReport S)) (changes : List Given)
       (bytes : List ℕ) : Type 0 where
     pub packets : List PacketData
-    pub reads : Reads bytes packets None
-    pub only : (others : List PacketData) (fault : Option ReadFaultKind)
-        → Reads bytes others fault → (packets ≡ others) × (None ≡ fault)
+    pub reading : IsOneReading bytes packets None
     pub each : AllZip (FindsJob packets changes) jobs reports
     pub no_others : FindsNoOthers jobs packets
     pub approved : IsApproved packets
@@ -146,8 +144,6 @@ module _ {S : Type 0} (left : S → Option Left) where
     pub packets : List PacketData
     pub fault : Option ReadFaultKind
     pub cut : (fault ≡ None) ⊎ (fault ≡ Some Truncated)
-    pub reads : Reads bytes packets fault
-    pub only : (others : List PacketData) (other : Option ReadFaultKind)
-        → Reads bytes others other → (packets ≡ others) × (fault ≡ other)
+    pub reading : IsOneReading bytes packets fault
     pub each : AllZip (BeginsJob packets) jobs reports
     pub no_others : FindsNoOthers jobs packets

@@ -1,6 +1,6 @@
 //! Laws of how what a core wrote is read back, whatever its events were.
 
-ghost use Rattle.std.specs.Prelude.{ℕ, ◌≡◌, ◌^◌, ◌<◌, true, List, All, Some};
+ghost use Rattle.std.specs.Prelude.{ℕ, ◌^◌, ◌<◌, List, All, Some};
 ghost use Rattle.rec_core.specs.Openings.{SpecData};
 ghost use Rattle.rec_core.specs.World.{WorldState};
 ghost use Rattle.rec_core.specs.Worlds.{CoreState, StandsForWorld};
@@ -19,18 +19,18 @@ use rec_lane::{
 
 /// Law: whatever events were done to a core, where each channel is closed and all that it produced
 /// is written, the bytes that the output took are read back: of each channel, in order and once
-/// each, exactly the frames taken that the program in force accepted. And wherever the output
-/// failed, its bytes are read back as beginnings of that.
+/// each, exactly the frames taken that the program in force accepted. And after any events, also
+/// where the output failed at any byte, its bytes are read back as beginnings of that.
 pub fn every_interleaving_is_read_back()
     ensures ended { (ring : ℕ) (specs : List SpecData) (before : List ℕ) (core : CoreState)
         (new : WorldState) (run : RunsFromOpening ring specs new) → All IsSpec specs
         → All IsEvent run.0 → AreEnded new → StandsForWorld ring (Some before) core new
         → core.writer.version < 2 ^ 8
         → HoldsReadable before core.writer (recorded_channels new) }
-    ensures failed { (ring : ℕ) (specs : List SpecData) (before : List ℕ) (core : CoreState)
+    ensures always { (ring : ℕ) (specs : List SpecData) (before : List ℕ) (core : CoreState)
         (new : WorldState) (run : RunsFromOpening ring specs new) → All IsSpec specs
-        → All IsEvent run.0 → core.writer.failed ≡ true
-        → StandsForWorld ring (Some before) core new → core.writer.version < 2 ^ 8
+        → All IsEvent run.0 → StandsForWorld ring (Some before) core new
+        → core.writer.version < 2 ^ 8
         → HoldsReadableCut before core.writer (recorded_channels new) }
 {
     a_recording_is_read_back();

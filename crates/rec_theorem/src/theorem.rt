@@ -5,7 +5,7 @@ ghost use Rattle.rec_writer.specs.declared.fault.WriteFault.{WriteFault};
 ghost use Rattle.rec_run.specs.declared.job.Job.{Job};
 ghost use Rattle.rec_run.specs.declared.report.Done.{Done};
 ghost use Rattle.rec_run.specs.declared.report.Report.{Report};
-ghost use Rattle.rec_theorem.specs.Theorem.{HasRecorded, HasFailed, Finds, IsAnswered, FindsCut};
+ghost use Rattle.rec_theorem.specs.Theorem.{HasRecorded, HasBeenCut, Finds, IsAnswered, FindsCut};
 
 use crate::cut::a_cut_recording_is_read_back;
 use crate::reading::a_recording_is_read_back;
@@ -33,7 +33,7 @@ pub fn what_is_recorded_is_found<S: FrameSource + Drop, C: Control + Drop, W: Wr
         → IsAnswered S.left jobs done.report.channels.items recorded.controlled.changes bytes }
     ensures cut { (jobs : List (Job S)) (version : ℕ) (first last : W) (fault : WriteFault)
         (report : Report S) (before bytes : List ℕ)
-        → HasFailed S.left S.failures S.ending W.contents jobs version first last fault report
+        → HasBeenCut S.left S.failures S.ending W.contents jobs version first last fault report
         before bytes
         → FindsCut S.left jobs report.channels.items bytes }
 {
