@@ -1,11 +1,13 @@
 //! The command that extracts a channel's frames from a recording.
 
 use crate::channel_word::channel_in;
-use crate::ending::Ending;
-use crate::input::bytes_in;
+use crate::ending::{Ending, STREAM};
 use crate::output::finish;
-use crate::reading::{Counts, counts_of, is_read_twice, may_be_same, packet_again, reader_of};
-use rec_reader::{ExtractFault, Extracted, check_recording, extract_channel, extract_packet};
+use crate::reading::{
+    Counts, begin_again, counts_of, is_name_of, is_read_twice, next_packet, open, packet_again,
+    reader_over,
+};
+use rec_reader::{Extracted, Reader, extract_packet};
 use std::alloc::Global;
 use std::io::{BufWriter, ErrorKind, Read, Write};
 use std::rt::Files;
@@ -34,10 +36,16 @@ impl<F: Write> Write for FeedFile<F> {
     }
 }
 
+/// No frames.
+const NOTHING: Extracted = Extracted {
+    frames: 0,
+    passed: 0,
+};
+
 /// `extract FILE CHANNEL OUT`: writes the channel's frames into a feed, and prints how many. The
 /// feed's file is created only if the recording is read to its end: a file is read once to see that
-/// it is, and once more to write the frames, with one packet at a time; what can't be read twice, or
-/// is the feed's file itself, is held in memory.
+/// it is, and once more to write the frames, with one packet at a time; of what can't be read twice,
+/// or is the feed's file itself, the channel's frames are held in memory.
 pub(crate) fn extract_frames<'a, R: AllocGlobal + Files, I: Read, O: Write>(
     rt: &R,
     file: &'a str,
@@ -47,33 +55,49 @@ pub(crate) fn extract_frames<'a, R: AllocGlobal + Files, I: Read, O: Write>(
     output: &mut O,
 ) -> Result<(), Ending<'a>> {
     let channel = channel_of(rt.alloc(), channel)?;
-    let Extracted { frames, passed } = if is_read_twice(rt, file) && !may_be_same(rt, file, out) {
-        extract_twice(rt, file, channel, out)?
+    let Extracted { frames, passed } = if file == STREAM {
+        extract_held(rt, file, channel, out, &mut reader_over(rt.alloc(), input)?)?
     } else {
-        extract_held(rt, file, channel, out, input)?
+        extract_file(rt, file, channel, out)?
     };
     let written = writeln!(output, "frames {frames} passed {passed}");
     finish(output, written)
 }
 
-/// Extracts a channel of a recording that is read twice. If it isn't what was judged at first, that
-/// is the file's fault; then some of its frames may have been written.
-fn extract_twice<'a, R: AllocGlobal + Files>(
+/// Extracts a channel of a recording in a file.
+fn extract_file<'a, R: AllocGlobal + Files>(
     rt: &R,
     file: &'a str,
     channel: u16,
     out: &'a str,
 ) -> Result<Extracted, Ending<'a>> {
-    let judged = counts_of(file, &mut reader_of(rt, file)?)?;
-    let mut reader = reader_of(rt, file)?;
+    let alloc = rt.alloc();
+    let mut recording = open(rt, file)?;
+    if !is_read_twice(&recording) || is_name_of(rt, out, &recording) {
+        let mut reader = reader_over(alloc, &mut recording)?;
+        return extract_held(rt, file, channel, out, &mut reader);
+    }
+    let judged = counts_of(file, &mut reader_over(alloc, &mut recording)?)?;
+    begin_again(file, &mut recording)?;
+    let mut reader = reader_over(alloc, &mut recording)?;
+    extract_again(rt, file, &mut reader, judged, channel, out)
+}
+
+/// Extracts a channel of a recording that was judged before. If it isn't what was judged, that is
+/// the file's fault; then some of its frames may have been written.
+fn extract_again<'a, R: AllocGlobal + Files, I: Read>(
+    rt: &R,
+    file: &'a str,
+    reader: &mut Reader<I>,
+    judged: Counts,
+    channel: u16,
+    out: &'a str,
+) -> Result<Extracted, Ending<'a>> {
     let mut feed = feed_of(rt, out)?;
-    let mut extracted = Extracted {
-        frames: 0,
-        passed: 0,
-    };
+    let mut extracted = NOTHING;
     let mut counts = Counts::NONE;
     'packets: for _ in 0..judged.packets {
-        let owned = packet_again(file, &mut reader)?;
+        let owned = packet_again(file, reader)?;
         let packet = owned.packet();
         counts.count(&packet);
         let written = extract_packet(&packet, channel, &mut feed, &mut extracted);
@@ -86,22 +110,28 @@ fn extract_twice<'a, R: AllocGlobal + Files>(
     Ok(extracted)
 }
 
-/// Extracts a channel of a recording that is held in memory.
+/// Extracts a channel of a recording that can be read only once. Its frames are held until the
+/// recording is read to its end.
 fn extract_held<'a, R: AllocGlobal + Files, I: Read>(
     rt: &R,
     file: &'a str,
     channel: u16,
     out: &'a str,
-    input: &mut I,
+    reader: &mut Reader<I>,
 ) -> Result<Extracted, Ending<'a>> {
-    let bytes = bytes_in(rt, file, input)?;
-    check_recording(bytes.as_slice()).map_err(|end| Ending::of_reading(file, end))?;
-    let mut feed = feed_of(rt, out)?;
-    let extracted = match extract_channel(bytes.as_slice(), channel, &mut feed) {
-        Ok(extracted) => extracted,
-        Err(ExtractFault::Reading(end)) => return Err(Ending::of_reading(file, end)),
-        Err(ExtractFault::Device) => return Err(Ending::File(out)),
-    };
+    let mut held = Vec::new(rt.alloc());
+    let mut extracted = NOTHING;
+    'packets: for _ in 0..u64::MAX {
+        let Some(owned) = next_packet(file, reader)? else {
+            break 'packets;
+        };
+        let written = extract_packet(&owned.packet(), channel, &mut held, &mut extracted);
+        // memory takes all bytes, if there is some
+        written.map_err(|_| Ending::Memory)?;
+    }
+    let mut feed = fs::create(rt, out).map_err(|error| Ending::of_read(out, &error))?;
+    feed.write_all(held.as_slice())
+        .map_err(|_| Ending::File(out))?;
     feed.flush().map_err(|_| Ending::File(out))?;
     Ok(extracted)
 }

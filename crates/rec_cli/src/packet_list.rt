@@ -3,7 +3,7 @@
 use crate::ending::{Ending, STREAM};
 use crate::output::finish;
 use crate::reading::{
-    Counts, counts_of, is_read_twice, next_packet, packet_again, reader_of, reader_over,
+    Counts, begin_again, counts_of, is_read_twice, next_packet, open, packet_again, reader_over,
 };
 use ch11_packet::{Header, What};
 use rec_reader::{Packet, Reader};
@@ -25,11 +25,19 @@ pub(crate) fn list_packets<'a, R: AllocGlobal + Files, I: Read, O: Write>(
     if file == STREAM {
         return list_held(alloc, file, &mut reader_over(alloc, input)?, output);
     }
-    if !is_read_twice(rt, file) {
-        return list_held(alloc, file, &mut reader_of(rt, file)?, output);
+    let mut recording = open(rt, file)?;
+    if !is_read_twice(&recording) {
+        return list_held(
+            alloc,
+            file,
+            &mut reader_over(alloc, &mut recording)?,
+            output,
+        );
     }
-    let judged = counts_of(file, &mut reader_of(rt, file)?)?;
-    list_again(alloc, file, &mut reader_of(rt, file)?, judged, output)
+    let judged = counts_of(file, &mut reader_over(alloc, &mut recording)?)?;
+    begin_again(file, &mut recording)?;
+    let mut reader = reader_over(alloc, &mut recording)?;
+    list_again(alloc, file, &mut reader, judged, output)
 }
 
 /// Prints the packets of a recording that was judged before. A recording that isn't what was judged

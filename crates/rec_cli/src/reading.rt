@@ -5,7 +5,9 @@ use ch11_packet::What;
 use rec_reader::{OwnedPacket, Packet, Reader};
 use std::alloc::Global;
 use std::fs;
-use std::io::{BufReader, Read};
+use std::fs::OpenFile;
+use std::io::{BufReader, Read, Seek, SeekFrom};
+use std::os::unix::fs::MetadataExt;
 use std::rt::Files;
 
 /// How many bytes of a recording are read at once.
@@ -85,10 +87,7 @@ pub(crate) fn reader_of<'a, R: AllocGlobal + Files>(
     rt: &R,
     file: &'a str,
 ) -> Result<Reader<BufReader<R::File>>, Ending<'a>> {
-    match fs::open(rt, file) {
-        Ok(recording) => reader_over(rt.alloc(), recording),
-        Err(error) => Err(Ending::of_read(file, &error)),
-    }
+    reader_over(rt.alloc(), open(rt, file)?)
 }
 
 /// The reader of the recording that an input gives.
@@ -102,28 +101,34 @@ pub(crate) fn reader_over<'a, I: Read + Drop>(
     }
 }
 
-/// Whether a file can be read twice, as a regular file can. Standard input and a pipe can't.
-pub(crate) fn is_read_twice<R: Files>(rt: &R, file: &str) -> bool {
-    if file == STREAM {
-        return false;
+/// A recording's file.
+pub(crate) fn open<'a, R: Files>(rt: &R, file: &'a str) -> Result<R::File, Ending<'a>> {
+    match fs::open(rt, file) {
+        Ok(recording) => Ok(recording),
+        Err(error) => Err(Ending::of_read(file, &error)),
     }
-    match rt.metadata(file) {
+}
+
+/// Whether an open file can be read twice, as a regular file can. A pipe can't.
+pub(crate) fn is_read_twice<F: OpenFile>(recording: &F) -> bool {
+    match recording.metadata() {
         Ok(found) => found.is_file(),
         Err(_) => false,
     }
 }
 
-/// Whether two names may be of one file. There is no telling but by what is known of the files: two
-/// names of one file have the same length and the same time of the last change.
-pub(crate) fn may_be_same<R: Files>(rt: &R, file: &str, other: &str) -> bool {
-    if file == other {
-        return true;
+/// Goes back to the first byte of a recording.
+pub(crate) fn begin_again<'a, F: Seek>(file: &'a str, recording: &mut F) -> Result<(), Ending<'a>> {
+    match recording.seek(SeekFrom::Start(0)) {
+        Ok(_) => Ok(()),
+        Err(_) => Err(Ending::File(file)),
     }
-    let (Ok(found), Ok(beside)) = (rt.metadata(file), rt.metadata(other)) else {
+}
+
+/// Whether this name is one of the open file's.
+pub(crate) fn is_name_of<R: Files>(rt: &R, name: &str, recording: &R::File) -> bool {
+    let (Ok(found), Ok(named)) = (recording.metadata(), rt.metadata(name)) else {
         return false;
     };
-    let (Ok(changed), Ok(beside_changed)) = (found.modified(), beside.modified()) else {
-        return true;
-    };
-    found.len() == beside.len() && changed == beside_changed
+    found.dev() == named.dev() && found.ino() == named.ino()
 }

@@ -40,19 +40,6 @@ place_after at (Ok (Some packet)) = capped (at + packet.header.packet_len)
 place_after at (Ok None) = at
 place_after at (Err end) = at
 
--- how often the input of a reader has failed that ends with its first failure
-abbrev pub failures_of : ReadFaultKind → ℕ
-failures_of Device = 1
-failures_of kind = 0
-
-abbrev pub failures_by : Option (Result (Unit {0}) ReadEnd) → ℕ
-failures_by None = 0
-failures_by (Some (Ok end)) = 0
-failures_by (Some (Err end)) = failures_of end.kind
-
-abbrev pub failures_in : ReaderState → ℕ
-failures_in reader = failures_by reader.ended
-
 -- ---- one answer
 
 -- why no packet is taken from the front of these bytes: they begin none; or the input failed; or

@@ -1,6 +1,6 @@
 //! The reader of a recording that comes as a stream, in any pieces.
 
-ghost use Rattle.std.specs.Prelude.{ℕ, ◌≡◌, ◌+◌, ◌-◌, ◌^◌, ◌<◌, ◌≤◌, ◌⊎◌, ◌++◌, List, [], length, take, None, Some, Err, IfOk, IfErr, IfSome, OnOk};
+ghost use Rattle.std.specs.Prelude.{ℕ, ◌≡◌, ◌+◌, ◌-◌, ◌^◌, ◌<◌, ◌≤◌, ◌⊎◌, ◌++◌, List, [], length, take, None, Some, IfOk, IfErr, IfSome, OnOk};
 ghost use Rattle.std.specs.Io.KnownBytes.{Consumes, IsAtEnd};
 ghost use Rattle.std.specs.Option.{option_map};
 ghost use Rattle.rec_reader.specs.declared.fault.ReadFaultKind.{ReadFaultKind};
@@ -44,7 +44,7 @@ impl<R: Read> Model for Reader<R> {
 impl<R: Read> Reader<R> {
     ghost use Rattle.rec_reader.specs.declared.fault.ReadEnd.{ReadEnd};
     ghost use Rattle.rec_reader.specs.Packets.{PacketData};
-    ghost use Rattle.rec_reader.specs.Readers.{HasRead, Answers, Tells, failures_in, last_answer, ended_by, given_by, place_after};
+    ghost use Rattle.rec_reader.specs.Readers.{HasRead, Answers, Tells, last_answer, ended_by, given_by, place_after};
 
     /// A reader of the packets of the bytes that the input has left. It takes no memory yet.
     pub fn new(alloc: Global, input: R) -> Reader<R>
@@ -77,8 +77,6 @@ impl<R: Read> Reader<R> {
         ensures place { self.old.ended ≡ None → self.new.at ≡ place_after self.old.at result }
         ensures fault_at { self.old.ended ≡ None → IfErr result (λ end. end.at ≡ self.old.at) }
         ensures ended { self.new.ended ≡ ended_by result }
-        ensures failed_now { (end : ReadEnd) → self.old.ended ≡ None → result ≡ Err end
-            → end.kind ≡ ReadFaultKind.Device → failures_in self.old < failures_in self.new }
 
         // Once it has ended.
         ensures again { IfSome self.old.ended (λ how. (result ≡ last_answer how)
