@@ -90,6 +90,33 @@ fn a_shared_slot_moves_its_callers_on(rt: HostRuntime) -> Result<(), Fail> {
     Ok(())
 }
 
+#[test]
+fn a_caller_is_told_of_the_versions_since_its_front(rt: HostRuntime) -> Result<(), Fail> {
+    let slot = SharedSlot::new(Slot::new(rt.alloc(), program(rt.alloc(), ACCEPT)?, 3)?);
+    let mut front = Front::START;
+    let DrawnSince::LaterVersion(drawn) = slot.draw_since(&rt, &mut front)? else {
+        return Err(Fail::from("the first version is new"));
+    };
+    assert_eq!(rt; (drawn.number, drawn.version), (0, 0));
+    assert_eq!(rt; returned(&drawn.program), Some(1));
+    let DrawnSince::NoVersion(1) = slot.draw_since(&rt, &mut front)? else {
+        return Err(Fail::from("frame 1, under no new version"));
+    };
+    assert_eq!(rt; (front.versions, front.offered), (1, 2));
+    slot.install(&rt, program(rt.alloc(), REJECT)?, &Front::START)?;
+    let DrawnSince::LaterVersion(drawn) = slot.draw_since(&rt, &mut front)? else {
+        return Err(Fail::from("the second version is new"));
+    };
+    assert_eq!(rt; (drawn.number, drawn.version), (2, 1));
+    assert_eq!(rt; returned(&drawn.share), Some(0));
+    assert_eq!(rt;
+        slot.draw_since(&rt, &mut front).err(),
+        Some(DrawFault::CountFull)
+    );
+    assert_eq!(rt; (front.versions, front.offered), (2, 3));
+    Ok(())
+}
+
 /// How many frames each of the two callers draws.
 const DRAWS: u64 = 1000;
 

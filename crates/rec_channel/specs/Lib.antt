@@ -1,3 +1,4 @@
 pub mod History
 pub mod Slots
 pub mod Fronts
+pub mod Since

@@ -20,3 +20,12 @@ pub struct Drawn {
     pub share: Arc<Verified, Global>,
     ghost equal: { arc_value program ≡ arc_value share },
 }
+
+/// What a draw gives to a caller that has the program of the last version that it knows of.
+#[derive(Debug, Drop)]
+pub enum DrawnSince {
+    /// The frame's number. No version was installed since, so that last version is in force there.
+    NoVersion(u64),
+    /// The frame's number, and a version that was installed since.
+    LaterVersion(Drawn),
+}

@@ -14,7 +14,7 @@ mod parts;
 mod shared;
 mod slot;
 
-pub use drawn::Drawn;
+pub use drawn::{Drawn, DrawnSince};
 pub use fault::{DrawFault, InstallFault};
 pub use front::Front;
 pub use installed::Installed;

@@ -6,8 +6,9 @@ ghost use Rattle.std.specs.Arc.{arc_value};
 ghost use Rattle.rec_channel.specs.Fronts.{IsBelow, StaleOnlyBelow, InstallStaleOnlyBelow, GivesBack, front_of, DrawIsRefused, InstallIsRefused};
 ghost use Rattle.rec_channel.specs.History.{InForce};
 ghost use Rattle.rec_channel.specs.Slots.{programs_in, one_frame_later, with_version};
+ghost use Rattle.rec_channel.specs.Since.{number_of, version_since, HasProgram, IsLater};
 
-use crate::drawn::Drawn;
+use crate::drawn::{Drawn, DrawnSince};
 use crate::fault::{DrawFault, InstallFault};
 use crate::front::Front;
 use crate::installed::Installed;
@@ -61,6 +62,30 @@ impl SharedSlot {
         draw_from(&mut self.slot.lock(rt), known)
     }
 
+    /// [`SharedSlot::draw`] for a caller that has the program of the last version of its front: the
+    /// program comes with a version that was installed since, and with no other, so most draws make
+    /// no share of a program. The front is moved on in place.
+    ///
+    /// # Errors
+    ///
+    /// As [`SharedSlot::draw`]; the front stays.
+    pub fn draw_since<R: Wait>(&self, rt: &R, known: &mut Front) -> Result<DrawnSince, DrawFault>
+        // The frame drawn, beside what the caller knew, and what the slot has after it.
+        ensures newer { IfOk result (λ since. known.old.offered ≤ number_of since) }
+        ensures later { IfOk result (λ since. IsLater known.old since) }
+        ensures front { IfOk result (λ since. known.new ≡ record {
+          versions = version_since known.old since + 1;
+          offered = number_of since + 1;
+        }) }
+        ensures few { IfOk result (λ since. (number_of since < 2 ^ 64 - 1)
+            × (version_since known.old since < MAX_VERSIONS)) }
+        // Why none was drawn.
+        ensures stale { IfErr result (StaleOnlyBelow known.old) }
+        ensures kept { OnErr result (known.new ≡ known.old) }
+    {
+        draw_since_from(&mut self.slot.lock(rt), known)
+    }
+
     /// [`Slot::install`] under the lock, and what the slot has after it.
     ///
     /// # Errors
@@ -110,6 +135,42 @@ fn draw_from(slot: &mut Slot, known: &Front) -> Result<(Drawn, Front), DrawFault
     }
     let drawn = slot.draw()?;
     Ok((drawn, slot.front()))
+}
+
+/// What [`SharedSlot::draw_since`] does to the slot behind the lock.
+fn draw_since_from(slot: &mut Slot, known: &mut Front) -> Result<DrawnSince, DrawFault>
+    // The frame drawn: its number, the version in force at it, and the slot's front after it.
+    ensures number { IfOk result (λ since. number_of since ≡ slot.old.offered) }
+    ensures last { IfOk result (λ since.
+        version_since known.old since + 1 ≡ length slot.old.history) }
+    ensures program { IfOk result (HasProgram slot.old.history) }
+    ensures later { IfOk result (IsLater known.old) }
+    ensures in_force { IfOk result (λ since.
+        InForce slot.new.history (number_of since) (version_since known.old since)) }
+    ensures front { IfOk result (λ _. known.new ≡ front_of slot.new) }
+    ensures few { IfOk result (λ since. (number_of since < 2 ^ 64 - 1)
+        × (version_since known.old since < MAX_VERSIONS)) }
+    // The slot had no less than the caller has seen, and room; the frame is counted.
+    ensures fresh { IfOk result (λ _. ¬ IsBelow (front_of slot.old) known.old) }
+    ensures room { IfOk result (λ _. slot.old.offered < slot.old.max) }
+    ensures counted { IfOk result (λ _. slot.new ≡ one_frame_later slot.old) }
+    // Why none was drawn; the slot and the front stay.
+    ensures fault { IfErr result (DrawIsRefused slot.old known.old) }
+    ensures refused { OnErr result (slot.new ≡ slot.old) }
+    ensures kept { OnErr result (known.new ≡ known.old) }
+{
+    let front = slot.front();
+    if front.is_below(known) {
+        return Err(DrawFault::Stale { seen: front });
+    }
+    let since = if front.versions == known.versions {
+        DrawnSince::NoVersion(slot.draw_number()?)
+    } else {
+        DrawnSince::LaterVersion(slot.draw()?)
+    };
+    known.versions = front.versions;
+    known.offered = front.offered + 1;
+    Ok(since)
 }
 
 /// What [`SharedSlot::install`] does to the slot behind the lock.

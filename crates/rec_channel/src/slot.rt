@@ -1,6 +1,6 @@
 //! A channel's slot: the history of its programs, and the count of its frames.
 
-ghost use Rattle.std.specs.Prelude.{◌≡◌, ◌+◌, ◌-◌, ◌^◌, ◌<◌, ◌≤◌, ◌↔◌, length, map, Some, slice_get, IfOk, IfErr, OnErr};
+ghost use Rattle.std.specs.Prelude.{◌≡◌, ◌+◌, ◌-◌, ◌^◌, ◌<◌, ◌≤◌, ◌↔◌, length, map, IsTrue, IsFalse, Some, slice_get, IfOk, IfErr, OnErr};
 ghost use Rattle.std.specs.Arc.{arc_value};
 ghost use Rattle.rec_channel.specs.History.{IsHistory, InForce};
 ghost use Rattle.rec_channel.specs.Slots.{programs_in, marks_in, versions_of, opening_slot, one_frame_later, with_version};
@@ -88,20 +88,49 @@ impl Slot {
         ensures fault { IfErr result IsNotStale }
         ensures refused { OnErr result (self.new ≡ self.old) }
     {
-        if self.offered == self.max {
+        if self.is_full() {
             return Err(DrawFault::CountFull);
         }
         let last = self.programs.len() - 1;
         let program = Arc::try_clone(&self.programs[last])?;
         let share = Arc::try_clone(&program)?;
-        let number = self.offered;
-        self.offered += 1;
+        let number = self.draw_number()?;
         Ok(Drawn {
             number,
             version: last as u32,
             program,
             share,
         })
+    }
+
+    /// [`Slot::draw`] for whoever has the program of the last version: the frame's number alone.
+    ///
+    /// # Errors
+    ///
+    /// [`DrawFault::CountFull`] exactly where as many frames were drawn as the channel may have,
+    /// and no other.
+    #[tactic(auto, using(crate::proofs::Histories::last_version))]
+    pub(crate) fn draw_number(&mut self) -> Result<u64, DrawFault>
+        // The frame drawn: its number, at which the last version is in force.
+        ensures number { IfOk result (λ n. n ≡ self.old.offered) }
+        ensures in_force { IfOk result (λ n.
+            InForce self.new.history n (length self.old.history - 1)) }
+        ensures few { IfOk result (λ n.
+            (n < 2 ^ 64 - 1) × (length self.old.history ≤ MAX_VERSIONS)) }
+        // The slot after a frame: there was room for it, and it is counted.
+        ensures room { IfOk result (λ _. self.old.offered < self.old.max) }
+        ensures counted { IfOk result (λ _. self.new ≡ one_frame_later self.old) }
+        // Why none was drawn; the slot stays.
+        ensures full { IfErr result (λ e.
+            (e ≡ DrawFault.CountFull) × (self.old.offered ≡ self.old.max)) }
+        ensures refused { OnErr result (self.new ≡ self.old) }
+    {
+        if self.is_full() {
+            return Err(DrawFault::CountFull);
+        }
+        let number = self.offered;
+        self.offered += 1;
+        Ok(number)
     }
 
     /// Adds a program to the history: it is in force from the next frame on.
@@ -190,6 +219,15 @@ impl Slot {
             marks,
             offered,
         }
+    }
+
+    /// Whether as many frames were drawn as the channel may have.
+    #[tactic(auto, using(crate::proofs::Versions::rows))]
+    fn is_full(&self) -> bool
+        ensures full { IsTrue result ↔ (self.now.offered ≡ self.now.max) }
+        ensures room { IsFalse result → self.now.offered < self.now.max }
+    {
+        self.max == self.offered
     }
 
     /// How many versions and frames there are.

@@ -1,6 +1,7 @@
 -- The code's values as data.
-use Rattle.std.specs.Prelude.{List, map}
+use Rattle.std.specs.Prelude.{List, [], ◌∷◌, map, Option, None, Some}
 use Rattle.std.specs.Arc.{arc_value}
+use Rattle.rec_lane.specs.declared.piece.DataPiece.{DataPiece}
 use Rattle.rec_lane.specs.declared.piece.Piece.{Piece}
 use Rattle.rec_lane.specs.declared.piece.Piece.TheVariants.{Program, Data, End}
 use Rattle.rec_lane.specs.Pieces.{PieceData}
@@ -15,3 +16,8 @@ piece_data (End p) = OfEnd p.channel p.counter p.offered p.kept
 -- pieces in order
 abbrev pub pieces_data : List Piece → List PieceData
 pieces_data pieces = map piece_data pieces
+
+-- a packet, if there is one
+abbrev pub packet_data : Option DataPiece → List PieceData
+packet_data None = []
+packet_data (Some p) = OfFrames p.channel p.body ∷ []

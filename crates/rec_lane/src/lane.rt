@@ -1,9 +1,11 @@
 //! A lane: the frames of one channel, filtered and packed.
 
-ghost use Rattle.std.specs.Prelude.{ℕ, if◌then◌else◌, ◌≡◌, ◌+◌, ◌-◌, ◌^◌, ◌<◌, ◌==◌, true, false, [], Option, None, Some, IsSome, IsNone, IfSome, IfNone, ◌↔◌, IsOk, IfOk, OnErr};
+ghost use Rattle.std.specs.Prelude.{ℕ, if◌then◌else◌, ◌≡◌, ◌+◌, ◌-◌, ◌^◌, ◌<◌, ◌==◌, true, false, [], List, Option, None, Some, IsSome, IsNone, IfSome, IfNone, ◌↔◌, IsOk, IfOk, OnErr};
+ghost use Rattle.arrayvec.specs.ArrayVec.{array_vec_len};
+ghost use Rattle.rec_lane.specs.Views.{piece_data, pieces_data, packet_data};
 
 use crate::laws::a_lane_stands_for_frames_and_a_history;
-use crate::offered::Offered;
+use crate::offered::{Offered, OfferedKnown};
 use crate::piece::{DataPiece, EndPiece, Piece, ProgramPiece};
 use crate::spec::LaneSpec;
 use crate::version::Current;
@@ -53,8 +55,8 @@ impl Model for Lane {
 }
 
 impl Lane {
-    ghost use Rattle.arrayvec.specs.ArrayVec.{array_vec_len};
     ghost use Rattle.std.specs.Arc.{arc_value};
+    ghost use Rattle.bpf_insn.specs.declared.insn.Insn.{Insn};
     ghost use Rattle.bpf_machine.specs.Machine.{Runs};
     ghost use Rattle.eth_frame.specs.Frame.{view};
     ghost use Rattle.eth_frame.specs.Views.{frame_data};
@@ -63,7 +65,6 @@ impl Lane {
     ghost use Rattle.rec_lane.specs.Settings.{spec_data};
     ghost use Rattle.rec_lane.specs.Lanes.{HasMet, is_current, running, offered_now, new_lane, Meets, MakesCertain, AreLeft, TakesFrame, Ends};
     ghost use Rattle.rec_lane.specs.Steps.{RunsAs, packet_closed, closed_pieces, frame_added, frame_judged, judged_pieces, frame_counted, frame_of_new_version, version_begun, begun_piece, begun_pieces};
-    ghost use Rattle.rec_lane.specs.Views.{piece_data, pieces_data};
 
     /// A lane of no frames, which isn't ready.
     pub fn new(alloc: Global, spec: LaneSpec) -> Result<Lane, AllocError>
@@ -141,6 +142,17 @@ impl Lane {
         self.kept
     }
 
+    /// Whether this is the version that the lane met last.
+    pub fn is_current(&self, version: u32) -> bool
+        ensures current { result ≡ is_current self.now.current version }
+        ensures known { result ≡ true → IsSome self.now.current }
+    {
+        match &self.current {
+            None => false,
+            Some(current) => current.version == version,
+        }
+    }
+
     /// Runs the filter in force on a frame, and packs the frame if it is accepted. The frame's number
     /// is the lane's count. Within a version the program that came with its first frame runs.
     pub fn offer(&mut self, frame: &Frame<'_>, drawn: Drawn) -> Offered
@@ -166,10 +178,44 @@ impl Lane {
     {
         a_lane_stands_for_frames_and_a_history();
         if self.is_current(drawn.version) {
-            self.offer_next(frame)
+            let known = self.offer_known(frame);
+            Offered {
+                value: known.value,
+                pieces: pieces_of(known.packet),
+            }
         } else {
             self.offer_first(frame, drawn)
         }
+    }
+
+    /// [`Lane::offer`] of a frame of the version that the lane met last, and so of a program that
+    /// it has. At most one piece becomes certain by it, a packet.
+    pub fn offer_known(&mut self, frame: &Frame<'_>) -> OfferedKnown
+        requires ready { self.old.ready ≡ true }
+        requires known { IsSome self.old.current }
+        requires few { self.old.offered < 2 ^ 64 - 1 }
+        // What an offer says with that version, whatever program comes with it.
+        ensures value { (version : ℕ) (program : List Insn)
+            → is_current self.old.current version ≡ true
+            → (steps : ℕ) × Runs (running self.old.current version program)
+            (view (frame_data frame.now)) steps result.value }
+        ensures met { (version : ℕ) (program : List Insn)
+            → is_current self.old.current version ≡ true
+            → Meets self.old self.new (offered_now self.old version program
+            (frame_data frame.now) result.value) }
+        ensures pieces { (version : ℕ) (program : List Insn)
+            → is_current self.old.current version ≡ true
+            → MakesCertain self.old (offered_now self.old version program
+            (frame_data frame.now) result.value) (packet_data result.packet) }
+        ensures settings { self.new.settings ≡ self.old.settings }
+        ensures ready { self.new.ready ≡ has_no_packet (packet_data result.packet) }
+        ensures in_history { (version : ℕ) (program : List Insn)
+            → is_current self.old.current version ≡ true
+            → TakesFrame self.old self.new (frame_data frame.now) version program
+            (packet_data result.packet) }
+    {
+        a_lane_stands_for_frames_and_a_history();
+        self.offer_next(frame)
     }
 
     /// The last pieces: the open packet, if it has frames, and the channel's end.
@@ -210,7 +256,7 @@ impl Lane {
     }
 
     /// A frame of the version that the lane met last.
-    fn offer_next(&mut self, frame: &Frame<'_>) -> Offered
+    fn offer_next(&mut self, frame: &Frame<'_>) -> OfferedKnown
         requires ready { self.old.ready ≡ true }
         requires some { IsSome self.old.current }
         requires few { self.old.offered < 2 ^ 64 - 1 }
@@ -218,20 +264,17 @@ impl Lane {
         ensures lane { self.new
             ≡ frame_judged (frame_counted self.old (frame_data frame.now)) (frame_data frame.now)
             result.value }
-        ensures pieces { pieces_data result.pieces.items
+        ensures packet { packet_data result.packet
             ≡ judged_pieces self.old (frame_data frame.now) result.value }
         ensures roomy { has_room self.old.settings.limit [] (frame_data frame.now) ≡ true }
     {
         self.count(frame);
         let value = self.value_on(frame);
+        let mut packet = None;
         if value != 0 && !self.keep(frame) {
-            let pieces = self.keep_in_next(frame);
-            return Offered { value, pieces };
+            packet = self.keep_in_next(frame);
         }
-        Offered {
-            value,
-            pieces: ArrayVec::new(),
-        }
+        OfferedKnown { value, packet }
     }
 
     /// The first frame of a version.
@@ -251,7 +294,7 @@ impl Lane {
             (frame_data frame.now) }
         ensures roomy { has_room self.old.settings.limit [] (frame_data frame.now) ≡ true }
     {
-        let mut pieces = self.close_packet();
+        let mut pieces = pieces_of(self.close_packet());
         pieces.push(self.begin_version(frame, drawn));
         self.count(frame);
         let value = self.value_on(frame);
@@ -259,16 +302,6 @@ impl Lane {
             self.add(frame);
         }
         Offered { value, pieces }
-    }
-
-    /// Whether this is the version that the lane met last.
-    fn is_current(&self, version: u32) -> bool
-        ensures { result ≡ is_current self.now.current version }
-    {
-        match &self.current {
-            None => false,
-            Some(current) => current.version == version,
-        }
     }
 
     /// What the program of the version that the lane met last returns on a frame's view.
@@ -340,16 +373,16 @@ impl Lane {
     // once a packet, and apart as the first frame of a version
     #[cold]
     #[inline(never)]
-    fn keep_in_next(&mut self, frame: &Frame<'_>) -> ArrayVec<Piece, 2>
+    fn keep_in_next(&mut self, frame: &Frame<'_>) -> Option<DataPiece>
         requires ready { self.old.ready ≡ true }
         requires counted { self.old.kept < self.old.offered }
         requires roomy { has_room self.old.settings.limit [] (frame_data frame.now) ≡ true }
         ensures lane { self.new ≡ frame_added (packet_closed self.old) (frame_data frame.now) }
-        ensures pieces { pieces_data result.items ≡ closed_pieces self.old }
+        ensures packet { packet_data result ≡ closed_pieces self.old }
     {
-        let pieces = self.close_packet();
+        let packet = self.close_packet();
         self.add(frame);
-        pieces
+        packet
     }
 
     /// Adds an accepted frame to the open packet, where it fits.
@@ -363,25 +396,34 @@ impl Lane {
         self.kept += 1;
     }
 
-    /// The open packet as a piece, if it has frames.
-    fn close_packet(&mut self) -> ArrayVec<Piece, 2>
+    /// The open packet, if it has frames.
+    fn close_packet(&mut self) -> Option<DataPiece>
         requires { self.old.ready ≡ true }
         ensures lane { self.new ≡ packet_closed self.old }
-        ensures pieces { pieces_data result.items ≡ closed_pieces self.old }
-        ensures few { array_vec_len result < 2 }
+        ensures packet { packet_data result ≡ closed_pieces self.old }
     {
-        let mut pieces = ArrayVec::new();
         if self.packet.is_empty() {
-            return pieces;
+            return None;
         }
         let Some(next) = self.spare.take() else {
             unreachable!()
         };
         let packet = mem::replace(&mut self.packet, next);
-        pieces.push(Piece::Data(DataPiece {
+        Some(DataPiece {
             channel: self.spec.channel,
             body: packet.seal(),
-        }));
-        pieces
+        })
     }
+}
+
+/// A packet, if there is one, as pieces.
+fn pieces_of(packet: Option<DataPiece>) -> ArrayVec<Piece, 2>
+    ensures pieces { pieces_data result.items ≡ packet_data packet }
+    ensures few { array_vec_len result < 2 }
+{
+    let mut pieces = ArrayVec::new();
+    if let Some(packet) = packet {
+        pieces.push(Piece::Data(packet));
+    }
+    pieces
 }

@@ -17,6 +17,6 @@ pub use laws::{
     pieces_hold_the_accepted_frames, pieces_so_far_begin_all_pieces,
     the_filter_takes_the_longest_view,
 };
-pub use offered::Offered;
+pub use offered::{Offered, OfferedKnown};
 pub use piece::{DataPiece, EndPiece, Piece, ProgramPiece};
 pub use spec::LaneSpec;

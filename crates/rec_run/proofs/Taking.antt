@@ -6,16 +6,18 @@ use Rattle.std.proofs.lemmas.List.{length-append, map-append}
 use Rattle.bpf_insn.specs.declared.insn.Insn.{Insn}
 use Rattle.bpf_machine.specs.Machine.{Runs}
 use Rattle.eth_frame.specs.Frame.{FrameData, view}
+use Rattle.rec_lane.specs.declared.piece.DataPiece.{DataPiece}
 use Rattle.rec_lane.specs.declared.piece.Piece.{Piece}
 use Rattle.rec_lane.specs.Offered.{OfferedFrame}
 use Rattle.rec_lane.specs.Parts.{Begins}
 use Rattle.rec_lane.specs.Pieces.{PieceData, has_version as same_version_as, last_group, pieces_so_far}
 use Rattle.rec_lane.specs.Lanes.{LaneState, VersionProgram, HasMet, version_of, is_current, running, offered_now, Meets, MakesCertain}
-use Rattle.rec_lane.specs.Views.{piece_data, pieces_data}
+use Rattle.rec_lane.specs.Views.{piece_data, pieces_data, packet_data}
 use Rattle.rec_lane.proofs.Parted.{last_on}
 use Rattle.rec_lane.proofs.Offering.{same_version, version_stays, first_last}
 use Rattle.rec_run.specs.Served.{VersionMet}
-use Rattle.rec_run.specs.Growing.{met_after}
+use Rattle.rec_run.specs.Growing.{is_last_met, met_after}
+use Rattle.rec_run.specs.Offers.{Offers}
 use Rattle.rec_run.specs.Working.{IsLast, Stands, TakesOne}
 use Rattle.rec_run.proofs.Serving.{known_more, last_more}
 
@@ -37,6 +39,10 @@ current_after old offered version value program frame is =
           ∙ version_stays (last_group offered) old.current f is same ∙ sym is ∙ runs_current old.current version program same
       | inr other ↦ ap (λ g. version_of g) (first_last old offered f is other)
     ]
+
+-- a version that was met last is not met anew
+pub met_still : (met : List VersionMet) (version number : ℕ) (program : List Insn) → is_last_met met version ≡ true → met ≡ met_after met version number program
+met_still met version number program last = rw last refl
 
 -- ---- what the worker stands for
 
@@ -65,29 +71,68 @@ pieces_then : (old new : LaneState) (offered : List OfferedFrame) (f : OfferedFr
 pieces_then old new offered f sent given met settings is makes =
     ap (λ ps. ps ++ given) is ∙ sym (makes offered met) ∙ ap (λ s. pieces_so_far s (offered ++ f ∷ [])) (sym settings)
 
-module _ (old new : LaneState) (met met_then : List VersionMet) (version value number : ℕ) (program : List Insn) (frame : FrameData) (sent sent_then given : List Piece) where
-  pub takes_whole : met_then ≡ met_after met version number program → number ≡ old.offered → ((steps : ℕ) × Runs (running old.current version program) (view frame) steps value)
-      → Meets old new (offered_now old version program frame value) → MakesCertain old (offered_now old version program frame value) (pieces_data given)
-      → new.settings ≡ old.settings → sent_then ≡ sent ++ given
-      → TakesOne old new met met_then (pieces_data sent) (pieces_data sent_then) frame (λ some all. some ≡ all)
-  takes_whole grown same ran meets makes settings went = λ offered stands is. (
-    offered_now old version program frame value,
+module _ (old new : LaneState) (met met_then : List VersionMet) (frame : FrameData) (sent sent_then given : List Piece) (o : Offers old new met met_then frame (pieces_data given)) where
+  abbrev then_is : OfferedFrame
+  then_is = offered_now old o.version o.program frame o.value
+
+  then_stands : (before : List OfferedFrame) → Stands old met before → Stands new met_then (before ++ then_is ∷ [])
+  then_stands before stands =
+      subst (λ ms. Stands new ms (before ++ then_is ∷ [])) (sym o.grown) (stands_more old new met before o.version o.value old.offered o.program frame stands refl o.ran o.meets)
+
+  pub takes_whole : sent_then ≡ sent ++ given → TakesOne old new met met_then (pieces_data sent) (pieces_data sent_then) frame (λ some all. some ≡ all)
+  takes_whole went = λ before stands is. (
+    then_is,
     refl,
-    subst (λ ms. Stands new ms (offered ++ offered_now old version program frame value ∷ [])) (sym grown) (stands_more old new met offered version value number program frame stands same ran meets),
-    ap (λ ps. pieces_data ps) went ∙ map-append piece_data sent given ∙ pieces_then old new offered (offered_now old version program frame value) (pieces_data sent) (pieces_data given) stands.has_met settings is makes,
+    then_stands before stands,
+    ap (λ ps. pieces_data ps) went ∙ map-append piece_data sent given ∙ pieces_then old new before then_is (pieces_data sent) (pieces_data given) stands.has_met o.settings is o.makes,
   )
 
-  pub takes_part : met_then ≡ met_after met version number program → number ≡ old.offered → ((steps : ℕ) × Runs (running old.current version program) (view frame) steps value)
-      → Meets old new (offered_now old version program frame value) → MakesCertain old (offered_now old version program frame value) (pieces_data given)
-      → new.settings ≡ old.settings → Begins sent_then (sent ++ given)
-      → TakesOne old new met met_then (pieces_data sent) (pieces_data sent_then) frame Begins
-  takes_part grown same ran meets makes settings part = λ offered stands is. (
-    offered_now old version program frame value,
+  pub takes_part : Begins sent_then (sent ++ given) → TakesOne old new met met_then (pieces_data sent) (pieces_data sent_then) frame Begins
+  takes_part part = λ before stands is. (
+    then_is,
     refl,
-    subst (λ ms. Stands new ms (offered ++ offered_now old version program frame value ∷ [])) (sym grown) (stands_more old new met offered version value number program frame stands same ran meets),
+    then_stands before stands,
     (
       pieces_data part.0,
       sym (map-append piece_data sent_then part.0) ∙ ap (λ ps. pieces_data ps) part.1 ∙ map-append piece_data sent given
-          ∙ pieces_then old new offered (offered_now old version program frame value) (pieces_data sent) (pieces_data given) stands.has_met settings is makes,
+          ∙ pieces_then old new before then_is (pieces_data sent) (pieces_data given) stands.has_met o.settings is o.makes,
     ),
   )
+
+-- a frame of the version that was met last, with what became certain as pieces
+pub known_offers : (old new : LaneState) (met : List VersionMet) (frame : FrameData) (version value : ℕ) (packet : Option DataPiece) (given : List Piece)
+    → is_last_met met version ≡ true → packet_data packet ≡ pieces_data given
+    → ((steps : ℕ) × Runs (running old.current version []) (view frame) steps value)
+    → Meets old new (offered_now old version [] frame value)
+    → MakesCertain old (offered_now old version [] frame value) (packet_data packet)
+    → new.settings ≡ old.settings
+    → Offers old new met met frame (pieces_data given)
+known_offers old new met frame version value packet given last same ran meets makes settings = record {
+  version = version;
+  program = [];
+  value = value;
+  grown = met_still met version old.offered [] last;
+  ran = ran;
+  meets = meets;
+  makes = subst (λ ps. MakesCertain old (offered_now old version [] frame value) ps) same makes;
+  settings = settings;
+}
+
+-- a frame of a version that was drawn with its program
+pub later_offers : (old new : LaneState) (met met_then : List VersionMet) (frame : FrameData) (version number value : ℕ) (program : List Insn) (given : List Piece)
+    → met_then ≡ met_after met version number program → number ≡ old.offered
+    → ((steps : ℕ) × Runs (running old.current version program) (view frame) steps value)
+    → Meets old new (offered_now old version program frame value)
+    → MakesCertain old (offered_now old version program frame value) (pieces_data given)
+    → new.settings ≡ old.settings
+    → Offers old new met met_then frame (pieces_data given)
+later_offers old new met met_then frame version number value program given grown same ran meets makes settings = record {
+  version = version;
+  program = program;
+  value = value;
+  grown = grown ∙ ap (λ n. met_after met version n program) same;
+  ran = ran;
+  meets = meets;
+  makes = makes;
+  settings = settings;
+}

@@ -8,6 +8,7 @@ pub mod Jobs
 pub mod Joins
 pub mod Keeping
 pub mod Logs
+pub mod Offers
 pub mod Outcomes
 pub mod Recorded
 pub mod Reports

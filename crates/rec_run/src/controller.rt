@@ -6,9 +6,9 @@ ghost use Rattle.rec_run.specs.Controlling.{HasControlled, EndsControl};
 
 use crate::change::{Answer, Change, Logged, Told};
 use crate::control::Control;
+use crate::meeting::share;
 use crate::pause::Pause;
 use crate::waiting::is_stopped;
-use crate::worker::share;
 use bpf_verify::Verified;
 use rec_channel::{Front, InstallFault, SharedSlot};
 use std::alloc::Global;

@@ -14,6 +14,7 @@ mod jobs;
 mod joined;
 mod joining;
 mod line;
+mod meeting;
 mod met;
 mod outcome;
 mod pause;

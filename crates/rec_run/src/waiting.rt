@@ -4,13 +4,14 @@ ghost use Rattle.std.specs.Prelude.{◌≡◌, ◌<◌, ◌^◌, ◌-◌, ◌∷
 ghost use Rattle.rtrb.specs.Ring.{sent, SameProducer};
 ghost use Rattle.rec_lane.specs.Parts.{Begins};
 ghost use Rattle.rec_lane.specs.Views.{piece_data, pieces_data};
+ghost use Rattle.rec_channel.specs.Since.{number_of};
 ghost use Rattle.rec_run.specs.Waits.{IsStop, HasBuffer};
 
 use crate::ending::{Ending, WorkerEnd};
 use crate::pause::Pause;
 use arrayvec::ArrayVec;
 use ch11_packet::Blank;
-use rec_channel::{DrawFault, Drawn, Front, SharedSlot};
+use rec_channel::{DrawFault, DrawnSince, Front, SharedSlot};
 use rec_lane::{Lane, Piece};
 use rtrb::{Consumer, Producer, PushError};
 use std::sync::Wait;
@@ -27,7 +28,12 @@ pub(crate) fn set_stop(stop: &AtomicU64) {
 }
 
 /// Sends a piece, as soon as there is room for it; `false` if the recording stopped before.
-fn send<R: Wait>(rt: &R, stop: &AtomicU64, ring: &mut Producer<Piece>, piece: Piece) -> bool
+pub(crate) fn send<R: Wait>(
+    rt: &R,
+    stop: &AtomicU64,
+    ring: &mut Producer<Piece>,
+    piece: Piece,
+) -> bool
     ensures ring { SameProducer ring.old ring.new }
     ensures went { result ≡ true → sent ring.new ≡ sent ring.old ++ piece ∷ [] }
     ensures kept { result ≡ false → sent ring.new ≡ sent ring.old }
@@ -95,20 +101,21 @@ pub(crate) fn make_ready<R: Wait>(
     unreachable!()
 }
 
-/// Draws the next frame's number and program, as soon as there are shares of the program.
+/// Draws the next frame's number, and a version that came since with its program, as soon as there
+/// are shares of it; moves the worker's front on.
 pub(crate) fn draw<R: Wait>(
     rt: &R,
     stop: &AtomicU64,
     slot: &SharedSlot,
-    known: &Front,
-) -> Result<(Drawn, Front), WorkerEnd>
-    ensures few { IfOk result (λ r. r.0.number < 2 ^ 64 - 1) }
+    known: &mut Front,
+) -> Result<DrawnSince, WorkerEnd>
+    ensures few { IfOk result (λ since. number_of since < 2 ^ 64 - 1) }
     ensures stopped { IfErr result IsStop }
 {
     let mut pause = Pause::new();
     'turns: for _ in rt.forever() {
-        match slot.draw(rt, known) {
-            Ok(drawn) => return Ok(drawn),
+        match slot.draw_since(rt, known) {
+            Ok(since) => return Ok(since),
             Err(DrawFault::Memory) => {}
             Err(_) => return Err(WorkerEnd::History),
         }

@@ -8,22 +8,19 @@ ghost use Rattle.eth_frame.specs.Views.{frame_data};
 ghost use Rattle.rec_lane.specs.Offered.{OfferedFrame};
 ghost use Rattle.rec_lane.specs.Views.{pieces_data};
 ghost use Rattle.rec_run.specs.Working.{versions_met};
-ghost use Rattle.rec_run.specs.Growing.{met_after, is_last_met};
 ghost use Rattle.rec_run.specs.Workers.{RecordsFrame, StepsOn};
 
 use crate::ending::{Ending, WorkerEnd};
+use crate::meeting::{last_version, meet};
 use crate::met::MetVersion;
-use crate::pause::Pause;
-use crate::waiting::{draw, is_stopped, make_ready, send_all};
-use bpf_verify::Verified;
+use crate::waiting::{draw, is_stopped, make_ready, send, send_all};
 use ch11_packet::Blank;
 use eth_frame::{Frame, FrameBuf, FrameSource, Next};
-use rec_channel::{Drawn, Front, SharedSlot};
-use rec_lane::{Lane, Piece};
+use rec_channel::{Drawn, DrawnSince, Front, SharedSlot};
+use rec_lane::{Lane, OfferedKnown, Piece};
 use rtrb::{Consumer, Producer};
-use std::alloc::Global;
+use std::sync::Wait;
 use std::sync::atomic::AtomicU64;
-use std::sync::{Arc, Wait};
 
 /// A worker that goes on.
 #[derive(Drop)]
@@ -87,69 +84,75 @@ fn record_frame<S: Drop, R: Wait>(
     ensures settings { worker.new.lane.settings ≡ worker.old.lane.settings }
     ensures records { RecordsFrame worker.old worker.new (frame_data frame.now) result }
 {
-    let (drawn, front) = match draw(rt, stop, slot, &worker.front) {
-        Ok(drawn) => drawn,
-        Err(end) => return Some(end),
+    match draw(rt, stop, slot, &mut worker.front) {
+        Ok(DrawnSince::NoVersion(number)) => record_known(worker, frame, number, rt, stop),
+        Ok(DrawnSince::LaterVersion(drawn)) => record_later(worker, frame, drawn, rt, stop),
+        Err(end) => Some(end),
+    }
+}
+
+/// The same of a frame that was drawn and meets the version which the frame before it met.
+#[inline(always)]
+fn record_known<S: Drop, R: Wait>(
+    worker: &mut Worker<S>,
+    frame: &Frame<'_>,
+    number: u64,
+    rt: &R,
+    stop: &AtomicU64,
+) -> Option<WorkerEnd>
+    requires ready { worker.old.lane.ready ≡ true }
+    requires few { number < 2 ^ 64 - 1 }
+    ensures ring { SameProducer worker.old.ring worker.new.ring }
+    ensures max { worker.new.max ≡ worker.old.max }
+    ensures source { worker.new.source ≡ worker.old.source }
+    ensures settings { worker.new.lane.settings ≡ worker.old.lane.settings }
+    ensures records { RecordsFrame worker.old worker.new (frame_data frame.now) result }
+{
+    let Some(version) = last_version(worker.met.as_slice()) else {
+        return Some(WorkerEnd::History);
     };
-    if drawn.number != worker.lane.offered() {
+    if number != worker.lane.offered() || !worker.lane.is_current(version) {
         return Some(WorkerEnd::History);
     }
-    worker.front = front;
-    if !meet(rt, &mut worker.met, &drawn) {
+    let OfferedKnown { packet, .. } = worker.lane.offer_known(frame);
+    match packet {
+        None => None,
+        Some(packet) => {
+            if send(rt, stop, &mut worker.ring, Piece::Data(packet)) {
+                None
+            } else {
+                Some(WorkerEnd::Ended(Ending::Stopped))
+            }
+        }
+    }
+}
+
+/// The same of a frame that was drawn and meets a later version.
+// rare, and apart so that the frames of one version pay nothing for it
+#[cold]
+#[inline(never)]
+fn record_later<S: Drop, R: Wait>(
+    worker: &mut Worker<S>,
+    frame: &Frame<'_>,
+    drawn: Drawn,
+    rt: &R,
+    stop: &AtomicU64,
+) -> Option<WorkerEnd>
+    requires ready { worker.old.lane.ready ≡ true }
+    requires few { drawn.number < 2 ^ 64 - 1 }
+    ensures ring { SameProducer worker.old.ring worker.new.ring }
+    ensures max { worker.new.max ≡ worker.old.max }
+    ensures source { worker.new.source ≡ worker.old.source }
+    ensures settings { worker.new.lane.settings ≡ worker.old.lane.settings }
+    ensures records { RecordsFrame worker.old worker.new (frame_data frame.now) result }
+{
+    if drawn.number != worker.lane.offered() || !meet(rt, &mut worker.met, &drawn) {
         return Some(WorkerEnd::History);
     }
     let offered = worker.lane.offer(frame, drawn);
-    // most frames make no piece certain
-    if offered.pieces.is_empty() {
-        return None;
-    }
     if send_all(rt, stop, &mut worker.ring, offered.pieces) {
         None
     } else {
         Some(WorkerEnd::Ended(Ending::Stopped))
     }
-}
-
-/// Adds the version that a frame met, unless the last one is the same; `false` if there is no room.
-fn meet<R: Wait>(rt: &R, met: &mut Vec<MetVersion>, drawn: &Drawn) -> bool
-    ensures met { result ≡ true → versions_met met.new.items ≡ met_after (versions_met met.old.items)
-        drawn.now.version drawn.now.number (arc_value drawn.now.program) }
-    ensures kept { result ≡ false → met.new.items ≡ met.old.items }
-{
-    if is_last(met.as_slice(), drawn.version) {
-        return true;
-    }
-    if met.len() == met.capacity() {
-        return false;
-    }
-    met.push_reserved(MetVersion {
-        version: drawn.version,
-        first: drawn.number,
-        program: share(rt, &drawn.program),
-    });
-    true
-}
-
-/// Whether this is the last version met.
-fn is_last(met: &[MetVersion], version: u32) -> bool
-    ensures { result ≡ is_last_met (versions_met met.now) version }
-{
-    match met.last() {
-        None => false,
-        Some(last) => last.version == version,
-    }
-}
-
-/// A further share of a program, as soon as there is one.
-pub(crate) fn share<R: Wait>(rt: &R, program: &Arc<Verified, Global>) -> Arc<Verified, Global>
-    ensures { arc_value result ≡ arc_value program.now }
-{
-    let mut pause = Pause::new();
-    'turns: for _ in rt.forever() {
-        if let Ok(share) = Arc::try_clone(program) {
-            return share;
-        }
-        pause.wait(rt);
-    }
-    unreachable!()
 }
