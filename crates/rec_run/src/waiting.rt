@@ -1,17 +1,15 @@
-//! What a worker waits for: room in its ring, an empty buffer, a draw.
+//! What a worker waits for: room in its ring, an empty buffer.
 
 ghost use Rattle.std.specs.Prelude.{◌≡◌, ◌<◌, ◌^◌, ◌-◌, ◌∷◌, ◌++◌, [], true, false, IsNone, IfNone, IfSome, IfOk, IfErr};
 ghost use Rattle.rtrb.specs.Ring.{sent, SameProducer};
 ghost use Rattle.rec_lane.specs.Parts.{Begins};
 ghost use Rattle.rec_lane.specs.Views.{piece_data, pieces_data};
-ghost use Rattle.rec_channel.specs.Since.{number_of};
 ghost use Rattle.rec_run.specs.Waits.{IsStop, HasBuffer};
 
 use crate::ending::{Ending, WorkerEnd};
 use crate::pause::Pause;
 use arrayvec::ArrayVec;
 use ch11_packet::Blank;
-use rec_channel::{DrawFault, DrawnSince, Front, SharedSlot};
 use rec_lane::{Lane, Piece};
 use rtrb::{Consumer, Producer, PushError};
 use std::sync::Wait;
@@ -95,32 +93,6 @@ pub(crate) fn make_ready<R: Wait>(
         }
         if is_stopped(stop) {
             return Some(WorkerEnd::Ended(Ending::Stopped));
-        }
-        pause.wait(rt);
-    }
-    unreachable!()
-}
-
-/// Draws the next frame's number, and a version that came since with its program, as soon as there
-/// are shares of it; moves the worker's front on.
-pub(crate) fn draw<R: Wait>(
-    rt: &R,
-    stop: &AtomicU64,
-    slot: &SharedSlot,
-    known: &mut Front,
-) -> Result<DrawnSince, WorkerEnd>
-    ensures few { IfOk result (λ since. number_of since < 2 ^ 64 - 1) }
-    ensures stopped { IfErr result IsStop }
-{
-    let mut pause = Pause::new();
-    'turns: for _ in rt.forever() {
-        match slot.draw_since(rt, known) {
-            Ok(since) => return Ok(since),
-            Err(DrawFault::Memory) => {}
-            Err(_) => return Err(WorkerEnd::History),
-        }
-        if is_stopped(stop) {
-            return Err(WorkerEnd::Ended(Ending::Stopped));
         }
         pause.wait(rt);
     }

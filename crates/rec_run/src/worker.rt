@@ -13,10 +13,11 @@ ghost use Rattle.rec_run.specs.Workers.{RecordsFrame, StepsOn};
 use crate::ending::{Ending, WorkerEnd};
 use crate::meeting::{last_version, meet};
 use crate::met::MetVersion;
-use crate::waiting::{draw, is_stopped, make_ready, send, send_all};
+use crate::pause::Pause;
+use crate::waiting::{is_stopped, make_ready, send, send_all};
 use ch11_packet::Blank;
 use eth_frame::{Frame, FrameBuf, FrameSource, Next};
-use rec_channel::{Drawn, DrawnSince, Front, SharedSlot};
+use rec_channel::{DrawFault, Drawn, DrawnSince, Front, SharedSlot};
 use rec_lane::{Lane, OfferedKnown, Piece};
 use rtrb::{Consumer, Producer};
 use std::sync::Wait;
@@ -84,11 +85,25 @@ fn record_frame<S: Drop, R: Wait>(
     ensures settings { worker.new.lane.settings ≡ worker.old.lane.settings }
     ensures records { RecordsFrame worker.old worker.new (frame_data frame.now) result }
 {
-    match draw(rt, stop, slot, &mut worker.front) {
-        Ok(DrawnSince::NoVersion(number)) => record_known(worker, frame, number, rt, stop),
-        Ok(DrawnSince::LaterVersion(drawn)) => record_later(worker, frame, drawn, rt, stop),
-        Err(end) => Some(end),
+    let mut pause = Pause::new();
+    'turns: for _ in rt.forever() {
+        match slot.draw_since(rt, &mut worker.front) {
+            Ok(DrawnSince::NoVersion(number)) => {
+                return record_known(worker, frame, number, rt, stop);
+            }
+            Ok(DrawnSince::LaterVersion(drawn)) => {
+                return record_later(worker, frame, drawn, rt, stop);
+            }
+            // a program has too many shares just now
+            Err(DrawFault::Memory) => {}
+            Err(_) => return Some(WorkerEnd::History),
+        }
+        if is_stopped(stop) {
+            return Some(WorkerEnd::Ended(Ending::Stopped));
+        }
+        pause.wait(rt);
     }
+    unreachable!()
 }
 
 /// The same of a frame that was drawn and meets the version which the frame before it met.
