@@ -1,5 +1,5 @@
 //! Recordings that are read, whole, cut and damaged.
-use crate::shared::{ACCEPTING, END, FRAMES, REJECTING, all_bytes, joined_bytes};
+use crate::shared::{ACCEPTING, END, FRAMES, REJECTING, all_bytes, joined_bytes, packets_of};
 use ch11_packet::{ETHERNET_DATA, HEADER_LEN, Header, ReadFrame, What};
 use eth_frame::{FeedSource, FrameBuf, FrameSource, Next, write_feed};
 use rec_reader::*;
@@ -417,6 +417,44 @@ fn a_recording_of_many_packets_is_read(rt: HostRuntime) -> Result<(), Fail> {
         .map(|packet| (packet.at, packet.what));
     assert_eq!(rt; last, Some((1_040_000, What::Frames(17_475))));
     assert_eq!(rt; frames_of(alloc, &recording, 7)?.len(), 17_475);
+    Ok(())
+}
+
+/// `tools/refused_growth` refuses each growth of this test in turn: a call that lacked memory is
+/// answered as ever when it is made again.
+#[test]
+fn a_call_without_memory_is_made_again(rt: HostRuntime) -> Result<(), Fail> {
+    let alloc = rt.alloc();
+    let bytes = joined_bytes(alloc, &TWO_VERSIONS)?;
+    let recording = match read_recording(alloc, bytes.as_slice()) {
+        Ok(recording) => recording,
+        Err(fault) => {
+            let ReadEnd { kind, at } = fault.end();
+            assert_eq!(rt; kind, ReadFaultKind::Memory);
+            let before = fault.into_before().packets().len();
+            assert_eq!(rt; HELD.get(before).map(|held| held.0), Some(at));
+            packets_of(alloc, bytes.as_slice())
+        }
+    };
+    for (packet, held) in recording.packets().iter().zip(HELD) {
+        assert_eq!(rt; (packet.at, packet.what), held);
+    }
+    assert_eq!(rt; recording.packets().len(), 4);
+    let frames = match frames_of(alloc, &recording, 1) {
+        Err(_) => frames_of(alloc, &recording, 1),
+        frames => frames,
+    };
+    assert_eq!(rt; frames.map(|frames| frames.len()).ok(), Some(1));
+    let index = match Index::of(alloc, &recording) {
+        Err(_) => Index::of(alloc, &recording),
+        index => index,
+    };
+    assert_eq!(rt; index.map(|index| index.packets_of(1).len()).ok(), Some(1));
+    let audited = match audit(alloc, &recording) {
+        Err(_) => audit(alloc, &recording),
+        audited => audited,
+    };
+    assert_eq!(rt; audited.map(|audited| audited.other).ok(), Some(0));
     Ok(())
 }
 
