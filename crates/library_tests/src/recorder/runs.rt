@@ -337,7 +337,10 @@ fn beside_a_failing_reader<R: Threads + Wait + Sync>(
     let out = output(alloc, marks, usize::MAX);
     let done = recorded(rt, alloc, jobs, 1, control, out)?;
     let reports = done.report.channels.as_slice();
-    let told = [first_told(reports), first_told(reports.get(1..).unwrap_or(&[]))];
+    let told = [
+        first_told(reports),
+        first_told(reports.get(1..).unwrap_or(&[])),
+    ];
     Ok((told, done.out.output.bytes))
 }
 
