@@ -267,8 +267,27 @@ fn an_output_that_fails_holds_its_first_bytes(rt: HostRuntime) -> Result<(), Fai
     Ok(())
 }
 
-/// `tools/refused_growth` refuses each growth of this test in turn: an event that lacked memory left
-/// the world as it was, so it is answered as ever when it is done again.
+/// Does steps on a channel; each answer has to be the one beside the step. An event that lacked memory
+/// is done again: it left the world as it was.
+fn done_again<W: Write + Drop>(
+    rt: &impl Abort,
+    alloc: Global,
+    world: &mut World<W>,
+    channel: u16,
+    steps: &[(Step, &str)],
+) -> Result<(), Fail> {
+    for (step, want) in steps {
+        let event = event_of(alloc, channel, *step)?;
+        let answer = match world.step(&event) {
+            Err(CoreFault::Memory) => world.step(&event),
+            answer => answer,
+        };
+        assert_eq!(rt; words(alloc, &answer)?.as_str(), *want);
+    }
+    Ok(())
+}
+
+/// `tools/refused_growth` refuses each growth of this test in turn.
 #[test]
 fn an_event_without_memory_is_done_again(rt: HostRuntime) -> Result<(), Fail> {
     let alloc = rt.alloc();
@@ -278,17 +297,9 @@ fn an_event_without_memory_is_done_again(rt: HostRuntime) -> Result<(), Fail> {
     ];
     let want = joined_bytes(alloc, &[REJECTING, ACCEPTING, FRAMES, END])?;
     let mut world = core_of(alloc, &specs, 4, Vec::with_capacity(alloc, want.len())?)?;
+    done_again(&rt, alloc, &mut world, 1, &INTERLEAVING)?;
     let close = [(Step::Close, "closed 0 0"), (Step::Send, "sent end")];
-    for (channel, steps) in [(1, INTERLEAVING.as_slice()), (2, &close)] {
-        for (step, want) in steps {
-            let event = event_of(alloc, channel, *step)?;
-            let answer = match world.step(&event) {
-                Err(CoreFault::Memory) => world.step(&event),
-                answer => answer,
-            };
-            assert_eq!(rt; words(alloc, &answer)?.as_str(), *want);
-        }
-    }
+    done_again(&rt, alloc, &mut world, 2, &close)?;
     assert_eq!(rt; world.out().as_slice(), want.as_slice());
     let events = [Event::Close { channel: 2 }];
     let answers = match run_world(alloc, &mut world, &events) {

@@ -335,13 +335,13 @@ fn beside_a_failing_reader<R: Threads + Wait + Sync>(
     jobs.push(job(alloc, 2, ACCEPT, whole)?)?;
     let control = fresh_script(alloc, Arc::try_clone(&marks)?, Vec::new(alloc), NONE);
     let out = output(alloc, marks, usize::MAX);
-    let done = recorded(rt, alloc, jobs, 1, control, out)?;
-    let reports = done.report.channels.as_slice();
+    let Done { report, out, .. } = recorded(rt, alloc, jobs, 1, control, out)?;
+    let reports = report.channels.as_slice();
     let told = [
         first_told(reports),
         first_told(reports.get(1..).unwrap_or(&[])),
     ];
-    Ok((told, done.out.output.bytes))
+    Ok((told, out.output.bytes))
 }
 
 /// A record takes two calls, for its head and for its frame, or one for each of its 27 bytes; the
