@@ -8,7 +8,7 @@ use Rattle.std.proofs.lemmas.Option.{same_Some, slice_get_within, get_or_from_sl
 use Rattle.rec_lane.specs.Parts.{Begins}
 use Rattle.rec_lane.specs.Pieces.{LaneSettings, PieceData}
 use Rattle.rec_writer.specs.Numbers.{channels_in}
-use Rattle.rec_writer.specs.Writers.{WriterState, HasWritten, IsCut, PutsWhole, PutsPart, Knows}
+use Rattle.rec_writer.specs.Writers.{WriterState, HasWritten, IsCut, PutsWhole, Knows}
 use Rattle.rec_core.specs.declared.reply.Reply.{Reply}
 use Rattle.rec_core.specs.declared.fault.CoreFault.{CoreFault}
 use Rattle.rec_core.specs.declared.fault.CoreFault.TheVariants.{NoChannel, Closed, RingFull, NothingToSend, NothingToWrite, VersionsFull, CountFull, Output, Memory}
