@@ -1,5 +1,5 @@
 //! Recordings that are audited: approved, damaged, and with very many channels.
-use crate::shared::{ACCEPTING, END, FRAMES, REJECTING, joined_bytes};
+use crate::shared::{ACCEPTING, END, FRAMES, REJECTING, joined_bytes, packets_of};
 use ch11_packet::{COMPUTER_GENERATED_DATA, Header, end_body};
 use rec_reader::*;
 use std::alloc::Global;
@@ -37,14 +37,6 @@ fn told(alloc: Global, answer: Result<Audit, AuditFault>) -> Result<String, Fail
         Err(fault) => write!(text, "{fault}")?,
     }
     Ok(text)
-}
-
-/// The packets of these bytes, which may be cut.
-fn packets_of(alloc: Global, bytes: &[u8]) -> Recording<'_> {
-    match read_recording(alloc, bytes) {
-        Ok(recording) => recording,
-        Err(fault) => fault.into_before(),
-    }
 }
 
 #[test]

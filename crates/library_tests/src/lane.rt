@@ -26,9 +26,16 @@ fn lane(alloc: Global, limit: u32) -> Result<Lane, Fail> {
     Ok(Lane::new(alloc, spec)?)
 }
 
-/// Draws a frame from the slot and offers it to the lane, which has met all frames drawn before.
+/// Draws a frame from the slot and offers it to the lane, which has met all frames drawn before. A
+/// lane without memory for its buffer is as before, and gets it when it is asked again:
+/// `tools/refused_growth` refuses it.
 fn offer(lane: &mut Lane, slot: &mut Slot, frame: &Frame<'_>) -> Result<Offered, Fail> {
-    lane.ready()?;
+    let before = (lane.offered(), lane.kept(), false);
+    if lane.ready().is_err() {
+        if (lane.offered(), lane.kept(), lane.is_ready()) != before || lane.ready().is_err() {
+            return Err("a lane that is as before")?;
+        }
+    }
     let drawn = slot.draw()?;
     if drawn.number != lane.offered() {
         return Err(Fail::from("the lane has met other frames"));

@@ -1,5 +1,5 @@
 //! Recordings that are read, whole, cut and damaged.
-use crate::shared::{ACCEPTING, END, FRAMES, REJECTING, all_bytes, joined_bytes};
+use crate::shared::{ACCEPTING, END, FRAMES, REJECTING, all_bytes, joined_bytes, packets_of};
 use ch11_packet::{ETHERNET_DATA, HEADER_LEN, Header, ReadFrame, What};
 use eth_frame::{FeedSource, FrameBuf, FrameSource, Next, write_feed};
 use rec_reader::*;
@@ -417,6 +417,50 @@ fn a_recording_of_many_packets_is_read(rt: HostRuntime) -> Result<(), Fail> {
         .map(|packet| (packet.at, packet.what));
     assert_eq!(rt; last, Some((1_040_000, What::Frames(17_475))));
     assert_eq!(rt; frames_of(alloc, &recording, 7)?.len(), 17_475);
+    Ok(())
+}
+
+/// The recording of two versions; read again if there was no memory for one of its packets, which begin
+/// at multiples of 60.
+fn read_again(alloc: Global, bytes: &[u8]) -> Result<Recording<'_>, Fail> {
+    match read_recording(alloc, bytes) {
+        Ok(recording) => Ok(recording),
+        Err(fault) => {
+            let ReadEnd { kind, at } = fault.end();
+            let before = fault.into_before().packets().len() as u64;
+            if kind != ReadFaultKind::Memory || at != before.saturating_mul(60) {
+                return Err("no memory for the packet after these")?;
+            }
+            Ok(packets_of(alloc, bytes))
+        }
+    }
+}
+
+/// `tools/refused_growth` refuses each growth of this test in turn: a call that lacked memory is
+/// answered as ever when it is made again.
+#[test]
+fn a_call_without_memory_is_made_again(rt: HostRuntime) -> Result<(), Fail> {
+    let alloc = rt.alloc();
+    let bytes = joined_bytes(alloc, &TWO_VERSIONS)?;
+    let recording = read_again(alloc, bytes.as_slice())?;
+    assert_eq!(rt; recording.packets().len(), 4);
+    let frames = match frames_of(alloc, &recording, 1) {
+        Ok(frames) => Some(frames.len()),
+        Err(_) => frames_of(alloc, &recording, 1)
+            .map(|frames| frames.len())
+            .ok(),
+    };
+    assert_eq!(rt; frames, Some(1));
+    let index = match Index::of(alloc, &recording) {
+        Err(_) => Index::of(alloc, &recording),
+        index => index,
+    };
+    assert_eq!(rt; index.map(|index| index.packets_of(1).len()).ok(), Some(1));
+    let audited = match audit(alloc, &recording) {
+        Err(_) => audit(alloc, &recording),
+        audited => audited,
+    };
+    assert_eq!(rt; audited.map(|audited| audited.other).ok(), Some(0));
     Ok(())
 }
 

@@ -1,6 +1,8 @@
-//! What several tests share: bytes as hexadecimal texts, and programs as listings.
+//! What several tests share: bytes as hexadecimal texts, programs as listings, and frames that are
+//! read again.
 use bpf_insn::parse_listing;
 use bpf_verify::{Verified, verify};
+use rec_reader::{Recording, frames_of, read_recording};
 use std::alloc::Global;
 use std::sync::Arc;
 use std::test::Fail;
@@ -46,4 +48,21 @@ pub(crate) fn joined_bytes(alloc: Global, texts: &[&str]) -> Result<Vec<u8>, Fai
 /// The program of a listing, which is valid.
 pub(crate) fn program(alloc: Global, listing: &str) -> Result<Arc<Verified, Global>, Fail> {
     Ok(Arc::new(alloc, verify(parse_listing(alloc, listing)?)?)?)
+}
+
+/// The packets of these bytes, which may be cut.
+pub(crate) fn packets_of(alloc: Global, bytes: &[u8]) -> Recording<'_> {
+    match read_recording(alloc, bytes) {
+        Ok(recording) => recording,
+        Err(fault) => fault.into_before(),
+    }
+}
+
+/// The counters of the frames that are read of a channel, in a recording that may be cut.
+pub(crate) fn counters_of(alloc: Global, bytes: &[u8], channel: u16) -> Result<Vec<u64>, Fail> {
+    let mut counters = Vec::new(alloc);
+    for frame in &frames_of(alloc, &packets_of(alloc, bytes), channel)? {
+        counters.push(frame.counter)?;
+    }
+    Ok(counters)
 }

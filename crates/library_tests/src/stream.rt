@@ -1,5 +1,5 @@
 //! Recordings that come as a stream, in pieces, beside the reading of all their bytes.
-use crate::shared::{ACCEPTING, END, FRAMES, REJECTING, all_bytes, joined_bytes};
+use crate::shared::{ACCEPTING, END, FRAMES, REJECTING, all_bytes, joined_bytes, packets_of};
 use rec_reader::*;
 use std::alloc::Global;
 use std::io;
@@ -204,7 +204,10 @@ fn damaged_recordings_read_the_same(rt: HostRuntime) -> Result<(), Fail> {
     }
     for at in 0..232 {
         for value in [0x00, 0xff] {
-            compare(&rt, alloc, changed(alloc, at, value)?.as_slice(), 24)?;
+            let bytes = changed(alloc, at, value)?;
+            compare(&rt, alloc, bytes.as_slice(), 24)?;
+            let answer = audit(alloc, &packets_of(alloc, bytes.as_slice()));
+            assert!(rt; !matches!(answer, Err(AuditFault::Memory)), "byte {at}");
         }
     }
     Ok(())

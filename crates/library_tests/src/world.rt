@@ -3,13 +3,15 @@
 ghost use Rattle.std.specs.Prelude.{◌<◌, ◌≤◌};
 ghost use Rattle.rec_core.specs.declared.ring.TheConstants.{MAX_RING};
 
-use crate::shared::{ACCEPTING, END, FRAMES, REJECTING, all_bytes, joined_bytes, program};
+use crate::shared::{
+    ACCEPTING, END, FRAMES, REJECTING, all_bytes, counters_of, joined_bytes, program,
+};
+use crate::writer::{Output, Then};
 use ch11_packet::Limit;
 use eth_frame::Frame;
 use rec_core::*;
 use rec_lane::LaneSpec;
 use std::alloc::Global;
-use std::io;
 use std::io::{ErrorKind, Write};
 use std::process::Abort;
 use std::test::Fail;
@@ -227,31 +229,6 @@ fn channels_are_written_beside_one_another(rt: HostRuntime) -> Result<(), Fail> 
     Ok(())
 }
 
-/// An output that takes some bytes and then fails.
-#[derive(Debug, Drop)]
-struct Short {
-    bytes: Vec<u8>,
-    room: usize,
-}
-
-impl Write for Short {
-    fn write(&mut self, buf: &[u8]) -> io::Result<usize> {
-        let count = self.room.min(buf.len());
-        if count == 0 && !buf.is_empty() {
-            return Err(io::Error::from(ErrorKind::StorageFull));
-        }
-        self.bytes
-            .extend_from_slice(&buf[..count])
-            .map_err(|_| io::Error::from(ErrorKind::OutOfMemory))?;
-        self.room -= count;
-        Ok(count)
-    }
-
-    fn flush(&mut self) -> io::Result<()> {
-        Ok(())
-    }
-}
-
 /// What is answered to the steps of the interleaving by a core whose output takes `room` bytes: the
 /// writes that end past these are refused.
 fn cut_steps(room: usize) -> [(Step, &'static str); 13] {
@@ -268,22 +245,68 @@ fn cut_steps(room: usize) -> [(Step, &'static str); 13] {
 fn an_output_that_fails_holds_its_first_bytes(rt: HostRuntime) -> Result<(), Fail> {
     let want = joined_bytes(rt.alloc(), &[REJECTING, ACCEPTING, FRAMES, END])?;
     let specs = [spec_of(rt.alloc(), 1, 100, REJECT)?];
-    for room in 0..232 {
-        let out = Short {
-            bytes: Vec::new(rt.alloc()),
-            room,
-        };
-        let mut world = core_of(rt.alloc(), &specs, 4, out)?;
-        run_steps(&rt, rt.alloc(), &mut world, 1, &cut_steps(room))?;
-        assert_eq!(rt; Some(world.out().bytes.as_slice()), want.get(..room));
-        run_steps(
-            &rt,
-            rt.alloc(),
-            &mut world,
-            1,
-            &[(Step::Write, "refused 8 Output")],
-        )?;
-        assert_eq!(rt; world.out().bytes.len(), room);
+    for (at_once, then) in [
+        (usize::MAX, Then::Fails),
+        (1, Then::TakesNone),
+        (7, Then::FailsOnce(ErrorKind::Interrupted)),
+    ] {
+        for room in 0..232 {
+            let out = Output::new(rt.alloc(), room, at_once, then);
+            let mut world = core_of(rt.alloc(), &specs, 4, out)?;
+            run_steps(&rt, rt.alloc(), &mut world, 1, &cut_steps(room))?;
+            assert_eq!(rt; Some(world.out().bytes.as_slice()), want.get(..room));
+            let again = [(Step::Write, "refused 8 Output")];
+            run_steps(&rt, rt.alloc(), &mut world, 1, &again)?;
+            assert_eq!(rt; world.out().bytes.len(), room);
+            // the frame that was accepted is read where its packet went out whole
+            let frames: &[u64] = if room < 180 { &[] } else { &[32] };
+            let found = counters_of(rt.alloc(), world.out().bytes.as_slice(), 1)?;
+            assert_eq!(rt; found.as_slice(), frames, "{room} bytes");
+        }
     }
+    Ok(())
+}
+
+/// Does steps on a channel; each answer has to be the one beside the step. An event that lacked memory
+/// is done again: it left the world as it was.
+fn done_again<W: Write + Drop>(
+    rt: &impl Abort,
+    alloc: Global,
+    world: &mut World<W>,
+    channel: u16,
+    steps: &[(Step, &str)],
+) -> Result<(), Fail> {
+    for (step, want) in steps {
+        let event = event_of(alloc, channel, *step)?;
+        let answer = match world.step(&event) {
+            Err(CoreFault::Memory) => world.step(&event),
+            answer => answer,
+        };
+        assert_eq!(rt; words(alloc, &answer)?.as_str(), *want);
+    }
+    Ok(())
+}
+
+/// `tools/refused_growth` refuses each growth of this test in turn.
+#[test]
+fn an_event_without_memory_is_done_again(rt: HostRuntime) -> Result<(), Fail> {
+    let alloc = rt.alloc();
+    let specs = [
+        spec_of(alloc, 1, 100, REJECT)?,
+        spec_of(alloc, 2, 1, ACCEPT)?,
+    ];
+    let want = joined_bytes(alloc, &[REJECTING, ACCEPTING, FRAMES, END])?;
+    let mut world = core_of(alloc, &specs, 4, Vec::with_capacity(alloc, want.len())?)?;
+    done_again(&rt, alloc, &mut world, 1, &INTERLEAVING)?;
+    let close = [(Step::Close, "closed 0 0"), (Step::Send, "sent end")];
+    done_again(&rt, alloc, &mut world, 2, &close)?;
+    assert_eq!(rt; world.out().as_slice(), want.as_slice());
+    let events = [Event::Close { channel: 2 }];
+    let answers = match run_world(alloc, &mut world, &events) {
+        Err(_) => run_world(alloc, &mut world, &events),
+        answers => answers,
+    };
+    let first = answers.as_ref().ok().and_then(|answers| answers.first());
+    assert_eq!(rt; first, Some(&Err(CoreFault::Closed)));
     Ok(())
 }

@@ -59,7 +59,7 @@ fn pieces(alloc: Global) -> Result<[Piece; 4], Fail> {
 
 /// What an output does once it has taken all that it has room for.
 #[derive(Clone, Copy, Debug, PartialEq, Eq)]
-enum Then {
+pub(crate) enum Then {
     /// It fails.
     Fails,
     /// It takes no byte.
@@ -70,18 +70,18 @@ enum Then {
 
 /// An output with room for some bytes, of which it takes at most `at_once` a call. It counts calls.
 #[derive(Debug, Drop)]
-struct Output {
-    bytes: Vec<u8>,
+pub(crate) struct Output {
+    pub(crate) bytes: Vec<u8>,
     room: usize,
     at_once: usize,
     then: Then,
-    flushes_fail: bool,
+    pub(crate) flushes_fail: bool,
     writes: u32,
     flushes: u32,
 }
 
 impl Output {
-    fn new(alloc: Global, room: usize, at_once: usize, then: Then) -> Output {
+    pub(crate) fn new(alloc: Global, room: usize, at_once: usize, then: Then) -> Output {
         Output {
             bytes: Vec::new(alloc),
             room,

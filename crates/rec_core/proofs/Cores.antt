@@ -11,11 +11,11 @@ use Rattle.rec_core.specs.declared.reply.Reply.{Reply}
 use Rattle.rec_core.specs.declared.fault.CoreFault.{CoreFault}
 use Rattle.rec_core.specs.declared.fault.CoreFault.TheVariants.{NoChannel}
 use Rattle.rec_core.specs.World.{EventData, event_channel}
-use Rattle.rec_core.specs.Worlds.{ChannelParts, IsHeld, StepsWorld, channels_of_parts, IsCore}
+use Rattle.rec_core.specs.Worlds.{ChannelParts, IsHeld, StepsCut, channels_of_parts, IsCore}
 use Rattle.rec_core.specs.Steps.{Serves}
 use Rattle.rec_core.specs.Views.{channel_parts, all_parts, core_of}
 use Rattle.rec_core.proofs.Lists.{map_set, set_unseen, there_map}
-use Rattle.rec_core.proofs.Stepping.{served, of_none, core_after, known_at, held_at}
+use Rattle.rec_core.proofs.Stepping.{served, of_none, step_alone, core_after, known_at, held_at}
 
 -- the channel was found in these channels
 pub record Found (channels : List Channel) (at : ℕ) (channel : Channel) (event : EventData) : Type 0 where
@@ -42,26 +42,26 @@ found_known channels writer at channel event is found = known_at (core_of channe
 
 pub core_steps : (channels : List Channel) (old new : WriterState) (at : ℕ) (channel after : Channel) (event : EventData) (answer : Result Reply CoreFault)
     → Found channels at channel event
-    → (new.failed ≡ true → Begins channel.ring.pieces after.ring.pieces) → new.version ≡ old.version
+    → after.spec ≡ channel.spec → (new.failed ≡ true → Begins channel.ring.pieces after.ring.pieces) → new.version ≡ old.version
     → ((size : ℕ) → Serves size (channel_parts channel) (channel_parts after) old new event answer)
-    → StepsWorld (core_of channels old) (core_of (slice_set channels at after) new) event answer
-core_steps channels old new at channel after event answer found grows version serves =
-    subst (λ ps. StepsWorld (core_of channels old) (record { channels = ps; writer = new }) event answer) (sym (map_set channel_parts channels at after))
-    (served (all_parts channels) old new at (channel_parts channel) (channel_parts after) event answer found.there found.named grows version serves)
+    → StepsCut (core_of channels old) (core_of (slice_set channels at after) new) event answer
+core_steps channels old new at channel after event answer found spec grows version serves =
+    subst (λ ps. StepsCut (core_of channels old) (record { channels = ps; writer = new }) event answer) (sym (map_set channel_parts channels at after))
+    (served (all_parts channels) old new at (channel_parts channel) (channel_parts after) event answer found.there found.named (ap (λ (l : LaneSpec). l.channel) spec) grows version serves)
 
 pub core_stays : (channels : List Channel) (old new : WriterState) (at : ℕ) (channel after : Channel) (event : EventData) (answer : Result Reply CoreFault)
     → Found channels at channel event → after.spec ≡ channel.spec → channels_in new.numbers ≡ channels_in old.numbers
-    → StepsWorld (core_of channels old) (core_of (slice_set channels at after) new) event answer
+    → StepsCut (core_of channels old) (core_of (slice_set channels at after) new) event answer
     → IsCore (core_of channels old) → IsCore (core_of (slice_set channels at after) new)
 core_stays channels old new at channel after event answer found spec numbers steps is =
     let ids : channels_of_parts (all_parts (slice_set channels at after)) ≡ channels_of_parts (all_parts channels) =
     ap channels_of_parts (map_set channel_parts channels at after)
     ∙ set_unseen (λ (p : ChannelParts). p.settings.channel) (all_parts channels) at (channel_parts channel) (channel_parts after) found.there (ap (λ (l : LaneSpec). l.channel) spec) in
-    core_after (core_of channels old) (core_of (slice_set channels at after) new) event answer numbers ids steps is
+    core_after (core_of channels old) (core_of (slice_set channels at after) new) event answer numbers ids (step_alone (core_of channels old) (core_of (slice_set channels at after) new) event answer steps) is
 
 pub core_of_none : (channels slice : List Channel) (writer : WriterState) (id : ℕ) (event : EventData)
     → slice ≡ channels → id ≡ event_channel event → All (λ (other : ℕ). other ≢ id) (channels_of_parts (all_parts slice))
-    → StepsWorld (core_of channels writer) (core_of channels writer) event (Err NoChannel)
+    → StepsCut (core_of channels writer) (core_of channels writer) event (Err NoChannel)
 core_of_none channels slice writer id event same of none =
     of_none (all_parts channels) writer event
     (subst (λ n. All (λ (other : ℕ). other ≢ n) (channels_of_parts (all_parts channels))) of

@@ -1,7 +1,7 @@
 -- What a run has written of each channel.
 use Rattle.std.proofs.Common.{ℕ, suc, ◌≡◌, ◌≢◌, inl, inr, true, false, List, [], ◌∷◌, ◌++◌, length, Option, None, Some, refl, sym, ◌∙◌, ap, subst, arith, map, All, cond, eq-eqb}
 use Rattle.std.specs.Prelude.{slice_get, slice_set, ◌==◌, Result, Ok, Err}
-use Rattle.std.specs.List.{filter, Any}
+use Rattle.std.specs.List.{AllZip, filter, Any}
 use Rattle.std.proofs.lemmas.Bool.{cases_Bool, both_ways, eqb-true}
 use Rattle.std.proofs.lemmas.List.{append-nil, append_assoc, length-append}
 use Rattle.std.proofs.lemmas.List.Elements.{filter-append, All-append, All-cons, All-nil, All-map, All-weaker, All-head, All-tail}
@@ -21,8 +21,8 @@ use Rattle.rec_core.specs.declared.fault.CoreFault.TheVariants.{NoChannel}
 use Rattle.rec_core.specs.Openings.{SpecData, AreSpecs, HaveFilters, IsFilter, channels_of_specs}
 use Rattle.rec_core.specs.World.{ChannelState, WorldState, EventData, Does, IsInOrder, WorldStep, WorldRun, produced, frame_taken, program_installed, piece_sent, piece_written, channel_closed, opening_channel, opening_world}
 use Rattle.rec_core.specs.World.EventData.{OfTake, OfInstall, OfSend, OfWrite, OfClose}
-use Rattle.rec_core.specs.Worlds.{CoreState, Holds, StandsForWorld}
-use Rattle.rec_core.specs.Written.{RunsFromOpening, WritesInOrder, WritesAll, IsEnded, AreEnded, recorded_channel, recorded_channels, IsCutShort}
+use Rattle.rec_core.specs.Worlds.{CoreState, Holds, IsCutAtFront, StandsForWorld, StandsCutAt}
+use Rattle.rec_core.specs.Written.{RunsFromOpening, WritesInOrder, WritesAll, IsEnded, AreEnded, recorded_channel, recorded_channels, IsCutShort, IsCutShortAt}
 use Rattle.rec_core.proofs.Lists.{set_cases, set_unseen, map_there, there_map, All_there, All_from_places, Any_there, distinct_at, zip_there, get_behind}
 use Rattle.rec_core.proofs.Meeting.{LaterLeave, in_order_taken, in_order_installed, in_order_opening}
 use Rattle.rec_core.proofs.Serving.{OfTheirChannel, BeginAll, begins_there, produced_begins, produced_is_of, produced_open, produced_closed}
@@ -269,7 +269,7 @@ recorded leave theirs begin ring specs new r ended =
 works_at_end : (size : ℕ) (before : List ℕ) (core : CoreState) (w : WorldState) → AreEnded w → StandsForWorld size (Some before) core w → core.writer.failed ≡ false
 works_at_end size before core w ended s = elim (cases_Bool core.writer.failed) as (λ _. core.writer.failed ≡ false) [
   | inl fails ↦ (
-      let i = s.cut_at_front fails in
+      let i = (s.cut_at_front fails).1 in
       let z = zip_there (Holds size) core.channels w.channels i.at i.parts s.channels_are i.there in
       let q = z.2.queued in
       let whole = (All_there IsEnded w.channels i.at z.0 ended z.1).whole in
@@ -297,25 +297,34 @@ pub held_after : (before sent : List ℕ) (held : Option (List ℕ)) → Appends
 held_after before sent None appends = absurd appends
 held_after before sent (Some held) appends = ap (λ bs. Some bs) appends
 
-pub cut_short : (size : ℕ) (before : List ℕ) (core : CoreState) (w : WorldState) → StandsForWorld size (Some before) core w → core.writer.failed ≡ true → IsCutShort before core.writer w
-cut_short size before core w s fails =
-    let i = s.cut_at_front fails in
-    let z = zip_there (Holds size) core.channels w.channels i.at i.parts s.channels_are i.there in
+-- a cut in the first piece of a channel's ring, as the world has it
+short_at : (size : ℕ) (before : List ℕ) (core : CoreState) (w : WorldState) (channel : ℕ) (cut : List ℕ)
+    → AllZip (Holds size) core.channels w.channels → HasWritten (Some before) w.out cut core.writer → IsCutAtFront core channel w.out cut → IsCutShortAt before core.writer w channel
+short_at size before core w channel cut zip wrote i =
+    let z = zip_there (Holds size) core.channels w.channels i.at i.parts zip i.there in
     let q = z.2.queued in
     let all : produced z.0 ≡ q.gone ++ i.piece ∷ (i.rest ++ i.parts.pending) = q.produced_is ∙ ap (λ ps. q.gone ++ (ps ++ i.parts.pending)) i.front in
     let first = ap (λ (ps : List PieceData). length ps) i.front in
     let written = q.written_is in
-    let sent = q.sent_is in
-    record {
-      cut = s.cut;
-      held_is = held_after before (writer_output core.writer.version w.out ++ s.cut) core.writer.held s.written.held_is;
-      whole_is = s.written.whole_is;
-      bytes_are = s.written.bytes_is;
-      at = i.at;
-      channel = z.0;
-      there = z.1;
-      sent = omega (arith, written, sent, first);
-      piece = i.piece;
-      next = subst (λ n. slice_get (produced z.0) n ≡ Some i.piece) (sym q.written_is) (ap (λ ps. slice_get ps (length q.gone)) all ∙ get_behind q.gone i.piece (i.rest ++ i.parts.pending));
-      is_cut = i.is_cut;
-    }
+    let sent = q.sent_is in (
+      record {
+        cut = cut;
+        held_is = held_after before (writer_output core.writer.version w.out ++ cut) core.writer.held wrote.held_is;
+        whole_is = wrote.whole_is;
+        bytes_are = wrote.bytes_is;
+        at = i.at;
+        channel = z.0;
+        there = z.1;
+        sent = omega (arith, written, sent, first);
+        piece = i.piece;
+        next = subst (λ n. slice_get (produced z.0) n ≡ Some i.piece) (sym q.written_is) (ap (λ ps. slice_get ps (length q.gone)) all ∙ get_behind q.gone i.piece (i.rest ++ i.parts.pending));
+        is_cut = i.is_cut;
+      },
+      ap (λ (l : LaneSettings). l.channel) (sym z.2.settings_are) ∙ i.named,
+    )
+
+pub cut_short : (size : ℕ) (before : List ℕ) (core : CoreState) (w : WorldState) → StandsForWorld size (Some before) core w → core.writer.failed ≡ true → IsCutShort before core.writer w
+cut_short size before core w s fails = (let front = s.cut_at_front fails in short_at size before core w front.0 s.cut s.channels_are s.written front.1).0
+
+pub cut_short_at : (size : ℕ) (before : List ℕ) (core : CoreState) (w : WorldState) (channel : ℕ) → StandsCutAt size (Some before) core w channel → IsCutShortAt before core.writer w channel
+cut_short_at size before core w channel s = short_at size before core w channel s.cut s.stands.channels_are s.written s.at_front

@@ -1,5 +1,5 @@
 -- What a core holds, and the world that it stands for.
-use Rattle.std.specs.Prelude.{ℕ, ◌+◌, ◌≡◌, ◌≢◌, Bool, true, false, List, [], ◌∷◌, ◌++◌, length, map, All, Option, None, Some, slice_get, Result}
+use Rattle.std.specs.Prelude.{ℕ, ◌+◌, ◌≡◌, ◌≢◌, Bool, true, false, List, [], ◌∷◌, ◌++◌, length, map, All, Option, None, Some, slice_get, Result, Err}
 use Rattle.std.specs.List.{AllZip}
 use Rattle.rec_channel.specs.Slots.{SlotState}
 use Rattle.rec_lane.specs.Pieces.{LaneSettings, PieceData}
@@ -9,7 +9,8 @@ use Rattle.rec_writer.specs.Writers.{WriterState, HasWritten, IsCut}
 use Rattle.rec_core.specs.declared.reply.Reply.{Reply}
 use Rattle.rec_core.specs.declared.reply.Reply.TheVariants.{Wrote}
 use Rattle.rec_core.specs.declared.fault.CoreFault.{CoreFault}
-use Rattle.rec_core.specs.World.{ChannelState, WorldState, EventData, WorldStep, WorldRun, produced, IsInOrder}
+use Rattle.rec_core.specs.declared.fault.CoreFault.TheVariants.{Output}
+use Rattle.rec_core.specs.World.{ChannelState, WorldState, EventData, WorldStep, WorldRun, event_channel, produced, IsInOrder}
 
 -- what a core holds of a channel: what its lane is set to, and how many frames it may have; its
 -- slot; its lane until it is closed; how many pieces its ring has room for, and those in it; and
@@ -61,12 +62,14 @@ IsHeld parts = (size : ℕ) × (c : ChannelState) × Holds size parts c
 
 -- ---- a core
 
--- the bytes are the beginning of the packet of the first piece in some channel's ring, and not all
+-- the bytes are the beginning of the packet of the first piece in this channel's ring, and not all
 -- of it
-pub record IsCutAtFront (core : CoreState) (out : List PieceData) (cut : List ℕ) : Type 0 where
+pub record IsCutAtFront
+    (core : CoreState) (channel : ℕ) (out : List PieceData) (cut : List ℕ) : Type 0 where
   pub at : ℕ
   pub parts : ChannelParts
   pub there : slice_get core.channels at ≡ Some parts
+  pub named : parts.settings.channel ≡ channel
   pub piece : PieceData
   pub rest : List PieceData
   pub front : parts.ring ≡ piece ∷ rest
@@ -81,7 +84,26 @@ pub record StandsForWorld
   pub cut : List ℕ
   pub written : HasWritten first world.out cut core.writer
   pub none_cut : core.writer.failed ≡ false → cut ≡ []
-  pub cut_at_front : core.writer.failed ≡ true → IsCutAtFront core world.out cut
+  pub cut_at_front : core.writer.failed ≡ true
+      → (channel : ℕ) × IsCutAtFront core channel world.out cut
+
+-- the core stands for the world, and its output failed in the first piece of this channel's ring
+pub record StandsCutAt
+    (size : ℕ) (first : Option (List ℕ)) (core : CoreState) (world : WorldState) (channel : ℕ)
+    : Type 0 where
+  pub stands : StandsForWorld size first core world
+  pub failed : core.writer.failed ≡ true
+  pub cut : List ℕ
+  pub written : HasWritten first world.out cut core.writer
+  pub at_front : IsCutAtFront core channel world.out cut
+
+-- the core stands for the world, and its output failed in a piece of this channel, or works if there
+-- is none
+abbrev pub StandsWith :
+    (size : ℕ) (first : Option (List ℕ)) → CoreState → WorldState → Option ℕ → Type 0
+StandsWith size first core world None =
+    StandsForWorld size first core world × (core.writer.failed ≡ false)
+StandsWith size first core world (Some channel) = StandsCutAt size first core world channel
 
 -- ---- what a call did
 
@@ -101,6 +123,39 @@ RunsWorld old new events answers =
     → StandsForWorld size first old world
     → (after : WorldState)
     × WorldRun size world events answers after × StandsForWorld size first new after
+
+-- the channel in whose piece the output has failed: as before, or that of the first event that is
+-- answered so
+abbrev pub failed_then : EventData → Result Reply CoreFault → Option ℕ → Option ℕ
+failed_then event (Err Output) None = Some (event_channel event)
+failed_then event answer failed = failed
+
+-- the same after these answers to these events
+abbrev pub failed_after : List EventData → List (Result Reply CoreFault) → Option ℕ → Option ℕ
+failed_after (event ∷ events) (answer ∷ answers) failed =
+    failed_after events answers (failed_then event answer failed)
+failed_after events answers failed = failed
+
+-- whatever world the core stood for and whatever channel's piece was cut, the answer to the event
+-- leads to a world that the core stands for now, and the piece that is cut now is of the channel which
+-- was answered first that the output failed
+abbrev pub StepsCut : CoreState → CoreState → EventData → Result Reply CoreFault → Type 0
+StepsCut old new event answer =
+    (size : ℕ) (first : Option (List ℕ)) (world : WorldState) (failed : Option ℕ)
+    → StandsWith size first old world failed
+    → (after : WorldState)
+    × WorldStep size world event answer after
+    × StandsWith size first new after (failed_then event answer failed)
+
+-- and so do these answers to these events, one after the other
+abbrev pub RunsCut :
+    CoreState → CoreState → List EventData → List (Result Reply CoreFault) → Type 0
+RunsCut old new events answers =
+    (size : ℕ) (first : Option (List ℕ)) (world : WorldState) (failed : Option ℕ)
+    → StandsWith size first old world failed
+    → (after : WorldState)
+    × WorldRun size world events answers after
+    × StandsWith size first new after (failed_after events answers failed)
 
 -- a piece is written only while the output has not failed
 abbrev pub WritesOnlyWhileItWorks : (failed : Bool) → Reply → Type 0

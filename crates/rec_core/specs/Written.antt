@@ -64,3 +64,8 @@ pub record IsCutShort (before : List ℕ) (writer : WriterState) (world : WorldS
   pub piece : PieceData
   pub next : slice_get (produced channel) channel.written ≡ Some piece
   pub is_cut : IsCut writer.version world.out piece cut
+
+-- the same, and the piece is one of the channel with this ID
+abbrev pub IsCutShortAt : (before : List ℕ) → WriterState → WorldState → (channel : ℕ) → Type 0
+IsCutShortAt before writer world channel =
+    (short : IsCutShort before writer world) × (short.channel.settings.channel ≡ channel)

@@ -8,8 +8,8 @@ ghost use Rattle.rec_writer.specs.Writers.{HoldsRecording};
 ghost use Rattle.rec_core.specs.Openings.{SpecData, AreSpecs};
 ghost use Rattle.rec_core.specs.Ties.{IsOfSpec, IsRunOfWorld};
 ghost use Rattle.rec_core.specs.World.{WorldState, IsInOrder};
-ghost use Rattle.rec_core.specs.Worlds.{CoreState, StandsForWorld};
-ghost use Rattle.rec_core.specs.Written.{RunsFromOpening, WritesInOrder, WritesAll, AreEnded, recorded_channels, IsCutShort};
+ghost use Rattle.rec_core.specs.Worlds.{CoreState, StandsForWorld, StandsCutAt};
+ghost use Rattle.rec_core.specs.Written.{RunsFromOpening, WritesInOrder, WritesAll, AreEnded, recorded_channels, IsCutShort, IsCutShortAt};
 
 use ch11_packet::packets_have_their_lengths;
 use rec_lane::{
@@ -70,10 +70,13 @@ pub fn a_recording_is_a_run()
 }
 
 /// Law: where the output of a core failed, it took the packets of the written pieces, and then the
-/// beginning of one further packet, and not all of it: that of the piece that stands first in some
-/// channel's ring.
+/// beginning of one further packet, and not all of it: that of the piece that stands first in the
+/// ring of the channel whose write was the first to fail.
 pub fn a_failed_output_is_cut_in_one_piece()
-    ensures { (ring : ℕ) (before : List ℕ) (core : CoreState) (world : WorldState)
+    ensures cut { (ring : ℕ) (before : List ℕ) (core : CoreState) (world : WorldState)
         → StandsForWorld ring (Some before) core world → core.writer.failed ≡ true
         → IsCutShort before core.writer world }
+    ensures channel { (ring : ℕ) (before : List ℕ) (core : CoreState) (world : WorldState)
+        (channel : ℕ) → StandsCutAt ring (Some before) core world channel
+        → IsCutShortAt before core.writer world channel }
 {}

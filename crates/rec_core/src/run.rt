@@ -1,7 +1,7 @@
 //! Runs of a core.
 
 ghost use Rattle.std.specs.Prelude.{◌≡◌, true, IfOk, OnErr};
-ghost use Rattle.rec_core.specs.Worlds.{RunsWorld};
+ghost use Rattle.rec_core.specs.Worlds.{RunsWorld, RunsCut};
 ghost use Rattle.rec_core.specs.Views.{events_data};
 
 use crate::event::Event;
@@ -24,6 +24,9 @@ pub fn run_world<W: Write + Drop>(
     // A run of each world that the core stood for.
     ensures run { IfOk result (λ answers.
         RunsWorld world.old world.new (events_data events.now) answers.items) }
+    // An output that fails is cut in a piece of the channel that is answered so first.
+    ensures cut { IfOk result (λ answers.
+        RunsCut world.old world.new (events_data events.now) answers.items) }
     // An output that had failed is not written.
     ensures silent { (world.old.writer.failed ≡ true) → world.new.writer ≡ world.old.writer }
     ensures version { world.new.writer.version ≡ world.old.writer.version }

@@ -40,7 +40,7 @@ impl<W: Write> Model for World<W> {
 impl<W: Write + Drop> World<W> {
     ghost use Rattle.rec_core.specs.Openings.{AreSpecs};
     ghost use Rattle.rec_core.specs.World.{opening_world};
-    ghost use Rattle.rec_core.specs.Worlds.{StandsForWorld, StepsWorld, WritesOnlyWhileItWorks};
+    ghost use Rattle.rec_core.specs.Worlds.{StandsForWorld, StepsWorld, StepsCut, WritesOnlyWhileItWorks};
     ghost use Rattle.rec_core.specs.Views.{event_data};
 
     /// A core of these channels, of which nothing was taken. Each channel's ring has room for
@@ -82,7 +82,9 @@ impl<W: Write + Drop> World<W> {
     pub fn step(&mut self, event: &Event) -> Result<Reply, CoreFault>
         // A step of each world that the core stood for.
         ensures step { StepsWorld self.old self.new (event_data event.now) result }
-        // A failed output: it is not written again, and no later write succeeds.
+        // A failed output: its bytes end within the first piece in the ring of the channel whose
+        // write was the first to fail; it is not written again, and no later write succeeds.
+        ensures cut { StepsCut self.old self.new (event_data event.now) result }
         ensures failed { (result ≡ Err CoreFault.Output) → self.new.writer.failed ≡ true }
         ensures silent { (self.old.writer.failed ≡ true) → self.new.writer ≡ self.old.writer }
         ensures works { IfOk result (WritesOnlyWhileItWorks self.old.writer.failed) }

@@ -79,6 +79,7 @@ fn a_failing_reader_is_a_fault_of_the_device(rt: HostRuntime) -> Result<(), Fail
             (2, [device, device, device]),
             (3, [Ok(Next::Frame), device, device]),
             (4, [Ok(Next::Frame), device, device]),
+            (5, [Ok(Next::Frame), Ok(Next::Frame), device]),
         ] {
             let mut source = FeedSource::new(Pieces::failing(&two, call, kind));
             assert_eq!(rt;

@@ -176,7 +176,7 @@ fn many_channels_record_beside_many_changes(rt: HostRuntime) -> Result<(), Fail>
         .count();
     assert_eq!(rt; (done.control.told.len(), full), (1_100, 77));
     for report in done.report.channels.as_slice() {
-        let found = rising_counters(alloc, done.out.bytes.as_slice(), report.channel)?;
+        let found = rising_counters(alloc, done.out.output.bytes.as_slice(), report.channel)?;
         assert_eq!(rt; found.map(|n| n as u64), Some(report.kept));
         let versions = if report.channel == 1 { 1_024 } else { 1 };
         assert_eq!(rt; (report.versions.len(), report.offered), (versions, 1_000));
@@ -201,7 +201,7 @@ fn a_source_that_waits_holds_up_its_own_channel_alone(rt: HostRuntime) -> Result
     out.full = 290_000;
     out.full_mark = WRITTEN;
     let done = recorded(&rt, alloc, jobs, 1, control, out)?;
-    let bytes = done.out.bytes.as_slice();
+    let bytes = done.out.output.bytes.as_slice();
     assert_eq!(rt; rising_counters(alloc, bytes, 1)?, Some(3));
     assert_eq!(rt; rising_counters(alloc, bytes, 2)?, Some(10_000));
     Ok(())
@@ -222,7 +222,7 @@ fn each_channel_has_the_frames_that_its_filter_accepts(rt: HostRuntime) -> Resul
     let control = fresh_script(alloc, Arc::try_clone(&marks)?, Vec::new(alloc), NONE);
     let out = output(alloc, marks, usize::MAX);
     let done = recorded(&rt, alloc, jobs, 1, control, out)?;
-    let Ok(recording) = read_recording(alloc, done.out.bytes.as_slice()) else {
+    let Ok(recording) = read_recording(alloc, done.out.output.bytes.as_slice()) else {
         return Err("a recording that is read")?;
     };
     assert_eq!(rt; done.report.pieces, recording.packets.len() as u64);

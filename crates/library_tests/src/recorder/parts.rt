@@ -4,6 +4,7 @@ ghost use Rattle.std.specs.Prelude.{◌≡◌, [], false};
 
 use super::script::Script;
 use crate::shared::{all_bytes, program};
+use crate::writer::{Output, Then};
 use ch11_packet::Limit;
 use eth_frame::FeedSource;
 use rec_lane::LaneSpec;
@@ -106,11 +107,14 @@ pub(super) fn stage_of(bytes: Vec<u8>, began: usize, needs: [usize; 2], gave: us
     }
 }
 
-/// A reader of stages, one after the other.
+/// A reader of stages, one after the other. It gives at most `most` bytes a call, and fails after
+/// this number of calls.
 #[derive(Drop)]
 pub(super) struct Stages {
     pub(super) marks: Shared,
     pub(super) stages: Vec<Stage>,
+    most: usize,
+    calls: usize,
     at: usize,
     given: usize,
     within: usize,
@@ -118,9 +122,22 @@ pub(super) struct Stages {
 
 /// A source over stages.
 pub(super) fn source(marks: Shared, stages: Vec<Stage>) -> FeedSource<Stages> {
+    failing_source(marks, stages, usize::MAX, usize::MAX)
+}
+
+/// A source over stages that come in pieces of at most `most` bytes, and whose reader fails after
+/// this number of calls.
+pub(super) fn failing_source(
+    marks: Shared,
+    stages: Vec<Stage>,
+    most: usize,
+    calls: usize,
+) -> FeedSource<Stages> {
     FeedSource::new(Stages {
         marks,
         stages,
+        most,
+        calls,
         at: 0,
         given: 0,
         within: 0,
@@ -129,6 +146,10 @@ pub(super) fn source(marks: Shared, stages: Vec<Stage>) -> FeedSource<Stages> {
 
 impl Read for Stages {
     fn read(&mut self, buf: &mut [u8]) -> io::Result<usize> {
+        let Some(calls) = self.calls.checked_sub(1) else {
+            return Err(io::Error::from(ErrorKind::BrokenPipe));
+        };
+        self.calls = calls;
         let Some(stage) = self.stages.get(self.at) else {
             return Ok(0);
         };
@@ -141,7 +162,7 @@ impl Read for Stages {
         let Some(left) = stage.bytes.get(self.within..) else {
             return Ok(0);
         };
-        let count = left.len().min(buf.len());
+        let count = left.len().min(buf.len()).min(self.most);
         buf[..count].copy_from_slice(&left[..count]);
         self.within += count;
         if self.within == stage.bytes.len() && count > 0 {
@@ -213,61 +234,52 @@ pub(super) fn fresh_script(
     }
 }
 
-/// An output that keeps its bytes. Its first write waits for a mark, and fails if another one comes
-/// soon after that; it sets one when it has so many bytes. It fails where it has no room.
+/// An output behind marks. Its first write waits for one, and fails if another one comes soon after
+/// that; it sets one when it has so many bytes.
 #[derive(Drop)]
 pub(super) struct Watched {
-    pub(super) bytes: Vec<u8>,
+    pub(super) output: Output,
     pub(super) marks: Shared,
     pub(super) needs: usize,
     pub(super) refuses: usize,
     pub(super) full: usize,
     pub(super) full_mark: usize,
-    pub(super) room: usize,
-    pub(super) flushes_fail: bool,
 }
 
 impl Write for Watched {
     fn write(&mut self, buf: &[u8]) -> io::Result<usize> {
-        if self.bytes.is_empty() {
+        if self.output.bytes.is_empty() {
             let late = !self.marks.wait(self.needs);
             if late || self.marks.comes(self.refuses, SOON) {
                 return Err(io::Error::from(ErrorKind::TimedOut));
             }
         }
-        if self.room == 0 && !buf.is_empty() {
-            return Err(io::Error::from(ErrorKind::StorageFull));
-        }
-        let count = self.room.min(buf.len());
-        self.bytes
-            .extend_from_slice(&buf[..count])
-            .map_err(|_| io::Error::from(ErrorKind::OutOfMemory))?;
-        self.room -= count;
-        if self.bytes.len() >= self.full {
+        let count = self.output.write(buf)?;
+        if self.output.bytes.len() >= self.full {
             self.marks.set(self.full_mark);
         }
         Ok(count)
     }
 
     fn flush(&mut self) -> io::Result<()> {
-        if self.flushes_fail {
-            return Err(io::Error::from(ErrorKind::StorageFull));
-        }
-        Ok(())
+        self.output.flush()
     }
 }
 
-/// An output that waits for nothing and has room for so many bytes.
+/// An output behind marks that waits for none and has room for so many bytes.
 pub(super) fn output(alloc: Global, marks: Shared, room: usize) -> Watched {
+    behind_marks(Output::new(alloc, room, usize::MAX, Then::Fails), marks)
+}
+
+/// An output behind marks, which waits for none of them.
+pub(super) fn behind_marks(output: Output, marks: Shared) -> Watched {
     Watched {
-        bytes: Vec::new(alloc),
+        output,
         marks,
         needs: NONE,
         refuses: NEVER,
         full: usize::MAX,
         full_mark: NONE,
-        room,
-        flushes_fail: false,
     }
 }
 

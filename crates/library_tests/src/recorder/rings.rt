@@ -53,7 +53,7 @@ fn fill_the_ring<R: Threads + Wait + Sync>(
     out.needs = ASKED;
     out.refuses = ASKED_AGAIN;
     let done = recorded(rt, alloc, jobs, ring, control, out)?;
-    let bytes = done.out.bytes.as_slice();
+    let bytes = done.out.output.bytes.as_slice();
     let Ok(recording) = read_recording(alloc, bytes) else {
         return Err("a recording that is read")?;
     };

@@ -4,7 +4,8 @@ ghost use Rattle.std.specs.Prelude.{◌≡◌, ◌≤◌, [], false};
 
 use super::parts::*;
 use super::script::Script;
-use crate::shared::all_bytes;
+use crate::shared::{all_bytes, counters_of};
+use crate::writer::{Output, Then};
 use eth_frame::{FeedSource, SourceFault};
 use rec_run::*;
 use rec_writer::WriteFault;
@@ -53,22 +54,19 @@ fn two_frames<R: Threads + Wait + Sync>(
     rt: &R,
     alloc: Global,
     frames: u8,
-    room: usize,
-    flushes_fail: bool,
+    output: Output,
 ) -> Result<(Vec<u8>, Option<Told4>, Option<WriteFault>), Fail> {
     let marks = fresh_marks(alloc)?;
     let mut jobs = Vec::new(alloc);
     let source = source(Arc::try_clone(&marks)?, feed(alloc, frames)?);
     jobs.push(job(alloc, 1, ACCEPT, source)?)?;
     let control = fresh_script(alloc, Arc::try_clone(&marks)?, Vec::new(alloc), NONE);
-    let mut out = output(alloc, marks, room);
-    out.flushes_fail = flushes_fail;
     if !jobs_ok(jobs.as_slice()) {
         return Err("jobs that may be recorded")?;
     }
-    match record(rt, alloc, jobs, 64, 8, control, out) {
+    match record(rt, alloc, jobs, 64, 8, control, behind_marks(output, marks)) {
         Ok(Done { report, out, .. }) => Ok((
-            out.bytes,
+            out.output.bytes,
             first_told(report.channels.as_slice()),
             None,
         )),
@@ -80,12 +78,17 @@ fn two_frames<R: Threads + Wait + Sync>(
                 ..
             },
         ) => Ok((
-            out.bytes,
+            out.output.bytes,
             first_told(report.channels.as_slice()),
             Some(fault),
         )),
         Err(_) => Err("a recording")?,
     }
+}
+
+/// An output with room for all bytes, of which it takes at most `at_once` a call.
+fn wide(alloc: Global, at_once: usize) -> Output {
+    Output::new(alloc, usize::MAX, at_once, Then::Fails)
 }
 
 /// What is told of the first channel.
@@ -101,33 +104,47 @@ fn first_told<S: Drop>(reports: &[ChannelReport<S>]) -> Option<Told4> {
 
 #[test]
 fn a_feed_is_recorded(rt: HostRuntime) -> Result<(), Fail> {
-    let (bytes, told, fault) = two_frames(&rt, rt.alloc(), 2, usize::MAX, false)?;
-    assert_eq!(rt; bytes, all_bytes(rt.alloc(), TWO_FRAMES)?);
-    assert_eq!(rt; told, Some((1, 2, 2, Ending::SourceEnd)));
-    assert_eq!(rt; fault, None);
-    let (bytes, told, _) = two_frames(&rt, rt.alloc(), 0, usize::MAX, false)?;
-    assert_eq!(rt; bytes, all_bytes(rt.alloc(), NO_FRAME)?);
+    let alloc = rt.alloc();
+    for at_once in [usize::MAX, 1] {
+        let (bytes, told, fault) = two_frames(&rt, alloc, 2, wide(alloc, at_once))?;
+        assert_eq!(rt; bytes, all_bytes(alloc, TWO_FRAMES)?);
+        assert_eq!(rt; told, Some((1, 2, 2, Ending::SourceEnd)));
+        assert_eq!(rt; fault, None);
+    }
+    let (bytes, told, _) = two_frames(&rt, alloc, 0, wide(alloc, usize::MAX))?;
+    assert_eq!(rt; bytes, all_bytes(alloc, NO_FRAME)?);
     assert_eq!(rt; told, Some((1, 0, 0, Ending::SourceEnd)));
     Ok(())
 }
 
+/// The first packets of the recording are whole, and the frames that are read are those in them.
 #[test]
 fn an_output_that_fails_cuts_the_recording(rt: HostRuntime) -> Result<(), Fail> {
-    let all = all_bytes(rt.alloc(), TWO_FRAMES)?;
-    for room in 0..200usize {
-        let (bytes, told, fault) = two_frames(&rt, rt.alloc(), 2, room, false)?;
-        assert_eq!(rt; bytes.as_slice(), &all[..room.min(all.len())]);
-        assert!(rt; told.is_some());
-        let (whole, rest) = match room {
-            0..60 => (0, room),
-            60..148 => (1, room - 60),
-            _ => (2, room - 148),
-        };
-        let bytes = rest as u64;
-        assert_eq!(rt; fault, Some(WriteFault::Output { whole, bytes }));
+    let alloc = rt.alloc();
+    let all = all_bytes(alloc, TWO_FRAMES)?;
+    for (at_once, then) in [(usize::MAX, Then::Fails), (1, Then::TakesNone)] {
+        for room in 0..200usize {
+            let out = Output::new(alloc, room, at_once, then);
+            let (bytes, told, fault) = two_frames(&rt, alloc, 2, out)?;
+            assert_eq!(rt; bytes.as_slice(), &all[..room.min(all.len())]);
+            assert!(rt; told.is_some());
+            let (whole, rest, frames): (u64, usize, &[u64]) = match room {
+                0..60 => (0, room, &[]),
+                60..148 => (1, room - 60, &[]),
+                _ => (2, room - 148, &[16, 32]),
+            };
+            let found = counters_of(alloc, bytes.as_slice(), 1)?;
+            assert_eq!(rt; found.as_slice(), frames, "{room} bytes");
+            let bytes = rest as u64;
+            assert_eq!(rt; fault, Some(WriteFault::Output { whole, bytes }));
+        }
     }
-    let (bytes, _, fault) = two_frames(&rt, rt.alloc(), 2, usize::MAX, true)?;
+    let mut out = wide(alloc, usize::MAX);
+    out.flushes_fail = true;
+    let (bytes, _, fault) = two_frames(&rt, alloc, 2, out)?;
     assert_eq!(rt; bytes, all);
+    let found = counters_of(alloc, bytes.as_slice(), 1)?;
+    assert_eq!(rt; found.as_slice(), [16, 32].as_slice());
     assert_eq!(rt; fault, Some(WriteFault::Output { whole: 3, bytes: 0 }));
     Ok(())
 }
@@ -210,7 +227,7 @@ fn sources_control_and_output_wait_for_one_another(rt: HostRuntime) -> Result<()
     let (told, marks) = told_of(alloc, reports, 1)?;
     assert_eq!(rt; told, (2, 1, 1, Ending::SourceEnd));
     assert_eq!(rt; marks.as_slice(), [0, 0].as_slice());
-    assert_eq!(rt; done.report.bytes, done.out.bytes.len() as u64);
+    assert_eq!(rt; done.report.bytes, done.out.output.bytes.len() as u64);
     Ok(())
 }
 
@@ -302,21 +319,50 @@ fn a_channel_ends_as_its_source_or_at_its_count(rt: HostRuntime) -> Result<(), F
     Ok(())
 }
 
-#[test]
-fn a_device_that_fails_ends_its_channel(rt: HostRuntime) -> Result<(), Fail> {
-    let alloc = rt.alloc();
+/// Records two frames on channel 1, whose reader gives at most `most` bytes a call and fails after
+/// this number of calls, and the same frames on channel 2: what is told of both, and the recording.
+fn beside_a_failing_reader<R: Threads + Wait + Sync>(
+    rt: &R,
+    alloc: Global,
+    most: usize,
+    calls: usize,
+) -> Result<([Option<Told4>; 2], Vec<u8>), Fail> {
     let marks = fresh_marks(alloc)?;
-    let mut stages = feed(alloc, 2)?;
-    stages.push(stage_of(Vec::new(alloc), NONE, [NEVER, NONE], NONE))?;
     let mut jobs = Vec::new(alloc);
-    let source = source(Arc::try_clone(&marks)?, stages);
-    jobs.push(job(alloc, 1, ACCEPT, source)?)?;
+    let failing = failing_source(Arc::try_clone(&marks)?, feed(alloc, 2)?, most, calls);
+    jobs.push(job(alloc, 1, ACCEPT, failing)?)?;
+    let whole = source(Arc::try_clone(&marks)?, feed(alloc, 2)?);
+    jobs.push(job(alloc, 2, ACCEPT, whole)?)?;
     let control = fresh_script(alloc, Arc::try_clone(&marks)?, Vec::new(alloc), NONE);
     let out = output(alloc, marks, usize::MAX);
-    let done = recorded(&rt, alloc, jobs, 1, control, out)?;
-    let ending = Ending::SourceFault(SourceFault::Device);
-    let told = first_told(done.report.channels.as_slice());
-    assert_eq!(rt; told, Some((1, 2, 2, ending)));
-    assert_eq!(rt; done.out.bytes, all_bytes(alloc, TWO_FRAMES)?);
+    let Done { report, out, .. } = recorded(rt, alloc, jobs, 1, control, out)?;
+    let reports = report.channels.as_slice();
+    let told = [
+        first_told(reports),
+        first_told(reports.get(1..).unwrap_or(&[])),
+    ];
+    Ok((told, out.output.bytes))
+}
+
+/// A record takes two calls, for its head and for its frame, or one for each of its 27 bytes; the
+/// last call finds the end.
+#[test]
+fn a_reader_that_fails_at_any_call_ends_its_channel_alone(rt: HostRuntime) -> Result<(), Fail> {
+    let alloc = rt.alloc();
+    for (most, a_record, last) in [(usize::MAX, 2usize, 4usize), (1, 27, 54)] {
+        for calls in 0..=last {
+            let ([failed, whole], bytes) = beside_a_failing_reader(&rt, alloc, most, calls)?;
+            let taken = calls.checked_div(a_record).unwrap_or(0);
+            let count = taken as u64;
+            let ending = Ending::SourceFault(SourceFault::Device);
+            assert_eq!(rt; failed, Some((1, count, count, ending)), "{calls} calls");
+            assert_eq!(rt; whole, Some((1, 2, 2, Ending::SourceEnd)), "{calls} calls");
+            let both = [16, 32];
+            let found = counters_of(alloc, bytes.as_slice(), 1)?;
+            assert_eq!(rt; Some(found.as_slice()), both.get(..taken), "{calls} calls");
+            let found = counters_of(alloc, bytes.as_slice(), 2)?;
+            assert_eq!(rt; found.as_slice(), both.as_slice(), "{calls} calls");
+        }
+    }
     Ok(())
 }
