@@ -110,7 +110,13 @@ fn each_form_alone_does_its_part(rt: HostRuntime) -> Result<(), Fail> {
         ("3,5 0 0 1,6 0 0 1,6 0 0 2,", 2),
     ];
     for (listing, value) in listings {
-        returns(&rt, alloc, parse_listing(rt.alloc(), listing)?.as_slice(), &BYTES, value)?;
+        returns(
+            &rt,
+            alloc,
+            parse_listing(rt.alloc(), listing)?.as_slice(),
+            &BYTES,
+            value,
+        )?;
     }
     for (absolute, indexed, size, value) in LOADS {
         let absolute = [insn(absolute, u32::from(OFFSET)), insn(ret_a, 0)];
@@ -167,7 +173,14 @@ fn each_pair_is_its_two_instructions(rt: HostRuntime) -> Result<(), Fail> {
                 _ => word.wrapping_add(k).wrapping_sub(77),
             };
             let pair = [insn(load, u32::from(OFFSET)), test(code, 0, 1, k), yes, no];
-            let into = [insn(0x00, word), insn(0x05, 1), insn(load, 9), test(code, 0, 1, k), yes, no];
+            let into = [
+                insn(0x00, word),
+                insn(0x05, 1),
+                insn(load, 9),
+                test(code, 0, 1, k),
+                yes,
+                no,
+            ];
             returns(&rt, alloc, &pair, &BYTES, value)?;
             returns(&rt, alloc, &pair, shown(size, 0), value)?;
             returns(&rt, alloc, &pair, shown(size, 1), 0)?;
@@ -181,9 +194,29 @@ fn each_pair_is_its_two_instructions(rt: HostRuntime) -> Result<(), Fail> {
         let [one, two, three] = ends;
         let second = test(0x15, 2, 0, 6);
         let ld = insn(0x00, a);
-        returns(&rt, alloc, &[ld, test(0x15, 2, 0, 5), second, one, two, three], &[], joined)?;
-        returns(&rt, alloc, &[ld, test(0x15, 2, 1, 5), second, one, two, three], &[], past)?;
-        let jump = [ld, insn(0x05, 1), test(0x15, 2, 0, 5), second, one, two, three];
+        returns(
+            &rt,
+            alloc,
+            &[ld, test(0x15, 2, 0, 5), second, one, two, three],
+            &[],
+            joined,
+        )?;
+        returns(
+            &rt,
+            alloc,
+            &[ld, test(0x15, 2, 1, 5), second, one, two, three],
+            &[],
+            past,
+        )?;
+        let jump = [
+            ld,
+            insn(0x05, 1),
+            test(0x15, 2, 0, 5),
+            second,
+            one,
+            two,
+            three,
+        ];
         returns(&rt, alloc, &jump, &[], into)?;
     }
     Ok(())

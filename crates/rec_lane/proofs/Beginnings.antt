@@ -95,7 +95,6 @@ pub left_are : (lane : LaneState) (offered : List OfferedFrame) (given : List Pi
     → channel_pieces lane.settings offered ≡ pieces_so_far lane.settings offered ++ given
 left_are lane offered given met is = all_pieces lane.settings offered ∙ rw (is, met.pending_is, met.counter_is, met.offered_is, met.kept_is) refl
 
-
 pub begin_all : (s : LaneSettings) (offered more : List OfferedFrame) → Begins (pieces_so_far s offered) (channel_pieces s (offered ++ more))
 begin_all s offered more =
     begins_through (pieces_so_far s offered) (pieces_so_far s (offered ++ more)) _ (frames_more s offered more)

@@ -16,9 +16,6 @@ use Rattle.rec_lane.specs.Pieces.PieceData.{OfProgram}
 use Rattle.rec_lane.specs.Lanes.{LaneState, HasMet, VersionProgram, version_of, is_current, running, offered_now}
 use Rattle.rec_lane.specs.Steps.{packet_closed, closed_pieces, frame_added, frame_kept, kept_pieces, frame_judged, judged_pieces, frame_counted, frame_of_new_version, begun_pieces, begun_piece, RunsAs, is_none, program_met}
 use Rattle.bpf_machine.specs.Machine.{Runs}
-use Rattle.std.specs.Arc.{arc_value}
-use Rattle.rec_lane.specs.declared.version.Current.{Current}
-use Rattle.rec_lane.specs.Currents.{current_of}
 use Rattle.rec_lane.proofs.Parted.{ended_on, last_on, ended_off, last_off}
 
 -- ---- lists of offered frames
@@ -345,6 +342,6 @@ pub runs_as : (current : Option VersionProgram) (prepared : Option (List Insn)) 
 runs_as None prepared bytes seen value some is seen_is ran = cc
 runs_as (Some current) prepared bytes seen value some is seen_is ran =
     let runs : (steps : ℕ) × Runs current.program seen steps value × (steps ≤ length current.program) =
-      subst (λ (o : Option (List Insn)). IfSome o (λ program. (steps : ℕ) × Runs program seen steps value × (steps ≤ length program))) is
-        (subst (λ (bs : List ℕ). IfSome prepared (λ program. (steps : ℕ) × Runs program bs steps value × (steps ≤ length program))) seen_is ran) in
+    subst (λ (o : Option (List Insn)). IfSome o (λ program. (steps : ℕ) × Runs program seen steps value × (steps ≤ length program))) is
+    (subst (λ (bs : List ℕ). IfSome prepared (λ program. (steps : ℕ) × Runs program bs steps value × (steps ≤ length program))) seen_is ran) in
     (runs.0, runs.1)

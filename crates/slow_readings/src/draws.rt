@@ -78,7 +78,12 @@ impl Draws {
             })?;
         }
         let code = if self.once_in(2) { 0x06 } else { 0x16 };
-        program.push(Insn { code, jt: 0, jf: 0, k: 9 })?;
+        program.push(Insn {
+            code,
+            jt: 0,
+            jf: 0,
+            k: 9,
+        })?;
         Ok(program)
     }
 

@@ -36,7 +36,10 @@ fn values_agree_on_drawn_programs(rt: HostRuntime) -> Result<(), Fail> {
             others = others.saturating_add(usize::from(value != 0));
         }
     }
-    assert!(rt; valid >= MANY && others >= MANY, "{valid} are valid, {others} return more than 0");
+    assert!(rt;
+        valid >= MANY && others >= MANY,
+        "{valid} are valid, {others} return more than 0"
+    );
     Ok(())
 }
 
