@@ -94,10 +94,33 @@ const TESTS: [(u16, u32, bool); 8] = [
     (0x45, 2, false),
 ];
 
+/// Operations of 77 and 6: their codes with a constant and with X, and what they give.
+const OPERATIONS: [(u16, u16, u32); 10] = [
+    (0x04, 0x0c, 83),
+    (0x14, 0x1c, 71),
+    (0x24, 0x2c, 462),
+    (0x34, 0x3c, 12),
+    (0x44, 0x4c, 79),
+    (0x54, 0x5c, 4),
+    (0x64, 0x6c, 4928),
+    (0x74, 0x7c, 1),
+    (0x94, 0x9c, 5),
+    (0xa4, 0xac, 75),
+];
+
+const LD: u16 = 0x00;
+
+const LDX: u16 = 0x01;
+
+const JA: u16 = 0x05;
+
+const RET_K: u16 = 0x06;
+
+const RET_A: u16 = 0x16;
+
 #[test]
-fn each_form_alone_does_its_part(rt: HostRuntime) -> Result<(), Fail> {
+fn each_load_and_store_alone_does_its_part(rt: HostRuntime) -> Result<(), Fail> {
     let alloc = rt.alloc();
-    let (ld, ldx, tax, txa, ret_a) = (0x00, 0x01, 0x07, 0x87, 0x16);
     let listings = [
         ("2,0 0 0 7,22 0 0 0,", 7),
         ("2,128 0 0 0,22 0 0 0,", 8),
@@ -110,59 +133,45 @@ fn each_form_alone_does_its_part(rt: HostRuntime) -> Result<(), Fail> {
         ("3,5 0 0 1,6 0 0 1,6 0 0 2,", 2),
     ];
     for (listing, value) in listings {
-        returns(
-            &rt,
-            alloc,
-            parse_listing(rt.alloc(), listing)?.as_slice(),
-            &BYTES,
-            value,
-        )?;
+        let insns = parse_listing(alloc, listing)?;
+        returns(&rt, alloc, insns.as_slice(), &BYTES, value)?;
     }
     for (absolute, indexed, size, value) in LOADS {
-        let absolute = [insn(absolute, u32::from(OFFSET)), insn(ret_a, 0)];
-        let indexed = [insn(ldx, 1), insn(indexed, 1), insn(ret_a, 0)];
+        let absolute = [insn(absolute, u32::from(OFFSET)), insn(RET_A, 0)];
+        let indexed = [insn(LDX, 1), insn(indexed, 1), insn(RET_A, 0)];
         for (cut, value) in [(0, value), (1, 0)] {
             let view = shown(size, cut);
             returns(&rt, alloc, &absolute, view, value)?;
             returns(&rt, alloc, &indexed, view, value)?;
         }
     }
-    // of 77 and 6, by the constant's code and by that of X
-    let operations = [
-        (0x04, 0x0c, 83),
-        (0x14, 0x1c, 71),
-        (0x24, 0x2c, 462),
-        (0x34, 0x3c, 12),
-        (0x44, 0x4c, 79),
-        (0x54, 0x5c, 4),
-        (0x64, 0x6c, 4928),
-        (0x74, 0x7c, 1),
-        (0x94, 0x9c, 5),
-        (0xa4, 0xac, 75),
-    ];
-    for (with_k, with_x, value) in operations {
-        let with_k = [insn(ld, 77), insn(with_k, 6), insn(ret_a, 0)];
-        let with_x = [insn(ldx, 6), insn(ld, 77), insn(with_x, 0), insn(ret_a, 0)];
-        returns(&rt, alloc, &with_k, &[], value)?;
-        returns(&rt, alloc, &with_x, &[], value)?;
-    }
-    for (code, k, holds) in TESTS {
-        let value = if holds { 1 } else { 2 };
-        let [yes, no] = [insn(0x06, 1), insn(0x06, 2)];
-        let with_k = [insn(ld, 77), test(code, 0, 1, k), yes, no];
-        let with_x = [insn(ldx, k), insn(ld, 77), test(code | 8, 0, 1, 0), yes, no];
-        returns(&rt, alloc, &with_k, &[], value)?;
-        returns(&rt, alloc, &with_x, &[], value)?;
-    }
-    // no use of A in between
-    let both = [insn(ld, 7), insn(tax, 0), insn(txa, 0), insn(ret_a, 0)];
-    returns(&rt, alloc, &both, &[], 7)
+    Ok(())
 }
 
 #[test]
-fn each_pair_is_its_two_instructions(rt: HostRuntime) -> Result<(), Fail> {
+fn each_operation_and_test_alone_does_its_part(rt: HostRuntime) -> Result<(), Fail> {
     let alloc = rt.alloc();
-    let [yes, no] = [insn(0x06, 1), insn(0x06, 2)];
+    for (with_k, with_x, value) in OPERATIONS {
+        let with_k = [insn(LD, 77), insn(with_k, 6), insn(RET_A, 0)];
+        let with_x = [insn(LDX, 6), insn(LD, 77), insn(with_x, 0), insn(RET_A, 0)];
+        returns(&rt, alloc, &with_k, &[], value)?;
+        returns(&rt, alloc, &with_x, &[], value)?;
+    }
+    let [yes, no] = [insn(RET_K, 1), insn(RET_K, 2)];
+    for (code, k, holds) in TESTS {
+        let value = if holds { 1 } else { 2 };
+        let with_k = [insn(LD, 77), test(code, 0, 1, k), yes, no];
+        let with_x = [insn(LDX, k), insn(LD, 77), test(code | 8, 0, 1, 0), yes, no];
+        returns(&rt, alloc, &with_k, &[], value)?;
+        returns(&rt, alloc, &with_x, &[], value)?;
+    }
+    Ok(())
+}
+
+#[test]
+fn a_load_and_its_test_are_their_two_instructions(rt: HostRuntime) -> Result<(), Fail> {
+    let alloc = rt.alloc();
+    let [yes, no] = [insn(RET_K, 1), insn(RET_K, 2)];
     for (load, _, size, word) in LOADS {
         for (code, k, holds) in TESTS {
             let value = if holds { 1 } else { 2 };
@@ -172,15 +181,10 @@ fn each_pair_is_its_two_instructions(rt: HostRuntime) -> Result<(), Fail> {
                 0x45 => 0,
                 _ => word.wrapping_add(k).wrapping_sub(77),
             };
-            let pair = [insn(load, u32::from(OFFSET)), test(code, 0, 1, k), yes, no];
-            let into = [
-                insn(0x00, word),
-                insn(0x05, 1),
-                insn(load, 9),
-                test(code, 0, 1, k),
-                yes,
-                no,
-            ];
+            let test = test(code, 0, 1, k);
+            let pair = [insn(load, u32::from(OFFSET)), test, yes, no];
+            // a jump to the test, past a load outside
+            let into = [insn(LD, word), insn(JA, 1), insn(load, 9), test, yes, no];
             returns(&rt, alloc, &pair, &BYTES, value)?;
             returns(&rt, alloc, &pair, shown(size, 0), value)?;
             returns(&rt, alloc, &pair, shown(size, 1), 0)?;
@@ -188,35 +192,22 @@ fn each_pair_is_its_two_instructions(rt: HostRuntime) -> Result<(), Fail> {
             returns(&rt, alloc, &into, &[], value)?;
         }
     }
-    // two tests of A: the first's false way leads to the second, or past it; or a jump does
+    Ok(())
+}
+
+#[test]
+fn two_tests_are_their_two_instructions(rt: HostRuntime) -> Result<(), Fail> {
+    let alloc = rt.alloc();
+    let [one, two, three] = [insn(RET_K, 1), insn(RET_K, 2), insn(RET_K, 3)];
+    let second = test(0x15, 2, 0, 6);
     for (a, joined, past, into) in [(5, 2, 2, 1), (6, 3, 1, 3), (7, 1, 1, 1)] {
-        let ends = [insn(0x06, 1), insn(0x06, 2), insn(0x06, 3)];
-        let [one, two, three] = ends;
-        let second = test(0x15, 2, 0, 6);
-        let ld = insn(0x00, a);
-        returns(
-            &rt,
-            alloc,
-            &[ld, test(0x15, 2, 0, 5), second, one, two, three],
-            &[],
-            joined,
-        )?;
-        returns(
-            &rt,
-            alloc,
-            &[ld, test(0x15, 2, 1, 5), second, one, two, three],
-            &[],
-            past,
-        )?;
-        let jump = [
-            ld,
-            insn(0x05, 1),
-            test(0x15, 2, 0, 5),
-            second,
-            one,
-            two,
-            three,
-        ];
+        let ld = insn(LD, a);
+        // the first's false way leads to the second, and past it; and a jump to the second
+        let next = [ld, test(0x15, 2, 0, 5), second, one, two, three];
+        let over = [ld, test(0x15, 2, 1, 5), second, one, two, three];
+        let jump = [ld, insn(JA, 1), next[1], second, one, two, three];
+        returns(&rt, alloc, &next, &[], joined)?;
+        returns(&rt, alloc, &over, &[], past)?;
         returns(&rt, alloc, &jump, &[], into)?;
     }
     Ok(())
