@@ -36,7 +36,7 @@ fuzz: build ## drawn and damaged inputs for an hour; SECONDS=60 for a minute, SE
 bench: build bin/pcap_filter bin/record_feed ## times the filter machine and the whole recorder beside libpcap's
 	@command -v python3 || { echo "make bench wants libpcap-dev, python3 and cc: python3 is missing"; exit 1; }
 	tools/build bench
-	bench/compare.py bin/bench bin/pcap_filter bin/bench_work
+	bench/compare.py bin/bench bin/pcap_filter bin/bench_work bin/bpfrec
 	bench/record.py bin/bpfrec bin/record_feed
 
 bin/pcap_filter bin/record_feed: bin/%: bench/%.c

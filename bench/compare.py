@@ -1,12 +1,15 @@
 #!/usr/bin/env python3
 """Times bpfrec's filter machine beside libpcap's bpf_filter, on the same programs and frames.
 
-Makes the programs and the frames from a fixed seed in the folder WORK, checks that both machines
-give the same value on every frame, times each pair ROUNDS times in turn, and prints a table of the
-best time of each. The status is 1 where a value differs.
+Makes programs and frames from a fixed seed in the folder WORK, and takes the ready filters of
+examples/filters by BPFREC and those of filters.txt. Checks that a prepared program and libpcap give
+the same value on every frame, times prepared program, plain program and libpcap ROUNDS times in
+turn, and prints a table of the medians: the nanoseconds of a frame of each, and how many times as
+long as libpcap the first two took. The status is 1 where a value differs.
 """
 import argparse
 import random
+import statistics
 import subprocess
 import sys
 from pathlib import Path
@@ -46,8 +49,15 @@ BESIDE_SCRATCH = ["40 0 0 12", "4 0 0 7", "84 0 0 65535", "21 0 0 2048"]
 TO_X = "7 0 0 0"
 LENGTHS = (64, 300, 1500)
 CACHED_FRAMES, LIST_BYTES = 32, 96_000_000
-NANOS_OF_A_ROUND = 0.15e9
-COLUMNS = "Program,Instructions,Frame,Frames,Steps a frame,bpfrec ns,libpcap ns,Ratio".split(",")
+NANOS_OF_A_ROUND = 0.05e9
+COLUMNS = (
+    "Program,Instructions,Frame,Frames,Steps a frame,Prepared ns,Plain ns,libpcap ns,"
+    "Prepared / libpcap,Plain / libpcap"
+).split(",")
+BENCH = Path(__file__).resolve().parent
+# the frames on which the filters of examples/ and of filters.txt are timed
+FILTERED_LENGTH = 300
+MOST_INSNS = 512
 
 
 def straight_line(length):
@@ -113,47 +123,91 @@ def measured(*words):
     return {name.split(".")[1]: (float(nanos), total) for name, _, nanos, total in rows}
 
 
-def best(ours, theirs, words, count, rounds):
-    """The least nanoseconds of a frame of each machine, and the steps, over rounds in turn."""
+def ready_filters(bpfrec):
+    """The listed instructions of each filter of examples/filters, and of filters.txt."""
+    filters = {}
+    for path in sorted((BENCH.parent / "examples" / "filters").glob("*.bpf")):
+        # a listing's count, and its instructions with a comma after each
+        filters[path.name] = output_of(bpfrec, "asm", path).strip().strip(",").split(",")[1:]
+    expression = ""
+    for line in (BENCH / "filters.txt").read_text().splitlines():
+        if line.startswith("# "):
+            expression = line[2:]
+        else:
+            filters.setdefault(expression, []).append(line)
+    return filters
+
+
+def medians(ours, theirs, words, count, rounds):
+    """The medians of a frame's nanoseconds, prepared, plain and libpcap's, of the two ratios, and
+    the steps, over rounds in turn."""
     turns = 1
     while turns < 1 << 24:
         if measured(*ours, "time", *words, turns)["frame"][0] * count * turns >= NANOS_OF_A_ROUND:
             break
         turns *= 2
-    our_times, their_times, steps = [], [], 0
+    rows, steps = [], 0
     for _ in range(rounds):
         our = measured(*ours, "time", *words, turns)
         their = measured(*theirs, "time", *words, turns)
-        our_times.append(our["frame"][0])
-        their_times.append(their["frame"][0])
         steps = our["step"][1]
-        if our["frame"][1] != their["frame"][1]:
-            sys.exit(f"the sums differ: {words}: {our['frame'][1]} and {their['frame'][1]}")
-    return min(our_times), min(their_times), steps
+        sums = {our["frame"][1], our["run"][1], their["frame"][1]}
+        if len(sums) > 1:
+            sys.exit(f"the sums differ: {words}: {sums}")
+        prepared, plain, libpcap = our["frame"][0], our["run"][0], their["frame"][0]
+        rows.append((prepared, plain, libpcap, prepared / libpcap, plain / libpcap))
+    return [statistics.median(column) for column in zip(*rows)], steps
+
+
+def write_listing(work, name, lines):
+    """A file with these instructions as a listing."""
+    kept = "".join(it if it.isalnum() else "_" for it in name)
+    path = work / f"{kept}.txt"
+    path.write_text(",".join([str(len(lines)), *lines]) + ",\n")
+    return path
+
+
+def compare_one(ours, theirs, name, insns, words, where, count, rounds):
+    """Prints a program's row; where the frames are in cache, each value is compared before."""
+    if count == CACHED_FRAMES:
+        our_values = output_of(*ours, "values", *words)
+        if our_values != output_of(*theirs, "values", *words):
+            sys.exit(f"the values differ: {name} on frames of {words[2]} bytes")
+    times, steps = medians(ours, theirs, words, count, rounds)
+    row = [name.replace("|", "\\|"), insns, words[2], where, steps]
+    row += [f"{it:.1f}" for it in times[:3]] + [f"{it:.2f}" for it in times[3:]]
+    print("|", " | ".join(map(str, row)), "|", flush=True)
+    return times[3]
 
 
 def compare(ours, theirs, work, rounds):
-    """Prints the table, a row for each program, length of a frame and set of frames."""
-    listings = {}
-    for name, lines in programs().items():
-        path = work / (name.replace(" ", "_").replace(",", "") + ".txt")
-        path.write_text(",".join([str(len(lines)), *lines]) + ",\n")
-        listings[name] = (path, len(lines))
+    """A row for each made program, length of a frame and set of frames."""
+    listings = {it: (write_listing(work, it, lines), len(lines)) for it, lines in programs().items()}
     for length in LENGTHS:
         for where, count in (("in cache", CACHED_FRAMES), ("from memory", LIST_BYTES // length)):
             frames = work / f"frames_{length}_{where.replace(' ', '_')}"
             make_frames(frames, length, count)
             for name, (listing, insns) in listings.items():
                 words = (listing, frames, length)
-                if where == "in cache":
-                    our_values = output_of(*ours, "values", *words)
-                    if our_values != output_of(*theirs, "values", *words):
-                        sys.exit(f"the values differ: {name} on frames of {length} bytes")
-                our, their, steps = best(ours, theirs, words, count, rounds)
-                row = [name, insns, length, where, steps]
-                row += [f"{our:.1f}", f"{their:.1f}", f"{our / their:.2f}"]
-                print("|", " | ".join(map(str, row)), "|", flush=True)
+                compare_one(ours, theirs, name, insns, words, where, count, rounds)
             frames.unlink()
+
+
+def compare_filters(ours, theirs, work, rounds, bpfrec):
+    """A row for each ready filter, and the median of their ratios; then a longest program's time."""
+    frames = work / "frames_of_filters"
+    make_frames(frames, FILTERED_LENGTH, CACHED_FRAMES)
+    ratios = []
+    for name, lines in ready_filters(bpfrec).items():
+        words = (write_listing(work, name, lines), frames, FILTERED_LENGTH)
+        args = (words, "in cache", CACHED_FRAMES, rounds)
+        ratios.append(compare_one(ours, theirs, name, len(lines), *args))
+    print(f"\nfilters: the median of prepared / libpcap is {statistics.median(ratios):.2f}, ", end="")
+    print(f"the greatest {max(ratios):.2f}")
+    longest = write_listing(work, "longest", straight_line(MOST_INSNS))
+    timed = [measured(*ours, "time", longest, frames, FILTERED_LENGTH, 1) for _ in range(rounds)]
+    prepare = statistics.median(it["prepare"][0] for it in timed)
+    print(f"a program of {MOST_INSNS} instructions is prepared in {prepare / 1000:.1f} us")
 
 
 def main():
@@ -162,13 +216,16 @@ def main():
     parser.add_argument("bench", metavar="BENCH", help="the program of crates/bench")
     parser.add_argument("pcap", metavar="PCAP_FILTER", help="what bench/pcap_filter.c makes")
     parser.add_argument("work", metavar="WORK", type=Path, help="a folder for what is made")
-    parser.add_argument("rounds", metavar="ROUNDS", type=int, nargs="?", default=5)
+    parser.add_argument("bpfrec", metavar="BPFREC", help="the program")
+    parser.add_argument("rounds", metavar="ROUNDS", type=int, nargs="?", default=12)
     words = parser.parse_args()
     words.work.mkdir(parents=True, exist_ok=True)
     random.seed(SEED)
     print("|", " | ".join(COLUMNS), "|")
     print("|" + "---|" * len(COLUMNS))
-    compare([words.bench, "machine"], [words.pcap], words.work, words.rounds)
+    machines = ([words.bench, "machine"], [words.pcap])
+    compare(*machines, words.work, words.rounds)
+    compare_filters(*machines, words.work, words.rounds, words.bpfrec)
 
 
 main()

@@ -1,12 +1,12 @@
 //! The filter machine on a file of frames.
 
-ghost use Rattle.std.specs.Prelude.{◌<◌};
+ghost use Rattle.std.specs.Prelude.{◌<◌, IsSome};
 
 use crate::clock::{Clock, Work, print};
 use crate::words::{number, word};
 use anyhow::{Context, Result, bail};
 use bpf_insn::parse_listing;
-use bpf_machine::{MAX_VIEW, run};
+use bpf_machine::{MAX_VIEW, Prepared, run};
 use bpf_verify::{Verified, verify};
 use std::io::{BufWriter, Write};
 use std::{fs, io};
@@ -15,10 +15,16 @@ use std::{fs, io};
 const BUILT_IN: &str =
     "8,40 0 0 12,21 0 0 2054,4 0 0 7,7 0 0 0,84 0 0 255,12 0 0 0,69 0 0 1,22 0 0 0,";
 
+/// How many times a program is laid out, to time it.
+const LAID_OUT: u64 = 1000;
+
 /// The sum of the values that a built-in program returns.
 pub(crate) fn self_check(rt: &HostRuntime) -> Result<u64> {
-    let (sum, _) = total(&program_of(rt, BUILT_IN)?, &[7; 6400], 64, 10);
-    Ok(sum)
+    let program = program_of(rt, BUILT_IN)?;
+    let mut prepared = Prepared::with_room(rt.alloc())?;
+    prepared.prepare(&program);
+    let (sum, _) = total(&program, &[7; 6400], 64, 5);
+    Ok(sum.wrapping_add(values(&prepared, &[7; 6400], 64, 5)))
 }
 
 /// `machine time LISTING FRAMES LENGTH TURNS` cuts the file FRAMES into frames of that length, and
@@ -39,8 +45,8 @@ pub(crate) fn measure(rt: &HostRuntime, words: &[String]) -> Result<()> {
     bail!("the machine has the commands time and values");
 }
 
-/// Prints what a frame took, with the sum of the values; and what a step took, with the steps of a
-/// frame.
+/// Prints what a frame took by the program that is laid out and by the program itself, each with
+/// the sum of the values; the steps of a frame; and what it took to lay the program out.
 fn time(
     rt: &HostRuntime,
     program: &Verified,
@@ -50,35 +56,55 @@ fn time(
 ) -> Result<()>
     requires { 0 < length }
 {
+    let mut prepared = Prepared::with_room(rt.alloc())?;
+    let clock = Clock::start(rt)?;
+    for _ in 0..LAID_OUT {
+        prepared.prepare(program);
+    }
+    let laid_out = clock.nanos(rt)?;
+    prepared.prepare(program);
+    let clock = Clock::start(rt)?;
+    let sum = values(&prepared, frames, length, turns);
+    let by_value = clock.nanos(rt)?;
+    let clock = Clock::start(rt)?;
+    let (same, steps) = total(program, frames, length, turns);
+    let by_run = clock.nanos(rt)?;
     let count = ((frames.len() / length) as u64)
         .saturating_mul(turns)
         .max(1);
-    let clock = Clock::start(rt)?;
-    let (sum, steps) = total(program, frames, length, turns);
-    let nanos = clock.nanos(rt)?;
-    let frame = Work {
-        name: "machine.frame",
+    let frame = |name, sum| Work {
+        name,
         bytes: length,
         count,
         sum,
     };
-    print(rt, frame, nanos)?;
+    print(rt, frame("machine.frame", sum), by_value)?;
+    print(rt, frame("machine.run", same), by_run)?;
     let step = Work {
         name: "machine.step",
         bytes: 0,
         count: steps,
         sum: steps / count,
     };
-    print(rt, step, nanos)
+    print(rt, step, by_run)?;
+    let prepare = Work {
+        name: "machine.prepare",
+        bytes: 8 * program.len(),
+        count: LAID_OUT,
+        sum: LAID_OUT,
+    };
+    print(rt, prepare, laid_out)
 }
 
 fn print_values(rt: &HostRuntime, program: &Verified, frames: &[u8], length: usize) -> Result<()>
     requires { 0 < length }
 {
+    let mut prepared = Prepared::with_room(rt.alloc())?;
+    prepared.prepare(program);
     let mut out = BufWriter::new(rt.alloc(), io::writer(rt))?;
     for frame in frames.chunks(length) {
         if frame.len() <= MAX_VIEW {
-            writeln!(out, "{}", run(program, frame).value)?;
+            writeln!(out, "{}", prepared.value(frame))?;
         }
     }
     out.flush()?;
@@ -101,6 +127,22 @@ fn total(program: &Verified, frames: &[u8], length: usize, turns: u64) -> (u64, 
         }
     }
     (values, steps)
+}
+
+/// The sum of the values over all frames and turns, modulo 2^64.
+fn values(prepared: &Prepared, frames: &[u8], length: usize, turns: u64) -> u64
+    requires length { 0 < length }
+    requires prepared { IsSome prepared.now }
+{
+    let mut values = 0u64;
+    for _ in 0..turns {
+        for frame in frames.chunks(length) {
+            if frame.len() <= MAX_VIEW {
+                values = values.wrapping_add(u64::from(prepared.value(frame)));
+            }
+        }
+    }
+    values
 }
 
 /// A listing's program, which must be valid.

@@ -4,3 +4,6 @@ pub mod Paths
 pub mod Reached
 pub mod Once
 pub mod Returning
+pub mod Twos
+pub mod Going
+pub mod LaidOut

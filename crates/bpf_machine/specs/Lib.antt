@@ -1,3 +1,4 @@
 pub mod Flags
 pub mod Machine
+pub mod Prepared
 pub mod Views

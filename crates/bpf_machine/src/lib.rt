@@ -3,10 +3,13 @@
 
 mod laws;
 mod machine;
+mod operation;
 mod operations;
+mod prepared;
 mod progress;
 mod registers;
 mod scratch;
 
 pub use laws::{a_valid_program_returns, runs_once, the_longest_view};
 pub use machine::{MAX_VIEW, Outcome, run};
+pub use prepared::Prepared;

@@ -7,7 +7,9 @@ use Rattle.std.proofs.lemmas.Grind.{flat_map-append}
 use Rattle.rec_lane.specs.Offered.{OfferedFrame, accepted}
 use Rattle.rec_lane.specs.Parts.{ended_from, as_part, Begins}
 use Rattle.rec_lane.specs.Packets.{has_room, full_packets, last_packet}
-use Rattle.rec_lane.specs.Pieces.{LaneSettings, has_version, ended_groups, last_group, program_piece, data_piece, end_piece, open_group_pieces, group_pieces, pieces_so_far, channel_pieces}
+use Rattle.rec_lane.specs.Lanes.{LaneState, HasMet}
+use Rattle.rec_lane.specs.Pieces.PieceData.{OfEnd}
+use Rattle.rec_lane.specs.Pieces.{LaneSettings, PieceData, has_version, ended_groups, last_group, program_piece, data_piece, end_piece, open_group_pieces, group_pieces, pieces_so_far, channel_pieces}
 use Rattle.rec_lane.proofs.Parted.{ended_on, last_on, ended_off}
 use Rattle.rec_lane.proofs.Offering.{accepted_more, group_closed}
 
@@ -86,6 +88,12 @@ all_pieces s offered =
     let end = end_piece s offered ∷ [] in
     ap (λ ps. ps ++ end) (flat_map-append gp (ended_groups offered) (as_part group) ∙ (ap (λ ps. ended ++ ps) (as_group s group ∙ group_closed s group) ∙ sym (append_assoc ended (open_group_pieces s group) last)))
     ∙ append_assoc (pieces_so_far s offered) last end
+
+-- the last pieces are those of the open packet and of the end
+pub left_are : (lane : LaneState) (offered : List OfferedFrame) (given : List PieceData) → HasMet lane offered
+    → given ≡ map (data_piece lane.settings) (as_part lane.pending) ++ OfEnd lane.settings.channel lane.counter lane.offered lane.kept ∷ []
+    → channel_pieces lane.settings offered ≡ pieces_so_far lane.settings offered ++ given
+left_are lane offered given met is = all_pieces lane.settings offered ∙ rw (is, met.pending_is, met.counter_is, met.offered_is, met.kept_is) refl
 
 pub begin_all : (s : LaneSettings) (offered more : List OfferedFrame) → Begins (pieces_so_far s offered) (channel_pieces s (offered ++ more))
 begin_all s offered more =

@@ -1,5 +1,5 @@
 -- What a lane stands for after a frame more, and the pieces that became certain.
-use Rattle.std.proofs.Common.{ℕ, ◌+◌, ◌≡◌, ◌⊎◌, inl, inr, true, false, List, [], ◌∷◌, ◌++◌, length, Option, None, Some, refl, sym, ◌∙◌, ap, subst, arith, map}
+use Rattle.std.proofs.Common.{ℕ, ◌+◌, ◌≤◌, ◌≡◌, ◌⊎◌, inl, inr, true, false, List, [], ◌∷◌, ◌++◌, length, Option, None, Some, IsSome, IfSome, refl, sym, ◌∙◌, ap, subst, arith, map}
 use Rattle.std.specs.Prelude.{if◌then◌else◌, ◌==◌}
 use Rattle.std.specs.List.{flat_map, filter}
 use Rattle.std.proofs.lemmas.Bool.{cases_Bool, both_ways}
@@ -14,11 +14,8 @@ use Rattle.rec_lane.specs.Packets.{has_room, full_packets, last_packet}
 use Rattle.rec_lane.specs.Pieces.{LaneSettings, PieceData, has_version, ended_groups, last_group, program_piece, data_piece, open_group_pieces, group_pieces, pieces_so_far, last_counter_from, has_no_packet}
 use Rattle.rec_lane.specs.Pieces.PieceData.{OfProgram}
 use Rattle.rec_lane.specs.Lanes.{LaneState, HasMet, VersionProgram, version_of, is_current, running, offered_now}
-use Rattle.rec_lane.specs.Steps.{packet_closed, closed_pieces, frame_added, frame_kept, kept_pieces, frame_judged, judged_pieces, frame_counted, frame_of_new_version, begun_pieces, begun_piece, RunsAs, is_none}
+use Rattle.rec_lane.specs.Steps.{packet_closed, closed_pieces, frame_added, frame_kept, kept_pieces, frame_judged, judged_pieces, frame_counted, frame_of_new_version, begun_pieces, begun_piece, RunsAs, is_none, program_met}
 use Rattle.bpf_machine.specs.Machine.{Runs}
-use Rattle.std.specs.Arc.{arc_value}
-use Rattle.rec_lane.specs.declared.version.Current.{Current}
-use Rattle.rec_lane.specs.Currents.{current_of}
 use Rattle.rec_lane.proofs.Parted.{ended_on, last_on, ended_off, last_off}
 
 -- ---- lists of offered frames
@@ -338,12 +335,13 @@ next_ready old f value ready = elim (cases_Bool (value == 0)) as (λ _. (frame_j
 
 -- ---- a run
 
--- a run of the version's program on the bytes of a view
-pub runs_as : (current : Option Current) (c : Current) (program : List Insn) (bytes seen : List ℕ) (steps value : ℕ)
-    → current ≡ Some c → program ≡ arc_value c.program → bytes ≡ seen → Runs program bytes steps value
-    → RunsAs (current_of current) seen value
-runs_as current c program bytes seen steps value is program_is seen_is ran =
-    subst (λ (o : Option Current). RunsAs (current_of o) seen value) (sym is) (
-      steps,
-      subst (λ (bs : List ℕ). Runs (arc_value c.program) bs steps value) seen_is (subst (λ (p : List Insn). Runs p bytes steps value) program_is ran),
-    )
+-- a run of the program that is laid out, on the bytes of a view
+pub runs_as : (current : Option VersionProgram) (prepared : Option (List Insn)) (bytes seen : List ℕ) (value : ℕ) → IsSome current
+    → prepared ≡ program_met current → bytes ≡ seen → IfSome prepared (λ program. (steps : ℕ) × Runs program bytes steps value × (steps ≤ length program))
+    → RunsAs current seen value
+runs_as None prepared bytes seen value some is seen_is ran = cc
+runs_as (Some current) prepared bytes seen value some is seen_is ran =
+    let runs : (steps : ℕ) × Runs current.program seen steps value × (steps ≤ length current.program) =
+    subst (λ (o : Option (List Insn)). IfSome o (λ program. (steps : ℕ) × Runs program seen steps value × (steps ≤ length program))) is
+    (subst (λ (bs : List ℕ). IfSome prepared (λ program. (steps : ℕ) × Runs program bs steps value × (steps ≤ length program))) seen_is ran) in
+    (runs.0, runs.1)

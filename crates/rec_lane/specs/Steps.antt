@@ -90,13 +90,21 @@ RunsAs (Some current) view value = (steps : ℕ) × Runs current.program view st
 
 -- ---- what a lane's fields hold
 
--- the builders are those of the settings, and the spare one has no frames
+-- the program of the version that a lane met last
+abbrev pub program_met : Option VersionProgram → Option (List Insn)
+program_met None = None
+program_met (Some current) = Some current.program
+
+-- the builders are those of the settings, the spare one has no frames, and the program that is laid
+-- out for running is that of the version
 pub record IsLane
     (settings : LaneSettings) (offered kept counter : ℕ) (packet : OpenBody)
-    (spare : Option OpenBody) : Type 0 where
+    (spare : Option OpenBody) (current : Option VersionProgram)
+    (prepared : Option (List Insn)) : Type 0 where
   pub packet_is : packet ≡ open_of packet.frames settings.net settings.speed settings.limit
   pub spare_is :
       ForSome spare (λ b. b ≡ open_of [] settings.net settings.speed settings.limit)
   pub roomy : MIN_LIMIT ≤ settings.limit
   pub kept_some : kept ≤ offered
   pub counter_fits : counter < 2 ^ 48
+  pub prepared_is : prepared ≡ program_met current

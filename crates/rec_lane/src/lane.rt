@@ -1,7 +1,11 @@
 //! A lane: the frames of one channel, filtered and packed.
 
-ghost use Rattle.std.specs.Prelude.{ℕ, if◌then◌else◌, ◌≡◌, ◌+◌, ◌-◌, ◌^◌, ◌<◌, ◌==◌, true, false, [], List, Option, None, Some, IsSome, IsNone, IfSome, IfNone, ◌↔◌, IsOk, IfOk, OnErr};
+ghost use Rattle.std.specs.Prelude.{ℕ, if◌then◌else◌, ◌≡◌, ◌+◌, ◌-◌, ◌^◌, ◌<◌, ◌==◌, true, false, [], ◌∷◌, ◌++◌, map, List, Option, None, Some, IsSome, IsNone, IfSome, IfNone, ◌↔◌, IsOk, IfOk, OnErr};
 ghost use Rattle.arrayvec.specs.ArrayVec.{array_vec_len};
+ghost use Rattle.ch11_packet.specs.Building.{open_of};
+ghost use Rattle.rec_lane.specs.Parts.{as_part};
+ghost use Rattle.rec_lane.specs.Pieces.{data_piece};
+ghost use Rattle.rec_lane.specs.Settings.{spec_data};
 ghost use Rattle.rec_lane.specs.Views.{piece_data, pieces_data, packet_data};
 
 use crate::laws::a_lane_stands_for_frames_and_a_history;
@@ -10,7 +14,7 @@ use crate::piece::{DataPiece, EndPiece, Piece, ProgramPiece};
 use crate::spec::LaneSpec;
 use crate::version::Current;
 use arrayvec::ArrayVec;
-use bpf_machine::run;
+use bpf_machine::Prepared;
 use bpf_verify::Verified;
 use ch11_packet::{Blank, DataBuilder};
 use eth_frame::Frame;
@@ -28,6 +32,8 @@ pub struct Lane {
     kept: u64,
     counter: u64,
     current: Option<Current>,
+    /// The program of the version that was met last.
+    prepared: Prepared,
     packet: DataBuilder,
     spare: Option<DataBuilder>,
 }
@@ -51,7 +57,8 @@ impl Model for Lane {
       ready = is_some l.spare;
     } };
 
-    ghost invariant = { λ l. IsLane (spec_data l.spec) l.offered l.kept l.counter l.packet l.spare };
+    ghost invariant = { λ l. IsLane (spec_data l.spec) l.offered l.kept l.counter l.packet l.spare
+        (current_of l.current) l.prepared };
 }
 
 impl Lane {
@@ -79,6 +86,7 @@ impl Lane {
             kept: 0,
             counter: 0,
             current: None,
+            prepared: Prepared::with_room(alloc)?,
             packet,
             spare: None,
         })
@@ -239,20 +247,13 @@ impl Lane {
             packet,
             ..
         } = self;
-        let mut pieces = ArrayVec::new();
-        if !packet.is_empty() {
-            pieces.push(Piece::Data(DataPiece {
-                channel: spec.channel,
-                body: packet.seal(),
-            }));
-        }
-        pieces.push(Piece::End(EndPiece {
+        let end = EndPiece {
             channel: spec.channel,
             counter,
             offered,
             kept,
-        }));
-        pieces
+        };
+        left_pieces(spec, packet, end)
     }
 
     /// A frame of the version that the lane met last.
@@ -309,10 +310,7 @@ impl Lane {
         requires { IsSome self.now.current }
         ensures { RunsAs self.now.current (view (frame_data frame.now)) result }
     {
-        match &self.current {
-            None => unreachable!(),
-            Some(current) => run(&current.program, frame.view()).value,
-        }
+        self.prepared.value(frame.view())
     }
 
     /// Counts a frame.
@@ -340,6 +338,7 @@ impl Lane {
             share,
             ..
         } = drawn;
+        self.prepared.prepare(&share);
         self.current = Some(Current {
             version,
             program: share,
@@ -425,5 +424,23 @@ fn pieces_of(packet: Option<DataPiece>) -> ArrayVec<Piece, 2>
     if let Some(packet) = packet {
         pieces.push(Piece::Data(packet));
     }
+    pieces
+}
+
+/// The open packet as a piece, if it has frames, and the channel's end.
+fn left_pieces(spec: LaneSpec, packet: DataBuilder, end: EndPiece) -> ArrayVec<Piece, 2>
+    requires { packet ≡ open_of packet.frames spec.net spec.speed spec.limit }
+    ensures { pieces_data result.items
+        ≡ map (data_piece (spec_data spec)) (as_part packet.frames)
+        ++ piece_data (Piece.End end) ∷ [] }
+{
+    let mut pieces = ArrayVec::new();
+    if !packet.is_empty() {
+        pieces.push(Piece::Data(DataPiece {
+            channel: spec.channel,
+            body: packet.seal(),
+        }));
+    }
+    pieces.push(Piece::End(end));
     pieces
 }

@@ -16,6 +16,13 @@ const CODES: [u16; 34] = [
     0x07, 0x06,
 ];
 
+/// The codes that are drawn for programs that run: loads of the view, tests, and a few others.
+const RUNNING_CODES: [u16; 40] = [
+    0x20, 0x28, 0x28, 0x30, 0x30, 0x20, 0x28, 0x30, 0x15, 0x15, 0x15, 0x15, 0x15, 0x15, 0x15, 0x25,
+    0x35, 0x45, 0x1d, 0x2d, 0x3d, 0x4d, 0x48, 0x50, 0xb1, 0x00, 0x01, 0x80, 0x02, 0x60, 0x04, 0x0c,
+    0x54, 0x74, 0x64, 0x84, 0x05, 0x07, 0x87, 0x06,
+];
+
 /// A small linear congruential generator, which draws the same programs from the same seed.
 #[derive(Drop)]
 pub(crate) struct Draws {
@@ -54,6 +61,29 @@ impl Draws {
         for place in 0..=last {
             program.push(self.insn(last.saturating_sub(place)))?;
         }
+        Ok(program)
+    }
+
+    /// A program that most often is valid, whose loads and tests stand beside each other.
+    pub(crate) fn running_program(&mut self, alloc: Global) -> Result<Vec<Insn>, AllocError> {
+        let last = self.below(16);
+        let mut program = Vec::new(alloc);
+        for at in 0..last {
+            let after = last.saturating_sub(at);
+            program.push(Insn {
+                code: RUNNING_CODES[usize::from(self.below(RUNNING_CODES.len() as u8))],
+                jt: self.below(after.clamp(1, 3)),
+                jf: self.below(after.clamp(1, 3)),
+                k: u32::from(self.below(after.clamp(1, 5))),
+            })?;
+        }
+        let code = if self.once_in(2) { 0x06 } else { 0x16 };
+        program.push(Insn {
+            code,
+            jt: 0,
+            jf: 0,
+            k: 9,
+        })?;
         Ok(program)
     }
 

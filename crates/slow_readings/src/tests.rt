@@ -2,6 +2,7 @@
 
 mod audit;
 mod lane;
+mod machine;
 mod strangers;
 mod verifier;
 mod world;
