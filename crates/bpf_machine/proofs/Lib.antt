@@ -2,6 +2,7 @@ pub mod Words
 pub mod Effects
 pub mod Paths
 pub mod Reached
+pub mod Agreeing
 pub mod Once
 pub mod Returning
 pub mod Twos

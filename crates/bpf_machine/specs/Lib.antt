@@ -1,4 +1,3 @@
-pub mod Flags
 pub mod Machine
 pub mod Prepared
 pub mod Views

@@ -1,57 +1,51 @@
-//! The scratch words, each set or not.
-ghost use Rattle.std.specs.Prelude.{◌≡◌, ◌<◌, Some, None, slice_get, slice_set, replicate};
-ghost use Rattle.bpf_machine.specs.Machine.{IsSet};
+//! The scratch words.
+ghost use Rattle.std.specs.Prelude.{◌≡◌, ◌<◌, Some, slice_get, slice_set, replicate};
 
 use bpf_insn::SCRATCH_WORDS;
 use std::marker::Model;
 
-/// The scratch words: a total row, and flags that say which of them are set.
+/// The scratch words, each of which a contract sees as set. Which of them a program has set is stored
+/// nowhere, since a verified program reads no other.
 #[derive(Drop)]
 pub(crate) struct Scratch {
     words: [u32; SCRATCH_WORDS],
-    set: [bool; SCRATCH_WORDS],
 }
 
 impl Model for Scratch {
-    ghost use Rattle.std.specs.Prelude.{List, Option, ℕ};
+    ghost use Rattle.std.specs.Prelude.{List, Option, Some, ℕ, map};
 
     ghost Value = { List (Option ℕ) };
 
-    ghost use Rattle.bpf_machine.specs.Flags.{set_words};
-
-    ghost view = { λ s. set_words s.set s.words };
+    ghost view = { λ s. map Some s.words };
 }
 
 impl Scratch {
-    /// None is set.
+    /// Each is 0.
     pub(crate) fn new() -> Scratch
-        ensures { result ≡ replicate SCRATCH_WORDS None }
+        ensures { result ≡ replicate SCRATCH_WORDS (Some 0) }
     {
         Scratch {
             words: [0; SCRATCH_WORDS],
-            set: [false; SCRATCH_WORDS],
         }
     }
 
-    /// A word that is set.
+    /// A word.
     #[inline(always)]
-    #[tactic(auto, using(crate::proofs::Words::set_words_read))]
+    #[tactic(auto, using(crate::proofs::Words::words_read))]
     pub(crate) fn recall(&self, at: usize) -> u32
-        requires room { at < SCRATCH_WORDS }
-        requires set { IsSet self.now at }
-        ensures word { slice_get self.now at ≡ Some (Some result) }
+        requires { at < SCRATCH_WORDS }
+        ensures { slice_get self.now at ≡ Some (Some result) }
     {
         self.words[at]
     }
 
     /// Sets a word.
     #[inline(always)]
-    #[tactic(auto, using(crate::proofs::Words::set_words_set))]
+    #[tactic(auto, using(crate::proofs::Words::words_set))]
     pub(crate) fn store(&mut self, at: usize, word: u32)
-        requires room { at < SCRATCH_WORDS }
-        ensures set { self.new ≡ slice_set self.old at (Some word) }
+        requires { at < SCRATCH_WORDS }
+        ensures { self.new ≡ slice_set self.old at (Some word) }
     {
         self.words[at] = word;
-        self.set[at] = true;
     }
 }
