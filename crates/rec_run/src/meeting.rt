@@ -1,6 +1,6 @@
 //! The versions that a worker's frames met.
 
-ghost use Rattle.std.specs.Prelude.{◌≡◌, true, false, IfSome};
+ghost use Rattle.std.specs.Prelude.{◌≡◌, [], true, false, IfSome, IfNone};
 ghost use Rattle.std.specs.Arc.{arc_value};
 ghost use Rattle.rec_run.specs.Growing.{is_last_met, met_after};
 ghost use Rattle.rec_run.specs.Working.{versions_met};
@@ -12,9 +12,10 @@ use rec_channel::Drawn;
 use std::alloc::Global;
 use std::sync::{Arc, Wait};
 
-/// The last version met.
+/// The last version met; `None` if none was.
 pub(crate) fn last_version(met: &[MetVersion]) -> Option<u32>
-    ensures { IfSome result (λ version. is_last_met (versions_met met.now) version ≡ true) }
+    ensures met { IfSome result (λ version. is_last_met (versions_met met.now) version ≡ true) }
+    ensures none { IfNone result (met.now ≡ []) }
 {
     match met.last() {
         None => None,

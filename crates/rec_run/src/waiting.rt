@@ -1,9 +1,8 @@
 //! What a worker waits for: room in its ring, an empty buffer.
 
-ghost use Rattle.std.specs.Prelude.{◌≡◌, ◌<◌, ◌^◌, ◌-◌, ◌∷◌, ◌++◌, [], true, false, IsNone, IfNone, IfSome, IfOk, IfErr};
+ghost use Rattle.std.specs.Prelude.{◌≡◌, ◌∷◌, ◌++◌, [], true, false, IfNone, IfSome};
 ghost use Rattle.rtrb.specs.Ring.{sent, SameProducer};
 ghost use Rattle.rec_lane.specs.Parts.{Begins};
-ghost use Rattle.rec_lane.specs.Views.{piece_data, pieces_data};
 ghost use Rattle.rec_run.specs.Waits.{IsStop, HasBuffer};
 
 use crate::ending::{Ending, WorkerEnd};

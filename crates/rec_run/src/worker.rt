@@ -1,13 +1,9 @@
 //! A worker: it takes the frames of one channel from their source, and sends the pieces that they
 //! make.
 
-ghost use Rattle.std.specs.Prelude.{ℕ, ◌≡◌, ◌+◌, ◌-◌, ◌^◌, ◌<◌, ◌≤◌, ◌++◌, ◌∷◌, [], List, length, true, false, Option, MatchOption, vec_len, vec_capacity};
-ghost use Rattle.std.specs.Arc.{arc_value};
-ghost use Rattle.rtrb.specs.Ring.{sent, SameProducer};
+ghost use Rattle.std.specs.Prelude.{◌≡◌, ◌-◌, ◌^◌, ◌<◌, true};
+ghost use Rattle.rtrb.specs.Ring.{SameProducer};
 ghost use Rattle.eth_frame.specs.Views.{frame_data};
-ghost use Rattle.rec_lane.specs.Offered.{OfferedFrame};
-ghost use Rattle.rec_lane.specs.Views.{pieces_data};
-ghost use Rattle.rec_run.specs.Working.{versions_met};
 ghost use Rattle.rec_run.specs.Workers.{RecordsFrame, StepsOn};
 
 use crate::ending::{Ending, WorkerEnd};
