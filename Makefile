@@ -27,7 +27,7 @@ test: ## the gate: all proofs from scratch, each edit that must fail, all tests,
 	$(RT) ci
 
 refused-growth: build ## refuses each growth of memory of each command, and of calls beside them, in turn
-	cd crates/library_tests && $(RT) test -- without_memory
+	cd crates/recorder_tests && $(RT) test -- without_memory
 	tools/refused_growth
 
 fuzz: build ## drawn and damaged inputs for an hour; SECONDS=60 for a minute, SEED=2 for others

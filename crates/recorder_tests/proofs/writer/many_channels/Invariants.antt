@@ -1,5 +1,5 @@
 use Rattle.std.proofs.Common.{◌≡◌, ℕ, ◌+◌, ◌*◌, ◌<◌, length, get_or}
-use Rattle.library_tests.proofs.writer.many_channels.Given as goal
+use Rattle.recorder_tests.proofs.writer.many_channels.Given as goal
 
 abbrev pub invariant-channels : goal.invariant-channels
 invariant-channels l =
