@@ -2,7 +2,7 @@
 RT ?= rt
 export RT
 
-.PHONY: help demo build check test refused-growth fuzz bench clean
+.PHONY: help demo build quick crate test gate refused-growth fuzz bench clean
 
 help: ## lists the targets
 	@grep -E '^[a-z-]+:.*## ' Makefile | sed -E 's/:[^#]*## /\t/' | expand -t 18
@@ -13,21 +13,21 @@ demo: build ## builds the program, and shows a recording from filter to extracte
 build: ## proves the program and all that it stands on, and leaves it at bin/bpfrec
 	@tools/build
 
-# For whoever edits: over the work that each crate's out/ keeps, so what is unchanged takes seconds.
-# It proves every crate, then runs the tests of the libraries that have a #[test]. It runs no edit
-# that must fail and no stored run of a program: `make test` does.
-check: ## proves all crates and runs their tests, over kept work
-	tools/check_links
-	tools/check_examples
-	$(RT) all check
-	@for tests in $$(grep -l -r --include=*.rt '#\[test\]' crates/*/src | cut -d/ -f2 | sort -u); do \
-		echo "== tests of $$tests"; (cd crates/$$tests && $(RT) test) || exit 1; done
+quick: ## all tests, compiled with checks and run, with no proof: minutes, also on a fresh checkout
+	@tools/quick
 
-test: ## the gate: all proofs from scratch, each edit that must fail, all tests, all stored runs
-	$(RT) ci
+crate: ## one crate: its proof, its edits that must fail, its tests; as make crate C=rec_lane
+	@tools/crate $(C)
+
+test: ## all proofs, all tests and stored runs, over kept work, and the edits of what changed
+	@tools/test
+
+gate: ## everything from nothing by the toolchain's gate: proofs, every edit, tests, two compilers
+	@tools/gate
 
 refused-growth: build ## refuses each growth of memory of each command, and of calls beside them, in turn
 	cd crates/recorder_tests && $(RT) test -- without_memory
+	cd crates/reading_tests && $(RT) test -- without_memory
 	tools/refused_growth
 
 fuzz: build ## drawn and damaged inputs for an hour; SECONDS=60 for a minute, SEED=2 for others

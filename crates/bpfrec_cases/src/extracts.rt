@@ -11,7 +11,7 @@ pub(crate) struct ExtractCase {
 
 /// Recordings with their channels; recordings that aren't read to their end, for which no feed is
 /// created; words that are no channel; and feeds that can't be created.
-pub(crate) static EXTRACTS: [ExtractCase; 16] = [
+pub(crate) static EXTRACTS: [ExtractCase; 18] = [
     ExtractCase {
         recording: "recordings/two_versions.ch11",
         channel: "1",
@@ -94,5 +94,16 @@ pub(crate) static EXTRACTS: [ExtractCase; 16] = [
         recording: "recordings/two_versions.ch11",
         channel: "1",
         feed: "",
+    },
+    // the recording itself, which keeps its bytes
+    ExtractCase {
+        recording: "recordings/two_versions.ch11",
+        channel: "1",
+        feed: "recordings/two_versions.ch11",
+    },
+    ExtractCase {
+        recording: "recordings/two_versions.ch11",
+        channel: "1",
+        feed: "./recordings/two_versions.ch11",
     },
 ];

@@ -9,12 +9,12 @@ use std::{fs, io};
 /// Lines that are answered in each way; the last one has no line feed.
 const CHANGES: &str = "set 1 records/keeps\nset 9 records/keeps\nset 1 nowhere\nset 1 not_utf8\n\
     set 1 wrong_count\nset 1 no_return\n\nhello\nset 7\nset 7 \nset 65536 records/keeps\n\
-    set +1 records/keeps\nset  1 records/keeps\nset 1 records/keeps";
+    set +1 records/keeps\nset  1 records/keeps\nset 1 .\nset 1 /dev/null\nset 1 records/keeps";
 
 /// Recordings of one channel, whose bytes are always the same, with changes of a filter that has no
 /// frame to meet; and what is refused before a recording is created: the settings, the recording's
 /// file, a name of its own where one is created, and the lines of the input.
-static RECORDS: [[&str; 3]; 18] = [
+static RECORDS: [[&str; 3]; 27] = [
     ["records/two.toml", "two.ch11", ""],
     ["records/none.toml", "none.ch11", ""],
     ["records/none.toml", "changed.ch11", CHANGES],
@@ -33,7 +33,24 @@ static RECORDS: [[&str; 3]; 18] = [
     ["records/no_feed.toml", "out", ""],
     ["records/feed_first.toml", "out", ""],
     ["records/two.toml", "nowhere/out", ""],
+    // a device that two channels would read
+    ["records/one_device.toml", "out", ""],
+    // a recording's file that is an input, which keeps its bytes; and one that is none
+    ["records/two.toml", "records/two.toml", ""],
+    ["records/two.toml", "./records/two.toml", ""],
+    ["records/two.toml", "records/keeps", ""],
+    ["records/endings.toml", "./records/drops", ""],
+    ["records/two.toml", "records/two.feed", ""],
+    ["records/endings.toml", "./records/marks.feed", ""],
+    ["records/two.toml", "./new.ch11", ""],
+    ["records/two.toml", "new.ch11", ""],
 ];
+
+/// A listing, which line feeds may follow.
+const LISTING: &[u8] = b"1,6 0 0 0,";
+
+/// The number of bytes of the longest listing that is read.
+const LONGEST: usize = 1_048_576;
 
 /// The line that [`show_full_versions`] repeats, as often as a channel may have programs.
 const CHANGE: &[u8] = b"set 1 records/keeps\n";
@@ -41,7 +58,7 @@ const CHANGE: &[u8] = b"set 1 records/keeps\n";
 const VERSIONS: u64 = 1_024;
 
 /// The recordings of the table, the endings of several channels, long inputs, as many changes as a
-/// channel may have, an input without memory, and a closed output.
+/// channel may have, listings at the bound and past it, an input without memory, and a closed output.
 pub(crate) fn show_records<R: AllocGlobal + Files + Print + Threads + Wait + Sync>(
     rt: &R,
 ) -> io::Result<()>
@@ -57,6 +74,9 @@ where
     show_long_input(rt, "no change\n", 65_537)?;
     show_long_input(rt, "0123456789abcdef", 1_048_577)?;
     show_full_versions(rt)?;
+    show_long_listing(rt, "longest", "set 1 longest", LONGEST)?;
+    show_long_listing(rt, "too_long", "set 1 too_long", LONGEST + 1)?;
+    show_run(rt, &["record", "too_long", "out"], NOTHING)?;
     let exhausted = ["record", "records/none.toml", "exhausted.ch11"];
     show_run(rt, &exhausted, Input::Exhausted(CHANGE))?;
     show_closed(rt, &["record", "records/none.toml", "closed.ch11"])
@@ -112,6 +132,28 @@ where
         .count();
     println!(rt; "{answered} lines answered of {} bytes", input.len())?;
     println!(rt; "= {}", run.status)
+}
+
+/// A listing of so many bytes, as FILE, by standard input, and in a line that changes a filter.
+fn show_long_listing<R: AllocGlobal + Files + Print + Threads + Wait + Sync>(
+    rt: &R,
+    name: &str,
+    line: &str,
+    len: usize,
+) -> io::Result<()>
+where
+    R::File: Send,
+    R::Dir: Send,
+{
+    let mut listing = Vec::new(rt.alloc());
+    listing.extend_from_slice(LISTING)?;
+    listing.resize(len, b'\n')?;
+    fs::write(rt, name, listing.as_slice())?;
+    show_run(rt, &["verify", name], NOTHING)?;
+    show_run(rt, &["verify", "-"], Input::Bytes(listing.as_slice()))?;
+    let words = ["record", "records/none.toml", "bounded.ch11"];
+    show_run(rt, &words, Input::Bytes(line.as_bytes()))?;
+    Ok(())
 }
 
 /// One change more than the channel may have: how many are answered by their versions, in order,

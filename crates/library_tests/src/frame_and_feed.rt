@@ -1,6 +1,7 @@
 //! Tests, and the bytes, readers and outputs that they share.
-use crate::shared::{all_bytes, bytes};
+use crate::shared::bytes;
 use eth_frame::*;
+use samples::all_bytes;
 use std::alloc::Global;
 use std::cell::Cell;
 use std::io;

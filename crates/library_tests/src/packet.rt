@@ -1,9 +1,10 @@
 //! Tests, and the bytes that they share.
-use crate::shared::{all_bytes, bytes};
+use crate::shared::bytes;
 use bpf_insn::{Insn, parse_listing};
 use bpf_verify::verify;
 use ch11_packet::*;
 use eth_frame::Frame;
+use samples::all_bytes;
 use std::alloc::Global;
 use std::test::Fail;
 

@@ -9,9 +9,3 @@ pub(crate) fn bytes<const N: usize>(alloc: Global, text: &str) -> Result<[u8; N]
     hex::decode_to_slice(digits.as_str(), &mut bytes)?;
     Ok(bytes)
 }
-
-/// All bytes of a hexadecimal text, in which spaces may stand.
-pub(crate) fn all_bytes(alloc: Global, text: &str) -> Result<Vec<u8>, Fail> {
-    let digits = text.replace(alloc, " ", "")?;
-    Ok(hex::decode(alloc, digits.as_str())?)
-}

@@ -21,7 +21,7 @@ pub use installed::Installed;
 pub use laws::{
     later_versions_leave_the_past, one_version_is_in_force, the_first_front, the_most_versions,
 };
-pub use limits::MAX_VERSIONS;
+pub use limits::{MAX_CHANNELS, MAX_RING, MAX_VERSIONS};
 pub use parts::Parts;
 pub use shared::SharedSlot;
 pub use slot::Slot;

@@ -1,17 +1,13 @@
 //! The program as a function: it reads the words, does what they ask for, and gives a status.
 
 ghost use Rattle.std.specs.Prelude.{◌≡◌, ◌<◌, IfSome, length};
-ghost use Rattle.rec_cli.specs.Lines.{AnswersLines};
+ghost use Rattle.cli_filters.specs.Lines.{AnswersLines};
 
-use crate::auditing::audit_recording;
-use crate::ending::{ANSWERED, Ending};
-use crate::extraction::extract_frames;
-use crate::filters::{assemble_file, disassemble_file, run_file, verify_file};
-use crate::no_words::answer_lines;
-use crate::output::print_text;
-use crate::packet_list::list_packets;
 use crate::recording::record_channels;
-use crate::simulation::simulate_script;
+use cli_filters::{answer_lines, assemble_file, disassemble_file, run_file, verify_file};
+use cli_reading::{audit_recording, extract_frames, list_packets};
+use cli_simulate::simulate_script;
+use cli_streams::{ANSWERED, Ending, print_text};
 use rec_words::{Words, WordsFault, words_of};
 use std::io;
 use std::io::{ErrorKind, Read, Write};

@@ -8,21 +8,22 @@ mod programs;
 mod report;
 
 use self::changes::LineControl;
-pub(crate) use self::fault::RecordingFault;
+use self::fault::output_fault;
 use self::jobs::jobs_of;
 use self::report::print_report;
-use crate::ending::Ending;
+use cli_streams::{Ending, Inputs, MAX_LISTING, RecordingFault, bounded_text};
 use rec_run::{Done, RunFault, jobs_ok, record};
 use rec_words::{Settings, SettingsFault, settings_of};
-use std::fs;
-use std::io::{Read, Write};
+use std::fs::OpenFile;
+use std::io::{ErrorKind, Read, Write};
 use std::rt::Files;
 use std::sync::{Mutex, Wait};
 use std::thread::Threads;
+use std::{fs, io};
 
 /// `record SETTINGS OUT`: records the channels of the settings into OUT, and prints a line for each
-/// channel and how much was written. Lines of `input` change filters meanwhile, and are answered on
-/// `errors`.
+/// channel and how much was written, when OUT is on its disk. Lines of `input` change filters
+/// meanwhile, and are answered on `errors`. An OUT that is one of the inputs is refused.
 pub(crate) fn record_channels<
     'a,
     R: AllocGlobal + Files + Threads + Wait + Sync,
@@ -41,34 +42,37 @@ where
     R::File: Send,
     R::Dir: Send,
 {
+    let mut inputs = Inputs::new(rt.alloc());
     let Settings {
         limit,
         ring,
         version,
         channels,
         ..
-    } = read_settings(rt, settings)?;
-    let jobs = jobs_of(rt, limit, channels)?;
+    } = read_settings(rt, settings, &mut inputs)?;
+    let jobs = jobs_of(rt, limit, channels, &mut inputs)?;
     if !jobs_ok(jobs.as_slice()) {
         return Err(Ending::Settings(SettingsFault::Channels));
     }
     let Ok(control) = LineControl::new(rt, input, errors) else {
         return Err(Ending::Memory);
     };
+    inputs.refuse_output(rt, out)?;
     let created = fs::create(rt, out).map_err(|error| Ending::of_read(out, &error))?;
     match record(rt, rt.alloc(), jobs, ring, version, control, created) {
         Ok(
             Done {
                 report,
                 control,
-                ..
+                out: recorded,
             },
         ) => {
-            print_report(output, &report)?;
+            keep(&recorded).map_err(|_| Ending::File(out))?;
+            print_report(rt.alloc(), output, &report)?;
             control.outcome()
         }
         Err(RunFault::Memory) => Err(Ending::Memory),
-        Err(RunFault::Write { fault, .. }) => Err(Ending::Recording(fault.into())),
+        Err(RunFault::Write { fault, .. }) => Err(Ending::Recording(output_fault(fault))),
         Err(RunFault::Link) => Err(Ending::Recording(RecordingFault::Link)),
         Err(RunFault::History) => Err(Ending::Recording(RecordingFault::History)),
     }
@@ -78,9 +82,20 @@ where
 fn read_settings<'a, R: AllocGlobal + Files>(
     rt: &R,
     file: &'a str,
+    inputs: &mut Inputs,
 ) -> Result<Settings, Ending<'a>> {
-    match fs::read_to_string(rt, file) {
+    let mut opened = fs::open(rt, file).map_err(|error| Ending::of_read(file, &error))?;
+    inputs.add(&opened)?;
+    match bounded_text(rt.alloc(), MAX_LISTING, &mut opened) {
         Ok(text) => Ok(settings_of(rt.alloc(), text.as_str())?),
         Err(error) => Err(Ending::of_read(file, &error)),
+    }
+}
+
+/// Forces a recording to its disk. A pipe or a device has none, and says that it can't be.
+fn keep<F: OpenFile>(recorded: &F) -> io::Result<()> {
+    match recorded.sync_all() {
+        Err(error) if error.kind() != ErrorKind::InvalidInput => Err(error),
+        _ => Ok(()),
     }
 }

@@ -3,9 +3,9 @@ use Rattle.std.specs.Prelude.{ℕ, ◌≢◌, ◌<◌, ◌≤◌, List, length, 
 use Rattle.bpf_insn.specs.declared.insn.Insn.{Insn}
 use Rattle.bpf_insn.specs.Bytes.{AreInRange}
 use Rattle.bpf_verify.specs.Validity.{Valid}
+use Rattle.rec_channel.specs.declared.limits.TheConstants.{MAX_CHANNELS}
 use Rattle.rec_lane.specs.Pieces.{LaneSettings}
 use Rattle.rec_writer.specs.Numbers.{AreDistinct}
-use Rattle.rec_writer.specs.declared.writer.TheConstants.{MAX_CHANNELS}
 
 -- a channel's lane, its first program, and how many frames it may have
 pub record SpecData : Type 0 where

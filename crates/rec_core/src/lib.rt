@@ -20,8 +20,8 @@ pub use laws::{
     a_failed_output_is_cut_in_one_piece, a_recording_is_a_run, a_run_that_ended_is_a_recording,
     a_run_writes_each_channel_in_order, an_ended_world_holds_its_recording,
 };
+pub use rec_channel::MAX_RING;
 pub use reply::{Reply, Which};
-pub use ring::MAX_RING;
 pub use run::run_world;
 pub use spec::{ChannelSpec, are_distinct, specs_ok};
 pub use world::World;

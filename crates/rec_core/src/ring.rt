@@ -8,9 +8,6 @@ use std::alloc::{AllocError, Global};
 use std::collections::VecDeque;
 use std::marker::Model;
 
-/// How many pieces a channel's ring may have room for.
-pub const MAX_RING: usize = 4096;
-
 /// A queue of pieces with room for a fixed number, which is taken when it is made.
 #[derive(Debug, Drop)]
 pub(crate) struct Ring {

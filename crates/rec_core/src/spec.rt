@@ -8,8 +8,8 @@ ghost use Rattle.rec_core.specs.Views.{specs_data};
 
 use arrayvec::ArrayVec;
 use bpf_verify::Verified;
+use rec_channel::MAX_CHANNELS;
 use rec_lane::LaneSpec;
-use rec_writer::MAX_CHANNELS;
 use std::alloc::Global;
 use std::sync::Arc;
 

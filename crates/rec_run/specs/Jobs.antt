@@ -1,10 +1,10 @@
 -- What jobs a recording may have.
 use Rattle.std.specs.Prelude.{ℕ, ◌<◌, ◌≤◌, List, length, map}
 use Rattle.std.specs.Arc.{arc_value}
+use Rattle.rec_channel.specs.declared.limits.TheConstants.{MAX_CHANNELS}
 use Rattle.rec_core.specs.Openings.{SpecData}
 use Rattle.rec_lane.specs.Settings.{spec_data}
 use Rattle.rec_writer.specs.Numbers.{AreDistinct}
-use Rattle.rec_writer.specs.declared.writer.TheConstants.{MAX_CHANNELS}
 use Rattle.rec_run.specs.declared.job.Job.{Job}
 
 module _ {S : Type 0} where

@@ -5,8 +5,8 @@ ghost use Rattle.rec_run.specs.Jobs.{channels_of_jobs, AreJobs};
 
 use crate::job::Job;
 use arrayvec::ArrayVec;
+use rec_channel::MAX_CHANNELS;
 use rec_core::are_distinct;
-use rec_writer::MAX_CHANNELS;
 
 /// Whether these jobs may be recorded: 1 to [`MAX_CHANNELS`] of them, each with a channel of its own.
 pub fn jobs_ok<S: Drop>(jobs: &[Job<S>]) -> bool

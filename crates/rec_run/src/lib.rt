@@ -36,6 +36,6 @@ pub use control::Control;
 pub use ending::Ending;
 pub use job::Job;
 pub use jobs::jobs_ok;
-pub use rec_core::MAX_RING;
+pub use rec_channel::MAX_RING;
 pub use recording::record;
 pub use report::{ChannelReport, Done, Report, RunFault};

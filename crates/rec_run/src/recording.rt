@@ -7,7 +7,7 @@ ghost use Rattle.rec_run.specs.Jobs.{AreJobs};
 ghost use Rattle.rec_run.specs.Recorded.{IsRecorded, IsRecordedRun, IsControlled};
 ghost use Rattle.rec_run.specs.Verdicts.{CutsShort, Concludes, ConcludesControl, ConcludesCut, TellsOf, EndsWell, EndsAtFlush};
 ghost use Rattle.std.specs.Io.KnownBytes.{Keeps};
-ghost use Rattle.rec_core.specs.declared.ring.TheConstants.{MAX_RING};
+ghost use Rattle.rec_channel.specs.declared.limits.TheConstants.{MAX_RING};
 
 use crate::agreement::are_of_some;
 use crate::change::Logged;

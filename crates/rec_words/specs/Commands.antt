@@ -1,5 +1,5 @@
 -- The command line: what the crate clap makes of the words, for the commands of this program.
-use Rattle.std.specs.Prelude.{◌≡◌, ◌≢◌, List, [], Option, Some, true, unwrap_or, codes}
+use Rattle.std.specs.Prelude.{◌≡◌, ◌≢◌, List, [], ◌∷◌, Option, Some, true, unwrap_or, codes}
 use Rattle.clap.specs.Words.{App, Row, Rule, Text, first_of, new_app, new_rule, with_rule, with_subcommand}
 use Rattle.clap.specs.declared.builder.ArgAction.TheVariants.{Set}
 use Rattle.rec_words.specs.declared.words.Words.{Words}
@@ -9,37 +9,28 @@ use Rattle.rec_words.specs.declared.words.Words.TheVariants.{NoCommand, Asm, Dis
 abbrev pub operand : Text → Rule
 operand name = record (new_rule name) { required = true; action = Some Set }
 
-abbrev pub asm_app : App
-asm_app = with_rule (new_app (codes "asm")) (operand (codes "FILE"))
+-- a command that takes these words, in order
+abbrev pub with_words : App → List Text → App
+with_words app [] = app
+with_words app (word ∷ rest) = with_words (with_rule app (operand word)) rest
 
-abbrev pub dis_app : App
-dis_app = with_rule (new_app (codes "dis")) (operand (codes "FILE"))
+-- a command by its name and its words
+abbrev pub command_app : Text × List Text → App
+command_app command = with_words (new_app command.0) command.1
 
-abbrev pub verify_app : App
-verify_app = with_rule (new_app (codes "verify")) (operand (codes "FILE"))
-
-abbrev pub run_app : App
-run_app =
-    with_rule (with_rule (new_app (codes "run")) (operand (codes "FILE"))) (operand (codes "HEX"))
-
-abbrev pub list_app : App
-list_app = with_rule (new_app (codes "list")) (operand (codes "FILE"))
-
-abbrev pub audit_app : App
-audit_app = with_rule (new_app (codes "audit")) (operand (codes "FILE"))
-
-abbrev pub extract_app : App
-extract_app =
-    with_rule (with_rule (with_rule (new_app (codes "extract")) (operand (codes "FILE")))
-    (operand (codes "CHANNEL"))) (operand (codes "OUT"))
-
-abbrev pub record_app : App
-record_app =
-    with_rule (with_rule (new_app (codes "record")) (operand (codes "SETTINGS")))
-    (operand (codes "OUT"))
-
-abbrev pub simulate_app : App
-simulate_app = with_rule (new_app (codes "simulate")) (operand (codes "FILE"))
+-- the commands, each with its words
+abbrev pub commands : List (Text × List Text)
+commands =
+    (codes "asm", codes "FILE" ∷ [])
+    ∷ (codes "dis", codes "FILE" ∷ [])
+    ∷ (codes "verify", codes "FILE" ∷ [])
+    ∷ (codes "run", codes "FILE" ∷ codes "HEX" ∷ [])
+    ∷ (codes "list", codes "FILE" ∷ [])
+    ∷ (codes "audit", codes "FILE" ∷ [])
+    ∷ (codes "extract", codes "FILE" ∷ codes "CHANNEL" ∷ codes "OUT" ∷ [])
+    ∷ (codes "record", codes "SETTINGS" ∷ codes "OUT" ∷ [])
+    ∷ (codes "simulate", codes "FILE" ∷ [])
+    ∷ []
 
 -- the program without its commands: a command must stand among the words after its name
 abbrev pub top_app : App
@@ -47,24 +38,15 @@ top_app =
     let named = new_app (codes "bpfrec") in
     record named { top = record named.top { no_binary_name = true; subcommand_required = true } }
 
--- the program with the commands on texts
-abbrev pub texts_app : App
-texts_app = with_subcommand (with_subcommand top_app asm_app.top) dis_app.top
-
--- the program with the commands on filters
-abbrev pub filters_app : App
-filters_app = with_subcommand (with_subcommand texts_app verify_app.top) run_app.top
-
--- the program with the commands on filters and recordings
-abbrev pub recordings_app : App
-recordings_app =
-    with_subcommand (with_subcommand (with_subcommand filters_app list_app.top) audit_app.top)
-    extract_app.top
+-- a program with these commands, in order
+abbrev pub with_commands : App → List (Text × List Text) → App
+with_commands app [] = app
+with_commands app (command ∷ rest) =
+    with_commands (with_subcommand app (command_app command).top) rest
 
 -- the program
 abbrev pub bpfrec_app : App
-bpfrec_app =
-    with_subcommand (with_subcommand recordings_app record_app.top) simulate_app.top
+bpfrec_app = with_commands top_app commands
 
 -- the word given for a name
 abbrev pub word_for : Text → List Row → Text

@@ -1,4 +1,5 @@
 pub mod Commands
+pub mod CommandTexts
 pub mod WordsFaults
 pub mod Settings
 pub mod SettingsViews

@@ -1,9 +1,10 @@
-//! The command line as `clap` reads it: a function for each command, with its help.
+//! The command line as `clap` reads it: a table of the commands, with their help.
 
-ghost use Rattle.std.specs.Prelude.{◌≡◌, IfOk, codes, false};
-ghost use Rattle.clap.specs.Words.{app_of, new_app, rule_of};
+ghost use Rattle.std.specs.Prelude.{◌≡◌, IfOk, false, map};
+ghost use Rattle.clap.specs.Words.{app_of, rule_of};
 ghost use Rattle.clap.specs.declared.builder.Command.TheViews.{out-Command as fields_of};
-ghost use Rattle.rec_words.specs.Commands.{asm_app, audit_app, bpfrec_app, dis_app, extract_app, filters_app, list_app, operand, record_app, recordings_app, run_app, simulate_app, texts_app, top_app, verify_app};
+ghost use Rattle.rec_words.specs.Commands.{bpfrec_app, command_app, operand, top_app, with_commands};
+ghost use Rattle.rec_words.specs.CommandTexts.{command_data};
 
 use clap::{Arg, ArgAction, Command};
 use std::alloc::{AllocError, Global};
@@ -196,43 +197,179 @@ Exit status: 0 recorded; 1 a filter was refused, or the recording failed; 2 word
 Example:
   bpfrec record flight.toml flight.ch11 < /dev/null";
 
-/// The command line of the program. Each command has a function of its own here.
+/// A command, its words and its help.
+pub(crate) struct CommandTexts {
+    /// Its name.
+    pub(crate) name: &'static str,
+    /// Its name as a user writes it.
+    pub(crate) usage: &'static str,
+    /// What it does, on one line.
+    pub(crate) about: &'static str,
+    /// What else help says of it.
+    pub(crate) help: HelpText,
+    /// The words after it, in order; each must be given.
+    pub(crate) words: &'static [WordTexts],
+}
+
+/// The text that help ends in, by a name: a constant that has all the texts is slow to prove.
+pub(crate) enum HelpText {
+    /// [`ASM`]
+    Asm,
+    /// [`DIS`]
+    Dis,
+    /// [`VERIFY`]
+    Verify,
+    /// [`RUN`]
+    Run,
+    /// [`LIST`]
+    List,
+    /// [`AUDIT`]
+    Audit,
+    /// [`EXTRACT`]
+    Extract,
+    /// [`RECORD`]
+    Record,
+    /// [`SIMULATE`]
+    Simulate,
+}
+
+/// A word after a command, and its help.
+pub(crate) struct WordTexts {
+    /// The name that usage and help show.
+    pub(crate) name: &'static str,
+    /// What the word is.
+    pub(crate) help: &'static str,
+}
+
+/// A file with a listing.
+const LISTING: WordTexts = WordTexts {
+    name: "FILE",
+    help: "A program's listing: the count, then code jt jf k of each instruction",
+};
+
+/// A file with a recording.
+const RECORDING: WordTexts = WordTexts {
+    name: "FILE",
+    help: "A recording: packets, one after the other",
+};
+
+/// The commands, in the order in which help lists them.
+const COMMANDS: &[CommandTexts] = &[
+    CommandTexts {
+        name: "asm",
+        usage: "bpfrec asm",
+        about: "Prints the listing of a filter's text",
+        help: HelpText::Asm,
+        words: &[WordTexts {
+            name: "FILE",
+            help: "A filter in the text of the Linux kernel's bpf_asm",
+        }],
+    },
+    CommandTexts {
+        name: "dis",
+        usage: "bpfrec dis",
+        about: "Prints the text of a program's listing",
+        help: HelpText::Dis,
+        words: &[LISTING],
+    },
+    CommandTexts {
+        name: "verify",
+        usage: "bpfrec verify",
+        about: "Says whether a program may be installed",
+        help: HelpText::Verify,
+        words: &[LISTING],
+    },
+    CommandTexts {
+        name: "run",
+        usage: "bpfrec run",
+        about: "Runs a program on a view",
+        help: HelpText::Run,
+        words: &[
+            LISTING,
+            WordTexts {
+                name: "HEX",
+                help: "The view in hexadecimal",
+            },
+        ],
+    },
+    CommandTexts {
+        name: "list",
+        usage: "bpfrec list",
+        about: "Prints a line for each packet of a recording",
+        help: HelpText::List,
+        words: &[RECORDING],
+    },
+    CommandTexts {
+        name: "audit",
+        usage: "bpfrec audit",
+        about: "Judges a recording by itself",
+        help: HelpText::Audit,
+        words: &[RECORDING],
+    },
+    CommandTexts {
+        name: "extract",
+        usage: "bpfrec extract",
+        about: "Writes a channel's frames into a feed",
+        help: HelpText::Extract,
+        words: &[
+            RECORDING,
+            WordTexts {
+                name: "CHANNEL",
+                help: "The channel, a number from 0 to 65535",
+            },
+            WordTexts {
+                name: "OUT",
+                help: "The feed that is written",
+            },
+        ],
+    },
+    CommandTexts {
+        name: "record",
+        usage: "bpfrec record",
+        about: "Records channels through their filters",
+        help: HelpText::Record,
+        words: &[
+            WordTexts {
+                name: "SETTINGS",
+                help: "The channels, their feeds and filters",
+            },
+            WordTexts {
+                name: "OUT",
+                help: "The recording that is written",
+            },
+        ],
+    },
+    CommandTexts {
+        name: "simulate",
+        usage: "bpfrec simulate",
+        about: "Runs the recorder's core by a script",
+        help: HelpText::Simulate,
+        words: &[WordTexts {
+            name: "FILE",
+            help: "A script: a recorder, its channels, and events, a line each",
+        }],
+    },
+];
+
+/// The command line of the program, with each of [`COMMANDS`].
 pub(crate) fn bpfrec<'a>(alloc: Global) -> Result<Command<'a>, AllocError>
     ensures app { IfOk result (λ c. app_of c ≡ bpfrec_app) }
     ensures local { IfOk result (λ c. (fields_of c).has_globals ≡ false) }
 {
-    with_recordings(alloc)?
-        .subcommand(record(alloc)?)?
-        .subcommand(simulate(alloc)?)
+    with_commands(alloc, COMMANDS)
 }
 
-/// The program with the commands on filters and on recordings.
-fn with_recordings<'a>(alloc: Global) -> Result<Command<'a>, AllocError>
-    ensures app { IfOk result (λ c. app_of c ≡ recordings_app) }
+/// The program with these commands, in order.
+fn with_commands<'a>(alloc: Global, commands: &[CommandTexts]) -> Result<Command<'a>, AllocError>
+    ensures app { IfOk result
+        (λ c. app_of c ≡ with_commands top_app (map command_data commands.now)) }
     ensures local { IfOk result (λ c. (fields_of c).has_globals ≡ false) }
 {
-    with_filters(alloc)?
-        .subcommand(list(alloc)?)?
-        .subcommand(audit(alloc)?)?
-        .subcommand(extract(alloc)?)
-}
-
-/// The program with the commands on filters alone.
-fn with_filters<'a>(alloc: Global) -> Result<Command<'a>, AllocError>
-    ensures app { IfOk result (λ c. app_of c ≡ filters_app) }
-    ensures local { IfOk result (λ c. (fields_of c).has_globals ≡ false) }
-{
-    with_texts(alloc)?
-        .subcommand(verify(alloc)?)?
-        .subcommand(run(alloc)?)
-}
-
-/// The program with the commands on texts alone.
-fn with_texts<'a>(alloc: Global) -> Result<Command<'a>, AllocError>
-    ensures app { IfOk result (λ c. app_of c ≡ texts_app) }
-    ensures local { IfOk result (λ c. (fields_of c).has_globals ≡ false) }
-{
-    top(alloc)?.subcommand(asm(alloc)?)?.subcommand(dis(alloc)?)
+    let mut program = top(alloc)?;
+    'commands: for texts in commands {
+        program = program.subcommand(command(alloc, texts)?)?;
+    }
+    Ok(program)
 }
 
 /// The program without its commands.
@@ -240,9 +377,9 @@ fn top<'a>(alloc: Global) -> Result<Command<'a>, AllocError>
     ensures app { IfOk result (λ c. app_of c ≡ top_app) }
     ensures local { IfOk result (λ c. (fields_of c).has_globals ≡ false) }
 {
+    let program = Command::new(alloc, "bpfrec").bin_name("bpfrec")?;
     Ok(
-        Command::new(alloc, "bpfrec")
-            .bin_name("bpfrec")?
+        program
             .about(ABOUT)
             .after_help(STATUSES)
             .no_binary_name(true)
@@ -250,171 +387,43 @@ fn top<'a>(alloc: Global) -> Result<Command<'a>, AllocError>
     )
 }
 
-fn asm<'a>(alloc: Global) -> Result<Command<'a>, AllocError>
-    ensures app { IfOk result (λ c. app_of c ≡ asm_app) }
+/// A command with its words.
+fn command<'a>(alloc: Global, texts: &CommandTexts) -> Result<Command<'a>, AllocError>
+    ensures app { IfOk result (λ c. app_of c ≡ command_app (command_data texts.now)) }
     ensures local { IfOk result (λ c. (fields_of c).has_globals ≡ false) }
 {
-    command(
-        alloc,
-        "asm",
-        "bpfrec asm",
-        "Prints the listing of a filter's text",
-        ASM,
-    )?
-    .arg(operand(alloc, "FILE").help("A filter in the text of the Linux kernel's bpf_asm"))
+    let mut command = Command::new(alloc, texts.name)
+        .bin_name(texts.usage)?
+        .about(texts.about)
+        .after_help(text_of(&texts.help));
+    'words: for word in texts.words {
+        command = command.arg(operand(alloc, word))?;
+    }
+    Ok(command)
 }
 
-fn dis<'a>(alloc: Global) -> Result<Command<'a>, AllocError>
-    ensures app { IfOk result (λ c. app_of c ≡ dis_app) }
-    ensures local { IfOk result (λ c. (fields_of c).has_globals ≡ false) }
-{
-    command(
-        alloc,
-        "dis",
-        "bpfrec dis",
-        "Prints the text of a program's listing",
-        DIS,
-    )?
-    .arg(file(alloc))
-}
-
-fn verify<'a>(alloc: Global) -> Result<Command<'a>, AllocError>
-    ensures app { IfOk result (λ c. app_of c ≡ verify_app) }
-    ensures local { IfOk result (λ c. (fields_of c).has_globals ≡ false) }
-{
-    command(
-        alloc,
-        "verify",
-        "bpfrec verify",
-        "Says whether a program may be installed",
-        VERIFY,
-    )?
-    .arg(file(alloc))
-}
-
-fn run<'a>(alloc: Global) -> Result<Command<'a>, AllocError>
-    ensures app { IfOk result (λ c. app_of c ≡ run_app) }
-    ensures local { IfOk result (λ c. (fields_of c).has_globals ≡ false) }
-{
-    command(alloc, "run", "bpfrec run", "Runs a program on a view", RUN)?
-        .arg(file(alloc))?
-        .arg(operand(alloc, "HEX").help("The view in hexadecimal"))
-}
-
-fn list<'a>(alloc: Global) -> Result<Command<'a>, AllocError>
-    ensures app { IfOk result (λ c. app_of c ≡ list_app) }
-    ensures local { IfOk result (λ c. (fields_of c).has_globals ≡ false) }
-{
-    command(
-        alloc,
-        "list",
-        "bpfrec list",
-        "Prints a line for each packet of a recording",
-        LIST,
-    )?
-    .arg(recording(alloc))
-}
-
-fn audit<'a>(alloc: Global) -> Result<Command<'a>, AllocError>
-    ensures app { IfOk result (λ c. app_of c ≡ audit_app) }
-    ensures local { IfOk result (λ c. (fields_of c).has_globals ≡ false) }
-{
-    command(
-        alloc,
-        "audit",
-        "bpfrec audit",
-        "Judges a recording by itself",
-        AUDIT,
-    )?
-    .arg(recording(alloc))
-}
-
-fn extract<'a>(alloc: Global) -> Result<Command<'a>, AllocError>
-    ensures app { IfOk result (λ c. app_of c ≡ extract_app) }
-    ensures local { IfOk result (λ c. (fields_of c).has_globals ≡ false) }
-{
-    command(
-        alloc,
-        "extract",
-        "bpfrec extract",
-        "Writes a channel's frames into a feed",
-        EXTRACT,
-    )?
-    .arg(recording(alloc))?
-    .arg(operand(alloc, "CHANNEL").help("The channel, a number from 0 to 65535"))?
-    .arg(operand(alloc, "OUT").help("The feed that is written"))
-}
-
-fn record<'a>(alloc: Global) -> Result<Command<'a>, AllocError>
-    ensures app { IfOk result (λ c. app_of c ≡ record_app) }
-    ensures local { IfOk result (λ c. (fields_of c).has_globals ≡ false) }
-{
-    command(
-        alloc,
-        "record",
-        "bpfrec record",
-        "Records channels through their filters",
-        RECORD,
-    )?
-    .arg(operand(alloc, "SETTINGS").help("The channels, their feeds and filters"))?
-    .arg(operand(alloc, "OUT").help("The recording that is written"))
-}
-
-fn simulate<'a>(alloc: Global) -> Result<Command<'a>, AllocError>
-    ensures app { IfOk result (λ c. app_of c ≡ simulate_app) }
-    ensures local { IfOk result (λ c. (fields_of c).has_globals ≡ false) }
-{
-    command(
-        alloc,
-        "simulate",
-        "bpfrec simulate",
-        "Runs the recorder's core by a script",
-        SIMULATE,
-    )?
-    .arg(operand(alloc, "FILE").help("A script: a recorder, its channels, and events, a line each"))
-}
-
-/// A command without its words: its name alone, and as a user writes it.
-fn command<'a>(
-    alloc: Global,
-    name: &'a str,
-    usage: &'a str,
-    about: &'a str,
-    help: &'a str,
-) -> Result<Command<'a>, AllocError>
-    ensures app { IfOk result (λ c. app_of c ≡ new_app name.entry.now) }
-    ensures local { IfOk result (λ c. (fields_of c).has_globals ≡ false) }
-{
-    Ok(
-        Command::new(alloc, name)
-            .bin_name(usage)?
-            .about(about)
-            .after_help(help),
-    )
-}
-
-/// A file with a listing.
-fn file<'a>(alloc: Global) -> Arg<'a>
-    ensures rule { rule_of result ≡ operand (codes "FILE") }
-    ensures local { result.global ≡ false }
-{
-    operand(alloc, "FILE").help(
-        "A program's listing: the count, then code jt jf k of each instruction",
-    )
-}
-
-/// A file with a recording.
-fn recording<'a>(alloc: Global) -> Arg<'a>
-    ensures rule { rule_of result ≡ operand (codes "FILE") }
-    ensures local { result.global ≡ false }
-{
-    operand(alloc, "FILE").help("A recording: packets, one after the other")
+/// The text that help ends in.
+fn text_of(help: &HelpText) -> &'static str {
+    match help {
+        HelpText::Asm => ASM,
+        HelpText::Dis => DIS,
+        HelpText::Verify => VERIFY,
+        HelpText::Run => RUN,
+        HelpText::List => LIST,
+        HelpText::Audit => AUDIT,
+        HelpText::Extract => EXTRACT,
+        HelpText::Record => RECORD,
+        HelpText::Simulate => SIMULATE,
+    }
 }
 
 /// A word that must be given.
-fn operand<'a>(alloc: Global, name: &'a str) -> Arg<'a>
-    ensures rule { rule_of result ≡ operand name.entry.now }
+fn operand<'a>(alloc: Global, texts: &WordTexts) -> Arg<'a>
+    ensures rule { rule_of result ≡ operand texts.now.name.now }
     ensures local { result.global ≡ false }
 {
-    Arg::new(alloc, name).required(true).action(ArgAction::Set)
+    Arg::new(alloc, texts.name)
+        .required(true)
+        .action(ArgAction::Set)
+        .help(texts.help)
 }

@@ -1,7 +1,7 @@
 //! The settings of a recording, and of its channels.
 
 ghost use Rattle.std.specs.Prelude.{◌≤◌, ◌<◌};
-ghost use Rattle.rec_core.specs.declared.ring.TheConstants.{MAX_RING};
+ghost use Rattle.rec_channel.specs.declared.limits.TheConstants.{MAX_RING};
 ghost use Rattle.ch11_packet.specs.declared.frames.word.TheConstants.{MAX_SPEED};
 
 mod fault;
@@ -14,7 +14,7 @@ pub use reading::settings_of;
 
 /// The settings of a recording. The document's top has the keys `limit`, `ring`, `version` and
 /// `channel`, and each table of `channel` the keys of [`ChannelSettings`].
-#[derive(Debug, Drop)]
+#[derive(Drop)]
 pub struct Settings {
     /// How long a packet of frames may get, in bytes: 16,424 to 524,288; 65,536 if it isn't set.
     pub limit: Limit,
@@ -28,7 +28,7 @@ pub struct Settings {
 }
 
 /// The settings of a channel.
-#[derive(Debug, Drop)]
+#[derive(Drop)]
 pub struct ChannelSettings {
     /// The channel ID, 1 to 65,535; it must be set.
     pub id: u16,

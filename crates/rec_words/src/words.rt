@@ -12,7 +12,7 @@ use clap::{ArgMatches, Error};
 use std::alloc::{AllocError, Global};
 
 /// What a command line asks for.
-#[derive(Debug, Drop)]
+#[derive(Drop)]
 pub enum Words<'a> {
     /// No command: clap takes no words without one.
     NoCommand,
@@ -59,7 +59,7 @@ pub enum Words<'a> {
 }
 
 /// Why the words ask for nothing. The texts are those of `clap`, with their line feeds.
-#[derive(Debug, Drop)]
+#[derive(Drop)]
 pub enum WordsFault {
     /// Help was asked for.
     Help(String),

@@ -2,12 +2,12 @@
 
 ghost use Rattle.std.specs.Prelude.{ℕ, ◌≡◌, ◌↔◌, List, [], ◌∷◌, ◌++◌, Some};
 ghost use Rattle.rec_channel.specs.History.{Version};
+ghost use Rattle.rec_channel.specs.declared.limits.TheConstants.{MAX_CHANNELS};
 ghost use Rattle.rec_lane.specs.Pieces.{LaneSettings, PieceData};
 ghost use Rattle.rec_lane.specs.Pieces.PieceData.{OfEnd};
 ghost use Rattle.rec_writer.specs.Encoding.{packet_of, writer_output, output_after};
 ghost use Rattle.rec_writer.specs.Recording.{RecordedChannel, AreOfChannels, IsRecording, IsOutputOf};
 ghost use Rattle.rec_writer.specs.Writers.{WriterState, HasWritten, HoldsRecording};
-ghost use Rattle.rec_writer.specs.declared.writer.TheConstants.{MAX_CHANNELS};
 
 use rec_lane::pieces_are_of_their_channel;
 

@@ -16,4 +16,5 @@ pub use laws::{
     what_a_writer_put_is_a_recording,
 };
 pub use packet::packet_len;
-pub use writer::{MAX_CHANNELS, Writer};
+pub use rec_channel::MAX_CHANNELS;
+pub use writer::Writer;

@@ -10,12 +10,10 @@ use crate::output::write_packet;
 use crate::packet::{RECORDS, packet_channel, packet_header};
 use arrayvec::ArrayVec;
 use ch11_packet::{end_body, program_body};
+use rec_channel::MAX_CHANNELS;
 use rec_lane::Piece;
 use std::io::Write;
 use std::marker::Model;
-
-/// How many channels a recording may have.
-pub const MAX_CHANNELS: usize = 64;
 
 /// How many channel IDs their packets may have: those of the channels, and that of records.
 const MAX_NUMBERS: usize = MAX_CHANNELS + 1;

@@ -1,7 +1,7 @@
 //! A slot, alone and shared.
-use crate::shared::program;
 use bpf_verify::Verified;
 use rec_channel::*;
+use samples::program;
 use std::alloc::Global;
 use std::sync::{Arc, Wait};
 use std::test::Fail;

@@ -1,9 +1,9 @@
 //! A lane beside a slot, piece by piece.
-use crate::shared::{all_bytes, program};
 use ch11_packet::{Blank, Limit};
 use eth_frame::Frame;
 use rec_channel::Slot;
 use rec_lane::*;
+use samples::{all_bytes, program};
 use std::alloc::Global;
 use std::test::Fail;
 

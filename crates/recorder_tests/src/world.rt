@@ -1,16 +1,15 @@
 //! The core by lists of events.
 
 ghost use Rattle.std.specs.Prelude.{◌<◌, ◌≤◌};
-ghost use Rattle.rec_core.specs.declared.ring.TheConstants.{MAX_RING};
+ghost use Rattle.rec_channel.specs.declared.limits.TheConstants.{MAX_RING};
 
-use crate::shared::{
-    ACCEPTING, END, FRAMES, REJECTING, all_bytes, counters_of, joined_bytes, program,
-};
+use crate::shared::counters_of;
 use crate::writer::{Output, Then};
 use ch11_packet::Limit;
 use eth_frame::Frame;
 use rec_core::*;
 use rec_lane::LaneSpec;
+use samples::{ACCEPTING, END, FRAMES, REJECTING, all_bytes, joined_bytes, program};
 use std::alloc::Global;
 use std::io::{ErrorKind, Write};
 use std::process::Abort;

@@ -2,11 +2,11 @@
 ghost use Rattle.std.specs.Prelude.{ℕ, ◌≢◌, All};
 ghost use Rattle.rec_writer.specs.Numbers.{AreDistinct};
 
-use crate::shared::{ACCEPTING, END, FRAMES, REJECTING, joined_bytes, program};
 use ch11_packet::{DataBody, DataBuilder, HEADER_LEN, Header, Limit};
 use eth_frame::Frame;
 use rec_lane::{DataPiece, EndPiece, Piece, ProgramPiece};
 use rec_writer::*;
+use samples::{ACCEPTING, END, FRAMES, REJECTING, joined_bytes, program};
 use std::alloc::Global;
 use std::io;
 use std::io::{ErrorKind, Write};

@@ -1,49 +1,18 @@
-//! What several tests share: a recording's packets as hexadecimal texts, programs as listings,
-//! drawn frames, and the lane and the slot of a channel.
+//! What several tests share: drawn programs and frames, and the lane and the slot of a channel.
 
 ghost use Rattle.std.specs.Prelude.{◌≤◌};
 
 use crate::draws::Draws;
 use crate::pieces::{Channel, PlainFrame, PlainVersion};
-use bpf_insn::parse_listing;
-use bpf_verify::{Verified, verify};
+use bpf_verify::Verified;
 use ch11_packet::Limit;
 use eth_frame::{Frame, MAX_FRAME_LEN};
 use rec_channel::Slot;
 use rec_lane::{Lane, LaneSpec, Piece};
+use samples::program;
 use std::alloc::Global;
 use std::sync::Arc;
 use std::test::Fail;
-
-/// The packets of a recording of 232 bytes: channel 1, which kept the second of two frames. They are
-/// the record of a program that keeps nothing, that of one that keeps all, the frame, and the record
-/// of the channel's end.
-pub(crate) const REJECTING: &str = "25eb 0000 3c000000 24000000 08 00 00 00 100000000000 9deb \
-    00000000 43425052 0100 0100 00000000 0000000000000000 0100 0000 0600000000000000";
-
-pub(crate) const ACCEPTING: &str = "25eb 0000 3c000000 24000000 08 01 00 00 200000000000 adec \
-    00000000 43425052 0100 0100 01000000 0100000000000000 0100 0000 0600000001000000";
-
-pub(crate) const FRAMES: &str = "25eb 0100 3c000000 22000000 08 00 00 68 200000000000 ac53 \
-    01000000 200000000000 0000 12000003 ffffffffffff 020000000001 0806 a1b2c3d4 0000";
-
-pub(crate) const END: &str = "25eb 0000 34000000 1c000000 08 02 00 00 200000000000 9ded \
-    00000000 43425052 0200 0100 0200000000000000 0100000000000000";
-
-/// The bytes of hexadecimal texts, in which spaces may stand.
-pub(crate) fn joined_bytes(alloc: Global, texts: &[&str]) -> Result<Vec<u8>, Fail> {
-    let mut all = Vec::new(alloc);
-    for text in texts {
-        let digits = text.replace(alloc, " ", "")?;
-        all.extend_from_slice(hex::decode(alloc, digits.as_str())?.as_slice())?;
-    }
-    Ok(all)
-}
-
-/// The program of a listing, which is valid.
-pub(crate) fn program(alloc: Global, listing: &str) -> Result<Arc<Verified, Global>, Fail> {
-    Ok(Arc::new(alloc, verify(parse_listing(alloc, listing)?)?)?)
-}
 
 /// The programs of these listings.
 pub(crate) fn programs(

@@ -4,15 +4,19 @@ ghost use Rattle.std.specs.Prelude.{◌≤◌, vec_len, vec_capacity};
 
 use super::lines::{Lines, MAX_LINES, Request, request_in};
 use super::programs::{ProgramFault, program_in};
-use crate::ending::Ending;
 use bpf_insn::ListingFault;
+use bpf_verify::Verified;
+use cli_streams::Ending;
 use rec_run::{Answer, Change, Control, Told};
 use std::alloc::{AllocFailed, Global};
-use std::io;
 use std::io::{ErrorKind, Read, Write};
 use std::rt::Files;
 use std::sync::{Arc, Mutex, Wait};
+use std::{fs, io};
 use thiserror::Error;
+
+/// How many bytes an answer to a line has room for, with its line feed.
+const MAX_ANSWER: usize = 64;
 
 /// Why a change is not made. Its text is the reason that is printed.
 #[derive(Clone, Copy, Debug, Error)]
@@ -20,7 +24,7 @@ enum Refusal {
     /// The line is none that asks for a change.
     #[error("Line")]
     Line,
-    /// The file can't be read, or is no UTF-8.
+    /// The file can't be read, is no regular file, is no UTF-8, or is longer than a listing may be.
     #[error("File")]
     File,
     /// The file has no listing.
@@ -35,6 +39,19 @@ enum Refusal {
     /// The channel's filter has had as many programs as it may.
     #[error("VersionsFull")]
     VersionsFull,
+}
+
+/// An answer to a line. Its text is what is printed.
+#[derive(Clone, Copy, Debug, Error)]
+enum Reply {
+    #[error("installed {channel} {version} {mark}")]
+    Installed {
+        channel: u16,
+        version: u32,
+        mark: u64,
+    },
+    #[error("refused {0} {1}")]
+    Refused(u16, Refusal),
 }
 
 /// Why a line gives no change.
@@ -186,7 +203,7 @@ impl<
     }
 
     fn told(&mut self, told: &Told) {
-        print_told(self.rt, self.errors, *told);
+        print_reply(self.rt, self.errors, reply_to(*told));
         self.log.tell(*told);
     }
 }
@@ -209,7 +226,9 @@ fn next_change<R: AllocGlobal + Files + Wait, I: Read + Drop, E: Write + Drop>(
         };
         match change_in(rt, line) {
             Ok(change) => return Ok(Some(change)),
-            Err(Unmade::Refused(channel, refusal)) => print_refused(rt, errors, channel, refusal),
+            Err(Unmade::Refused(channel, refusal)) => {
+                print_reply(rt, errors, Reply::Refused(channel, refusal));
+            }
             Err(Unmade::Memory) => return Err(NoMemory),
         }
     }
@@ -222,7 +241,7 @@ fn change_in<R: AllocGlobal + Files>(rt: &R, line: &[u8]) -> Result<Change, Unma
         Ok(request) => request,
         Err(channel) => return Err(Unmade::Refused(channel, Refusal::Line)),
     };
-    let program = match program_in(rt, file) {
+    let program = match regular_program(rt, file) {
         Ok(program) => program,
         Err(fault) => return Err(unmade_by(channel, fault)),
     };
@@ -230,6 +249,15 @@ fn change_in<R: AllocGlobal + Files>(rt: &R, line: &[u8]) -> Result<Change, Unma
         Ok(program) => Ok(Change { channel, program }),
         Err(_) => Err(Unmade::Memory),
     }
+}
+
+/// The program that a regular file lists. Another file is refused before it is opened: a pipe would
+/// hold up all later lines, and a channel's own would lose frames.
+fn regular_program<R: AllocGlobal + Files>(rt: &R, file: &str) -> Result<Verified, ProgramFault> {
+    if !rt.metadata(file)?.is_file() {
+        return Err(ProgramFault::File(io::Error::from(ErrorKind::InvalidInput)));
+    }
+    program_in(rt.alloc(), &mut fs::open(rt, file)?)
 }
 
 /// What a fault of a program's file comes to.
@@ -243,24 +271,26 @@ fn unmade_by(channel: u16, fault: ProgramFault) -> Unmade {
     }
 }
 
-/// Prints what became of a change; a failed write is passed over.
-fn print_told<R: Wait, E: Write + Drop>(rt: &R, errors: &Mutex<E>, told: Told) {
+/// What is answered to a change that was asked for.
+fn reply_to(told: Told) -> Reply {
     let Told { channel, answer } = told;
     match answer {
-        Answer::Installed { version, mark } => {
-            let _ = writeln!(errors.lock(rt), "installed {channel} {version} {mark}");
-        }
-        Answer::VersionsFull => print_refused(rt, errors, channel, Refusal::VersionsFull),
-        Answer::NoChannel => print_refused(rt, errors, channel, Refusal::NoChannel),
+        Answer::Installed { version, mark } => Reply::Installed {
+            channel,
+            version,
+            mark,
+        },
+        Answer::VersionsFull => Reply::Refused(channel, Refusal::VersionsFull),
+        Answer::NoChannel => Reply::Refused(channel, Refusal::NoChannel),
     }
 }
 
-/// Prints that a line is refused; a failed write is passed over.
-fn print_refused<R: Wait, E: Write + Drop>(
-    rt: &R,
-    errors: &Mutex<E>,
-    channel: u16,
-    refusal: Refusal,
-) {
-    let _ = writeln!(errors.lock(rt), "refused {channel} {refusal}");
+/// Prints an answer as one write, so that no other program's text can stand in it. It is built
+/// without an allocator, and a failed write is passed over.
+fn print_reply<R: Wait, E: Write + Drop>(rt: &R, errors: &Mutex<E>, reply: Reply) {
+    let mut line = [0u8; MAX_ANSWER];
+    let mut left = line.as_mut_slice();
+    let _ = writeln!(&mut left, "{reply}");
+    let len = MAX_ANSWER.saturating_sub(left.len());
+    let _ = errors.lock(rt).write_all(&line[..len]);
 }

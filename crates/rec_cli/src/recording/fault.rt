@@ -1,28 +1,13 @@
-//! Why a recording did not end.
+//! What a failed output of a recording comes to.
 
+use cli_streams::RecordingFault;
 use rec_writer::WriteFault;
-use thiserror::Error;
 
-/// Why a recording did not end. Its text is what is printed.
-#[derive(Clone, Copy, Debug, Drop, Error)]
-pub(crate) enum RecordingFault {
-    /// The output failed: so many pieces went out whole, and so many bytes of the next one.
-    #[error("run 2 Output {whole} {bytes}")]
-    Output { whole: u64, bytes: u64 },
-    /// What was received is not what was sent.
-    #[error("run 3 Link")]
-    Link,
-    /// What was drawn or answered is not what a filter's history has.
-    #[error("run 4 History")]
-    History,
-}
-
-impl From<WriteFault> for RecordingFault {
-    fn from(fault: WriteFault) -> RecordingFault {
-        match fault {
-            WriteFault::Output { whole, bytes } | WriteFault::Failed { whole, bytes } => {
-                RecordingFault::Output { whole, bytes }
-            }
+/// How much went out of a recording whose output failed.
+pub(super) fn output_fault(fault: WriteFault) -> RecordingFault {
+    match fault {
+        WriteFault::Output { whole, bytes } | WriteFault::Failed { whole, bytes } => {
+            RecordingFault::Output { whole, bytes }
         }
     }
 }

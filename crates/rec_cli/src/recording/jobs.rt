@@ -1,8 +1,9 @@
 //! What is to be recorded, by the settings.
 
 use super::programs::{ProgramFault, program_in};
-use crate::ending::Ending;
+use bpf_verify::Verified;
 use ch11_packet::Limit;
+use cli_streams::{Ending, Inputs};
 use eth_frame::FeedSource;
 use rec_lane::LaneSpec;
 use rec_run::Job;
@@ -15,15 +16,18 @@ use std::sync::Arc;
 /// How many bytes of a feed are read at a time.
 const FEED_BUFFER: usize = 65_536;
 
-/// The jobs of the channels: for each its filter is read, and then its feed opened.
+/// The jobs of the channels: for each its filter is read, and then its feed opened. What was opened
+/// is added to the inputs.
 pub(super) fn jobs_of<'a, R: AllocGlobal + Files>(
     rt: &R,
     limit: Limit,
     channels: Vec<ChannelSettings>,
+    inputs: &mut Inputs,
 ) -> Result<Vec<Job<FeedSource<BufReader<R::File>>>>, Ending<'a>> {
     let mut jobs = Vec::with_capacity(rt.alloc(), channels.len())?;
+    let mut feeds = Inputs::new(rt.alloc());
     'channels: for channel in channels {
-        jobs.push(job_of(rt, limit, channel)?)?;
+        jobs.push(job_of(rt, limit, channel, inputs, &mut feeds)?)?;
     }
     Ok(jobs)
 }
@@ -33,6 +37,8 @@ fn job_of<'a, R: AllocGlobal + Files>(
     rt: &R,
     limit: Limit,
     channel: ChannelSettings,
+    inputs: &mut Inputs,
+    feeds: &mut Inputs,
 ) -> Result<Job<FeedSource<BufReader<R::File>>>, Ending<'a>> {
     let ChannelSettings {
         id,
@@ -43,19 +49,7 @@ fn job_of<'a, R: AllocGlobal + Files>(
         max,
         ..
     } = channel;
-    let program = match program_in(rt, filter.as_str()) {
-        Ok(program) => Arc::new(rt.alloc(), program)?,
-        Err(ProgramFault::File(error)) => return Err(Ending::of_named_read(filter, &error)),
-        Err(ProgramFault::Listing(fault)) => return Err(Ending::Listing(fault)),
-        Err(ProgramFault::Refused(refused)) => return Err(Ending::Refused(refused)),
-    };
-    let file = match fs::open(rt, feed.as_str()) {
-        Ok(file) => file,
-        Err(error) => return Err(Ending::of_named_read(feed, &error)),
-    };
-    let Ok(reader) = BufReader::with_capacity(rt.alloc(), FEED_BUFFER, file) else {
-        return Err(Ending::Memory);
-    };
+    let program = Arc::new(rt.alloc(), program_of(rt, filter, inputs)?)?;
     Ok(Job {
         spec: LaneSpec {
             channel: id,
@@ -65,6 +59,48 @@ fn job_of<'a, R: AllocGlobal + Files>(
         },
         program,
         max,
-        source: FeedSource::new(reader),
+        source: source_of(rt, feed, inputs, feeds)?,
     })
+}
+
+/// The source of a feed, which is opened here.
+fn source_of<'a, R: AllocGlobal + Files>(
+    rt: &R,
+    feed: String,
+    inputs: &mut Inputs,
+    feeds: &mut Inputs,
+) -> Result<FeedSource<BufReader<R::File>>, Ending<'a>> {
+    // two readers of a pipe would each have a part of its bytes, and no whole frame
+    if feeds.has_stream(rt, feed.as_str()) {
+        return Err(Ending::NamedFile(feed));
+    }
+    let file = match fs::open(rt, feed.as_str()) {
+        Ok(file) => file,
+        Err(error) => return Err(Ending::of_named_read(feed, &error)),
+    };
+    inputs.add(&file)?;
+    feeds.add(&file)?;
+    let Ok(reader) = BufReader::with_capacity(rt.alloc(), FEED_BUFFER, file) else {
+        return Err(Ending::Memory);
+    };
+    Ok(FeedSource::new(reader))
+}
+
+/// The program that a filter's file lists.
+fn program_of<'a, R: AllocGlobal + Files>(
+    rt: &R,
+    filter: String,
+    inputs: &mut Inputs,
+) -> Result<Verified, Ending<'a>> {
+    let mut file = match fs::open(rt, filter.as_str()) {
+        Ok(file) => file,
+        Err(error) => return Err(Ending::of_named_read(filter, &error)),
+    };
+    inputs.add(&file)?;
+    match program_in(rt.alloc(), &mut file) {
+        Ok(program) => Ok(program),
+        Err(ProgramFault::File(error)) => Err(Ending::of_named_read(filter, &error)),
+        Err(ProgramFault::Listing(fault)) => Err(Ending::Listing(fault)),
+        Err(ProgramFault::Refused(refused)) => Err(Ending::Refused(refused)),
+    }
 }

@@ -1,6 +1,6 @@
 //! The lines that change filters while a recording goes on.
 
-use crate::channel_word::channel_in;
+use cli_streams::channel_in;
 use std::alloc::Global;
 use std::io::{self, BufRead, BufReader, Read, Take};
 

@@ -2,13 +2,15 @@
 
 use bpf_insn::{ListingFault, parse_listing};
 use bpf_verify::{Refused, Verified, verify};
-use std::rt::Files;
-use std::{fs, io};
+use cli_streams::{MAX_LISTING, bounded_text};
+use std::alloc::Global;
+use std::io;
+use std::io::Read;
 
 /// Why a file gives no program.
 #[derive(Debug, Drop)]
 pub(super) enum ProgramFault {
-    /// It can't be read, or is no UTF-8.
+    /// It can't be read, is no UTF-8, or is longer than a listing may be.
     File(io::Error),
     /// It has no listing.
     Listing(ListingFault),
@@ -34,12 +36,9 @@ impl From<Refused> for ProgramFault {
     }
 }
 
-/// The program that a file lists.
-pub(super) fn program_in<R: AllocGlobal + Files>(
-    rt: &R,
-    file: &str,
-) -> Result<Verified, ProgramFault> {
-    let listing = fs::read_to_string(rt, file)?;
-    let program = parse_listing(rt.alloc(), listing.as_str())?;
+/// The program that an open file lists.
+pub(super) fn program_in<F: Read>(alloc: Global, file: &mut F) -> Result<Verified, ProgramFault> {
+    let listing = bounded_text(alloc, MAX_LISTING, file)?;
+    let program = parse_listing(alloc, listing.as_str())?;
     Ok(verify(program)?)
 }

@@ -1,22 +1,24 @@
 //! What is printed of a recording.
 
-use crate::ending::Ending;
-use crate::output::finish;
+use cli_streams::{Ending, print_line};
 use rec_run::{ChannelReport, Report};
+use std::alloc::Global;
 use std::io;
 use std::io::Write;
 
-/// Prints a line for each channel, and how much was written.
+/// Prints a line for each channel, and how much was written; each line is one write.
 pub(super) fn print_report<S: Drop, O: Write>(
+    alloc: Global,
     output: &mut O,
     report: &Report<S>,
 ) -> Result<(), Ending<'static>> {
+    let mut line = Vec::new(alloc);
     'channels: for channel in report.channels.as_slice() {
-        let written = print_channel(output, channel);
-        finish(output, written)?;
+        let built = print_channel(&mut line, channel);
+        print_line(output, &mut line, built)?;
     }
-    let written = writeln!(output, "wrote {} {}", report.pieces, report.bytes);
-    finish(output, written)
+    let built = writeln!(&mut line, "wrote {} {}", report.pieces, report.bytes);
+    print_line(output, &mut line, built)
 }
 
 /// Prints a channel's line.

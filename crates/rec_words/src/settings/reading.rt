@@ -11,8 +11,7 @@ use super::fault::SettingsFault;
 use super::keys::{number_at, number_or, only, text_at, value_at};
 use super::{ChannelSettings, Settings};
 use ch11_packet::{Limit, MAX_ETHERNET_PACKET_LEN, MAX_SPEED, MIN_LIMIT};
-use rec_run::MAX_RING;
-use rec_writer::MAX_CHANNELS;
+use rec_channel::{MAX_CHANNELS, MAX_RING};
 use std::alloc::Global;
 use toml::{Table, Value};
 

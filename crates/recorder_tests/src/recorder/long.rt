@@ -4,13 +4,13 @@ ghost use Rattle.std.specs.Prelude.{◌≤◌, IfOk, vec_len};
 
 use super::parts::*;
 use super::runs::{plain, recorded};
-use crate::shared::program;
 use bpf_machine::run;
 use ch11_packet::ReadFrame;
 use eth_frame::MAX_FRAME_LEN;
 use rec_reader::{Recording, frames_of, read_recording};
 use rec_run::*;
 use rec_writer::WriteFault;
+use samples::program;
 use std::alloc::Global;
 use std::sync::Arc;
 use std::test::Fail;

@@ -3,12 +3,12 @@
 ghost use Rattle.std.specs.Prelude.{◌≡◌, [], false};
 
 use super::script::Script;
-use crate::shared::{all_bytes, program};
 use crate::writer::{Output, Then};
 use ch11_packet::Limit;
 use eth_frame::FeedSource;
 use rec_lane::LaneSpec;
 use rec_run::*;
+use samples::{all_bytes, program};
 use std::alloc::Global;
 use std::io::{ErrorKind, Read, Write};
 use std::sync::Arc;

@@ -4,8 +4,8 @@ ghost use Rattle.std.specs.Prelude.{◌≤◌};
 
 use super::parts::*;
 use super::runs::{plain, recorded};
-use crate::shared::all_bytes;
 use rec_reader::{frames_of, read_recording};
+use samples::all_bytes;
 use std::alloc::Global;
 use std::sync::{Arc, Wait};
 use std::test::Fail;

@@ -4,11 +4,12 @@ ghost use Rattle.std.specs.Prelude.{◌≡◌, ◌≤◌, [], false};
 
 use super::parts::*;
 use super::script::Script;
-use crate::shared::{all_bytes, counters_of};
+use crate::shared::counters_of;
 use crate::writer::{Output, Then};
 use eth_frame::{FeedSource, SourceFault};
 use rec_run::*;
 use rec_writer::WriteFault;
+use samples::all_bytes;
 use std::alloc::Global;
 use std::sync::{Arc, Wait};
 use std::test::Fail;

@@ -6,10 +6,7 @@ ghost use Rattle.std.specs.Prelude.{◌<◌};
 use crate::approval::{Answer, ChannelLine, Wrong, answer_of, is_yes_true};
 use crate::draws::Draws;
 use crate::pieces::Channel;
-use crate::shared::{
-    ACCEPTING, END, FRAMES, REJECTING, drawn_frame, drawn_length, drawn_program, joined_bytes,
-    lane_spec, offer, programs,
-};
+use crate::shared::{drawn_frame, drawn_length, drawn_program, lane_spec, offer, programs};
 use bpf_verify::Verified;
 use ch11_packet::{ETHERNET_DATA, HEADER_LEN, Header};
 use eth_frame::MAX_FRAME_LEN;
@@ -17,6 +14,7 @@ use rec_channel::Slot;
 use rec_lane::{Lane, Piece};
 use rec_reader::{AuditFault, Recording, audit, read_recording};
 use rec_writer::Writer;
+use samples::{ACCEPTING, END, FRAMES, REJECTING, joined_bytes};
 use std::alloc::Global;
 use std::process::Abort;
 use std::sync::Arc;

@@ -3,15 +3,13 @@
 use crate::approval::{Answer, answer_of};
 use crate::draws::Draws;
 use crate::pieces::{Channel, PlainFrame};
-use crate::shared::{
-    ACCEPTING, END, FRAMES, REJECTING, drawn_frame, drawn_length, drawn_program, frame_of,
-    joined_bytes, lane_spec, program, programs,
-};
+use crate::shared::{drawn_frame, drawn_length, drawn_program, frame_of, lane_spec, programs};
 use crate::world::{PlainAnswer, PlainEvent, PlainReply, PlainWorld, Refusal};
 use bpf_verify::Verified;
 use eth_frame::MAX_FRAME_LEN;
 use rec_core::{ChannelSpec, CoreFault, Event, MAX_RING, Reply, Which, World, run_world, specs_ok};
 use rec_reader::read_recording;
+use samples::{ACCEPTING, END, FRAMES, REJECTING, joined_bytes, program};
 use std::alloc::Global;
 use std::process::Abort;
 use std::sync::Arc;

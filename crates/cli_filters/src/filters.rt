@@ -1,0 +1,63 @@
+//! The commands on one filter: to assemble, disassemble, verify and run it.
+
+use crate::outcome::{outcome_of, print_outcome};
+use bpf_asm::assemble;
+use bpf_dis::text_of;
+use bpf_insn::{parse_listing, print_listing};
+use bpf_verify::verify;
+use cli_streams::{Ending, MAX_LISTING, MAX_TEXT, finish, print_text, text_in};
+use std::io::{Read, Write};
+use std::rt::Files;
+
+/// `asm FILE`: prints the listing of the program that the file's text denotes, and a line feed.
+pub fn assemble_file<'a, R: AllocGlobal + Files, I: Read, O: Write>(
+    rt: &R,
+    file: &'a str,
+    input: &mut I,
+    output: &mut O,
+) -> Result<(), Ending<'a>> {
+    let text = text_in(rt, file, MAX_TEXT, input)?;
+    let program = assemble(rt.alloc(), text.as_str())?;
+    let mut listing = print_listing(rt.alloc(), program.as_slice())?;
+    listing.push('\n')?;
+    print_text(output, listing.as_str())
+}
+
+/// `dis FILE`: prints the text of the listed program.
+pub fn disassemble_file<'a, R: AllocGlobal + Files, I: Read, O: Write>(
+    rt: &R,
+    file: &'a str,
+    input: &mut I,
+    output: &mut O,
+) -> Result<(), Ending<'a>> {
+    let listing = text_in(rt, file, MAX_LISTING, input)?;
+    let program = parse_listing(rt.alloc(), listing.as_str())?;
+    let text = text_of(rt.alloc(), program.as_slice())?;
+    print_text(output, text.as_str())
+}
+
+/// `verify FILE`: prints `valid <n>`, with the number of instructions.
+pub fn verify_file<'a, R: AllocGlobal + Files, I: Read, O: Write>(
+    rt: &R,
+    file: &'a str,
+    input: &mut I,
+    output: &mut O,
+) -> Result<(), Ending<'a>> {
+    let listing = text_in(rt, file, MAX_LISTING, input)?;
+    let program = verify(parse_listing(rt.alloc(), listing.as_str())?)?;
+    let written = writeln!(output, "valid {}", program.len());
+    finish(output, written)
+}
+
+/// `run FILE HEX`: prints `<value> <steps>`.
+pub fn run_file<'a, R: AllocGlobal + Files, I: Read, O: Write>(
+    rt: &R,
+    file: &'a str,
+    view: &str,
+    input: &mut I,
+    output: &mut O,
+) -> Result<(), Ending<'a>> {
+    let listing = text_in(rt, file, MAX_LISTING, input)?;
+    let outcome = outcome_of(rt.alloc(), listing.as_str(), view)?;
+    print_outcome(output, outcome)
+}

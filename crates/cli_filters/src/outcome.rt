@@ -1,0 +1,38 @@
+//! What a listed program returns on a view, and the line that says so.
+
+ghost use Rattle.std.specs.Prelude.{OnOk, IfOk};
+ghost use Rattle.std.specs.Io.KnownBytes.{Appends};
+ghost use Rattle.cli_filters.specs.Lines.{RunsOn, outcome_line};
+
+use bpf_insn::parse_listing;
+use bpf_machine::{Outcome, run};
+use bpf_verify::verify;
+use cli_streams::{Ending, finish, view_of};
+use std::alloc::Global;
+use std::io::Write;
+
+/// What the listed program returns on the view.
+pub(crate) fn outcome_of<'a>(
+    alloc: Global,
+    listing: &str,
+    view: &str,
+) -> Result<Outcome, Ending<'a>>
+    ensures { IfOk result (λ outcome. RunsOn listing.now view.now outcome.steps outcome.value) }
+{
+    let program = verify(parse_listing(alloc, listing)?)?;
+    let view = view_of(alloc, view)?;
+    Ok(run(&program, view.as_slice()))
+}
+
+/// Prints `<value> <steps>` and a line feed.
+pub(crate) fn print_outcome<O: Write>(
+    output: &mut O,
+    outcome: Outcome,
+) -> Result<(), Ending<'static>>
+    ensures { OnOk result (Appends (O.contents output.old) (O.contents output.new)
+        (outcome_line outcome.value outcome.steps)) }
+{
+    let Outcome { value, steps } = outcome;
+    let written = writeln!(output, "{value} {steps}");
+    finish(output, written)
+}

@@ -1,0 +1,143 @@
+//! The command that lists a recording's packets.
+
+use crate::reading::{
+    Counts, begin_again, counts_of, is_read_twice, next_packet, open, packet_again, reader_over,
+};
+use ch11_packet::{Header, What};
+use cli_streams::{Ending, STREAM, finish, print_line};
+use rec_reader::{Packet, Reader};
+use std::alloc::Global;
+use std::io;
+use std::io::{BufWriter, Read, Write};
+use std::rt::Files;
+
+/// `list FILE`: prints a line for each packet, and their number. Nothing is printed of a recording
+/// that isn't read to its end: a file is read once to see that it is, and once more to print it,
+/// with one packet at a time; what can't be read twice is read with its lines held back.
+pub fn list_packets<'a, R: AllocGlobal + Files, I: Read, O: Write>(
+    rt: &R,
+    file: &'a str,
+    input: &mut I,
+    output: &mut O,
+) -> Result<(), Ending<'a>> {
+    let alloc = rt.alloc();
+    if file == STREAM {
+        return list_held(alloc, file, &mut reader_over(alloc, input)?, output);
+    }
+    let mut recording = open(rt, file)?;
+    if !is_read_twice(&recording) {
+        return list_held(
+            alloc,
+            file,
+            &mut reader_over(alloc, &mut recording)?,
+            output,
+        );
+    }
+    let judged = counts_of(file, &mut reader_over(alloc, &mut recording)?)?;
+    begin_again(file, &mut recording)?;
+    let mut reader = reader_over(alloc, &mut recording)?;
+    list_again(alloc, file, &mut reader, judged, output)
+}
+
+/// Prints the packets of a recording that was judged before. A recording that isn't what was judged
+/// is the file's fault; then some of its lines may have been printed.
+fn list_again<'a, R: Read, O: Write>(
+    alloc: Global,
+    file: &'a str,
+    reader: &mut Reader<R>,
+    judged: Counts,
+    output: &mut O,
+) -> Result<(), Ending<'a>> {
+    let Ok(mut lines) = BufWriter::new(alloc, output) else {
+        return Err(Ending::Memory);
+    };
+    let mut line = Vec::new(alloc);
+    let mut counts = Counts::NONE;
+    'packets: for _ in 0..judged.packets {
+        let owned = packet_again(file, reader)?;
+        add_line(&mut line, &owned.packet(), &mut counts)?;
+        // the buffer goes out before a line that it has no room for, so no line is cut in two
+        lines
+            .write_all(line.as_slice())
+            .map_err(|_| Ending::File(STREAM))?;
+        line.clear();
+    }
+    if counts != judged {
+        return Err(Ending::File(file));
+    }
+    let built = print_counts(&mut line, counts);
+    print_line(&mut lines, &mut line, built)
+}
+
+/// Lists a recording that can't be read twice. Its lines are held back until it is read to its end.
+fn list_held<'a, R: Read, O: Write>(
+    alloc: Global,
+    file: &'a str,
+    reader: &mut Reader<R>,
+    output: &mut O,
+) -> Result<(), Ending<'a>> {
+    let mut lines = Vec::new(alloc);
+    let mut counts = Counts::NONE;
+    'packets: for _ in 0..u64::MAX {
+        let Some(owned) = next_packet(file, reader)? else {
+            break 'packets;
+        };
+        add_line(&mut lines, &owned.packet(), &mut counts)?;
+    }
+    let built = print_counts(&mut lines, counts);
+    print_line(output, &mut lines, built)
+}
+
+/// Prints a packet's line, and counts the packet.
+fn add_line<W: Write>(
+    lines: &mut W,
+    packet: &Packet<'_>,
+    counts: &mut Counts,
+) -> Result<(), Ending<'static>> {
+    counts.count(packet);
+    match print_packet(lines, packet) {
+        Ok(()) => Ok(()),
+        Err(error) => Err(Ending::of_read(STREAM, &error)),
+    }
+}
+
+/// Prints how many packets there are.
+fn print_counts<W: Write>(lines: &mut W, counts: Counts) -> io::Result<()> {
+    writeln!(lines, "packets {} other {}", counts.packets, counts.others)
+}
+
+/// Prints a packet's line: its place, its header's fields, and what it holds.
+fn print_packet<W: Write>(lines: &mut W, packet: &Packet<'_>) -> io::Result<()> {
+    print_header(lines, packet)?;
+    match packet.what {
+        What::Frames(count) => writeln!(lines, "frames {count}"),
+        What::Program {
+            channel,
+            version,
+            first,
+            count,
+        } => writeln!(lines, "program {channel} {version} {first} {count}"),
+        What::End {
+            channel,
+            offered,
+            kept,
+        } => writeln!(lines, "end {channel} {offered} {kept}"),
+        What::Other => writeln!(lines, "other"),
+    }
+}
+
+/// Prints a packet's place and its header's fields. The proof of a text with all seven values takes
+/// several times as long as that of two texts.
+fn print_header<W: Write>(lines: &mut W, packet: &Packet<'_>) -> io::Result<()> {
+    let Header {
+        channel,
+        packet_len,
+        data_len,
+        sequence,
+        kind,
+        counter,
+        ..
+    } = packet.header;
+    write!(lines, "{} {channel} {kind:02x} {sequence} ", packet.at)?;
+    write!(lines, "{packet_len} {data_len} {counter} ")
+}

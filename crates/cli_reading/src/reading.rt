@@ -1,0 +1,125 @@
+//! Recordings that commands read, packet by packet.
+
+use ch11_packet::What;
+use cli_streams::Ending;
+use rec_reader::{OwnedPacket, Packet, Reader};
+use std::alloc::Global;
+use std::fs;
+use std::fs::OpenFile;
+use std::io::{BufReader, Read, Seek, SeekFrom};
+use std::rt::Files;
+
+/// How many bytes of a recording are read at once.
+const PIECE: usize = 65_536;
+
+/// The packets that a pass over a recording met.
+#[derive(Clone, Copy, PartialEq, Eq)]
+pub(crate) struct Counts {
+    /// Their number.
+    pub packets: u64,
+    /// The number of those of no kind that is read.
+    pub others: u64,
+    /// The place of what follows them.
+    end: u64,
+}
+
+impl Counts {
+    /// No packets.
+    pub(crate) const NONE: Counts = Counts {
+        packets: 0,
+        others: 0,
+        end: 0,
+    };
+
+    /// Counts a packet.
+    pub(crate) fn count(&mut self, packet: &Packet<'_>) {
+        self.packets = self.packets.saturating_add(1);
+        if packet.what == What::Other {
+            self.others = self.others.saturating_add(1);
+        }
+        let len = u64::from(packet.header.packet_len);
+        self.end = packet.at.saturating_add(len);
+    }
+}
+
+/// The packets of a recording that is read to its end.
+pub(crate) fn counts_of<'a, R: Read>(
+    file: &'a str,
+    reader: &mut Reader<R>,
+) -> Result<Counts, Ending<'a>> {
+    let mut counts = Counts::NONE;
+    'packets: for _ in 0..u64::MAX {
+        let Some(owned) = next_packet(file, reader)? else {
+            break 'packets;
+        };
+        counts.count(&owned.packet());
+    }
+    Ok(counts)
+}
+
+/// The next packet of a recording: `None` at its end.
+pub(crate) fn next_packet<'a, R: Read>(
+    file: &'a str,
+    reader: &mut Reader<R>,
+) -> Result<Option<OwnedPacket>, Ending<'a>> {
+    match reader.next() {
+        Ok(packet) => Ok(packet),
+        Err(end) => Err(Ending::of_reading(file, end)),
+    }
+}
+
+/// The next packet of a recording that is read again. Where there is none, it isn't what it was, and
+/// that is the file's fault.
+pub(crate) fn packet_again<'a, R: Read>(
+    file: &'a str,
+    reader: &mut Reader<R>,
+) -> Result<OwnedPacket, Ending<'a>> {
+    match next_packet(file, reader) {
+        Ok(Some(packet)) => Ok(packet),
+        Ok(None) | Err(Ending::Reading(_)) => Err(Ending::File(file)),
+        Err(ending) => Err(ending),
+    }
+}
+
+/// The reader of a recording in a file.
+pub(crate) fn reader_of<'a, R: AllocGlobal + Files>(
+    rt: &R,
+    file: &'a str,
+) -> Result<Reader<BufReader<R::File>>, Ending<'a>> {
+    reader_over(rt.alloc(), open(rt, file)?)
+}
+
+/// The reader of the recording that an input gives.
+pub(crate) fn reader_over<'a, I: Read + Drop>(
+    alloc: Global,
+    input: I,
+) -> Result<Reader<BufReader<I>>, Ending<'a>> {
+    match BufReader::with_capacity(alloc, PIECE, input) {
+        Ok(input) => Ok(Reader::new(alloc, input)),
+        Err(_) => Err(Ending::Memory),
+    }
+}
+
+/// A recording's file.
+pub(crate) fn open<'a, R: Files>(rt: &R, file: &'a str) -> Result<R::File, Ending<'a>> {
+    match fs::open(rt, file) {
+        Ok(recording) => Ok(recording),
+        Err(error) => Err(Ending::of_read(file, &error)),
+    }
+}
+
+/// Whether an open file can be read twice, as a regular file can. A pipe can't.
+pub(crate) fn is_read_twice<F: OpenFile>(recording: &F) -> bool {
+    match recording.metadata() {
+        Ok(found) => found.is_file(),
+        Err(_) => false,
+    }
+}
+
+/// Goes back to the first byte of a recording.
+pub(crate) fn begin_again<'a, F: Seek>(file: &'a str, recording: &mut F) -> Result<(), Ending<'a>> {
+    match recording.seek(SeekFrom::Start(0)) {
+        Ok(_) => Ok(()),
+        Err(_) => Err(Ending::File(file)),
+    }
+}

@@ -1,0 +1,152 @@
+//! The command that runs a script of events.
+
+use crate::script::{LineFault, Recorder, channel_of, event_in, recorder_in};
+use ch11_packet::Limit;
+use cli_streams::{Ending, MAX_TEXT, print_line, text_in};
+use rec_core::{ChannelSpec, CoreFault, Reply, Which, World, specs_ok};
+use std::alloc::{AllocError, Global};
+use std::io;
+use std::io::{Read, Write};
+use std::rt::Files;
+
+/// What a channel's line begins with.
+const CHANNEL: &str = "channel ";
+
+/// A line that isn't empty, with its number, counted from 1.
+#[derive(Clone, Copy)]
+struct Line<'s> {
+    number: u64,
+    text: &'s str,
+}
+
+impl Line<'_> {
+    /// What a fault of the line comes to.
+    fn ending(&self, fault: LineFault) -> Ending<'static> {
+        match fault {
+            LineFault::Shape => Ending::Script(self.number),
+            LineFault::Memory => Ending::Memory,
+        }
+    }
+}
+
+/// `simulate FILE`: does the events of a script one after the other, and prints the answer of each
+/// as one write, when it is done.
+pub fn simulate_script<'a, R: AllocGlobal + Files, I: Read, O: Write>(
+    rt: &R,
+    file: &'a str,
+    input: &mut I,
+    output: &mut O,
+) -> Result<(), Ending<'a>> {
+    let alloc = rt.alloc();
+    let text = text_in(rt, file, MAX_TEXT, input)?;
+    let lines = lines_of(alloc, text.as_str())?;
+    let Some((first, rest)) = lines.as_slice().split_first() else {
+        return Err(Ending::Script(0));
+    };
+    let Some(recorder) = recorder_in(first.text) else {
+        return Err(Ending::Script(first.number));
+    };
+    let (channels, events) = split_channels(rest);
+    let Recorder {
+        limit,
+        ring,
+        version,
+    } = recorder;
+    let specs = specs_of(alloc, limit, channels)?;
+    if !specs_ok(specs.as_slice()) {
+        // each was tested where it was read, so there is none
+        return Err(Ending::Script(number_of(events)));
+    }
+    let mut world = World::new(alloc, specs.as_slice(), ring, version, Vec::new(alloc))?;
+    let mut answer = Vec::new(alloc);
+    'events: for line in events {
+        let event = event_in(alloc, line.text).map_err(|fault| line.ending(fault))?;
+        let built = match world.step(&event) {
+            Ok(reply) => print_reply(&mut answer, reply, world.out().as_slice()),
+            // the output is in memory, so it fails only where there is none
+            Err(CoreFault::Memory | CoreFault::Output) => return Err(Ending::Memory),
+            Err(fault) => writeln!(&mut answer, "{fault}"),
+        };
+        print_line(output, &mut answer, built)?;
+    }
+    Ok(())
+}
+
+/// The lines of a text that aren't empty.
+fn lines_of(alloc: Global, text: &str) -> Result<Vec<Line<'_>>, AllocError> {
+    let mut lines = Vec::new(alloc);
+    let mut number = 0u64;
+    'lines: for text in text.split('\n') {
+        number = number.saturating_add(1);
+        if !text.is_empty() {
+            lines.push(Line { number, text })?;
+        }
+    }
+    Ok(lines)
+}
+
+/// The lines of channels at the front, and the others.
+fn split_channels<'l, 's>(lines: &'l [Line<'s>]) -> (&'l [Line<'s>], &'l [Line<'s>]) {
+    let count = lines
+        .iter()
+        .take_while(|line| line.text.starts_with(CHANNEL))
+        .count();
+    lines.split_at(count)
+}
+
+/// The channels that the lines set.
+fn specs_of(
+    alloc: Global,
+    limit: Limit,
+    lines: &[Line<'_>],
+) -> Result<Vec<ChannelSpec>, Ending<'static>> {
+    let mut specs = Vec::new(alloc);
+    'lines: for line in lines {
+        let fields = line.text.strip_prefix(CHANNEL).unwrap_or("");
+        let spec = channel_of(alloc, fields, limit).map_err(|fault| line.ending(fault))?;
+        specs.push(spec)?;
+        if !specs_ok(specs.as_slice()) {
+            return Err(Ending::Script(line.number));
+        }
+    }
+    Ok(specs)
+}
+
+/// The number of the first line, or 0.
+fn number_of(lines: &[Line<'_>]) -> u64 {
+    match lines.first() {
+        Some(line) => line.number,
+        None => 0,
+    }
+}
+
+/// Prints what an event did; a packet that was written is the end of the output.
+fn print_reply<O: Write>(output: &mut O, reply: Reply, out: &[u8]) -> io::Result<()> {
+    match reply {
+        Reply::Took {
+            number,
+            version,
+            value,
+        } => writeln!(output, "took {number} {version} {value}"),
+        Reply::Installed { version, mark } => writeln!(output, "installed {version} {mark}"),
+        Reply::Sent(Which::Program(version)) => writeln!(output, "sent program {version}"),
+        Reply::Sent(Which::Frames(count)) => writeln!(output, "sent frames {count}"),
+        Reply::Sent(Which::End) => writeln!(output, "sent end"),
+        Reply::Wrote { bytes } => print_packet(output, last_bytes(out, bytes as usize)),
+        Reply::Closed { offered, kept } => writeln!(output, "closed {offered} {kept}"),
+    }
+}
+
+/// The last bytes, so many of them or all.
+fn last_bytes(bytes: &[u8], count: usize) -> &[u8] {
+    &bytes[bytes.len().saturating_sub(count)..]
+}
+
+/// Prints a packet in hexadecimal digits.
+fn print_packet<O: Write>(output: &mut O, packet: &[u8]) -> io::Result<()> {
+    write!(output, "wrote ")?;
+    'bytes: for byte in packet {
+        write!(output, "{byte:02x}")?;
+    }
+    writeln!(output)
+}

@@ -1,0 +1,72 @@
+//! The files that a command reads, by which it tells that its output is one of them.
+
+use crate::ending::Ending;
+use std::alloc::{AllocError, Global};
+use std::fs::{Metadata, OpenFile};
+use std::io::ErrorKind;
+use std::os::unix::fs::MetadataExt;
+use std::rt::Files;
+
+/// A file, by whatever name: the device that has it, and its number there.
+#[derive(Clone, Copy, PartialEq, Eq)]
+struct Identity {
+    device: u64,
+    number: u64,
+}
+
+/// Files that a command has opened to read.
+#[derive(Drop)]
+pub struct Inputs {
+    files: Vec<Identity>,
+}
+
+impl Inputs {
+    /// No files.
+    pub fn new(alloc: Global) -> Inputs {
+        Inputs {
+            files: Vec::new(alloc),
+        }
+    }
+
+    /// Adds an open file. One that doesn't tell what it is can't be compared, and is passed over.
+    pub fn add<F: OpenFile>(&mut self, file: &F) -> Result<(), AllocError> {
+        let Ok(found) = file.metadata() else {
+            return Ok(());
+        };
+        Ok(self.files.push(identity_of(&found))?)
+    }
+
+    /// Refuses an output that is one of these files, by whatever name: it would be emptied. A pipe
+    /// or a device has nothing to lose. An output that may be there, and can't be looked at, is
+    /// refused too.
+    pub fn refuse_output<'a, R: Files>(&self, rt: &R, out: &'a str) -> Result<(), Ending<'a>> {
+        match rt.metadata(out) {
+            Ok(found) if found.is_file() && self.has(&found) => Err(Ending::File(out)),
+            Ok(_) => Ok(()),
+            Err(error) if error.kind() == ErrorKind::NotFound => Ok(()),
+            Err(error) => Err(Ending::of_read(out, &error)),
+        }
+    }
+
+    /// Whether this is a name of a pipe or a device among these files, whose bytes go to one reader
+    /// alone. It doesn't open it, since opening a pipe may wait.
+    pub fn has_stream<R: Files>(&self, rt: &R, name: &str) -> bool {
+        match rt.metadata(name) {
+            Ok(found) => !found.is_file() && self.has(&found),
+            Err(_) => false,
+        }
+    }
+
+    /// Whether a file is one of these.
+    fn has(&self, found: &Metadata) -> bool {
+        self.files.as_slice().contains(&identity_of(found))
+    }
+}
+
+/// What tells a file from all others.
+fn identity_of(found: &Metadata) -> Identity {
+    Identity {
+        device: found.dev(),
+        number: found.ino(),
+    }
+}

@@ -1,0 +1,19 @@
+//! What the commands of the program share: the texts and files that they read, how they print on
+//! standard output, how they end, and the words that name channels and views.
+#![tactic(auto)]
+
+mod channel_word;
+mod ending;
+mod input;
+mod inputs;
+mod output;
+mod recording_fault;
+mod view;
+
+pub use channel_word::channel_in;
+pub use ending::{ANSWERED, Ending, STREAM};
+pub use input::{MAX_LISTING, MAX_TEXT, bounded_text, text_in, whole_text};
+pub use inputs::Inputs;
+pub use output::{finish, print_line, print_text};
+pub use recording_fault::RecordingFault;
+pub use view::{ViewFault, view_of};

@@ -1,0 +1,14 @@
+//! The tests of what reads recordings, by its public calls: whole or as a stream, the index, and the
+//! audit.
+#![tactic(auto)]
+
+#[cfg(test)]
+mod audit;
+#[cfg(test)]
+mod index;
+#[cfg(test)]
+mod reader;
+#[cfg(test)]
+mod shared;
+#[cfg(test)]
+mod stream;

@@ -1,0 +1,48 @@
+//! What the tests of several crates share: a recording's packets and other bytes as hexadecimal texts,
+//! and programs as listings.
+//!
+//! `REJECTING`, `ACCEPTING`, `FRAMES` and `END` are the packets of a recording of 232 bytes: channel 1,
+//! which kept the second of two frames.
+#![tactic(auto)]
+
+use bpf_insn::parse_listing;
+use bpf_verify::{Verified, verify};
+use std::alloc::Global;
+use std::sync::Arc;
+use std::test::Fail;
+
+/// The record of a program that keeps nothing.
+pub const REJECTING: &str = "25eb 0000 3c000000 24000000 08 00 00 00 100000000000 9deb \
+    00000000 43425052 0100 0100 00000000 0000000000000000 0100 0000 0600000000000000";
+
+/// The record of a program that keeps all.
+pub const ACCEPTING: &str = "25eb 0000 3c000000 24000000 08 01 00 00 200000000000 adec \
+    00000000 43425052 0100 0100 01000000 0100000000000000 0100 0000 0600000001000000";
+
+/// The frame that is kept.
+pub const FRAMES: &str = "25eb 0100 3c000000 22000000 08 00 00 68 200000000000 ac53 \
+    01000000 200000000000 0000 12000003 ffffffffffff 020000000001 0806 a1b2c3d4 0000";
+
+/// The record of the channel's end.
+pub const END: &str = "25eb 0000 34000000 1c000000 08 02 00 00 200000000000 9ded \
+    00000000 43425052 0200 0100 0200000000000000 0100000000000000";
+
+/// All bytes of a hexadecimal text, in which spaces may stand.
+pub fn all_bytes(alloc: Global, text: &str) -> Result<Vec<u8>, Fail> {
+    let digits = text.replace(alloc, " ", "")?;
+    Ok(hex::decode(alloc, digits.as_str())?)
+}
+
+/// All bytes of hexadecimal texts, in which spaces may stand.
+pub fn joined_bytes(alloc: Global, texts: &[&str]) -> Result<Vec<u8>, Fail> {
+    let mut all = Vec::new(alloc);
+    for text in texts {
+        all.extend_from_slice(all_bytes(alloc, text)?.as_slice())?;
+    }
+    Ok(all)
+}
+
+/// The program of a listing, which is valid.
+pub fn program(alloc: Global, listing: &str) -> Result<Arc<Verified, Global>, Fail> {
+    Ok(Arc::new(alloc, verify(parse_listing(alloc, listing)?)?)?)
+}

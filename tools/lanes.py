@@ -1,0 +1,145 @@
+"""How steps run side by side on the processors, and what a run says of itself meanwhile."""
+import os
+import sys
+import time
+
+from repository import ROOT, toolchain
+from steps import LOGS
+
+# Checks wait for files and for their copies now and then, so there are more of them than processors.
+LANES_PER_PROCESSOR = 1.5
+# How many processes one check gains from.
+MOST_JOBS = 4
+# What a further process of a check takes, beside the memory of the first.
+MEMORY_OF_A_JOB = 0.6
+# How many measured seconds of work tell this machine's pace.
+LEAST_WORK = 60
+# Seconds between two lines on how far a run is, on a terminal and elsewhere.
+ON_A_TERMINAL, ELSEWHERE = 1, 60
+
+
+class Progress:
+    """Says how far a run is: on a terminal in one line that is written anew, else in lines."""
+
+    def __init__(self, steps):
+        self.steps, self.began, self.said = steps, time.monotonic(), 0.0
+        self.is_terminal = sys.stdout.isatty()
+
+    def line(self):
+        ended = [it for it in self.steps if it.status is not None]
+        running = [it for it in self.steps if it.process and it.status is None]
+        checked = sum(it.spent.functions for it in ended)
+        done = checked + sum(it.functions()[0] for it in running)
+        total = checked + sum(it.functions()[1] for it in self.steps if it not in ended)
+        gone = time.monotonic() - self.began
+        now = ", ".join(it.name() for it in running)
+        return (
+            f"{len(ended)} of {len(self.steps)} steps, {done} of {total} functions and edits, {minutes(gone)} gone, "
+            f"{self.left(running)}: {now}"
+        )
+
+    def left(self, running):
+        """How long the rest is likely to take, by the measured costs and by this machine's pace."""
+        worked = [(it.cost.seconds, it.spent.seconds) for it in self.steps if it.spent]
+        share = lambda it: it.functions()[0] / max(it.functions()[1], 1)
+        wanted = sum(it for it, _ in worked)
+        if wanted < LEAST_WORK:
+            return "some time left"
+        pace = sum(it for _, it in worked) / wanted
+        rest = [it for it in self.steps if it.status is None]
+        work = sum(it.cost.seconds * (1 - share(it) * bool(it.process)) for it in rest)
+        chain = max((it.behind for it in rest), default=0) / 2
+        return f"about {minutes(pace * max(work / processors(), chain))} left"
+
+    def say(self, text=None):
+        """Prints a line that stays, or how far the run is."""
+        pause = ON_A_TERMINAL if self.is_terminal else ELSEWHERE
+        if text is None and time.monotonic() - self.said < pause:
+            return
+        self.said = time.monotonic()
+        if not self.is_terminal:
+            print(text or self.line(), flush=True)
+            return
+        width = os.get_terminal_size().columns - 1
+        print(f"\r\033[K{text}\n" if text else f"\r\033[K{self.line()[:width]}", end="", flush=True)
+
+
+def minutes(seconds):
+    return f"{seconds:.0f} s" if seconds < 100 else f"{seconds / 60:.0f} min"
+
+
+def processors():
+    """How many processors there are to use."""
+    return int(os.environ.get("RT_JOBS") or toolchain().processors())
+
+
+def in_lanes(steps, every=()):
+    """Does the steps side by side, each once those that it waits for are done, first those with the
+    longest way to the end behind them. Steps that an earlier run did are passed over, but for those of
+    the kinds `every`. Returns those that failed; what waits for one isn't done."""
+    LOGS.mkdir(parents=True, exist_ok=True)
+    steps = [it for it in steps if it.kind in every or not it.is_done()]
+    by_key = {it.key: it for it in steps}
+    for it in steps:
+        it.waits, it.behind = [key for key in it.waits if key in by_key], 0.0
+    for it in reversed(steps):
+        it.behind += it.cost.seconds
+        for key in it.waits:
+            by_key[key].behind = max(by_key[key].behind, it.behind)
+    progress, running, failed = Progress(steps), [], []
+    waiting = sorted(steps, key=lambda it: -it.behind)
+    memory = 0.85 * toolchain().free() / 1e6
+    while running or any(is_ready(it, by_key) for it in waiting):
+        start_ready(waiting, running, by_key, memory)
+        pause(running)
+        for it in [it for it in running if it.ended()]:
+            running.remove(it)
+            if it.status == -9 and it.jobs > 1:  # most likely for memory: once more, by one process
+                it.status = None
+                it.start(1)
+                running.append(it)
+                continue
+            failed += [it] * bool(it.status)
+            progress.say(f"{it.name()}: {'done' if not it.status else 'FAILED'} ({minutes(it.spent.seconds)})")
+        progress.say()
+    for it in failed:
+        print(f"\n{it.text()[-4000:]}\n{it.key} failed; {it.log.relative_to(ROOT)} has all that it printed")
+    return failed
+
+
+def pause(running):
+    """Waits a moment. Where the run is interrupted, ends what is running."""
+    try:
+        time.sleep(0.2)
+    except KeyboardInterrupt:
+        for it in running:
+            it.process.terminate()
+        sys.exit("interrupted: what was proved is kept, and the next run goes on from there")
+
+
+def is_ready(step, by_key):
+    return step.process is None and all(by_key[it].status == 0 for it in step.waits)
+
+
+def start_ready(waiting, running, by_key, memory):
+    """Starts what can be started: the step with the longest way behind it gets the lanes that the
+    others leave."""
+    lanes = max(int(LANES_PER_PROCESSOR * processors()), 1)
+    ready = [it for it in waiting if is_ready(it, by_key)]
+    for at, it in enumerate(ready):
+        idle = lanes - sum(other.jobs for other in running)
+        room = memory - sum(memory_of(other, other.jobs) for other in running)
+        if idle < 1 or running and memory_of(it, 1) > room:
+            continue
+        jobs = 1 if it.kind == "edits" or at else max(idle - (len(ready) - 1), 1)
+        jobs = min(jobs, MOST_JOBS, processors())
+        while jobs > 1 and memory_of(it, jobs) > room:
+            jobs -= 1
+        it.start(jobs)
+        waiting.remove(it)
+        running.append(it)
+
+
+def memory_of(step, jobs):
+    """The megabytes that a step takes by so many processes."""
+    return step.cost.megabytes * (1 + MEMORY_OF_A_JOB * (jobs - 1))

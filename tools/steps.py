@@ -1,0 +1,146 @@
+"""The steps of a build or of a test run, and what each costs.
+
+A step is something to do with one crate: prove it as a library that others use, build a program and run
+it, prove and run tests, or try edits that must fail. Each runs as a process of its own, by tools/step,
+over the work that the crate's out/ keeps, so a run that is interrupted goes on where it was.
+"""
+import os
+import re
+import subprocess
+import sys
+from dataclasses import dataclass, field
+from pathlib import Path
+
+from repository import ROOT, UNTESTED, below, crates, edits_of, hash_of, is_program, libraries, table_in
+
+LOGS = ROOT / "bin" / "steps"
+COSTS = ROOT / "tools" / "costs.txt"
+# How many edits one step tries.
+EDITS_A_STEP = 16
+# A first guess of what a crate costs that tools/costs.txt doesn't have.
+SECONDS_A_LINE, MEGABYTES = 0.15, 3000
+
+
+@dataclass
+class Cost:
+    """What a step costs: processor seconds, megabytes of its largest process, and how many functions
+    it checks."""
+
+    seconds: float
+    megabytes: int
+    functions: int = 0
+
+
+def cost_of(key, name):
+    """What a step cost when it was measured, or a guess by the crate's length."""
+    row = table_in(COSTS).get(key)
+    if row:
+        return Cost(float(row[0]), int(row[1]), int(row[2]))
+    return Cost(SECONDS_A_LINE * crates()[name].count(rb"\n"), MEGABYTES)
+
+
+@dataclass
+class Step:
+    """Something to do with one crate, once the steps that it waits for are done."""
+
+    kind: str
+    crate: str
+    words: list = field(default_factory=list)
+    waits: list = field(default_factory=list)
+
+    def __post_init__(self):
+        self.key = "-".join([self.kind, self.crate, *[it.replace("/", "_") for it in self.words]])
+        self.cost = cost_of(self.key, self.crate)
+        self.log = LOGS / f"{self.key}.log"
+        self.jobs, self.status, self.process, self.spent = 0, None, None, None
+
+    def name(self):
+        """The step in words."""
+        says = {"library": "{}", "program": "{}, built", "twice": "{}, built twice", "tests": "tests of {}"}
+        return says.get(self.kind, "edits of {}").format(self.crate)
+
+    def is_done(self):
+        """Whether an earlier run did this, on the files as they are."""
+        crate = crates()[self.crate]
+        done = Path(crate.folder) / "out" / f"{self.key}.done"
+        is_there = crate.is_built() if self.kind == "library" else True
+        return is_there and done.exists() and done.read_text() == hash_of(self.crate)
+
+    def is_well(self):
+        """Whether it was done, now or in an earlier run."""
+        return self.status == 0 or self.status is None and self.is_done()
+
+    def edits(self):
+        """The edits that a step of edits tries."""
+        part, parts = map(int, self.words[0].split("/"))
+        return edits_of(self.crate)[0][part - 1 :: parts]
+
+    def start(self, jobs):
+        self.jobs = jobs
+        with open(self.log, "w") as log:
+            self.process = subprocess.Popen(
+                [sys.executable, ROOT / "tools" / "step", self.kind, self.crate, str(jobs), *self.words],
+                stdin=subprocess.DEVNULL, stdout=log, stderr=subprocess.STDOUT,
+            )
+
+    def ended(self):
+        """Whether the process has ended; then its status and what it took are known."""
+        found, status, used = os.wait4(self.process.pid, os.WNOHANG)
+        if not found:
+            return False
+        self.status = os.waitstatus_to_exitcode(status)
+        self.process.returncode = self.status
+        functions = max(self.functions()[1], len(re.findall(r"(?m)^fn \S+: proved", self.text())))
+        self.spent = Cost(used.ru_utime + used.ru_stime, used.ru_maxrss // 1000, functions)
+        return True
+
+    def functions(self):
+        """How many functions are checked, or edits tried, and of how many."""
+        text = self.text() if self.process else ""
+        rows = re.findall(r"(?m)^(?:so far|checked \S+)[:,] (\d+) of (\d+)", text)
+        return (int(rows[-1][0]), int(rows[-1][1])) if rows else (0, self.cost.functions)
+
+    def text(self):
+        return self.log.read_text(errors="replace") if self.log.exists() else ""
+
+
+def steps_for(names):
+    """The steps that prove these libraries and those below them."""
+    wanted = dict.fromkeys(it for name in names for it in [*below(name), name])
+    return [Step("library", it, waits=[f"library-{dep}" for dep in below(it)]) for it in wanted]
+
+
+def all_steps():
+    """A step for each library, each program and each crate of tests."""
+    others = [it for it in crates() if it not in UNTESTED and it not in libraries()]
+    waits = lambda it: [f"library-{dep}" for dep in below(it)]
+    kind = lambda it: "twice" if is_program(it) else "tests"
+    return [*steps_for(libraries()), *(Step(kind(it), it, waits=waits(it)) for it in others)]
+
+
+def edit_steps(name):
+    """Steps that try all edits of a library, some at a time."""
+    count = len(edits_of(name)[0])
+    parts = max(-(-count // EDITS_A_STEP), 1)
+    return [Step("edits", name, [f"{at}/{parts}"], [f"library-{name}"]) for at in range(1, parts + 1)]
+
+
+def counts_of(steps):
+    """How many things the steps showed, and how many failed or were not reached."""
+    done, wrong = 0, 0
+    for it in steps:
+        refused = len(re.findall(r"(?m)^rt: must-fail .*: refused, as it must be", it.text()))
+        count = len(it.edits()) if it.kind == "edits" else 1
+        well = refused if it.kind == "edits" and it.status is not None else count * it.is_well()
+        done, wrong = done + well, wrong + max(count - well, int(not it.is_well()))
+    return done, wrong
+
+
+def keep_costs(steps):
+    """Writes what these steps took into tools/costs.txt, beside what it has of others."""
+    rows = table_in(COSTS)
+    for it in steps:
+        if it.spent and it.status == 0:
+            rows[it.key] = [f"{it.spent.seconds:.0f}", str(it.spent.megabytes), str(it.spent.functions)]
+    head = "# written by tools/build and tools/test with --keep-costs: processor seconds, megabytes, functions\n"
+    COSTS.write_text(head + "".join(f"{key} {' '.join(rows[key])}\n" for key in sorted(rows)))
