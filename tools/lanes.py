@@ -8,8 +8,9 @@ from steps import LOGS
 
 # Checks wait for files and for their copies now and then, so there are more of them than processors.
 LANES_PER_PROCESSOR = 1.5
-# How many processes one check gains from.
-MOST_JOBS = 4
+# How many processes one check gains from at most, and how many functions pay for one more: each reads
+# all modules anew, which takes one to two minutes in the upper crates.
+MOST_JOBS, FUNCTIONS_A_JOB = 4, 40
 # What a further process of a check takes, beside the memory of the first.
 MEMORY_OF_A_JOB = 0.6
 # How many measured seconds of work tell this machine's pace.
@@ -131,13 +132,20 @@ def start_ready(waiting, running, by_key, memory):
         room = memory - sum(memory_of(other, other.jobs) for other in running)
         if idle < 1 or running and memory_of(it, 1) > room:
             continue
-        jobs = 1 if it.kind == "edits" or at else max(idle - (len(ready) - 1), 1)
-        jobs = min(jobs, MOST_JOBS, processors())
+        jobs = 1 if at else max(idle - (len(ready) - 1), 1)
+        jobs = min(jobs, jobs_for(it), processors())
         while jobs > 1 and memory_of(it, jobs) > room:
             jobs -= 1
         it.start(jobs)
         waiting.remove(it)
         running.append(it)
+
+
+def jobs_for(step):
+    """How many processes a step gains from."""
+    if step.kind not in ("library", "tests"):
+        return 1
+    return min(1 + step.cost.functions // FUNCTIONS_A_JOB, MOST_JOBS)
 
 
 def memory_of(step, jobs):

@@ -15,7 +15,7 @@ fn main(rt: HostRuntime) -> ExitCode {
             &mut io::writer(&rt),
             rt.stderr(),
         ),
-        Err(error) => rec_cli::words_unread(&error, rt.stderr()),
+        Err(error) => rec_cli::words_unread(rt.alloc(), &error, rt.stderr()),
     };
     ExitCode::from(status)
 }

@@ -6,7 +6,7 @@ pub(crate) const ARP: &str = "ffffffffffff0200000000010806";
 pub(crate) const IPV4: &str = "ffffffffffff020000000001080045";
 
 /// The words of each run.
-pub(crate) static CASES: [&[&str]; 111] = [
+pub(crate) static CASES: [&[&str]; 117] = [
     // programs that may be installed, and what they return
     &["verify", "arp"],
     &["verify", "arp_lines"],
@@ -128,10 +128,17 @@ pub(crate) static CASES: [&[&str]; 111] = [
     &["assemble", "arp"],
     &["--quiet"],
     &["verify", "--", "--arp"],
+    // the version
+    &["--version"],
+    &["-V"],
+    &["version"],
+    &["version", "now"],
+    &["verify", "--version"],
+    &["versions"],
 ];
 
 /// Words that ask for help.
-pub(crate) static HELP: [&[&str]; 12] = [
+pub(crate) static HELP: [&[&str]; 13] = [
     &["--help"],
     &["-h"],
     &["help"],
@@ -144,4 +151,5 @@ pub(crate) static HELP: [&[&str]; 12] = [
     &["extract", "--help"],
     &["help", "extract"],
     &["simulate", "--help"],
+    &["version", "--help"],
 ];

@@ -15,6 +15,7 @@ mod texts;
 use audits::show_audits;
 use cases::{CASES, HELP};
 use extracts::{EXTRACTS, ExtractCase};
+use rec_cli::LockFile;
 use records::show_records;
 use run::{Input, NOTHING, run_program, show_closed, show_run, title};
 use scripts::show_scripts;
@@ -57,7 +58,7 @@ fn show_text<R: AllocGlobal + Files + Print + Threads + Wait + Sync>(
     text: &TextCase,
 ) -> io::Result<()>
 where
-    R::File: Send,
+    R::File: Send + LockFile,
     R::Dir: Send,
 {
     let listing = show_run(rt, &["asm", text.file], NOTHING)?;
@@ -73,7 +74,7 @@ where
 /// read, and so is its list: how many packets are listed as they must be, and all other lines.
 fn show_long_list<R: AllocGlobal + Files + Print + Threads + Wait + Sync>(rt: &R) -> io::Result<()>
 where
-    R::File: Send,
+    R::File: Send + LockFile,
     R::Dir: Send,
 {
     let recording = fs::read(rt, "recordings/two_versions.ch11")?;
@@ -108,7 +109,7 @@ fn show_extract<R: AllocGlobal + Files + Print + Threads + Wait + Sync>(
     case: &ExtractCase,
 ) -> io::Result<()>
 where
-    R::File: Send,
+    R::File: Send + LockFile,
     R::Dir: Send,
 {
     show_run(
@@ -132,7 +133,7 @@ fn show_help<R: AllocGlobal + Files + Print + Threads + Wait + Sync>(
     words: &[&str],
 ) -> io::Result<()>
 where
-    R::File: Send,
+    R::File: Send + LockFile,
     R::Dir: Send,
 {
     let run = run_program(rt, words, NOTHING)?;
@@ -151,7 +152,7 @@ where
 /// Each command that reads a file, by `-` from standard input.
 fn show_piped<R: AllocGlobal + Files + Print + Threads + Wait + Sync>(rt: &R) -> io::Result<()>
 where
-    R::File: Send,
+    R::File: Send + LockFile,
     R::Dir: Send,
 {
     for (file, words) in [
@@ -182,7 +183,7 @@ fn show_closed_output<R: AllocGlobal + Files + Print + Threads + Wait + Sync>(
     rt: &R,
 ) -> io::Result<()>
 where
-    R::File: Send,
+    R::File: Send + LockFile,
     R::Dir: Send,
 {
     for words in [

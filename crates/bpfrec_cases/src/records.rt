@@ -1,6 +1,8 @@
 //! Recordings.
 
 use crate::run::{Input, NOTHING, run_program, show_closed, show_run, title};
+use rec_cli::LockFile;
+use std::io::Write;
 use std::rt::Files;
 use std::sync::Wait;
 use std::thread::Threads;
@@ -57,13 +59,14 @@ const CHANGE: &[u8] = b"set 1 records/keeps\n";
 
 const VERSIONS: u64 = 1_024;
 
-/// The recordings of the table, the endings of several channels, long inputs, as many changes as a
-/// channel may have, listings at the bound and past it, an input without memory, and a closed output.
+/// The recordings of the table, the endings of several channels, an output that fails and one that is
+/// locked, long inputs, as many changes as a channel may have, listings at the bound and past it, an
+/// input without memory, and a closed output.
 pub(crate) fn show_records<R: AllocGlobal + Files + Print + Threads + Wait + Sync>(
     rt: &R,
 ) -> io::Result<()>
 where
-    R::File: Send,
+    R::File: Send + LockFile,
     R::Dir: Send,
 {
     for [settings, out, lines] in &RECORDS {
@@ -71,6 +74,8 @@ where
     }
     let endings = ["record", "records/endings.toml", "endings.ch11"];
     show_run(rt, &endings, NOTHING)?;
+    show_run(rt, &["record", "records/two.toml", "/dev/full"], NOTHING)?;
+    show_locked(rt)?;
     show_long_input(rt, "no change\n", 65_537)?;
     show_long_input(rt, "0123456789abcdef", 1_048_577)?;
     show_full_versions(rt)?;
@@ -90,7 +95,7 @@ fn show_record<R: AllocGlobal + Files + Print + Threads + Wait + Sync>(
     lines: &str,
 ) -> io::Result<()>
 where
-    R::File: Send,
+    R::File: Send + LockFile,
     R::Dir: Send,
 {
     show_run(
@@ -108,6 +113,29 @@ where
     println!(rt)
 }
 
+/// An output that another open has locked: how many bytes it keeps.
+fn show_locked<R: AllocGlobal + Files + Print + Threads + Wait + Sync>(rt: &R) -> io::Result<()>
+where
+    R::File: Send + LockFile,
+    R::Dir: Send,
+{
+    let mut held = fs::create(rt, "locked.ch11")?;
+    held.write_all(b"what another program writes")?;
+    if held.try_lock().is_err() {
+        println!(rt; "no lock")?;
+    }
+    let record = ["record", "records/two.toml", "locked.ch11"];
+    show_run(rt, &record, NOTHING)?;
+    let extract = [
+        "extract",
+        "recordings/two_versions.ch11",
+        "1",
+        "locked.ch11",
+    ];
+    show_run(rt, &extract, NOTHING)?;
+    println!(rt; "{} bytes", fs::read(rt, "locked.ch11")?.len())
+}
+
 /// An input that is longer than what is read of it: how many lines of it are answered.
 fn show_long_input<R: AllocGlobal + Files + Print + Threads + Wait + Sync>(
     rt: &R,
@@ -115,7 +143,7 @@ fn show_long_input<R: AllocGlobal + Files + Print + Threads + Wait + Sync>(
     count: usize,
 ) -> io::Result<()>
 where
-    R::File: Send,
+    R::File: Send + LockFile,
     R::Dir: Send,
 {
     let words = ["record", "records/none.toml", "long.ch11"];
@@ -142,7 +170,7 @@ fn show_long_listing<R: AllocGlobal + Files + Print + Threads + Wait + Sync>(
     len: usize,
 ) -> io::Result<()>
 where
-    R::File: Send,
+    R::File: Send + LockFile,
     R::Dir: Send,
 {
     let mut listing = Vec::new(rt.alloc());
@@ -162,7 +190,7 @@ fn show_full_versions<R: AllocGlobal + Files + Print + Threads + Wait + Sync>(
     rt: &R,
 ) -> io::Result<()>
 where
-    R::File: Send,
+    R::File: Send + LockFile,
     R::Dir: Send,
 {
     let words = ["record", "records/none.toml", "full.ch11"];

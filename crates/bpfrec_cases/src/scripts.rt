@@ -1,6 +1,7 @@
 //! Scripts of `simulate`.
 
 use crate::run::{Input, NOTHING, run_program, show_closed, show_run, title};
+use rec_cli::LockFile;
 use std::io;
 use std::rt::Files;
 use std::sync::Wait;
@@ -84,7 +85,7 @@ pub(crate) fn show_scripts<R: AllocGlobal + Files + Print + Threads + Wait + Syn
     rt: &R,
 ) -> io::Result<()>
 where
-    R::File: Send,
+    R::File: Send + LockFile,
     R::Dir: Send,
 {
     for name in ["scripts/changed_filter.script", "scripts/full_ring.script"] {
@@ -110,7 +111,7 @@ fn show_script<R: AllocGlobal + Files + Print + Threads + Wait + Sync>(
     script: &str,
 ) -> io::Result<()>
 where
-    R::File: Send,
+    R::File: Send + LockFile,
     R::Dir: Send,
 {
     println!(rt; "# {told:?}")?;
@@ -124,7 +125,7 @@ fn show_channels<R: AllocGlobal + Files + Print + Threads + Wait + Sync>(
     count: u64,
 ) -> io::Result<()>
 where
-    R::File: Send,
+    R::File: Send + LockFile,
     R::Dir: Send,
 {
     let mut script = String::from_str(rt.alloc(), "recorder 16424 1 8\n")?;
@@ -142,7 +143,7 @@ fn show_long_script<R: AllocGlobal + Files + Print + Threads + Wait + Sync>(
     rt: &R,
 ) -> io::Result<()>
 where
-    R::File: Send,
+    R::File: Send + LockFile,
     R::Dir: Send,
 {
     let mut script = String::from_str(rt.alloc(), "recorder 16424 4 8\n")?;

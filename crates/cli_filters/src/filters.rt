@@ -5,7 +5,7 @@ use bpf_asm::assemble;
 use bpf_dis::text_of;
 use bpf_insn::{parse_listing, print_listing};
 use bpf_verify::verify;
-use cli_streams::{Ending, MAX_LISTING, MAX_TEXT, finish, print_text, text_in};
+use cli_streams::{Ending, MAX_LISTING, MAX_TEXT, print_line, print_text, text_in};
 use std::io::{Read, Write};
 use std::rt::Files;
 
@@ -45,8 +45,9 @@ pub fn verify_file<'a, R: AllocGlobal + Files, I: Read, O: Write>(
 ) -> Result<(), Ending<'a>> {
     let listing = text_in(rt, file, MAX_LISTING, input)?;
     let program = verify(parse_listing(rt.alloc(), listing.as_str())?)?;
-    let written = writeln!(output, "valid {}", program.len());
-    finish(output, written)
+    let mut line = Vec::new(rt.alloc());
+    let built = writeln!(&mut line, "valid {}", program.len());
+    print_line(output, &mut line, built)
 }
 
 /// `run FILE HEX`: prints `<value> <steps>`.
@@ -59,5 +60,5 @@ pub fn run_file<'a, R: AllocGlobal + Files, I: Read, O: Write>(
 ) -> Result<(), Ending<'a>> {
     let listing = text_in(rt, file, MAX_LISTING, input)?;
     let outcome = outcome_of(rt.alloc(), listing.as_str(), view)?;
-    print_outcome(output, outcome)
+    print_outcome(rt.alloc(), output, outcome)
 }

@@ -22,7 +22,7 @@ pub fn answer_lines<I: Read, O: Write>(
     let (listing, rest) = cut_line(text.as_str());
     let (view, _) = cut_line(rest);
     let outcome = outcome_of(alloc, listing, view)?;
-    print_outcome(output, outcome)
+    print_outcome(alloc, output, outcome)
 }
 
 /// The first line, without a carriage return at its end, and what follows its line feed.

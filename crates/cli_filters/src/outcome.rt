@@ -7,7 +7,7 @@ ghost use Rattle.cli_filters.specs.Lines.{RunsOn, outcome_line};
 use bpf_insn::parse_listing;
 use bpf_machine::{Outcome, run};
 use bpf_verify::verify;
-use cli_streams::{Ending, finish, view_of};
+use cli_streams::{Ending, print_line, view_of};
 use std::alloc::Global;
 use std::io::Write;
 
@@ -26,6 +26,7 @@ pub(crate) fn outcome_of<'a>(
 
 /// Prints `<value> <steps>` and a line feed.
 pub(crate) fn print_outcome<O: Write>(
+    alloc: Global,
     output: &mut O,
     outcome: Outcome,
 ) -> Result<(), Ending<'static>>
@@ -33,6 +34,7 @@ pub(crate) fn print_outcome<O: Write>(
         (outcome_line outcome.value outcome.steps)) }
 {
     let Outcome { value, steps } = outcome;
-    let written = writeln!(output, "{value} {steps}");
-    finish(output, written)
+    let mut line = Vec::new(alloc);
+    let built = writeln!(&mut line, "{value} {steps}");
+    print_line(output, &mut line, built)
 }

@@ -3,12 +3,12 @@
 use crate::reading::{
     Counts, begin_again, counts_of, is_read_twice, next_packet, open, packet_again, reader_over,
 };
-use cli_streams::{Ending, Inputs, STREAM, channel_in, print_line};
+use cli_streams::{Ending, Inputs, LockFile, STREAM, channel_in, create_output, print_line};
 use rec_reader::{Extracted, Reader, extract_packet};
 use std::alloc::Global;
+use std::io;
 use std::io::{BufWriter, ErrorKind, Read, Write};
 use std::rt::Files;
-use std::{fs, io};
 
 /// A feed's file. It is created after the buffer before it, so that there is none if there is no
 /// memory for the buffer.
@@ -50,12 +50,19 @@ pub fn extract_frames<'a, R: AllocGlobal + Files, I: Read, O: Write>(
     out: &'a str,
     input: &mut I,
     output: &mut O,
-) -> Result<(), Ending<'a>> {
+) -> Result<(), Ending<'a>>
+where
+    R::File: LockFile,
+{
     let channel = channel_of(rt.alloc(), channel)?;
+    let mut inputs = Inputs::new(rt.alloc());
+    inputs.add_streams(rt)?;
     let Extracted { frames, passed } = if file == STREAM {
-        extract_held(rt, file, channel, out, &mut reader_over(rt.alloc(), input)?)?
+        inputs.refuse_output(rt, out)?;
+        let mut reader = reader_over(rt.alloc(), input)?;
+        extract_held(rt, file, channel, &inputs, out, &mut reader)?
     } else {
-        extract_file(rt, file, channel, out)?
+        extract_file(rt, file, channel, &mut inputs, out)?
     };
     let mut line = Vec::new(rt.alloc());
     let built = writeln!(&mut line, "frames {frames} passed {passed}");
@@ -67,41 +74,44 @@ fn extract_file<'a, R: AllocGlobal + Files>(
     rt: &R,
     file: &'a str,
     channel: u16,
+    inputs: &mut Inputs,
     out: &'a str,
-) -> Result<Extracted, Ending<'a>> {
+) -> Result<Extracted, Ending<'a>>
+where
+    R::File: LockFile,
+{
     let alloc = rt.alloc();
     let mut recording = open(rt, file)?;
-    let mut inputs = Inputs::new(alloc);
     inputs.add(&recording)?;
     inputs.refuse_output(rt, out)?;
     if !is_read_twice(&recording) {
         let mut reader = reader_over(alloc, &mut recording)?;
-        return extract_held(rt, file, channel, out, &mut reader);
+        return extract_held(rt, file, channel, inputs, out, &mut reader);
     }
     let judged = counts_of(file, &mut reader_over(alloc, &mut recording)?)?;
     begin_again(file, &mut recording)?;
     let mut reader = reader_over(alloc, &mut recording)?;
-    extract_again(rt, file, &mut reader, judged, channel, out)
+    let mut feed = feed_of(rt, inputs, out)?;
+    extract_again(file, &mut reader, judged, channel, out, &mut feed)
 }
 
 /// Extracts a channel of a recording that was judged before. If it isn't what was judged, that is
 /// the file's fault; then some of its frames may have been written.
-fn extract_again<'a, R: AllocGlobal + Files, I: Read>(
-    rt: &R,
+fn extract_again<'a, I: Read, W: Write>(
     file: &'a str,
     reader: &mut Reader<I>,
     judged: Counts,
     channel: u16,
     out: &'a str,
+    feed: &mut W,
 ) -> Result<Extracted, Ending<'a>> {
-    let mut feed = feed_of(rt, out)?;
     let mut extracted = NOTHING;
     let mut counts = Counts::NONE;
     'packets: for _ in 0..judged.packets {
         let owned = packet_again(file, reader)?;
         let packet = owned.packet();
         counts.count(&packet);
-        let written = extract_packet(&packet, channel, &mut feed, &mut extracted);
+        let written = extract_packet(&packet, channel, feed, &mut extracted);
         written.map_err(|_| Ending::File(out))?;
     }
     if counts != judged {
@@ -117,9 +127,13 @@ fn extract_held<'a, R: AllocGlobal + Files, I: Read>(
     rt: &R,
     file: &'a str,
     channel: u16,
+    inputs: &Inputs,
     out: &'a str,
     reader: &mut Reader<I>,
-) -> Result<Extracted, Ending<'a>> {
+) -> Result<Extracted, Ending<'a>>
+where
+    R::File: LockFile,
+{
     let mut held = Vec::new(rt.alloc());
     let mut extracted = NOTHING;
     'packets: for _ in 0..u64::MAX {
@@ -130,7 +144,7 @@ fn extract_held<'a, R: AllocGlobal + Files, I: Read>(
         // memory takes all bytes, if there is some
         written.map_err(|_| Ending::Memory)?;
     }
-    let mut feed = fs::create(rt, out).map_err(|error| Ending::of_read(out, &error))?;
+    let mut feed = create_output(rt, inputs, out)?;
     feed.write_all(held.as_slice())
         .map_err(|_| Ending::File(out))?;
     feed.flush().map_err(|_| Ending::File(out))?;
@@ -140,12 +154,15 @@ fn extract_held<'a, R: AllocGlobal + Files, I: Read>(
 /// A feed's file, created after the buffer before it.
 fn feed_of<'a, R: AllocGlobal + Files>(
     rt: &R,
+    inputs: &Inputs,
     out: &'a str,
-) -> Result<BufWriter<FeedFile<R::File>>, Ending<'a>> {
+) -> Result<BufWriter<FeedFile<R::File>>, Ending<'a>>
+where
+    R::File: LockFile,
+{
     let uncreated = FeedFile { file: None };
     let mut feed = BufWriter::new(rt.alloc(), uncreated).map_err(|_| Ending::Memory)?;
-    let created = fs::create(rt, out).map_err(|error| Ending::of_read(out, &error))?;
-    feed.get_mut().file = Some(created);
+    feed.get_mut().file = Some(create_output(rt, inputs, out)?);
     Ok(feed)
 }
 

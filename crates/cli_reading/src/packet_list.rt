@@ -4,7 +4,7 @@ use crate::reading::{
     Counts, begin_again, counts_of, is_read_twice, next_packet, open, packet_again, reader_over,
 };
 use ch11_packet::{Header, What};
-use cli_streams::{Ending, STREAM, finish, print_line};
+use cli_streams::{Ending, STREAM, print_line};
 use rec_reader::{Packet, Reader};
 use std::alloc::Global;
 use std::io;
@@ -126,8 +126,8 @@ fn print_packet<W: Write>(lines: &mut W, packet: &Packet<'_>) -> io::Result<()> 
     }
 }
 
-/// Prints a packet's place and its header's fields. The proof of a text with all seven values takes
-/// several times as long as that of two texts.
+/// Prints a packet's place and its header's fields, two at a time: the proof of a text with more
+/// values takes several times as long.
 fn print_header<W: Write>(lines: &mut W, packet: &Packet<'_>) -> io::Result<()> {
     let Header {
         channel,
@@ -138,6 +138,8 @@ fn print_header<W: Write>(lines: &mut W, packet: &Packet<'_>) -> io::Result<()> 
         counter,
         ..
     } = packet.header;
-    write!(lines, "{} {channel} {kind:02x} {sequence} ", packet.at)?;
-    write!(lines, "{packet_len} {data_len} {counter} ")
+    write!(lines, "{} {channel} ", packet.at)?;
+    write!(lines, "{kind:02x} {sequence} ")?;
+    write!(lines, "{packet_len} {data_len} ")?;
+    write!(lines, "{counter} ")
 }

@@ -2,7 +2,7 @@
 
 ghost use Rattle.std.specs.Prelude.{◌<◌};
 
-use crate::output::finish;
+use crate::output::print_line;
 use crate::recording_fault::RecordingFault;
 use crate::view::ViewFault;
 use bpf_asm::AsmFault;
@@ -11,7 +11,7 @@ use bpf_insn::ListingFault;
 use bpf_verify::Refused;
 use rec_reader::{AuditFault, ReadEnd, ReadFaultKind};
 use rec_words::SettingsFault;
-use std::alloc::{AllocError, AllocFailed};
+use std::alloc::{AllocError, AllocFailed, Global};
 use std::io;
 use std::io::{ErrorKind, Write};
 use thiserror::Error;
@@ -63,6 +63,9 @@ pub enum Ending<'a> {
     /// A recording did not end.
     #[error("{0}\n")]
     Recording(#[from] RecordingFault),
+    /// A recording did not end, which was told when it happened.
+    #[error("")]
+    Told,
     /// The words are no command; the text is clap's, with its line feeds.
     #[error("{0}")]
     Words(String),
@@ -100,25 +103,32 @@ impl<'a> Ending<'a> {
     }
 
     /// Prints the text and gives the exit status. A refusal of the verifier or of the audit is an
-    /// answer and goes to `output`; all else goes to `errors`, where a failed write is passed over.
-    pub fn report<O: Write, E: Write>(self, output: &mut O, errors: &mut E) -> u8
+    /// answer and goes to `output` as one write; all else goes to `errors`, where a failed write is
+    /// passed over.
+    pub fn report<O: Write, E: Write>(self, alloc: Global, output: &mut O, errors: &mut E) -> u8
         ensures nonzero { 0 < result }
     {
         if !matches!(self, Ending::Refused(_) | Ending::Audit(_)) {
-            return self.print_fault(errors);
+            return self.print_fault(alloc, errors);
         }
-        let written = write!(output, "{self}");
-        match finish(output, written) {
+        let mut line = Vec::new(alloc);
+        let built = write!(&mut line, "{self}");
+        match print_line(output, &mut line, built) {
             Ok(()) => self.status(),
-            Err(ending) => ending.print_fault(errors),
+            Err(ending) => ending.print_fault(alloc, errors),
         }
     }
 
-    /// Prints the text of a fault, and gives its exit status.
-    pub fn print_fault<E: Write>(&self, errors: &mut E) -> u8
+    /// Prints the text of a fault as one write, and gives its exit status. A failed write is passed
+    /// over. Without memory for the text it goes out part by part.
+    pub fn print_fault<E: Write>(&self, alloc: Global, errors: &mut E) -> u8
         ensures nonzero { 0 < result }
     {
-        let _ = write!(errors, "{self}");
+        let mut text = Vec::new(alloc);
+        let _ = match write!(&mut text, "{self}") {
+            Ok(()) => errors.write_all(text.as_slice()),
+            Err(_) => write!(errors, "{self}"),
+        };
         self.status()
     }
 
@@ -135,7 +145,8 @@ impl<'a> Ending<'a> {
             Ending::Memory => MEMORY,
             Ending::Assembler(_) | Ending::Disassembler(_) | Ending::Reading(_) => REFUSED,
             Ending::Listing(_) | Ending::Refused(_) | Ending::View(_) => REFUSED,
-            Ending::Recording(_) | Ending::Audit(_) | Ending::Script(_) => REFUSED,
+            Ending::Recording(_) | Ending::Told => REFUSED,
+            Ending::Audit(_) | Ending::Script(_) => REFUSED,
         }
     }
 }

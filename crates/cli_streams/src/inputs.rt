@@ -4,7 +4,7 @@ use crate::ending::Ending;
 use std::alloc::{AllocError, Global};
 use std::fs::{Metadata, OpenFile};
 use std::io::ErrorKind;
-use std::os::unix::fs::MetadataExt;
+use std::os::unix::fs::{FileTypeExt, MetadataExt};
 use std::rt::Files;
 
 /// A file, by whatever name: the device that has it, and its number there.
@@ -14,7 +14,10 @@ struct Identity {
     number: u64,
 }
 
-/// Files that a command has opened to read.
+/// The names that the system has for the standard streams.
+const STREAMS: [&str; 3] = ["/dev/stdin", "/dev/stdout", "/dev/stderr"];
+
+/// Files that a command has opened, none of which may be its output.
 #[derive(Drop)]
 pub struct Inputs {
     files: Vec<Identity>,
@@ -36,12 +39,25 @@ impl Inputs {
         Ok(self.files.push(identity_of(&found))?)
     }
 
-    /// Refuses an output that is one of these files, by whatever name: it would be emptied. A pipe
-    /// or a device has nothing to lose. An output that may be there, and can't be looked at, is
-    /// refused too.
+    /// Adds the files that the standard streams are, as a shell makes them by `<` and `>`: what is
+    /// printed would be written over an output that is one of them, and what is read would be lost.
+    /// A stream that is no regular file is passed over: `/dev/stdout` may be an output.
+    pub fn add_streams<R: Files>(&mut self, rt: &R) -> Result<(), AllocError> {
+        'streams: for name in STREAMS {
+            match rt.metadata(name) {
+                Ok(found) if found.is_file() => self.files.push(identity_of(&found))?,
+                Ok(_) | Err(_) => {}
+            }
+        }
+        Ok(())
+    }
+
+    /// Refuses an output that is one of these files, by whatever name: a regular file would be
+    /// emptied, and what goes into a pipe would come out of it again. A device has nothing to lose.
+    /// An output that may be there, and can't be looked at, is refused too.
     pub fn refuse_output<'a, R: Files>(&self, rt: &R, out: &'a str) -> Result<(), Ending<'a>> {
         match rt.metadata(out) {
-            Ok(found) if found.is_file() && self.has(&found) => Err(Ending::File(out)),
+            Ok(found) if self.is_spoiled(&found) => Err(Ending::File(out)),
             Ok(_) => Ok(()),
             Err(error) if error.kind() == ErrorKind::NotFound => Ok(()),
             Err(error) => Err(Ending::of_read(out, &error)),
@@ -55,6 +71,11 @@ impl Inputs {
             Ok(found) => !found.is_file() && self.has(&found),
             Err(_) => false,
         }
+    }
+
+    /// Whether a file that is written would spoil what one of these gives.
+    pub(crate) fn is_spoiled(&self, found: &Metadata) -> bool {
+        (found.is_file() || found.file_type().is_fifo()) && self.has(found)
     }
 
     /// Whether a file is one of these.

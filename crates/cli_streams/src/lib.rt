@@ -3,6 +3,7 @@
 #![tactic(auto)]
 
 mod channel_word;
+mod created;
 mod ending;
 mod input;
 mod inputs;
@@ -11,6 +12,7 @@ mod recording_fault;
 mod view;
 
 pub use channel_word::channel_in;
+pub use created::{LockFile, create_output};
 pub use ending::{ANSWERED, Ending, STREAM};
 pub use input::{MAX_LISTING, MAX_TEXT, bounded_text, text_in, whole_text};
 pub use inputs::Inputs;

@@ -1,14 +1,16 @@
 //! The one way to standard output: what was written is flushed, and its failure is a file's.
 
-ghost use Rattle.std.specs.Prelude.{OnOk, IsOk};
-ghost use Rattle.std.specs.Io.KnownBytes.{Keeps};
+ghost use Rattle.std.specs.Prelude.{◌≡◌, [], OnOk, IsOk};
+ghost use Rattle.std.specs.Io.KnownBytes.{Appends, Keeps};
 
 use crate::ending::{Ending, STREAM};
 use std::io;
 use std::io::Write;
 
 /// Prints a text that ends in a line feed.
-pub fn print_text<O: Write>(output: &mut O, text: &str) -> Result<(), Ending<'static>> {
+pub fn print_text<O: Write>(output: &mut O, text: &str) -> Result<(), Ending<'static>>
+    ensures { OnOk result (Appends (O.contents output.old) (O.contents output.new) text.now) }
+{
     let written = output.write_all(text.as_bytes());
     finish(output, written)
 }
@@ -19,7 +21,12 @@ pub fn print_line<O: Write>(
     output: &mut O,
     line: &mut Vec<u8>,
     built: io::Result<()>,
-) -> Result<(), Ending<'static>> {
+) -> Result<(), Ending<'static>>
+    ensures built { OnOk result (IsOk built) }
+    ensures printed { OnOk result
+        (Appends (O.contents output.old) (O.contents output.new) line.old.items) }
+    ensures emptied { OnOk result (line.new.items ≡ []) }
+{
     built.map_err(|error| Ending::of_read(STREAM, &error))?;
     let written = output.write_all(line.as_slice());
     line.clear();

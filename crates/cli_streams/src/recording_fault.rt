@@ -3,7 +3,7 @@
 use thiserror::Error;
 
 /// Why a recording did not end. Its text is what is printed.
-#[derive(Clone, Copy, Debug, Drop, Error)]
+#[derive(Clone, Copy, Debug, PartialEq, Eq, Drop, Error)]
 pub enum RecordingFault {
     /// The output failed: so many pieces went out whole, and so many bytes of the next one.
     #[error("run 2 Output {whole} {bytes}")]

@@ -7,8 +7,9 @@ use crate::recording::record_channels;
 use cli_filters::{answer_lines, assemble_file, disassemble_file, run_file, verify_file};
 use cli_reading::{audit_recording, extract_frames, list_packets};
 use cli_simulate::simulate_script;
-use cli_streams::{ANSWERED, Ending, print_text};
-use rec_words::{Words, WordsFault, words_of};
+use cli_streams::{ANSWERED, Ending, LockFile, print_line, print_text};
+use rec_words::{VERSION, Words, WordsFault, words_of};
+use std::alloc::Global;
 use std::io;
 use std::io::{ErrorKind, Read, Write};
 use std::rt::Files;
@@ -27,7 +28,7 @@ pub fn program<
     E: Write + Send + Drop,
 >(rt: &R, words: &[String], input: I, output: &mut O, errors: E) -> u8
 where
-    R::File: Send,
+    R::File: Send + LockFile,
     R::Dir: Send,
     ensures lines { length words.now ≡ 0 → result ≡ 0 → IfSome (I.remaining input) (λ bytes.
         AnswersLines bytes (O.contents output.old) (O.contents output.new)) }
@@ -41,7 +42,7 @@ where
     };
     match answer {
         Ok(()) => ANSWERED,
-        Err(ending) => ending.report(output, &mut shared.into_inner()),
+        Err(ending) => ending.report(rt.alloc(), output, &mut shared.into_inner()),
     }
 }
 
@@ -60,7 +61,7 @@ fn obey<
     errors: &Mutex<E>,
 ) -> Result<(), Ending<'a>>
 where
-    R::File: Send,
+    R::File: Send + LockFile,
     R::Dir: Send,
 {
     match words_of(rt.alloc(), words) {
@@ -68,7 +69,7 @@ where
             record_channels(rt, settings, out, input, output, errors)
         }
         Ok(command) => answer(rt, command, &mut input, output),
-        Err(WordsFault::Help(text)) => print_help(output, text),
+        Err(WordsFault::Help(text) | WordsFault::Version(text)) => print_help(output, text),
         Err(WordsFault::Words(text)) => Err(Ending::Words(text)),
         Err(WordsFault::Memory) => Err(Ending::Memory),
     }
@@ -80,7 +81,10 @@ fn answer<'a, R: AllocGlobal + Files, I: Read, O: Write>(
     command: Words<'a>,
     input: &mut I,
     output: &mut O,
-) -> Result<(), Ending<'a>> {
+) -> Result<(), Ending<'a>>
+where
+    R::File: LockFile,
+{
     match command {
         Words::Asm { file } => assemble_file(rt, file, input, output),
         Words::Dis { file } => disassemble_file(rt, file, input, output),
@@ -92,24 +96,32 @@ fn answer<'a, R: AllocGlobal + Files, I: Read, O: Write>(
             rt, file, channel, out, input, output,
         ),
         Words::Simulate { file } => simulate_script(rt, file, input, output),
+        Words::Version => print_version(rt.alloc(), output),
         Words::Record { .. } | Words::NoCommand => Err(Ending::Words(String::new(rt.alloc()))),
     }
 }
 
-/// Prints the help that was asked for.
+/// Prints the version, as clap does.
+fn print_version<O: Write>(alloc: Global, output: &mut O) -> Result<(), Ending<'static>> {
+    let mut line = Vec::new(alloc);
+    let built = writeln!(&mut line, "bpfrec {VERSION}");
+    print_line(output, &mut line, built)
+}
+
+/// Prints the help or the version that was asked for.
 fn print_help<O: Write>(output: &mut O, text: String) -> Result<(), Ending<'static>> {
     print_text(output, text.as_str())
 }
 
 /// Prints why the words of the command line couldn't be read, and gives the exit status: 4 where
 /// there is no memory for them, else 2, as for words that are no text.
-pub fn words_unread<E: Write>(error: &io::Error, mut errors: E) -> u8
+pub fn words_unread<E: Write>(alloc: Global, error: &io::Error, mut errors: E) -> u8
 where
     E: Drop,
     ensures nonzero { 0 < result }
 {
     if error.kind() == ErrorKind::OutOfMemory {
-        return Ending::Memory.print_fault(&mut errors);
+        return Ending::Memory.print_fault(alloc, &mut errors);
     }
-    Ending::WordsUnread(error).print_fault(&mut errors)
+    Ending::WordsUnread(error).print_fault(alloc, &mut errors)
 }

@@ -4,7 +4,7 @@
 mod entry;
 mod recording;
 
-pub use cli_streams::{ViewFault, view_of};
+pub use cli_streams::{LockFile, ViewFault, view_of};
 pub use entry::{program, words_unread};
 pub use rec_words::{
     ChannelSettings, Settings, SettingsFault, Words, WordsFault, settings_of, words_of,

@@ -1,17 +1,23 @@
 //! The command that records.
 
+mod announced;
 mod changes;
+mod closing;
+mod errors;
 mod fault;
 mod jobs;
 mod lines;
 mod programs;
 mod report;
 
+use self::announced::AnnouncedOutput;
 use self::changes::LineControl;
 use self::fault::output_fault;
 use self::jobs::jobs_of;
 use self::report::print_report;
-use cli_streams::{Ending, Inputs, MAX_LISTING, RecordingFault, bounded_text};
+use cli_streams::{
+    Ending, Inputs, LockFile, MAX_LISTING, RecordingFault, bounded_text, create_output,
+};
 use rec_run::{Done, RunFault, jobs_ok, record};
 use rec_words::{Settings, SettingsFault, settings_of};
 use std::fs::OpenFile;
@@ -23,7 +29,8 @@ use std::{fs, io};
 
 /// `record SETTINGS OUT`: records the channels of the settings into OUT, and prints a line for each
 /// channel and how much was written, when OUT is on its disk. Lines of `input` change filters
-/// meanwhile, and are answered on `errors`. An OUT that is one of the inputs is refused.
+/// meanwhile, and are answered on `errors`, where a failure of OUT is told at once too. An OUT that
+/// is one of the inputs, or that another program has locked, is refused.
 pub(crate) fn record_channels<
     'a,
     R: AllocGlobal + Files + Threads + Wait + Sync,
@@ -39,26 +46,22 @@ pub(crate) fn record_channels<
     errors: &Mutex<E>,
 ) -> Result<(), Ending<'a>>
 where
-    R::File: Send,
+    R::File: Send + LockFile,
     R::Dir: Send,
 {
     let mut inputs = Inputs::new(rt.alloc());
-    let Settings {
-        limit,
-        ring,
-        version,
-        channels,
-        ..
-    } = read_settings(rt, settings, &mut inputs)?;
-    let jobs = jobs_of(rt, limit, channels, &mut inputs)?;
+    let wanted = read_settings(rt, settings, &mut inputs)?;
+    let (ring, version) = (wanted.ring, wanted.version);
+    let jobs = jobs_of(rt, wanted.limit, wanted.channels, &mut inputs)?;
     if !jobs_ok(jobs.as_slice()) {
         return Err(Ending::Settings(SettingsFault::Channels));
     }
     let Ok(control) = LineControl::new(rt, input, errors) else {
         return Err(Ending::Memory);
     };
+    inputs.add_streams(rt)?;
     inputs.refuse_output(rt, out)?;
-    let created = fs::create(rt, out).map_err(|error| Ending::of_read(out, &error))?;
+    let created = AnnouncedOutput::new(rt, errors, create_output(rt, &inputs, out)?);
     match record(rt, rt.alloc(), jobs, ring, version, control, created) {
         Ok(
             Done {
@@ -67,12 +70,18 @@ where
                 out: recorded,
             },
         ) => {
-            keep(&recorded).map_err(|_| Ending::File(out))?;
+            keep(recorded.get_ref()).map_err(|_| Ending::File(out))?;
             print_report(rt.alloc(), output, &report)?;
             control.outcome()
         }
         Err(RunFault::Memory) => Err(Ending::Memory),
-        Err(RunFault::Write { fault, .. }) => Err(Ending::Recording(output_fault(fault))),
+        Err(
+            RunFault::Write {
+                fault,
+                out: recorded,
+                ..
+            },
+        ) => Err(recorded.ending(output_fault(fault))),
         Err(RunFault::Link) => Err(Ending::Recording(RecordingFault::Link)),
         Err(RunFault::History) => Err(Ending::Recording(RecordingFault::History)),
     }

@@ -3,7 +3,7 @@ use Rattle.std.specs.Prelude.{◌≡◌, ◌≢◌, List, [], ◌∷◌, Option,
 use Rattle.clap.specs.Words.{App, Row, Rule, Text, first_of, new_app, new_rule, with_rule, with_subcommand}
 use Rattle.clap.specs.declared.builder.ArgAction.TheVariants.{Set}
 use Rattle.rec_words.specs.declared.words.Words.{Words}
-use Rattle.rec_words.specs.declared.words.Words.TheVariants.{NoCommand, Asm, Dis, Verify, Run, List as ListOf, Audit, Extract, Record, Simulate}
+use Rattle.rec_words.specs.declared.words.Words.TheVariants.{NoCommand, Asm, Dis, Verify, Run, List as ListOf, Audit, Extract, Record, Simulate, Version}
 
 -- a word that must be given
 abbrev pub operand : Text → Rule
@@ -30,13 +30,18 @@ commands =
     ∷ (codes "extract", codes "FILE" ∷ codes "CHANNEL" ∷ codes "OUT" ∷ [])
     ∷ (codes "record", codes "SETTINGS" ∷ codes "OUT" ∷ [])
     ∷ (codes "simulate", codes "FILE" ∷ [])
+    ∷ (codes "version", [])
     ∷ []
 
--- the program without its commands: a command must stand among the words after its name
+-- the program without its commands: a command must stand among the words after its name, or one of
+-- the flags for help and for the version
 abbrev pub top_app : App
 top_app =
     let named = new_app (codes "bpfrec") in
-    record named { top = record named.top { no_binary_name = true; subcommand_required = true } }
+    record named {
+      top = record named.top
+          { no_binary_name = true; subcommand_required = true; has_version = true };
+    }
 
 -- a program with these commands, in order
 abbrev pub with_commands : App → List (Text × List Text) → App
@@ -59,7 +64,7 @@ AsksFor met NoCommand =
     × (met ≢ Some (codes "verify", rows)) × (met ≢ Some (codes "run", rows))
     × (met ≢ Some (codes "list", rows)) × (met ≢ Some (codes "audit", rows))
     × (met ≢ Some (codes "extract", rows)) × (met ≢ Some (codes "record", rows))
-    × (met ≢ Some (codes "simulate", rows))
+    × (met ≢ Some (codes "simulate", rows)) × (met ≢ Some (codes "version", rows))
 AsksFor met (Asm file) =
     (rows : List Row) × (met ≡ Some (codes "asm", rows)) × (file.now ≡ word_for (codes "FILE") rows)
 AsksFor met (Dis file) =
@@ -85,3 +90,4 @@ AsksFor met (Record settings out) =
 AsksFor met (Simulate file) =
     (rows : List Row) × (met ≡ Some (codes "simulate", rows))
     × (file.now ≡ word_for (codes "FILE") rows)
+AsksFor met Version = (rows : List Row) × (met ≡ Some (codes "version", rows))

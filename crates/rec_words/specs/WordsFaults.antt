@@ -2,12 +2,15 @@
 use Rattle.std.specs.Prelude.{◌≢◌}
 use Rattle.clap.specs.Words.{Kinds, IsAmong}
 use Rattle.clap.specs.declared.error.ErrorKind.{ErrorKind}
-use Rattle.clap.specs.declared.error.ErrorKind.TheVariants.{DisplayHelp}
+use Rattle.clap.specs.declared.error.ErrorKind.TheVariants.{DisplayHelp, DisplayVersion}
 use Rattle.rec_words.specs.declared.words.WordsFault.{WordsFault}
-use Rattle.rec_words.specs.declared.words.WordsFault.TheVariants.{Help, Words, Memory}
+use Rattle.rec_words.specs.declared.words.WordsFault.TheVariants.{Help, Words, Memory, Version}
 
--- help is reported only where it is among the kinds, another text only where another kind is
+-- help is reported only where it is among the kinds, the version only where that is, and another
+-- text only where another kind is
 abbrev pub IsFaultOf : Kinds → WordsFault → Type 0
 IsFaultOf kinds (Help text) = IsAmong DisplayHelp kinds
-IsFaultOf kinds (Words text) = (kind : ErrorKind) × (kind ≢ DisplayHelp) × IsAmong kind kinds
+IsFaultOf kinds (Words text) =
+    (kind : ErrorKind) × (kind ≢ DisplayHelp) × (kind ≢ DisplayVersion) × IsAmong kind kinds
 IsFaultOf kinds Memory = Unit {0}
+IsFaultOf kinds (Version text) = IsAmong DisplayVersion kinds

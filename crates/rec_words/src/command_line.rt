@@ -9,6 +9,9 @@ ghost use Rattle.rec_words.specs.CommandTexts.{command_data};
 use clap::{Arg, ArgAction, Command};
 use std::alloc::{AllocError, Global};
 
+/// The version of the program.
+pub const VERSION: &str = "0.1.0";
+
 const ABOUT: &str =
     "Records Ethernet channels through filters, reads the recordings, and assembles and checks filters.";
 
@@ -19,7 +22,8 @@ Without words, bpfrec reads a listing and a view in hexadecimal, a line each, fr
 input, and prints what run prints.
 
 Exit status: 0 answered; 1 a text, listing, program, view, script or recording was refused; 2 the
-words are no command; 3 a file could not be read or written, or standard output not; 4 no memory.";
+words are no command, or settings were refused; 3 a file could not be read or written, or standard
+output not; 4 no memory.";
 
 const ASM: &str = "\
 Reads a filter in the text of the Linux kernel's bpf_asm, and prints its listing on standard
@@ -76,12 +80,19 @@ Reads a recording, and prints on standard output a line for each of its packets,
 there are and how many of them hold something else than frames and records:
   <at> <channel> <type> <sequence> <length> <data length> <counter> <what>
   packets <n> other <m>
-<at> is the place of the packet's first byte, <type> its data type in hexadecimal, and <what>
-  frames <n>                       n frames
-  program <channel> <version> <first> <count>
+with these columns:
+  <at>                             the place of the packet's first byte
+  <channel>                        its channel ID; 0 of a record, which tells a program or an end
+  <type>                           its data type, in hexadecimal: 68 frames, 00 a record
+  <sequence>                       its number among its channel's packets, modulo 256
+  <length> <data length>           its bytes, and those of its body without filler
+  <counter>                        its relative time counter, in units of 100 ns
+  <what>                           what it holds:
+    frames <n>                     n frames
+    program <channel> <version> <first> <count>
                                    a program of that channel, from frame <first> on
-  end <channel> <offered> <kept>   the end of that channel
-  other                            anything else, which is passed over
+    end <channel> <offered> <kept> the end of that channel
+    other                          anything else, which is passed over
 A recording that can't be read to its end is told on standard error, and nothing is listed:
   read <number> <Name> <at>        Truncated, Sync, Checksum, Length or Body, and the place of
                                    the packet that has it
@@ -104,6 +115,7 @@ or the first thing that is wrong, with packets and frames counted from 0:
   no 4 Order <packet>              a packet after its channel's end, or programs out of order
   no 5 NoEnd <channel>             a channel without its end
   no 6 Counts <channel>            an end whose numbers are not those of its frames
+A recording without packets is yes other 0, so look for the lines of your channels.
 A recording that can't be read to its end is told as by list.
 
 Exit status: 0 yes; 1 no, or not read to its end; 2 words; 3 the file; 4 no memory.
@@ -143,21 +155,30 @@ Each event is answered by a line:
   closed <offered> <kept>
   refused <number> <Name>                          NoChannel, Closed, RingFull, NothingToSend,
                                                    NothingToWrite, VersionsFull or CountFull
-A refused event changes nothing, and the script goes on. A line that is none of these ends it, and is
-told on standard error, counted from 1; 0 is a script that ends before its first channel:
+A refused event changes nothing, and the script goes on. A line that is none of these ends it, and
+is told on standard error, counted from 1; 0 is a script that ends before its first channel:
   script line <n>
 
 Exit status: 0 the script ended; 1 a line is refused; 2 words; 3 the file; 4 no memory.
 
 Example:
-  bpfrec simulate - <<'END'
-  recorder 16424 4 8
-  channel 1 0 3 100 1,6 0 0 1,
-  take 1 16 0 ffffffffffff0200000000010806a1b2c3d4
-  send 1
-  write 1
-  close 1
-  END";
+bpfrec simulate - <<'END'
+recorder 16424 4 8
+channel 1 0 3 100 1,6 0 0 1,
+take 1 16 0 ffffffffffff0200000000010806a1b2c3d4
+send 1
+write 1
+close 1
+END";
+
+const PRINT_VERSION: &str = "\
+Prints on standard output what --version prints too:
+  bpfrec <version>
+
+Exit status: 0 answered; 2 words; 3 standard output.
+
+Example:
+  bpfrec version";
 
 const RECORD: &str = "\
 Records the channels that SETTINGS names into the file OUT, until every feed has ended and so has
@@ -167,16 +188,24 @@ standard input. SETTINGS is a TOML document:
   version = 8                      the data type version of the packets, 0 to 255
   [[channel]]                      1 to 64 of them, each with an id of its own
   id = 1                           1 to 65535
-  feed = \"one.feed\"               where its frames come from: a file, or a named pipe
-  filter = \"one.txt\"              the listing of its filter's first program
+  feed = \"one.feed\"                where its frames come from: a file, or a named pipe
+  filter = \"one.txt\"               the listing of its filter's first program
   net = 0                          the network identifier of its frames, 0 to 255
   speed = 0                        their Ethernet speed, 0 to 15
   max = 9223372036854775807        how many frames are taken at most, 0 to this number
-Only id, feed and filter must be set; the numbers above are the others' defaults. Filters and feeds
-are opened channel by channel, and then OUT is created, or emptied if it is there; the opening of a
-pipe waits for its writer. From then on a silent pipe holds up no other channel, and its filter can
-be changed meanwhile. Recording ends when every feed and standard input have ended, also after OUT
-has failed.
+Only id, feed and filter must be set; the numbers above are the others' defaults. Filters and
+feeds are opened channel by channel, and then OUT is created, or emptied if it is there; the opening
+of a pipe waits for its writer. No pipe may feed two channels. OUT may be none of these files, nor
+a file that a standard stream is, nor what another recorder writes: it is locked. With /dev/null as
+OUT the filters are tried; a named pipe as OUT takes the recording to another machine.
+
+From then on a silent pipe holds up no other channel. Nothing is dropped for want of time: a pipe
+that fills holds up its writer, which has to count what it drops. A channel that has ended closes
+its feed. Recording ends when every feed and standard input have ended; after OUT has failed each
+of them ends with its next frame or line. Ctrl-C would end it without end packets; keep it from the
+recorder, so that what feeds it ends first:
+  (trap '' INT TERM; exec bpfrec record flight.toml flight.ch11 < /dev/null) &
+A job in the background needs < /dev/null, or a pipe.
 
 A line on standard input changes the filter of a channel while recording goes on:
   set <channel> <file>             the program that <file> lists is in force from now on
@@ -188,8 +217,8 @@ At the end it prints on standard output
   channel <id> versions <n> offered <n> kept <n> <ending>   for each channel, in their order
   wrote <pieces> <bytes>
 where <ending> is SourceEnd, CountFull, or SourceFault and the fault; none of them changes the
-status. Settings that are refused
-are told as settings <number> <Name> ..; an output that fails as run 2 Output <whole> <bytes>.
+status. Settings that are refused are told as settings <number> <Name> .., with status 2; an output
+that fails as run 2 Output <whole> <bytes>, at that moment.
 
 Exit status: 0 recorded; 1 a filter was refused, or the recording failed; 2 words or settings;
 3 a file; 4 no memory.
@@ -231,6 +260,8 @@ pub(crate) enum HelpText {
     Record,
     /// [`SIMULATE`]
     Simulate,
+    /// [`PRINT_VERSION`]
+    Version,
 }
 
 /// A word after a command, and its help.
@@ -349,6 +380,13 @@ const COMMANDS: &[CommandTexts] = &[
             help: "A script: a recorder, its channels, and events, a line each",
         }],
     },
+    CommandTexts {
+        name: "version",
+        usage: "bpfrec version",
+        about: "Prints the program's version",
+        help: HelpText::Version,
+        words: &[],
+    },
 ];
 
 /// The command line of the program, with each of [`COMMANDS`].
@@ -381,6 +419,7 @@ fn top<'a>(alloc: Global) -> Result<Command<'a>, AllocError>
     Ok(
         program
             .about(ABOUT)
+            .version(VERSION)
             .after_help(STATUSES)
             .no_binary_name(true)
             .subcommand_required(true),
@@ -414,6 +453,7 @@ fn text_of(help: &HelpText) -> &'static str {
         HelpText::Extract => EXTRACT,
         HelpText::Record => RECORD,
         HelpText::Simulate => SIMULATE,
+        HelpText::Version => PRINT_VERSION,
     }
 }
 

@@ -6,5 +6,6 @@ mod command_line;
 mod settings;
 mod words;
 
+pub use command_line::VERSION;
 pub use settings::{ChannelSettings, Settings, SettingsFault, settings_of};
 pub use words::{Words, WordsFault, words_of};

@@ -56,6 +56,8 @@ pub enum Words<'a> {
     Simulate {
         file: &'a str,
     },
+    /// `version`
+    Version,
 }
 
 /// Why the words ask for nothing. The texts are those of `clap`, with their line feeds.
@@ -67,6 +69,8 @@ pub enum WordsFault {
     Words(String),
     /// There is no memory for them.
     Memory,
+    /// The version was asked for.
+    Version(String),
 }
 
 impl From<AllocError> for WordsFault {
@@ -133,6 +137,9 @@ fn command_in<'a>(matches: &ArgMatches<'a>) -> Words<'a>
     if name == "simulate" {
         return Words::Simulate { file };
     }
+    if name == "version" {
+        return Words::Version;
+    }
     Words::NoCommand
 }
 
@@ -155,6 +162,7 @@ fn fault_from(alloc: Global, error: Error) -> WordsFault
     match kind {
         ErrorKind::OutOfMemory => WordsFault::Memory,
         ErrorKind::DisplayHelp => WordsFault::Help(text),
+        ErrorKind::DisplayVersion => WordsFault::Version(text),
         _ => WordsFault::Words(text),
     }
 }

@@ -2,6 +2,7 @@
 
 ghost use Rattle.std.specs.Prelude.{◌≤◌, vec_len, vec_capacity};
 
+use super::errors::print_error;
 use super::lines::{Lines, MAX_LINES, Request, request_in};
 use super::programs::{ProgramFault, program_in};
 use bpf_insn::ListingFault;
@@ -14,9 +15,6 @@ use std::rt::Files;
 use std::sync::{Arc, Mutex, Wait};
 use std::{fs, io};
 use thiserror::Error;
-
-/// How many bytes an answer to a line has room for, with its line feed.
-const MAX_ANSWER: usize = 64;
 
 /// Why a change is not made. Its text is the reason that is printed.
 #[derive(Clone, Copy, Debug, Error)]
@@ -203,7 +201,7 @@ impl<
     }
 
     fn told(&mut self, told: &Told) {
-        print_reply(self.rt, self.errors, reply_to(*told));
+        print_error(self.rt, self.errors, reply_to(*told));
         self.log.tell(*told);
     }
 }
@@ -227,7 +225,7 @@ fn next_change<R: AllocGlobal + Files + Wait, I: Read + Drop, E: Write + Drop>(
         match change_in(rt, line) {
             Ok(change) => return Ok(Some(change)),
             Err(Unmade::Refused(channel, refusal)) => {
-                print_reply(rt, errors, Reply::Refused(channel, refusal));
+                print_error(rt, errors, Reply::Refused(channel, refusal));
             }
             Err(Unmade::Memory) => return Err(NoMemory),
         }
@@ -252,12 +250,14 @@ fn change_in<R: AllocGlobal + Files>(rt: &R, line: &[u8]) -> Result<Change, Unma
 }
 
 /// The program that a regular file lists. Another file is refused before it is opened: a pipe would
-/// hold up all later lines, and a channel's own would lose frames.
+/// hold up all later lines, and a channel's own would lose frames. No more is read than the file is
+/// long: a file of the system's own has no length, and may wait as a pipe does.
 fn regular_program<R: AllocGlobal + Files>(rt: &R, file: &str) -> Result<Verified, ProgramFault> {
-    if !rt.metadata(file)?.is_file() {
+    let found = rt.metadata(file)?;
+    if !found.is_file() {
         return Err(ProgramFault::File(io::Error::from(ErrorKind::InvalidInput)));
     }
-    program_in(rt.alloc(), &mut fs::open(rt, file)?)
+    program_in(rt.alloc(), &mut fs::open(rt, file)?.take(found.len()))
 }
 
 /// What a fault of a program's file comes to.
@@ -283,14 +283,4 @@ fn reply_to(told: Told) -> Reply {
         Answer::VersionsFull => Reply::Refused(channel, Refusal::VersionsFull),
         Answer::NoChannel => Reply::Refused(channel, Refusal::NoChannel),
     }
-}
-
-/// Prints an answer as one write, so that no other program's text can stand in it. It is built
-/// without an allocator, and a failed write is passed over.
-fn print_reply<R: Wait, E: Write + Drop>(rt: &R, errors: &Mutex<E>, reply: Reply) {
-    let mut line = [0u8; MAX_ANSWER];
-    let mut left = line.as_mut_slice();
-    let _ = writeln!(&mut left, "{reply}");
-    let len = MAX_ANSWER.saturating_sub(left.len());
-    let _ = errors.lock(rt).write_all(&line[..len]);
 }

@@ -1,10 +1,13 @@
 //! What is to be recorded, by the settings.
 
+ghost use Rattle.std.specs.Prelude.{◌≡◌, IfOk, None};
+
+use super::closing::ClosingSource;
 use super::programs::{ProgramFault, program_in};
 use bpf_verify::Verified;
 use ch11_packet::Limit;
 use cli_streams::{Ending, Inputs};
-use eth_frame::FeedSource;
+use eth_frame::{FeedSource, FrameSource};
 use rec_lane::LaneSpec;
 use rec_run::Job;
 use rec_words::{ChannelSettings, Settings};
@@ -16,6 +19,9 @@ use std::sync::Arc;
 /// How many bytes of a feed are read at a time.
 const FEED_BUFFER: usize = 65_536;
 
+/// The source of a channel's frames, which closes its feed with the channel's last frame.
+pub(super) type Source<F> = ClosingSource<FeedSource<BufReader<F>>>;
+
 /// The jobs of the channels: for each its filter is read, and then its feed opened. What was opened
 /// is added to the inputs.
 pub(super) fn jobs_of<'a, R: AllocGlobal + Files>(
@@ -23,7 +29,7 @@ pub(super) fn jobs_of<'a, R: AllocGlobal + Files>(
     limit: Limit,
     channels: Vec<ChannelSettings>,
     inputs: &mut Inputs,
-) -> Result<Vec<Job<FeedSource<BufReader<R::File>>>>, Ending<'a>> {
+) -> Result<Vec<Job<Source<R::File>>>, Ending<'a>> {
     let mut jobs = Vec::with_capacity(rt.alloc(), channels.len())?;
     let mut feeds = Inputs::new(rt.alloc());
     'channels: for channel in channels {
@@ -39,7 +45,7 @@ fn job_of<'a, R: AllocGlobal + Files>(
     channel: ChannelSettings,
     inputs: &mut Inputs,
     feeds: &mut Inputs,
-) -> Result<Job<FeedSource<BufReader<R::File>>>, Ending<'a>> {
+) -> Result<Job<Source<R::File>>, Ending<'a>> {
     let ChannelSettings {
         id,
         feed,
@@ -59,17 +65,20 @@ fn job_of<'a, R: AllocGlobal + Files>(
         },
         program,
         max,
-        source: source_of(rt, feed, inputs, feeds)?,
+        source: ClosingSource::new(source_of(rt, feed, inputs, feeds)?, max),
     })
 }
 
-/// The source of a feed, which is opened here.
+/// The source of a feed, which is opened here and hasn't ended.
 fn source_of<'a, R: AllocGlobal + Files>(
     rt: &R,
     feed: String,
     inputs: &mut Inputs,
     feeds: &mut Inputs,
-) -> Result<FeedSource<BufReader<R::File>>, Ending<'a>> {
+) -> Result<FeedSource<BufReader<R::File>>, Ending<'a>>
+    ensures { IfOk result (λ source.
+        ⟦<FeedSource<BufReader<R::File>> as FrameSource>⟧.ending source ≡ None) }
+{
     // two readers of a pipe would each have a part of its bytes, and no whole frame
     if feeds.has_stream(rt, feed.as_str()) {
         return Err(Ending::NamedFile(feed));
