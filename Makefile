@@ -2,7 +2,7 @@
 RT ?= rt
 export RT
 
-.PHONY: help demo build quick crate test gate refused-growth fuzz bench clean
+.PHONY: help demo build capture quick crate test gate refused-growth fuzz bench clean
 
 help: ## lists the targets
 	@grep -E '^[a-z-]+:.*## ' Makefile | sed -E 's/:[^#]*## /\t/' | expand -t 18
@@ -10,8 +10,11 @@ help: ## lists the targets
 demo: build ## builds the program, and shows a recording from filter to extracted frames
 	tools/demo
 
-build: ## proves the program and all that it stands on, and leaves it at bin/bpfrec
+build: ## proves the program and all that it stands on: bin/bpfrec, and bin/capture where libpcap-dev is
 	@tools/build
+
+capture: ## bin/capture alone, which makes feeds of interfaces; it wants libpcap-dev
+	@tools/build_capture
 
 quick: ## all tests, compiled with checks and run, with no proof: minutes, also on a fresh checkout
 	@tools/quick
@@ -45,6 +48,10 @@ bin/pcap_filter bin/record_feed: bin/%: bench/%.c
 		{ echo "make bench wants libpcap-dev, python3 and cc: libpcap-dev is missing"; exit 1; }
 	@mkdir -p bin
 	$(CC) -O2 -o $@ $< -lpcap -lpthread
+
+bin/send_frames: bench/send_frames.c
+	@mkdir -p bin
+	$(CC) -O2 -o $@ $<
 
 clean: ## removes what a build has made
 	rm -rf bin crates/*/out

@@ -57,7 +57,7 @@ COLUMNS = (
 BENCH = Path(__file__).resolve().parent
 # the frames on which the filters of examples/ and of filters.txt are timed
 FILTERED_LENGTH = 300
-MOST_INSNS = 512
+MOST_INSNS = 4096
 
 
 def straight_line(length):

@@ -18,6 +18,8 @@ RT = shlex.split(os.environ.get("RT", "rt"))
 SEEN = ROOT / "tools" / "edits_seen.txt"
 # What is checked beside the crates.
 CHECKS = ("check_links", "check_examples", "check_uses")
+# What is checked of the program once it is built, and where it stands then.
+MEMORY, PROGRAM = "check_memory", Path("crates/bpfrec/out/bpfrec")
 # The files and folders of a crate that a step reads.
 READ = ("src", "specs", "proofs", "must-fail", "data", "stdin", "stdout", "args", "status")
 # Crates that promise nothing, and are proved only to be built.

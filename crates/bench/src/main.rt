@@ -1,15 +1,15 @@
-//! Times the machine, the assembler, the feed's reader, packets, the slot, the lane, the writer and
+//! Times the machine, what is done with a program before it runs, the feed's reader, packets, the slot, the lane, the writer and
 //! whole recordings, and makes a recording for the program to read.
 //! The first word names the part, and the others say how much of it is timed; `bench/README.md` has them. Without words
 //! it runs a little of each part, and prints what each loop came to.
 #![tactic(auto)]
 
-mod assembler;
 mod clock;
 mod feed;
 mod lane;
 mod machine;
 mod packets;
+mod programs;
 mod recorder;
 mod recording;
 mod slot;
@@ -47,8 +47,8 @@ fn measure<R: Threads + Wait + Sync>(
     if part == "machine" {
         return machine::measure(rt, words);
     }
-    if part == "assembler" {
-        return assembler::measure(rt, words);
+    if part == "programs" {
+        return programs::measure(rt, words);
     }
     if part == "feed" {
         return feed::measure(rt, words);
@@ -77,7 +77,7 @@ fn measure<R: Threads + Wait + Sync>(
 /// Runs a little of each part, and prints what each loop came to.
 fn self_check<R: Threads + Wait + Sync>(rt: &HostRuntime, waits: &R) -> Result<()> {
     println!(rt; "machine {}", machine::self_check(rt)?)?;
-    println!(rt; "assembler {}", assembler::self_check(rt)?)?;
+    println!(rt; "programs {}", programs::self_check(rt)?)?;
     println!(rt; "feed {}", feed::self_check(rt)?)?;
     println!(rt; "packets {}", packets::self_check(rt)?)?;
     println!(rt; "slot {}", slot::self_check(rt, waits)?)?;

@@ -2,7 +2,7 @@
 ghost use Rattle.std.specs.Prelude.{◌≡◌};
 
 /// The greatest number of instructions that a program may have.
-pub const MAX_INSNS: usize = 512;
+pub const MAX_INSNS: usize = 4096;
 
 /// The number of scratch words, `BPF_MEMWORDS` of bpf(4).
 pub const SCRATCH_WORDS: usize = 16;

@@ -14,9 +14,9 @@ pub fn each_form_has_one_code()
     ensures { (code : ℕ) (f : Form) → (form code ≡ Some f) ↔ (code ≡ code_of f) }
 {}
 
-/// Law: a program has at most 512 instructions, and there are 16 scratch words.
+/// Law: a program has at most 4,096 instructions, and there are 16 scratch words.
 pub fn the_limits_of_a_program()
-    ensures insns { MAX_INSNS ≡ 512 }
+    ensures insns { MAX_INSNS ≡ 4096 }
     ensures words { SCRATCH_WORDS ≡ 16 }
 {}
 

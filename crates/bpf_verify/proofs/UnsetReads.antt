@@ -5,12 +5,13 @@ use Rattle.std.proofs.lemmas.Option.{slice_get_within}
 use Rattle.bpf_insn.specs.declared.insn.Insn.{Insn}
 use Rattle.bpf_insn.specs.declared.form.Form.{Form}
 use Rattle.bpf_insn.specs.Uses.{FormReadsWord}
-use Rattle.bpf_verify.specs.declared.fault.VerifyFault.{VerifyFault}
+use Rattle.bpf_verify.specs.declared.flaw.Flaw.{Flaw}
 use Rattle.bpf_verify.specs.ControlFlow.{ReadsWord, UnsetReadAt}
 use Rattle.bpf_verify.specs.Validity.{Valid}
 use Rattle.bpf_verify.specs.ByForm.{IsAt}
 use Rattle.bpf_verify.specs.Masks.{IsClear, ShowsUnset}
-use Rattle.bpf_verify.specs.Refusals.{IsWellFormed, NoUnsetReadBelow, Refuses}
+use Rattle.bpf_verify.specs.Refusals.{IsWellFormed, NoUnsetReadBelow}
+use Rattle.bpf_verify.specs.Flaws.{HasFlaw}
 use Rattle.bpf_verify.proofs.Places.{here, there}
 use Rattle.bpf_verify.proofs.Breaks.{read_is_k}
 use Rattle.bpf_verify.proofs.Valid.{valid_from}
@@ -40,7 +41,7 @@ none_more p at f i masks formed told stands below none place path word inside un
 ]
 
 -- a well-formed program is valid, or has an unset read
-pub valid_or_unset : (p : List Insn) (found : Option VerifyFault) → IsWellFormed p
-    → MatchOption found (NoUnsetReadBelow p (length p)) (λ fault. Refuses p fault) → MatchOption found (Valid p) (λ fault. Refuses p fault)
+pub valid_or_unset : (p : List Insn) (found : Option Flaw) → IsWellFormed p
+    → MatchOption found (NoUnsetReadBelow p (length p)) (λ flaw. HasFlaw p flaw) → MatchOption found (Valid p) (λ flaw. HasFlaw p flaw)
 valid_or_unset p None formed none = valid_from p formed none
-valid_or_unset p (Some fault) formed refused = refused
+valid_or_unset p (Some flaw) formed has = has

@@ -3,3 +3,4 @@ pub mod Validity
 pub mod Refusals
 pub mod ByForm
 pub mod Masks
+pub mod Flaws

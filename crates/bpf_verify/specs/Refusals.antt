@@ -19,14 +19,6 @@ BreaksAt program at =
     (LacksForm program at ⊎ UsesWordPastScratch program at)
     ⊎ (DividesByZero program at ⊎ JumpsOut program at)
 
--- the fault names the condition that the instruction at this index breaks
-abbrev pub BreaksAs : List Insn → ℕ → VerifyFault → Type 0
-BreaksAs program at (BadOpcode place) = (place ≡ at) × LacksForm program at
-BreaksAs program at (BadScratch place) = (place ≡ at) × UsesWordPastScratch program at
-BreaksAs program at (ZeroDivisor place) = (place ≡ at) × DividesByZero program at
-BreaksAs program at (JumpOut place) = (place ≡ at) × JumpsOut program at
-BreaksAs program at _ = ⊥
-
 -- no instruction before this index breaks one
 abbrev pub NoneBreaksBelow : List Insn → ℕ → Type 0
 NoneBreaksBelow program bound = (at : ℕ) → at < bound → ¬ BreaksAt program at

@@ -3,13 +3,16 @@
 #![tactic(auto)]
 
 mod fault;
+mod flaw;
 mod flow;
+mod laws;
 mod masks;
 mod path;
 mod verified;
 mod verifier;
 
 pub use fault::{Refused, VerifyFault};
+pub use laws::a_valid_program_stays_valid;
 pub use path::check_path;
 pub use verified::Verified;
 pub use verifier::verify;

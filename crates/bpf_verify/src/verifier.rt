@@ -4,9 +4,11 @@ ghost use Rattle.bpf_insn.specs.Bytes.{InRange, AreInRange};
 ghost use Rattle.bpf_insn.specs.Forms.{form};
 ghost use Rattle.bpf_verify.specs.Validity.{Valid, FormDividesByZero, EndsWithReturn};
 ghost use Rattle.bpf_verify.specs.ByForm.{FormUsesWordPastScratch};
-ghost use Rattle.bpf_verify.specs.Refusals.{Refuses, HasLength, BreaksAt, BreaksAs, NoneBreaksBelow, IsWellFormed, NoUnsetReadBelow};
+ghost use Rattle.bpf_verify.specs.Refusals.{Refuses, HasLength, BreaksAt, NoneBreaksBelow, IsWellFormed, NoUnsetReadBelow};
+ghost use Rattle.bpf_verify.specs.Flaws.{HasFlaw, BreaksAs};
 
 use crate::fault::{Refused, VerifyFault};
+use crate::flaw::Flaw;
 use crate::masks::{first_unset, written_masks};
 use crate::path::path_to;
 use crate::verified::Verified;
@@ -28,68 +30,93 @@ pub fn verify(program: Vec<Insn>) -> Result<Verified, Refused>
     ensures back { IfErr result (λ r. r.program ≡ program) }
     ensures refused { IfErr result (λ r. Refuses program.items r.fault) }
 {
-    match fault_of(program.as_slice()) {
-        Some(fault) => Err(Refused { program, fault }),
+    let insns = program.as_slice();
+    match flaw_of(insns) {
+        Some(flaw) => {
+            let fault = fault_of(insns, flaw);
+            Err(Refused { program, fault })
+        }
         None => Ok(Verified::new(program)),
     }
 }
 
-/// The first fault of a program.
-fn fault_of(insns: &[Insn]) -> Option<VerifyFault>
-    ensures fault { MatchOption result (Valid insns.now) (λ fault. Refuses insns.now fault) }
+/// The first flaw of a program.
+fn flaw_of(insns: &[Insn]) -> Option<Flaw>
+    ensures flaw { MatchOption result (Valid insns.now) (λ flaw. HasFlaw insns.now flaw) }
     ensures in_range { IfNone result (AreInRange insns.now) }
 {
     if insns.is_empty() {
-        return Some(VerifyFault::Empty);
+        return Some(Flaw::Empty);
     }
     if insns.len() > MAX_INSNS {
-        return Some(VerifyFault::TooLong);
+        return Some(Flaw::TooLong);
     }
-    if let Some(fault) = first_break(insns) {
-        return Some(fault);
+    if let Some(flaw) = first_break(insns) {
+        return Some(flaw);
     }
     if !ends_with_return(insns) {
-        return Some(VerifyFault::NoReturn);
+        return Some(Flaw::NoReturn);
     }
     unset_read(insns)
 }
 
+/// The refusal of a program that has this flaw, with the path to an unset read.
+fn fault_of(insns: &[Insn], flaw: Flaw) -> VerifyFault
+    requires { HasFlaw insns.now flaw }
+    ensures { Refuses insns.now result }
+{
+    match flaw {
+        Flaw::Empty => VerifyFault::Empty,
+        Flaw::TooLong => VerifyFault::TooLong,
+        Flaw::BadOpcode(at) => VerifyFault::BadOpcode(at),
+        Flaw::BadScratch(at) => VerifyFault::BadScratch(at),
+        Flaw::ZeroDivisor(at) => VerifyFault::ZeroDivisor(at),
+        Flaw::JumpOut(at) => VerifyFault::JumpOut(at),
+        Flaw::NoReturn => VerifyFault::NoReturn,
+        Flaw::Unset { at, word } => {
+            let masks = written_masks(insns);
+            let path = path_to(insns, &masks, at, word);
+            VerifyFault::Unset { at, word, path }
+        }
+    }
+}
+
 /// The first instruction that breaks one of the four conditions on single instructions.
-fn first_break(insns: &[Insn]) -> Option<VerifyFault>
+fn first_break(insns: &[Insn]) -> Option<Flaw>
     requires { HasLength insns.now }
-    ensures fault { MatchOption result
+    ensures flaw { MatchOption result
         (NoneBreaksBelow insns.now (length insns.now))
-        (λ fault. Refuses insns.now fault) }
+        (λ flaw. HasFlaw insns.now flaw) }
     ensures in_range { IfNone result (AreInRange insns.now) }
 {
     'places: for at in 0..insns.len() {
-        if let Some(fault) = break_at(insns, at, insns[at]) {
-            return Some(fault);
+        if let Some(flaw) = break_at(insns, at, insns[at]) {
+            return Some(flaw);
         }
     }
     None
 }
 
 /// The one of the four conditions on single instructions that instruction `at` breaks.
-fn break_at(insns: &[Insn], at: usize, insn: Insn) -> Option<VerifyFault>
+fn break_at(insns: &[Insn], at: usize, insn: Insn) -> Option<Flaw>
     requires length { HasLength insns.now }
     requires insn { slice_get insns.now at ≡ Some insn }
     requires place { at < length insns.now }
-    ensures fault { MatchOption result
+    ensures flaw { MatchOption result
         (¬ BreaksAt insns.now at)
-        (λ fault. BreaksAs insns.now at fault) }
+        (λ flaw. BreaksAs insns.now at flaw) }
     ensures in_range { InRange insn }
 {
     let place = at as u16;
     let Some(form) = form_of(insn) else {
-        return Some(VerifyFault::BadOpcode(place));
+        return Some(Flaw::BadOpcode(place));
     };
     if uses_word_past_scratch(form, insn) {
-        Some(VerifyFault::BadScratch(place))
+        Some(Flaw::BadScratch(place))
     } else if divides_by_zero(form, insn) {
-        Some(VerifyFault::ZeroDivisor(place))
+        Some(Flaw::ZeroDivisor(place))
     } else if jumps_out(form, insn, at, insns.len()) {
-        Some(VerifyFault::JumpOut(place))
+        Some(Flaw::JumpOut(place))
     } else {
         None
     }
@@ -119,13 +146,12 @@ fn ends_with_return(insns: &[Insn]) -> bool
 }
 
 /// The first read of a scratch word that some path leaves unset.
-fn unset_read(insns: &[Insn]) -> Option<VerifyFault>
+fn unset_read(insns: &[Insn]) -> Option<Flaw>
     requires { IsWellFormed insns.now }
     ensures { MatchOption result (NoUnsetReadBelow insns.now (length insns.now))
-        (λ fault. Refuses insns.now fault) }
+        (λ flaw. HasFlaw insns.now flaw) }
 {
     let masks = written_masks(insns);
     let (at, word) = first_unset(insns, &masks)?;
-    let path = path_to(insns, &masks, at, word);
-    Some(VerifyFault::Unset { at, word, path })
+    Some(Flaw::Unset { at, word })
 }

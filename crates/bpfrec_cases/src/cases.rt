@@ -6,7 +6,7 @@ pub(crate) const ARP: &str = "ffffffffffff0200000000010806";
 pub(crate) const IPV4: &str = "ffffffffffff020000000001080045";
 
 /// The words of each run.
-pub(crate) static CASES: [&[&str]; 117] = [
+pub(crate) static CASES: [&[&str]; 118] = [
     // programs that may be installed, and what they return
     &["verify", "arp"],
     &["verify", "arp_lines"],
@@ -28,10 +28,11 @@ pub(crate) static CASES: [&[&str]; 117] = [
     &["run", "dead_scratch", ""],
     &["verify", "jump_over"],
     &["verify", "unused_field"],
-    &["verify", "returns_512"],
+    &["verify", "returns_4096"],
+    &["run", "line_4096", ""],
     // programs that are refused
     &["verify", "no_instruction"],
-    &["verify", "returns_513"],
+    &["verify", "returns_4097"],
     &["verify", "return_of_x"],
     &["verify", "scratch_16"],
     &["verify", "division_by_zero"],
@@ -62,7 +63,7 @@ pub(crate) static CASES: [&[&str]; 117] = [
     &["asm", "texts/label_at_the_end.bpf"],
     &["asm", "texts/open_comment.bpf"],
     &["asm", "texts/unknown_mnemonic.bpf"],
-    &["asm", "texts/returns_513.bpf"],
+    &["asm", "texts/returns_4097.bpf"],
     &["asm", "empty"],
     // programs as texts
     &["dis", "arp"],

@@ -16,7 +16,7 @@ const CHANGES: &str = "set 1 records/keeps\nset 9 records/keeps\nset 1 nowhere\n
 /// Recordings of one channel, whose bytes are always the same, with changes of a filter that has no
 /// frame to meet; and what is refused before a recording is created: the settings, the recording's
 /// file, a name of its own where one is created, and the lines of the input.
-static RECORDS: [[&str; 3]; 27] = [
+static RECORDS: [[&str; 3]; 28] = [
     ["records/two.toml", "two.ch11", ""],
     ["records/none.toml", "none.ch11", ""],
     ["records/none.toml", "changed.ch11", CHANGES],
@@ -32,6 +32,7 @@ static RECORDS: [[&str; 3]; 27] = [
     ["records/no_filter.toml", "out", ""],
     ["records/no_listing.toml", "out", ""],
     ["records/refused.toml", "out", ""],
+    ["records/too_long.toml", "out", ""],
     ["records/no_feed.toml", "out", ""],
     ["records/feed_first.toml", "out", ""],
     ["records/two.toml", "nowhere/out", ""],
@@ -59,9 +60,9 @@ const CHANGE: &[u8] = b"set 1 records/keeps\n";
 
 const VERSIONS: u64 = 1_024;
 
-/// The recordings of the table, the endings of several channels, an output that fails and one that is
-/// locked, long inputs, as many changes as a channel may have, listings at the bound and past it, an
-/// input without memory, and a closed output.
+/// The recordings of the table, one by the longest program, the endings of several channels, an
+/// output that fails and one that is locked, long inputs, as many changes as a channel may have,
+/// listings at the bound and past it, an input without memory, and a closed output.
 pub(crate) fn show_records<R: AllocGlobal + Files + Print + Threads + Wait + Sync>(
     rt: &R,
 ) -> io::Result<()>
@@ -72,6 +73,9 @@ where
     for [settings, out, lines] in &RECORDS {
         show_record(rt, settings, out, lines)?;
     }
+    let longest = ["record", "records/long.toml", "longest.ch11"];
+    show_run(rt, &longest, NOTHING)?;
+    show_run(rt, &["audit", "longest.ch11"], NOTHING)?;
     let endings = ["record", "records/endings.toml", "endings.ch11"];
     show_run(rt, &endings, NOTHING)?;
     show_run(rt, &["record", "records/two.toml", "/dev/full"], NOTHING)?;

@@ -80,11 +80,11 @@ pub fn a_frame_fits_if_its_packet_does()
 {}
 
 /// Law: a packet of frames has at most 524,288 bytes, and a speed of at most 15; a record of a
-/// program has at most 4,124 bytes.
+/// program has at most 32,796 bytes.
 pub fn the_limits_of_a_packet()
     ensures ethernet { MAX_ETHERNET_PACKET_LEN ≡ 524288 }
     ensures speed { MAX_SPEED ≡ 15 }
-    ensures program { MAX_PROGRAM_RECORD_LEN ≡ 4124 }
+    ensures program { MAX_PROGRAM_RECORD_LEN ≡ 32796 }
 {}
 
 /// Law: a header begins with 0xEB25 and has 24 bytes, 22 of them before its checksum; the two data

@@ -23,13 +23,17 @@ first_line input = without_return (before_first (λ b. b == 10) input)
 abbrev pub second_line : List ℕ → List ℕ
 second_line input = without_return (before_first (λ b. b == 10) (after_first (λ b. b == 10) input))
 
+-- this listing lists the program, which is valid
+abbrev pub Lists : List ℕ → List Insn → Type 0
+Lists listing_text program = (listing listing_text ≡ Ok program) × Valid program
+
 -- the program that this listing lists is valid, and it returns the value in `steps` steps
 -- on the view that these hexadecimal digits write
 abbrev pub RunsOn : List ℕ → List ℕ → ℕ → ℕ → Type 0
 RunsOn listing_text view_text steps value =
     (program : List Insn) × (view : List ℕ)
-    × (listing listing_text ≡ Ok program) × (decode_of view_text ≡ Ok view)
-    × Valid program × Runs program view steps value
+    × Lists listing_text program × (decode_of view_text ≡ Ok view)
+    × Runs program view steps value
 
 -- what a run prints: its value, a space, its steps and a line feed
 abbrev pub outcome_line : ℕ → ℕ → List ℕ

@@ -45,8 +45,9 @@ pub enum Ending<'a> {
     Disassembler(#[from] DisFault),
     #[error("{0}\n")]
     Listing(#[from] ListingFault),
+    /// A program is refused; with its path a refusal may be long, and would make each ending so.
     #[error("{0}\n")]
-    Refused(#[from] Refused),
+    Refused(Box<Refused>),
     #[error("{0}\n")]
     View(#[from] ViewFault),
     /// A recording isn't read to its end.
@@ -90,6 +91,14 @@ impl<'a> Ending<'a> {
         match error.kind() {
             ErrorKind::OutOfMemory => Ending::Memory,
             _ => Ending::NamedFile(path),
+        }
+    }
+
+    /// What a refusal of the verifier comes to.
+    pub fn of_refusal(alloc: Global, refused: Refused) -> Ending<'a> {
+        match Box::new(alloc, refused) {
+            Ok(refused) => Ending::Refused(refused),
+            Err(_) => Ending::Memory,
         }
     }
 

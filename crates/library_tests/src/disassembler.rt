@@ -152,15 +152,15 @@ fn chain(alloc: Global, tests: u16) -> Result<(Vec<Insn>, String), AllocError> {
 }
 
 #[test]
-fn programs_of_512_and_of_4000_instructions_have_labels_throughout(
+fn programs_of_4096_and_of_10000_instructions_have_labels_throughout(
     rt: HostRuntime,
 ) -> Result<(), Fail> {
-    for tests in [510, 3_998] {
+    for tests in [4_094, 9_998] {
         let (program, text) = chain(rt.alloc(), tests)?;
         let printed = text_of(rt.alloc(), program.as_slice())?;
         assert_eq!(rt; printed.as_str(), text.as_str(), "{tests}");
     }
-    let (program, text) = chain(rt.alloc(), 510)?;
+    let (program, text) = chain(rt.alloc(), 4_094)?;
     let assembled = assemble(rt.alloc(), text.as_str())?;
     assert_eq!(rt; assembled.as_slice(), program.as_slice());
     Ok(())

@@ -68,6 +68,24 @@ fn the_longest_view_has_16379_bytes(rt: HostRuntime) -> Result<(), Fail> {
     Ok(())
 }
 
+#[test]
+fn the_longest_line_of_instructions_takes_4096_steps(rt: HostRuntime) -> Result<(), Fail> {
+    let mut insns = vec![in rt.alloc(); insn(ADD, 1); 4_095]?;
+    insns.push(insn(RET_A, 0))?;
+    let program = verify(insns)?;
+    let outcome = Outcome {
+        value: 4_095,
+        steps: 4_096,
+    };
+    assert_eq!(rt; run(&program, &[]), outcome);
+    let mut prepared = Prepared::with_room(rt.alloc())?;
+    prepared.prepare(&program);
+    assert_eq!(rt; prepared.value(&[]), 4_095);
+    prepared.prepare(&verify(parse_listing(rt.alloc(), ARP)?)?);
+    assert_eq!(rt; prepared.value(&[]), 0);
+    Ok(())
+}
+
 /// Bytes of which each load of a test takes another number.
 static BYTES: [u8; 8] = [0, 1, 0x82, 3, 4, 5, 6, 0x47];
 
@@ -113,6 +131,8 @@ const LD: u16 = 0x00;
 const LDX: u16 = 0x01;
 
 const JA: u16 = 0x05;
+/// Adds a constant to A.
+const ADD: u16 = 0x04;
 
 const RET_K: u16 = 0x06;
 

@@ -69,22 +69,38 @@ fn a_path_shows_an_unset_read_or_not(rt: HostRuntime) -> Result<(), Fail> {
 }
 
 #[test]
-fn a_program_has_at_most_512_instructions(rt: HostRuntime) -> Result<(), Fail> {
+fn a_program_has_at_most_4096_instructions(rt: HostRuntime) -> Result<(), Fail> {
     assert_eq!(rt;
-        verify(vec![in rt.alloc(); insn(6, 0, 0); 512]?)?.len(),
-        512
+        verify(vec![in rt.alloc(); insn(6, 0, 0); 4_096]?)?.len(),
+        4_096
     );
-    let refused = verify(vec![in rt.alloc(); insn(6, 0, 0); 513]?)
+    let refused = verify(vec![in rt.alloc(); insn(6, 0, 0); 4_097]?)
         .err()
-        .ok_or("513 instructions are taken")?;
+        .ok_or("4,097 instructions are taken")?;
     assert_eq!(rt; refused.fault, VerifyFault::TooLong);
-    assert_eq!(rt; refused.program.len(), 513);
+    assert_eq!(rt; refused.program.len(), 4_097);
+    Ok(())
+}
+
+#[test]
+fn the_longest_path_to_an_unset_read_has_4095_indexes(rt: HostRuntime) -> Result<(), Fail> {
+    let mut insns = vec![in rt.alloc(); insn(132, 0, 0); 4_094]?;
+    insns.push(insn(96, 0, 7))?;
+    insns.push(insn(22, 0, 0))?;
+    let Refused { program, fault } = verify(insns).err().ok_or("word 7 is unset")?;
+    let VerifyFault::Unset { at, word, path } = fault else {
+        return Err("word 7 is unset".into());
+    };
+    assert_eq!(rt; (at, word, path.len()), (4_094, 7, 4_095));
+    assert!(rt; path.iter().copied().eq(0..4_095));
+    assert!(rt; check_path(&program, &path, word));
+    assert!(rt; !check_path(&program, &path, 8));
     Ok(())
 }
 
 #[test]
 fn each_branch_counts_where_branches_meet(rt: HostRuntime) -> Result<(), Fail> {
-    assert_eq!(rt; verify(branches(&rt, SCRATCH_WORDS as u32)?)?.len(), 512);
+    assert_eq!(rt; verify(branches(&rt, SCRATCH_WORDS as u32)?)?.len(), 4_096);
     let Refused { program, fault } = verify(branches(&rt, 7)?).err().ok_or("word 7 is unset")?;
     let VerifyFault::Unset { at, word, path } = fault else {
         return Err("word 7 is unset".into());
@@ -97,11 +113,11 @@ fn each_branch_counts_where_branches_meet(rt: HostRuntime) -> Result<(), Fail> {
 /// Word 0 is written where the test holds, and read in both cases.
 const UNSET_ON_ONE_BRANCH: &str = "5,40 0 0 12,21 0 1 2054,2 0 0 0,96 0 0 0,22 0 0 0,";
 
-/// 102 times a test whose branches each write a scratch word, which is read where they meet, and
-/// two returns: 512 instructions. The word that is to be left out is written on one branch only.
+/// 818 times a test whose branches each write a scratch word, which is read where they meet, and
+/// six returns: 4,096 instructions. The word that is to be left out is written on one branch only.
 fn branches(rt: &HostRuntime, left_out: u32) -> Result<Vec<Insn>, AllocError> {
     let mut program = Vec::new(rt.alloc());
-    for block in 0..102u32 {
+    for block in 0..818u32 {
         let word = block % SCRATCH_WORDS as u32;
         program.push(insn(21, 2, block))?;
         program.push(insn(2, 0, word))?;
@@ -109,8 +125,9 @@ fn branches(rt: &HostRuntime, left_out: u32) -> Result<Vec<Insn>, AllocError> {
         program.push(insn(if word == left_out { 7 } else { 3 }, 0, word))?;
         program.push(insn(96, 0, word))?;
     }
-    program.push(insn(6, 0, 0))?;
-    program.push(insn(6, 0, 0))?;
+    for _ in 0..6 {
+        program.push(insn(6, 0, 0))?;
+    }
     Ok(program)
 }
 

@@ -195,3 +195,36 @@ fn a_recording_has_64_channels_at_most(rt: HostRuntime) -> Result<(), Fail> {
     let text = channels(rt.alloc(), ids.as_slice())?;
     check(&rt, text.as_str(), "settings 5 Channels")
 }
+
+/// A path of so many bytes.
+fn path(alloc: Global, len: usize) -> Result<String, Fail> {
+    let mut path = String::new(alloc);
+    for _ in 0..len {
+        path.push_str("f")?;
+    }
+    Ok(path)
+}
+
+/// The longest paths that Linux takes, of the feed and the filter of each of 64 channels: 530,000 bytes.
+#[test]
+fn settings_of_64_channels_with_the_longest_paths_are_read(rt: HostRuntime) -> Result<(), Fail> {
+    let alloc = rt.alloc();
+    let longest = path(alloc, 4_095)?;
+    let mut text = String::new(alloc);
+    let mut line = String::from_str(alloc, "65536 64 8")?;
+    for id in 1..65u16 {
+        let channel = format!(in alloc;
+            "[[channel]]\nid = {id}\nfeed = \"{longest}\"\nfilter = \"{longest}\"\n"
+        )?;
+        text.push_str(channel.as_str())?;
+        let part = format!(in alloc; " / {id} {longest} {longest} 0 0 9223372036854775807")?;
+        line.push_str(part.as_str())?;
+    }
+    let told = told(alloc, text.as_str())?;
+    assert!(rt;
+        told.as_str() == line.as_str(),
+        "{} bytes of settings",
+        text.len()
+    );
+    Ok(())
+}

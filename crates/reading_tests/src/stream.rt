@@ -1,5 +1,6 @@
 //! Recordings that come as a stream, in pieces, beside the reading of all their bytes.
 use crate::shared::packets_of;
+use ch11_packet::Header;
 use rec_reader::*;
 use samples::{ACCEPTING, END, FRAMES, REJECTING, all_bytes, joined_bytes};
 use std::alloc::Global;
@@ -20,13 +21,22 @@ const NO_FRAMES: &str = "25eb 0100 1c000000 04000000 08 00 00 68 000000000000 4e
 
 const CLAIM: &str = "25eb 0100 fcffffff 00000000 08 00 00 01 000000000000 29ec";
 
-/// Gives bytes in pieces of at most `most`, and fails after this number of calls.
+/// A packet that is a header alone.
+const HEADER_ALONE: &str = "25eb 0100 18000000 00000000 08 00 00 01 000000000000 46ec";
+
+/// The most bytes for which a reader may have room before they have come.
+const MOST_ROOM: usize = 65_536;
+
+/// Gives bytes in pieces of at most `most`, and fails after this number of calls. It fails too where it
+/// is given more room than a reader may have.
 #[derive(Drop)]
 struct Stream<'a> {
     rest: &'a [u8],
     most: usize,
     calls: usize,
     kind: ErrorKind,
+    /// Whether it gives the rest once it has failed.
+    fails_once: bool,
 }
 
 impl<'a> Stream<'a> {
@@ -36,13 +46,20 @@ impl<'a> Stream<'a> {
             most,
             calls: usize::MAX,
             kind: ErrorKind::Other,
+            fails_once: false,
         }
     }
 }
 
 impl Read for Stream<'_> {
     fn read(&mut self, buf: &mut [u8]) -> io::Result<usize> {
+        if buf.len() > MOST_ROOM {
+            return Err(io::Error::from(ErrorKind::InvalidInput));
+        }
         let Some(calls) = self.calls.checked_sub(1) else {
+            if self.fails_once {
+                self.calls = usize::MAX;
+            }
             return Err(io::Error::from(self.kind));
         };
         self.calls = calls;
@@ -133,6 +150,7 @@ fn recordings_read_the_same_in_any_pieces(rt: HostRuntime) -> Result<(), Fail> {
     let alloc = rt.alloc();
     let whole = joined_bytes(alloc, &TWO_VERSIONS)?;
     let claim = all_bytes(alloc, CLAIM)?;
+    let alone = joined_bytes(alloc, &[HEADER_ALONE, END, HEADER_ALONE])?;
     let refused = changed(alloc, 116, 0)?;
     let kind = ReadFaultKind::Truncated;
     let cut = Some(ReadEnd { kind, at: 180 });
@@ -140,6 +158,7 @@ fn recordings_read_the_same_in_any_pieces(rt: HostRuntime) -> Result<(), Fail> {
         (whole.as_slice(), 4, None),
         (whole.get(..200).unwrap_or(&[]), 3, cut),
         (refused.get(..210).unwrap_or(&[]), 3, cut),
+        (alone.as_slice(), 3, None),
         (&[], 0, None),
         (claim.as_slice(), 0, Some(ReadEnd { kind, at: 0 })),
     ] {
@@ -164,20 +183,52 @@ fn recordings_read_the_same_in_any_pieces(rt: HostRuntime) -> Result<(), Fail> {
     Ok(())
 }
 
+/// An input that gives all that is left once it has failed is not asked for it.
 #[test]
 fn a_failing_input_is_a_fault_of_the_device(rt: HostRuntime) -> Result<(), Fail> {
     let bytes = joined_bytes(rt.alloc(), &TWO_VERSIONS)?;
-    for kind in [ErrorKind::BrokenPipe, ErrorKind::Interrupted] {
+    for (kind, fails_once) in [
+        (ErrorKind::BrokenPipe, false),
+        (ErrorKind::BrokenPipe, true),
+        (ErrorKind::Interrupted, false),
+        (ErrorKind::Interrupted, true),
+    ] {
         // each packet takes two calls, and the end one
         for calls in 0..9 {
             let mut stream = Stream::of(bytes.as_slice(), usize::MAX);
             stream.calls = calls;
             stream.kind = kind;
+            stream.fails_once = fails_once;
             let (packets, end) = streamed(&rt, rt.alloc(), stream)?;
             assert_eq!(rt; packets.len(), calls / 2, "{calls} calls");
             let at = ENDS.get(calls / 2).copied().unwrap_or(0) as u64;
             let kind = ReadFaultKind::Device;
             assert_eq!(rt; end, Some(ReadEnd { kind, at }), "{calls} calls");
+        }
+    }
+    Ok(())
+}
+
+/// A packet of this length of another kind, between two ends.
+fn with_packet(alloc: Global, len: u32) -> Result<Vec<u8>, Fail> {
+    let header = Header::new(1, len, len.saturating_sub(24), 8, 0, 0, 1, 0).ok_or("a header")?;
+    let end = all_bytes(alloc, END)?;
+    let mut bytes = all_bytes(alloc, END)?;
+    bytes.extend_from_slice(&header.encode())?;
+    let body = (len as usize).saturating_sub(24);
+    bytes.resize(bytes.len().saturating_add(body), 0x5a)?;
+    bytes.extend_from_slice(end.as_slice())?;
+    Ok(bytes)
+}
+
+#[test]
+fn packets_over_65536_bytes_read_the_same(rt: HostRuntime) -> Result<(), Fail> {
+    let alloc = rt.alloc();
+    for len in [65_536, 65_560, 65_564, 131_096, 131_100, 524_288, 5_000_000] {
+        let bytes = with_packet(alloc, len)?;
+        for most in [4_093, 65_535, usize::MAX] {
+            let found = compare(&rt, alloc, bytes.as_slice(), most)?;
+            assert_eq!(rt; found, (3, None), "a packet of {len}, pieces of {most}");
         }
     }
     Ok(())

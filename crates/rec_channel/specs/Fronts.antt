@@ -1,5 +1,5 @@
 -- When a slot has less than a caller has seen of it, and what each fault says then.
-use Rattle.std.specs.Prelude.{◌≡◌, ◌<◌, ◌⊎◌, List, length}
+use Rattle.std.specs.Prelude.{ℕ, ◌≡◌, ◌<◌, ◌⊎◌, List, length}
 use Rattle.std.specs.Arc.{arc_value}
 use Rattle.bpf_insn.specs.declared.insn.Insn.{Insn}
 use Rattle.rec_channel.specs.declared.front.Front.{Front}
@@ -23,6 +23,12 @@ StaleOnlyBelow known _ = Unit {0}
 abbrev pub InstallStaleOnlyBelow : Front → InstallFault → Type 0
 InstallStaleOnlyBelow known (StaleInstall program seen) = IsBelow seen known
 InstallStaleOnlyBelow known _ = Unit {0}
+
+-- out of memory is answered only to a caller that knows of fewer versions than these: one that knows
+-- of all needs no share of a program, so a draw that it tries again ends
+abbrev pub MemoryOnlyBehind : (versions : ℕ) → Front → DrawFault → Type 0
+MemoryOnlyBehind versions known Memory = known.versions < versions
+MemoryOnlyBehind versions known _ = Unit {0}
 
 -- an install that was refused gives the program back
 abbrev pub GivesBack : List Insn → InstallFault → Type 0

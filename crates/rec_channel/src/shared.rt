@@ -3,7 +3,7 @@
 ghost use Rattle.std.specs.Prelude.{◌≡◌, ◌+◌, ◌-◌, ◌^◌, ◌<◌, ◌≤◌, length, Some, slice_get, IfOk, IfErr, OnErr};
 ghost use Rattle.rec_channel.specs.declared.limits.TheConstants.{MAX_VERSIONS};
 ghost use Rattle.std.specs.Arc.{arc_value};
-ghost use Rattle.rec_channel.specs.Fronts.{IsBelow, StaleOnlyBelow, InstallStaleOnlyBelow, GivesBack, front_of, DrawIsRefused, InstallIsRefused};
+ghost use Rattle.rec_channel.specs.Fronts.{IsBelow, StaleOnlyBelow, MemoryOnlyBehind, InstallStaleOnlyBelow, GivesBack, front_of, DrawIsRefused, InstallIsRefused};
 ghost use Rattle.rec_channel.specs.History.{InForce};
 ghost use Rattle.rec_channel.specs.Slots.{programs_in, one_frame_later, with_version};
 ghost use Rattle.rec_channel.specs.Since.{number_of, version_since, HasProgram, IsLater};
@@ -68,7 +68,8 @@ impl SharedSlot {
     ///
     /// # Errors
     ///
-    /// As [`SharedSlot::draw`]; the front stays.
+    /// As [`SharedSlot::draw`]; the front stays. A caller that knows of all versions is never
+    /// refused with [`DrawFault::Memory`], since it needs no share of a program.
     pub fn draw_since<R: Wait>(&self, rt: &R, known: &mut Front) -> Result<DrawnSince, DrawFault>
         // The frame drawn, beside what the caller knew, and what the slot has after it.
         ensures newer { IfOk result (λ since. known.old.offered ≤ number_of since) }
@@ -81,6 +82,7 @@ impl SharedSlot {
             × (version_since known.old since < MAX_VERSIONS)) }
         // Why none was drawn.
         ensures stale { IfErr result (StaleOnlyBelow known.old) }
+        ensures few_known { IfErr result (MemoryOnlyBehind MAX_VERSIONS known.old) }
         ensures kept { OnErr result (known.new ≡ known.old) }
     {
         draw_since_from(&mut self.slot.lock(rt), known)
@@ -156,6 +158,8 @@ fn draw_since_from(slot: &mut Slot, known: &mut Front) -> Result<DrawnSince, Dra
     ensures counted { IfOk result (λ _. slot.new ≡ one_frame_later slot.old) }
     // Why none was drawn; the slot and the front stay.
     ensures fault { IfErr result (DrawIsRefused slot.old known.old) }
+    ensures memory { IfErr result (MemoryOnlyBehind (length slot.old.history) known.old) }
+    ensures few_known { IfErr result (MemoryOnlyBehind MAX_VERSIONS known.old) }
     ensures refused { OnErr result (slot.new ≡ slot.old) }
     ensures kept { OnErr result (known.new ≡ known.old) }
 {

@@ -235,6 +235,7 @@ impl Slot {
     pub(crate) fn front(&self) -> Front
         ensures versions { result.versions ≡ length self.now.history }
         ensures offered { result.offered ≡ self.now.offered }
+        ensures few { length self.now.history ≤ MAX_VERSIONS }
         ensures within { self.now.offered ≤ self.now.max }
     {
         Front {

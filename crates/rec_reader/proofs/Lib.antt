@@ -5,6 +5,7 @@ pub mod OneReading
 pub mod Cuts
 pub mod EveryReading
 pub mod Feeds
+pub mod Extracting
 pub mod ListSplits
 pub mod Walking
 pub mod Keeping

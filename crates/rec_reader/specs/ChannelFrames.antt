@@ -1,5 +1,5 @@
 -- The frames of a channel in a recording, and their feed.
-use Rattle.std.specs.Prelude.{ℕ, ◌==◌, ◌&&◌, nat_le, if◌then◌else◌, List, [], length}
+use Rattle.std.specs.Prelude.{ℕ, Bool, ◌==◌, ◌&&◌, nat_le, if◌then◌else◌, List, [], length}
 use Rattle.std.specs.List.{flat_map}
 use Rattle.eth_frame.specs.declared.frame.TheConstants.{MIN_FRAME_LEN}
 use Rattle.eth_frame.specs.FeedRecord.{feed_record}
@@ -26,12 +26,14 @@ channel_frames channel packets =
 
 -- ---- the feed
 
--- what a frame is in a feed: its record, if its content is 0 and it has the bytes of the shortest
--- frame, and else nothing
+-- whether a frame has a record in a feed: its content is 0, and it has the bytes of the shortest
+-- frame
+abbrev pub has_record : ReadFrameData → Bool
+has_record frame = frame.content == 0 && nat_le MIN_FRAME_LEN (length frame.bytes)
+
+-- what a frame is in a feed: its record, if it has one, and else nothing
 abbrev pub feed_part : ReadFrameData → List ℕ
-feed_part frame =
-    if frame.content == 0 && nat_le MIN_FRAME_LEN (length frame.bytes) then
-    feed_record (frame_in frame) else []
+feed_part frame = if has_record frame then feed_record (frame_in frame) else []
 
 -- the feed of these frames
 abbrev pub feed_of : List ReadFrameData → List ℕ

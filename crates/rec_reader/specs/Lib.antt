@@ -1,6 +1,7 @@
 pub mod Packets
 pub mod Reading
 pub mod ChannelFrames
+pub mod Extracting
 pub mod Channels
 pub mod Audits
 pub mod Auditors

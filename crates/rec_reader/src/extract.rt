@@ -1,6 +1,6 @@
 //! A channel's frames, written out of a recording into a feed.
 
-ghost use Rattle.std.specs.Prelude.{◌≡◌, ◌∷◌, [], List, None, Some, Err, OnOk};
+ghost use Rattle.std.specs.Prelude.{◌≡◌, ◌∷◌, [], List, None, Some, Err, OnOk, IfOk};
 ghost use Rattle.std.specs.Io.KnownBytes.{Appends};
 ghost use Rattle.ch11_packet.specs.Views.{read_frame_data};
 ghost use Rattle.rec_reader.specs.declared.extract.ExtractFault.TheVariants.{Device};
@@ -8,6 +8,7 @@ ghost use Rattle.rec_reader.specs.declared.fault.ReadEnd.{ReadEnd};
 ghost use Rattle.rec_reader.specs.Packets.{PacketData, packets_len};
 ghost use Rattle.rec_reader.specs.Reading.{Reads};
 ghost use Rattle.rec_reader.specs.ChannelFrames.{packet_frames, channel_frames, feed_part, feed_of};
+ghost use Rattle.rec_reader.specs.Extracting.{none_yet, Counts};
 ghost use Rattle.rec_reader.specs.Views.{packet_data};
 
 use crate::fault::ReadEnd;
@@ -59,6 +60,9 @@ pub fn extract_channel<W: Write>(
     ensures feed { OnOk result ((packets : List PacketData) × Reads bytes.now packets None
         × Appends (W.contents feed.old) (W.contents feed.new)
         (feed_of (channel_frames channel packets))) }
+    ensures counts { IfOk result (λ extracted. (packets : List PacketData)
+        × Reads bytes.now packets None
+        × Counts none_yet extracted (channel_frames channel packets)) }
     ensures fault { (end : ReadEnd) → result ≡ Err (ExtractFault.Reading end)
         → (packets : List PacketData) × Reads bytes.now packets (Some end.kind)
         × (end.at ≡ packets_len packets) }
@@ -89,8 +93,10 @@ pub fn extract_packet<W: Write>(
     feed: &mut W,
     extracted: &mut Extracted,
 ) -> Result<(), FeedWriteFault>
-    ensures { OnOk result (Appends (W.contents feed.old) (W.contents feed.new)
+    ensures feed { OnOk result (Appends (W.contents feed.old) (W.contents feed.new)
         (feed_of (channel_frames channel (packet_data packet.now ∷ [])))) }
+    ensures counts { OnOk result (Counts extracted.old extracted.new
+        (channel_frames channel (packet_data packet.now ∷ []))) }
 {
     if packet.header.channel == channel {
         extract_frames(packet, feed, extracted)
@@ -105,8 +111,10 @@ fn extract_frames<W: Write>(
     feed: &mut W,
     extracted: &mut Extracted,
 ) -> Result<(), FeedWriteFault>
-    ensures { OnOk result (Appends (W.contents feed.old) (W.contents feed.new)
+    ensures feed { OnOk result (Appends (W.contents feed.old) (W.contents feed.new)
         (feed_of (packet_frames (packet_data packet.now)))) }
+    ensures counts { OnOk result (Counts extracted.old extracted.new
+        (packet_frames (packet_data packet.now))) }
 {
     let Some(frames) = packet.frames() else {
         return Ok(());
@@ -123,16 +131,19 @@ fn extract_frame<W: Write>(
     feed: &mut W,
     extracted: &mut Extracted,
 ) -> Result<(), FeedWriteFault>
-    ensures { OnOk result (Appends (W.contents feed.old) (W.contents feed.new)
+    ensures feed { OnOk result (Appends (W.contents feed.old) (W.contents feed.new)
         (feed_part (read_frame_data read.now))) }
+    ensures counts { OnOk result (Counts extracted.old extracted.new
+        (read_frame_data read.now ∷ [])) }
 {
+    let Extracted { frames, passed } = *extracted;
     match read.frame() {
         Some(frame) => {
-            extracted.frames = extracted.frames.saturating_add(1);
+            extracted.frames = frames.saturating_add(1);
             write_feed(&frame, feed)
         }
         None => {
-            extracted.passed = extracted.passed.saturating_add(1);
+            extracted.passed = passed.saturating_add(1);
             Ok(())
         }
     }

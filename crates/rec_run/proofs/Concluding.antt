@@ -1,5 +1,5 @@
 -- From what the threads have left to what was recorded.
-use Rattle.std.proofs.Common.{◌≡◌, ℕ, zero, suc, ◌<◌, ◌≤◌, List, [], ◌∷◌, ◌++◌, length, map, get_or, Option, None, Some, All, arith, refl, ◌∙◌, ap, sym, subst}
+use Rattle.std.proofs.Common.{◌≡◌, ℕ, zero, suc, ◌<◌, ◌≤◌, ◌^◌, List, [], ◌∷◌, ◌++◌, length, map, get_or, Option, None, Some, All, arith, refl, ◌∙◌, ap, sym, subst}
 use Rattle.std.specs.Prelude.{Contains}
 use Rattle.std.specs.List.{filter, AllZip, Any}
 use Rattle.std.specs.Io.KnownBytes.{Appends, Keeps}
@@ -22,6 +22,7 @@ use Rattle.rec_run.specs.Ends.{IsOverThen, IsEnded, ending_of}
 use Rattle.rec_run.specs.Jobs.{channels_of_jobs}
 use Rattle.rec_run.specs.Joins.{JoinedOf, AreOver, AreEnded}
 use Rattle.rec_run.specs.Outcomes.{WroteAll, WrotePart}
+use Rattle.rec_run.specs.Ranges.{IsJob, AreInRange}
 use Rattle.rec_run.specs.Recorded.{IsRecorded, IsCutShort, BeginsChannel}
 use Rattle.rec_run.specs.Reports.{history_of, Tells, IsReport, AreReports}
 use Rattle.rec_run.specs.Served.{AreServed}
@@ -65,8 +66,8 @@ module _ {S : Type 0} (left : S → Option Left) (failures : S → ℕ) (ended_a
     pub whole : j.remaining ≡ 0 → IsOverThen j.end → ArePieces channel.settings channel.frames channel.history (filter (is_of channel.settings.channel) pieces)
     pub over : IsOverThen j.end → IsOver r.ending
 
-  one_channel : (job : Job S) (j : Joined S) (r : ChannelReport S) → JoinedOf left failures ended_as pieces job j → Tells j log r → IsEnded j.end → OneChannel job j r
-  one_channel job j r of tells ended =
+  one_channel : (job : Job S) (j : Joined S) (r : ChannelReport S) → IsJob job → JoinedOf left failures ended_as pieces job j → Tells j log r → IsEnded j.end → OneChannel job j r
+  one_channel job j r is of tells ended =
       let e = with_ending j.end ended in
       let ran : Ran left failures ended_as (spec_data job.spec) job.max e.0 job.source j.source (versions_met j.met.items) of.sent j.offered j.kept =
       subst (λ x. RanAs left failures ended_as (spec_data job.spec) job.max x job.source j.source (versions_met j.met.items) of.sent j.offered j.kept) e.1 of.ran
@@ -76,10 +77,14 @@ module _ {S : Type 0} (left : S → Option Left) (failures : S → ℕ) (ended_a
       let met : AllMet h ran.offered = ran.known h (subst (λ n. AreServed h n (versions_met j.met.items)) count tells.served) in
       let ending : r.ending ≡ e.0 = tells.ending_is ∙ ap (λ x. ending_of x) e.1 in
       let all = channel_pieces (spec_data job.spec) ran.offered in
+      let long : length (frames_of ran.offered) ≡ length ran.offered = length-map ran.offered (λ (f : OfferedFrame). f.frame) in
+      let within : length ran.offered ≤ job.max = ran.within in
+      let most = is.most in
       record {
         channel = record { settings = spec_data job.spec; frames = frames_of ran.offered; history = h };
         report = record {
           settings_are = refl;
+          settings_fit = is.settings;
           history_is = refl;
           history = tells.history;
           few = tells.few;
@@ -87,8 +92,9 @@ module _ {S : Type 0} (left : S → Option Left) (failures : S → ℕ) (ended_a
           marks_are = tells.marks_are;
           channel_is = tells.channel_is ∙ of.channel_is;
           framed = ran.framed;
-          offered_is = count ∙ sym (length-map ran.offered (λ (f : OfferedFrame). f.frame));
-          within = (let w : length ran.offered ≤ job.max = ran.within in omega (arith, w, count));
+          few_frames = omega (arith, long, within, most);
+          offered_is = count ∙ sym long;
+          within = omega (arith, within, count);
           kept = accepted ran.offered;
           accepted = (ran.offered, met, refl, refl);
           kept_is = tells.kept_is ∙ ran.kept_is;
@@ -119,15 +125,15 @@ module _ {S : Type 0} (left : S → Option Left) (failures : S → ℕ) (ended_a
   rest_of : {X : Type 0} (P : X → Type 0) (x : X) (xs : List X) → All P (x ∷ xs) → All P xs
   rest_of P x xs all = All-rest P x xs (x ∷ xs) refl all
 
-  pub all_channels : (jobs : List (Job S)) (js : List (Joined S)) (rs : List (ChannelReport S)) → AllZip (JoinedOf left failures ended_as pieces) jobs js → AllZip (TellsOf log) js rs → AreEnded js → AllChannels jobs js rs
-  all_channels [] [] [] of tells ended = record { channels = []; reports = tt; ids = refl; begin = none_of (BeginsChannel pieces); whole = λ over. none_of (λ (c : RecordedChannel). ArePieces c.settings c.frames c.history (filter (is_of c.settings.channel) pieces)); over = λ over. none_of (λ (r : ChannelReport S). IsOver r.ending) }
-  all_channels [] [] (r ∷ rs) of tells ended = absurd tells
-  all_channels [] (j ∷ js) rs of tells ended = absurd of
-  all_channels (job ∷ jobs) [] rs of tells ended = absurd of
-  all_channels (job ∷ jobs) (j ∷ js) [] of tells ended = absurd tells
-  all_channels (job ∷ jobs) (j ∷ js) (r ∷ rs) of tells ended =
-      let one = one_channel job j r of.0 tells.0 (head_of (λ (x : Joined S). IsEnded x.end) j js ended) in
-      let more = all_channels jobs js rs of.1 tells.1 (rest_of (λ (x : Joined S). IsEnded x.end) j js ended) in
+  pub all_channels : (jobs : List (Job S)) (js : List (Joined S)) (rs : List (ChannelReport S)) → All IsJob jobs → AllZip (JoinedOf left failures ended_as pieces) jobs js → AllZip (TellsOf log) js rs → AreEnded js → AllChannels jobs js rs
+  all_channels [] [] [] are of tells ended = record { channels = []; reports = tt; ids = refl; begin = none_of (BeginsChannel pieces); whole = λ over. none_of (λ (c : RecordedChannel). ArePieces c.settings c.frames c.history (filter (is_of c.settings.channel) pieces)); over = λ over. none_of (λ (r : ChannelReport S). IsOver r.ending) }
+  all_channels [] [] (r ∷ rs) are of tells ended = absurd tells
+  all_channels [] (j ∷ js) rs are of tells ended = absurd of
+  all_channels (job ∷ jobs) [] rs are of tells ended = absurd of
+  all_channels (job ∷ jobs) (j ∷ js) [] are of tells ended = absurd tells
+  all_channels (job ∷ jobs) (j ∷ js) (r ∷ rs) are of tells ended =
+      let one = one_channel job j r (head_of IsJob job jobs are) of.0 tells.0 (head_of (λ (x : Joined S). IsEnded x.end) j js ended) in
+      let more = all_channels jobs js rs (rest_of IsJob job jobs are) of.1 tells.1 (rest_of (λ (x : Joined S). IsEnded x.end) j js ended) in
       let Over : Joined S → Type 0 = λ x. (x.remaining ≡ 0) × IsOverThen x.end in
       record {
         channels = one.channel ∷ more.channels;
@@ -169,12 +175,13 @@ are_ended : {S : Type 0} (js : List (Joined S)) → AreOver js → AreEnded js
 are_ended js over = λ k d low. over_is_ended (get_or js k d).end (over k d low).1
 
 module _ {S : Type 0} (left : S → Option Left) (failures : S → ℕ) (ended_as : S → Option SourceEnding) (log : List Logged) (jobs : List (Job S)) (js : List (Joined S)) (report : Report S)
-    (first out : Option (List ℕ)) (writer : WriterState) (keeps : Keeps writer.held out) (whole_is : report.pieces ≡ writer.whole) where
+    (first out : Option (List ℕ)) (writer : WriterState) (fit : AreInRange jobs writer.version) (keeps : Keeps writer.held out) (whole_is : report.pieces ≡ writer.whole) where
   pub recorded : WroteAll left failures ended_as first jobs js writer report.bytes → AllZip (TellsOf log) js report.channels.items → AreOver js
       → IsRecorded left failures ended_as jobs writer.version first out report
   recorded wrote tells over =
-      let all = all_channels left failures ended_as log wrote.pieces jobs js report.channels.items wrote.joined_are tells (are_ended js over) in
+      let all = all_channels left failures ended_as log wrote.pieces jobs js report.channels.items fit.jobs_fit wrote.joined_are tells (are_ended js over) in
       record {
+        version_fits = fit.version_fits;
         channels = all.channels;
         bytes = writer_output writer.version wrote.pieces;
         recording = (wrote.pieces, refl, record { named = λ k d low. named_one all.channels (channels_of_jobs jobs) (channel_of (get_or wrote.pieces k d)) all.ids (wrote.named k d low); each = all.whole over });
@@ -189,8 +196,9 @@ module _ {S : Type 0} (left : S → Option Left) (failures : S → ℕ) (ended_a
   pub cut_at_flush : (fault : WriteFault) → WroteAll left failures ended_as first jobs js writer report.bytes → AllZip (TellsOf log) js report.channels.items → AreOver js → FinishFails writer fault
       → IsCutShort left failures ended_as jobs writer.version first out fault report
   cut_at_flush (Output whole bytes) wrote tells over fails =
-      let all = all_channels left failures ended_as log wrote.pieces jobs js report.channels.items wrote.joined_are tells (are_ended js over) in
+      let all = all_channels left failures ended_as log wrote.pieces jobs js report.channels.items fit.jobs_fit wrote.joined_are tells (are_ended js over) in
       record {
+        version_fits = fit.version_fits;
         channels = all.channels;
         pieces = wrote.pieces;
         begun = [];
@@ -210,8 +218,9 @@ module _ {S : Type 0} (left : S → Option Left) (failures : S → ℕ) (ended_a
   pub cut_at_piece : (fault : WriteFault) → WrotePart left failures ended_as first jobs js writer report.bytes fault → AllZip (TellsOf log) js report.channels.items → AreEnded js
       → IsCutShort left failures ended_as jobs writer.version first out fault report
   cut_at_piece fault wrote tells ended =
-      let all = all_channels left failures ended_as log (wrote.pieces ++ wrote.piece ∷ []) jobs js report.channels.items wrote.joined_are tells ended in
+      let all = all_channels left failures ended_as log (wrote.pieces ++ wrote.piece ∷ []) jobs js report.channels.items fit.jobs_fit wrote.joined_are tells ended in
       record {
+        version_fits = fit.version_fits;
         channels = all.channels;
         pieces = wrote.pieces;
         begun = wrote.piece ∷ [];

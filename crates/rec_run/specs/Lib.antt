@@ -10,6 +10,7 @@ pub mod Keeping
 pub mod Logs
 pub mod Offers
 pub mod Outcomes
+pub mod Ranges
 pub mod Recorded
 pub mod Reports
 pub mod Served

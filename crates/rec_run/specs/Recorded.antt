@@ -1,5 +1,5 @@
 -- What a recording that ended is, and what one that was cut short has left.
-use Rattle.std.specs.Prelude.{ℕ, ◌≡◌, Bool, true, List, [], ◌∷◌, ◌++◌, length, map, All, Contains, Option}
+use Rattle.std.specs.Prelude.{ℕ, ◌≡◌, ◌<◌, ◌^◌, Bool, true, List, [], ◌∷◌, ◌++◌, length, map, All, Contains, Option}
 use Rattle.std.specs.List.{filter, AllZip}
 use Rattle.std.specs.Arc.{arc_value}
 use Rattle.std.specs.Io.KnownBytes.{Appends}
@@ -44,6 +44,7 @@ module _ {S : Type 0}
   pub record IsRecorded
       (jobs : List (Job S)) (version : ℕ) (first held : Option (List ℕ)) (report : Report S)
       : Type 0 where
+    pub version_fits : version < 2 ^ 8
     pub channels : List RecordedChannel
     pub bytes : List ℕ
     pub recording : IsRecording version channels bytes
@@ -66,6 +67,7 @@ module _ {S : Type 0}
   pub record IsCutShort
       (jobs : List (Job S)) (version : ℕ) (first held : Option (List ℕ)) (fault : WriteFault)
       (report : Report S) : Type 0 where
+    pub version_fits : version < 2 ^ 8
     pub channels : List RecordedChannel
     pub pieces : List PieceData
     pub begun : List PieceData

@@ -1,5 +1,5 @@
 -- What the report of a channel says of its job.
-use Rattle.std.specs.Prelude.{ℕ, ◌≡◌, ◌≤◌, List, [], ◌∷◌, length, All, Option}
+use Rattle.std.specs.Prelude.{ℕ, ◌≡◌, ◌<◌, ◌≤◌, ◌^◌, List, [], ◌∷◌, length, All, Option}
 use Rattle.std.specs.Arc.{arc_value}
 use Rattle.eth_frame.specs.Frame.{FrameData, IsFrame}
 use Rattle.eth_frame.specs.Source.{Left}
@@ -14,6 +14,7 @@ use Rattle.rec_run.specs.Histories.{programs_at, history_in}
 use Rattle.rec_run.specs.Endings.{EndsAs}
 use Rattle.rec_run.specs.Ends.{ending_of}
 use Rattle.rec_run.specs.Logs.{AreAnswered}
+use Rattle.rec_run.specs.Ranges.{AreSettings}
 use Rattle.rec_run.specs.Served.{AreServed}
 use Rattle.rec_run.specs.Working.{versions_met}
 use Rattle.rec_run.specs.declared.change.Logged.{Logged}
@@ -43,10 +44,12 @@ module _ {S : Type 0} where
 
 module _ {S : Type 0}
     (left : S → Option Left) (failures : S → ℕ) (ended_as : S → Option SourceEnding) where
-  -- the channel of this report, as it was recorded: its settings are the job's, its frames were
-  -- taken from the job's source, and its history is the one that the report gives
+  -- the channel of this report, as it was recorded: its settings are the job's and in range, its
+  -- frames were taken from the job's source, fewer than 2^64, and its history is the one that the
+  -- report gives
   pub record IsReport (job : Job S) (r : ChannelReport S) (channel : RecordedChannel) : Type 0 where
     pub settings_are : channel.settings ≡ spec_data job.spec
+    pub settings_fit : AreSettings channel.settings
     pub history_is : channel.history ≡ history_of r
     pub history : IsHistory r.offered channel.history
     pub few : length channel.history ≤ MAX_VERSIONS
@@ -55,6 +58,7 @@ module _ {S : Type 0}
     pub marks_are : r.marks.items ≡ marks_in channel.history
     pub channel_is : r.channel ≡ job.spec.channel
     pub framed : All IsFrame channel.frames
+    pub few_frames : length channel.frames < 2 ^ 64
     pub offered_is : r.offered ≡ length channel.frames
     pub within : r.offered ≤ job.max
     pub kept : List FrameData

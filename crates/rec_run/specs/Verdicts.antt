@@ -8,6 +8,7 @@ use Rattle.rec_run.specs.Changes.{Given, Answered}
 use Rattle.rec_run.specs.Controlling.{EndsControl}
 use Rattle.rec_run.specs.Jobs.{channels_of_jobs}
 use Rattle.rec_run.specs.Outcomes.{WroteIn}
+use Rattle.rec_run.specs.Ranges.{AreInRange}
 use Rattle.rec_run.specs.Recorded.{IsRecorded, IsCutShort, IsControlled}
 use Rattle.rec_run.specs.Reports.{Tells}
 use Rattle.rec_run.specs.declared.change.Logged.{Logged}
@@ -35,10 +36,11 @@ module _ {S C W : Type 0}
   CutsShort jobs version first Link = Unit {0}
   CutsShort jobs version first History = Unit {0}
 
-  -- whatever the jobs were, and whatever the output held before
+  -- whatever the jobs were, in range, and whatever the output held before
   abbrev pub Concludes : Outcome S C W → Done S C W → Type 0
   Concludes o done =
       (jobs : List (Job S)) (first : Option (List ℕ))
+      → AreInRange jobs o.tape.writer.version
       → WroteIn left failures ended_as first o.wrote jobs o.joined.items o.tape.writer o.tape.bytes
       → IsRecorded left failures ended_as jobs o.tape.writer.version first (contents done.out)
       done.report
@@ -46,6 +48,7 @@ module _ {S C W : Type 0}
   abbrev pub ConcludesCut : Outcome S C W → RunFault S C W → Type 0
   ConcludesCut o fault =
       (jobs : List (Job S)) (first : Option (List ℕ))
+      → AreInRange jobs o.tape.writer.version
       → WroteIn left failures ended_as first o.wrote jobs o.joined.items o.tape.writer o.tape.bytes
       → CutsShort jobs o.tape.writer.version first fault
 

@@ -4,6 +4,7 @@ ghost use Rattle.std.specs.Prelude.{◌≡◌, [], length};
 ghost use Rattle.rtrb.specs.Ring.{IsPair, sent, received};
 ghost use Rattle.rec_lane.specs.Settings.{spec_data};
 ghost use Rattle.rec_run.specs.Finishing.{StartsWith};
+ghost use Rattle.rec_run.specs.Ranges.{IsJob};
 
 use crate::finish::Tools;
 use crate::job::Job;
@@ -19,6 +20,7 @@ pub(crate) struct Prepared<S: Drop> {
     pub(crate) pieces: Consumer<Piece>,
     pub(crate) returns: Producer<Blank>,
     pub(crate) buffers: usize,
+    ghost in_range: { IsJob job },
     ghost starts: { StartsWith tools (spec_data job.spec) },
     ghost pair: { IsPair tools.ring pieces },
     ghost unread: { received pieces ≡ [] },

@@ -11,6 +11,7 @@ use crate::job::Job;
 use crate::line::Line;
 use crate::prepared::Prepared;
 use crate::promise::start;
+use crate::ranges::a_job_is_in_range;
 use ch11_packet::{Blank, Limit};
 use eth_frame::FrameSource;
 use rec_channel::{MAX_VERSIONS, SharedSlot, Slot};
@@ -75,6 +76,7 @@ fn make_tools(
 fn prepare_one<S: Drop>(alloc: Global, ring: usize, job: Job<S>) -> Result<Prepared<S>, AllocError>
     ensures { IfOk result (λ p. p.job ≡ job) }
 {
+    a_job_is_in_range(&job);
     let (tools, pieces, returns) = make_tools(alloc, ring, job.spec)?;
     Ok(Prepared {
         job,

@@ -9,5 +9,6 @@ pub mod ReadBack
 pub mod CutShort
 pub mod Worlds
 pub mod Runs
+pub mod SomePieces
 pub mod SomeRecordings
-pub mod EndedWorld
+pub mod SomeWorlds

@@ -31,10 +31,10 @@ use Rattle.rec_run.specs.declared.job.Job.{Job}
 use Rattle.rec_run.specs.declared.report.ChannelReport.{ChannelReport}
 use Rattle.rec_run.specs.declared.report.Done.{Done}
 use Rattle.rec_run.specs.declared.report.Report.{Report}
-use Rattle.rec_theorem.specs.Recordable.{AreSettings, IsRecordable, AreRecordable}
+use Rattle.rec_theorem.specs.Recordable.{IsRecordable, AreRecordable}
 use Rattle.rec_theorem.specs.Found.{read_frames, HasNoOthers, IsApproved, HasAccepted, BeginsAccepted, ReadsBack, ReadsBackCut}
 use Rattle.rec_theorem.specs.Cut.{IsCutRecording}
-use Rattle.rec_theorem.specs.Theorem.{IsJob, HasRecorded, HasBeenCut, HasTaken, FindsJob, FindsNoOthers, Finds, IsAnswered, BeginsJob, FindsCut}
+use Rattle.rec_theorem.specs.Theorem.{HasRecorded, HasBeenCut, HasTaken, FindsJob, FindsNoOthers, Finds, IsAnswered, BeginsJob, FindsCut}
 
 -- ---- the frames that were taken
 
@@ -51,6 +51,11 @@ first_taken (Some told) taken n count first = begins_taken taken told.frames n c
 all_first : (before : Option Left) (frames : List FrameData) (ending : SourceEnding) → AreAll before frames ending → AreFirst before frames
 all_first None frames ending all = tt
 all_first (Some told) frames ending all = ([], append-nil frames ∙ sym all.0)
+
+-- and are no fewer
+all_taken : (before : Option Left) (frames : List FrameData) (ending : SourceEnding) → AreAll before frames ending → IfSome before (λ told. frames ≡ told.frames)
+all_taken None frames ending all = tt
+all_taken (Some told) frames ending all = sym all.0
 
 -- and so do those before what it says now
 taken_first : (before after : Option Left) (frames : List FrameData) → AreTaken before frames after → AreFirst before frames
@@ -70,31 +75,31 @@ module _ {S : Type 0} (left : S → Option Left) (failures : S → ℕ) (ended_a
   ends_first CountFull before after frames max ends = taken_first (left before) (left after) frames ends.1
   ends_first Stopped before after frames max ends = ends
 
+  -- where the source ended by itself, they are all that it said
+  ended_all : (before after : S) (frames : List FrameData) (max : ℕ) → EndsAs left failures ended_as SourceEnd before after frames max → IfSome (left before) (λ told. frames ≡ told.frames)
+  ended_all before after frames max ends = all_taken (left before) frames _ ends.1
+
   -- ---- channels and their jobs
 
   -- the channel of a job's report can be recorded
-  report_recordable : (job : Job S) (r : ChannelReport S) (c : RecordedChannel) → IsJob job → IsReport left failures ended_as job r c → IsRecordable c
-  report_recordable job r c is report =
-      let offered = report.offered_is in
-      let within = report.within in
-      let most = is.most in
-      record {
-        settings = subst AreSettings (sym report.settings_are) is.settings;
-        framed = report.framed;
-        few_frames = omega (arith, offered, within, most);
-        history = subst (λ n. IsHistory n c.history) report.offered_is report.history;
-        few_versions = report.few;
-      }
+  report_recordable : (job : Job S) (r : ChannelReport S) (c : RecordedChannel) → IsReport left failures ended_as job r c → IsRecordable c
+  report_recordable job r c report = record {
+    settings = report.settings_fit;
+    framed = report.framed;
+    few_frames = report.few_frames;
+    history = subst (λ n. IsHistory n c.history) report.offered_is report.history;
+    few_versions = report.few;
+  }
 
   -- so can those of all reports
-  pub reports_recordable : (jobs : List (Job S)) (reports : List (ChannelReport S)) (channels : List RecordedChannel) → All IsJob jobs → AreReports left failures ended_as jobs reports channels → AreRecordable channels
-  reports_recordable [] [] [] all are = All-nil IsRecordable
-  reports_recordable [] [] (c ∷ cs) all are = absurd are
-  reports_recordable [] (r ∷ rs) cs all are = absurd are
-  reports_recordable (j ∷ js) [] cs all are = absurd are
-  reports_recordable (j ∷ js) (r ∷ rs) [] all are = absurd are
-  reports_recordable (j ∷ js) (r ∷ rs) (c ∷ cs) all are =
-      All-cons IsRecordable c cs (report_recordable j r c (All-head IsJob j js all) are.0) (reports_recordable js rs cs (All-tail IsJob j js all) are.1)
+  pub reports_recordable : (jobs : List (Job S)) (reports : List (ChannelReport S)) (channels : List RecordedChannel) → AreReports left failures ended_as jobs reports channels → AreRecordable channels
+  reports_recordable [] [] [] are = All-nil IsRecordable
+  reports_recordable [] [] (c ∷ cs) are = absurd are
+  reports_recordable [] (r ∷ rs) cs are = absurd are
+  reports_recordable (j ∷ js) [] cs are = absurd are
+  reports_recordable (j ∷ js) (r ∷ rs) [] are = absurd are
+  reports_recordable (j ∷ js) (r ∷ rs) (c ∷ cs) are =
+      All-cons IsRecordable c cs (report_recordable j r c are.0) (reports_recordable js rs cs are.1)
 
   -- the job of a channel ID has a channel
   pub channel_there : (jobs : List (Job S)) (reports : List (ChannelReport S)) (channels : List RecordedChannel) (id : ℕ) → AreReports left failures ended_as jobs reports channels → Contains (channels_of_jobs jobs) id → Any (λ (c : RecordedChannel). c.settings.channel ≡ id) channels
@@ -145,6 +150,7 @@ module _ {S : Type 0} (left : S → Option Left) (failures : S → ℕ) (ended_a
     unfolding taken_of
     finds_job packets changes answers job r c has report changed = record {
       frames = taken_of job r c has.kept has.accepted report;
+      all = λ ended. ended_all job.source r.source c.frames job.max (subst (λ ending. EndsAs left failures ended_as ending job.source r.source c.frames job.max) ended report.ends);
       found = subst (λ (s : LaneSettings). channel_frames s.channel packets ≡ read_frames s has.kept) report.settings_are has.found;
       programs = changed.programs_are;
     }
@@ -206,8 +212,8 @@ module _ {S C W : Type 0} (left : S → Option Left) (failures : S → ℕ) (end
   run_found read one jobs version control out done before bytes recorded =
       let run = recorded.recorded in
       let same = same_bytes before bytes run.bytes (contents out) (contents done.out) recorded.held_before recorded.held_after run.written in
-      let are = reports_recordable left failures ended_as jobs done.report.channels.items run.channels recorded.jobs_are run.reports_are in
-      let back = read version run.channels bytes recorded.version_fits are (subst (IsRecording version run.channels) same run.recording) in
+      let are = reports_recordable left failures ended_as jobs done.report.channels.items run.channels run.reports_are in
+      let back = read version run.channels bytes run.version_fits are (subst (IsRecording version run.channels) same run.recording) in
       record {
         packets = back.packets;
         reading = back.reading;
@@ -237,8 +243,8 @@ module _ {S W : Type 0} (left : S → Option Left) (failures : S → ℕ) (ended
   cut_found read one jobs version first last fault report before bytes failed =
       let cut = failed.cut in
       let same = same_bytes before bytes (writer_output version cut.pieces ++ cut.cut) (contents first) (contents last) failed.held_before failed.held_after cut.written in
-      let are = reports_recordable left failures ended_as jobs report.channels.items cut.channels failed.jobs_are cut.reports_are in
-      let back = read version cut.channels bytes failed.version_fits are (cut_recording jobs version (contents first) (contents last) fault report bytes cut same) in
+      let are = reports_recordable left failures ended_as jobs report.channels.items cut.channels cut.reports_are in
+      let back = read version cut.channels bytes cut.version_fits are (cut_recording jobs version (contents first) (contents last) fault report bytes cut same) in
       record {
         packets = back.packets;
         fault = back.fault;

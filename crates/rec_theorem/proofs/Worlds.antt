@@ -29,7 +29,8 @@ use Rattle.rec_core.proofs.Meeting.{LaterLeave}
 use Rattle.rec_core.proofs.Serving.{OfTheirChannel, BeginAll}
 use Rattle.rec_core.proofs.Written.{Named, SoundWorld, ids, reached, held_after}
 use Rattle.rec_run.specs.Recorded.{IsCutOf, BeginsChannel}
-use Rattle.rec_theorem.specs.Recordable.{AreSettings, IsRecordable, AreRecordable}
+use Rattle.rec_run.specs.Ranges.{AreSettings}
+use Rattle.rec_theorem.specs.Recordable.{IsRecordable, AreRecordable}
 use Rattle.rec_theorem.specs.Cut.{IsCutRecording}
 use Rattle.rec_theorem.specs.Events.{IsSpec, IsEvent}
 

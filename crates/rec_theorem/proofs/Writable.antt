@@ -17,7 +17,8 @@ use Rattle.rec_lane.proofs.Contents.{parts_whole}
 use Rattle.rec_lane.proofs.Fronts.{packets_longest}
 use Rattle.rec_core.proofs.Lists.{map_there, All_there}
 use Rattle.rec_writer.specs.Recording.{RecordedChannel}
-use Rattle.rec_theorem.specs.Recordable.{AreSettings, IsRecordable}
+use Rattle.rec_run.specs.Ranges.{AreSettings}
+use Rattle.rec_theorem.specs.Recordable.{IsRecordable}
 use Rattle.rec_theorem.proofs.Spelled.{IsWritable}
 use Rattle.rec_theorem.proofs.Lists.{All_parts, All_flat}
 

@@ -6,7 +6,7 @@ use Rattle.rec_writer.specs.Writers.{WriterState}
 use Rattle.rec_core.specs.Openings.{SpecData}
 use Rattle.rec_core.specs.World.{EventData}
 use Rattle.rec_core.specs.World.EventData.{OfTake}
-use Rattle.rec_theorem.specs.Recordable.{AreSettings}
+use Rattle.rec_run.specs.Ranges.{AreSettings}
 use Rattle.rec_theorem.specs.Found.{ReadsBack, ReadsBackCut}
 
 -- the settings are in range, and fewer than 2^64 frames may be taken

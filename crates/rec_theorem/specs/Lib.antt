@@ -2,4 +2,5 @@ pub mod Recordable
 pub mod Found
 pub mod Cut
 pub mod Events
+pub mod Existence
 pub mod Theorem

@@ -1,5 +1,5 @@
 -- What a reader finds of each job of a run, and the premises.
-use Rattle.std.specs.Prelude.{ℕ, ◌≡◌, ◌⊎◌, ◌<◌, ◌^◌, Bool, List, ◌∷◌, ◌++◌, length, take, All, Option, None, Some, IfSome, [], Contains}
+use Rattle.std.specs.Prelude.{ℕ, ◌≡◌, ◌⊎◌, Bool, List, ◌∷◌, ◌++◌, length, take, Option, None, Some, IfSome, [], Contains}
 use Rattle.std.specs.List.{AllZip}
 use Rattle.std.specs.Arc.{arc_value}
 use Rattle.eth_frame.specs.Frame.{FrameData}
@@ -21,20 +21,14 @@ use Rattle.rec_run.specs.Changes.{Given, Answered}
 use Rattle.rec_run.specs.Jobs.{channels_of_jobs}
 use Rattle.rec_run.specs.Recorded.{IsRecorded, IsControlled, IsCutShort}
 use Rattle.rec_run.specs.Reports.{history_of}
+use Rattle.rec_run.specs.declared.ending.Ending.TheVariants.{SourceEnd}
 use Rattle.rec_run.specs.declared.job.Job.{Job}
 use Rattle.rec_run.specs.declared.report.ChannelReport.{ChannelReport}
 use Rattle.rec_run.specs.declared.report.Done.{Done}
 use Rattle.rec_run.specs.declared.report.Report.{Report}
-use Rattle.rec_theorem.specs.Recordable.{AreSettings}
 use Rattle.rec_theorem.specs.Found.{read_frames, IsApproved, IsOneReading}
 
 -- ---- the premises
-
--- the job's numbers are those of its types: its settings are in range, and fewer than 2^64 frames
--- may be taken
-pub record IsJob {S : Type 0} (job : Job S) : Type 0 where
-  pub settings : AreSettings (spec_data job.spec)
-  pub most : job.max < 2 ^ 64
 
 module _ {S C W : Type 0}
     (left : S → Option Left) (failures : S → ℕ) (ended_as : S → Option SourceEnding)
@@ -45,8 +39,6 @@ module _ {S C W : Type 0}
   pub record HasRecorded
       (jobs : List (Job S)) (version : ℕ) (control : C) (out : W) (done : Done S C W)
       (before bytes : List ℕ) : Type 0 where
-    pub jobs_are : All IsJob jobs
-    pub version_fits : version < 2 ^ 8
     -- what `record` says at `Ok`
     pub recorded : IsRecorded left failures ended_as jobs version (contents out)
         (contents done.out) done.report
@@ -63,8 +55,6 @@ module _ {S W : Type 0}
   pub record HasBeenCut
       (jobs : List (Job S)) (version : ℕ) (first last : W) (fault : WriteFault)
       (report : Report S) (before bytes : List ℕ) : Type 0 where
-    pub jobs_are : All IsJob jobs
-    pub version_fits : version < 2 ^ 8
     -- what `record` says where it answers `Write`
     pub cut : IsCutShort left failures ended_as jobs version (contents first) (contents last) fault
         report
@@ -92,12 +82,15 @@ module _ {S : Type 0} (left : S → Option Left) where
     pub kept_is : length kept ≡ report.kept
 
   -- the frames that the packets have of the job's channel are exactly the accepted ones, in order
-  -- and once each; and the programs that were in force are the job's and then the changes for its
-  -- channel, up to the greatest number of versions
+  -- and once each; where the source ended by itself, the frames that were taken are all that it said;
+  -- and the programs that were in force are the job's and then the changes for its channel, up to the
+  -- greatest number of versions
   pub record FindsJob
       (packets : List PacketData) (changes : List Given) (job : Job S) (report : ChannelReport S)
       : Type 0 where
     pub frames : HasTaken job report
+    pub all : report.ending ≡ SourceEnd
+        → IfSome (left job.source) (λ told. frames.taken ≡ told.frames)
     pub found : channel_frames job.spec.channel packets
         ≡ read_frames (spec_data job.spec) frames.kept
     pub programs : programs_in (history_of report)

@@ -1,37 +1,53 @@
 //! Laws that there is what the other laws speak of.
 
-ghost use Rattle.std.specs.Prelude.{ℕ, ◌^◌, ◌<◌, ◌∷◌, [], List, length, All};
+ghost use Rattle.std.specs.Prelude.{ℕ, ◌≡◌, ◌^◌, ◌<◌, ◌≤◌, ◌∷◌, [], List, length, All, AllPairs};
 ghost use Rattle.bpf_insn.specs.declared.insn.Insn.{Insn};
 ghost use Rattle.eth_frame.specs.Frame.{FrameData, IsFrame};
+ghost use Rattle.rec_channel.specs.History.{Version};
+ghost use Rattle.rec_channel.specs.declared.limits.TheConstants.{MAX_VERSIONS};
 ghost use Rattle.rec_lane.specs.Pieces.{LaneSettings};
+ghost use Rattle.rec_writer.specs.Numbers.{AreDistinct};
 ghost use Rattle.rec_writer.specs.Recording.{RecordedChannel, IsRecording};
-ghost use Rattle.rec_core.specs.Openings.{SpecData, IsFilter};
+ghost use Rattle.rec_core.specs.Openings.{AreSpecs, IsFilter};
 ghost use Rattle.rec_core.specs.World.{WorldState};
-ghost use Rattle.rec_core.specs.Written.{RunsFromOpening, AreEnded};
+ghost use Rattle.rec_core.specs.Written.{RunsFromOpening, AreEnded, recorded_channels};
+ghost use Rattle.rec_run.specs.Ranges.{AreSettings};
 ghost use Rattle.rec_theorem.specs.Events.{IsEvent};
-ghost use Rattle.rec_theorem.specs.Recordable.{AreSettings, IsRecordable};
+ghost use Rattle.rec_theorem.specs.Existence.{channel_ids, specs_of};
+ghost use Rattle.rec_theorem.specs.Recordable.{IsRecordable, AreRecordable};
 
-use rec_lane::accepted_frames_are_one_list;
-use rec_writer::a_recording_of_one_channel_is_of_its_pieces;
+use rec_core::a_recording_is_a_run;
+use rec_lane::{accepted_frames_are_one_list, pieces_are_of_their_channel};
 
-/// Law: each channel that can be recorded has a recording; a channel with settings in range can be,
-/// with any frames and one program; there is such a program, that of the one instruction `RET #1`,
-/// which accepts every frame; and events lead a core to a world in which all is closed and written.
+/// Law: channels that can be recorded have a recording, if no two have one ID; and events lead a
+/// core to a world in which these are the channels, with their frames and versions, each closed and
+/// all its pieces written. A channel with settings in range can be recorded, with any frames, any
+/// filter from the first frame on, and any filters after it whose marks never fall and are at most
+/// the number of frames. There are such filters: each program of one instruction `RET #k`, which
+/// accepts every frame, or none for 0.
 pub fn there_are_recordings()
-    ensures recording { (version : ℕ) (c : RecordedChannel) → IsRecordable c
-        → (bytes : List ℕ) × IsRecording version (c ∷ []) bytes }
-    ensures channel { (settings : LaneSettings) (frames : List FrameData) (program : List Insn)
-        → AreSettings settings → All IsFrame frames → length frames < 2 ^ 64 → IsFilter program
+    ensures recording { (version : ℕ) (channels : List RecordedChannel) → AreRecordable channels
+        → AreDistinct (channel_ids channels)
+        → (bytes : List ℕ) × IsRecording version channels bytes }
+    ensures channel { (settings : LaneSettings) (frames : List FrameData) (first : List Insn)
+        (later : List Version) → AreSettings settings → All IsFrame frames
+        → length frames < 2 ^ 64 → IsFilter first
+        → All (λ (v : Version). IsFilter v.program) later
+        → AllPairs (λ (v w : Version). v.mark ≤ w.mark) later
+        → All (λ (v : Version). v.mark ≤ length frames) later → length later < MAX_VERSIONS
         → IsRecordable (record {
           settings = settings;
           frames = frames;
-          history = record { program = program; mark = 0 } ∷ [];
+          history = record { program = first; mark = 0 } ∷ later;
         }) }
-    ensures world { (ring : ℕ) (spec : SpecData) → 0 < ring → IsFilter spec.program
-        → (new : WorldState) × (run : RunsFromOpening ring (spec ∷ []) new)
-        × All IsEvent run.0 × AreEnded new }
-    ensures program { IsFilter (record { code = 6; jt = 0; jf = 0; k = 1 } ∷ []) }
+    ensures program { (k : ℕ) → k < 2 ^ 32
+        → IsFilter (record { code = 6; jt = 0; jf = 0; k = k } ∷ []) }
+    ensures world { (ring : ℕ) (channels : List RecordedChannel) → 0 < ring
+        → AreRecordable channels → AreSpecs (specs_of channels)
+        → (new : WorldState) × (run : RunsFromOpening ring (specs_of channels) new)
+        × All IsEvent run.0 × AreEnded new × (recorded_channels new ≡ channels) }
 {
     accepted_frames_are_one_list();
-    a_recording_of_one_channel_is_of_its_pieces();
+    pieces_are_of_their_channel();
+    a_recording_is_a_run();
 }

@@ -12,6 +12,7 @@ mod theorem;
 pub use cut::a_cut_recording_is_read_back;
 pub use existence::there_are_recordings;
 pub use interleaving::every_interleaving_is_read_back;
-pub use ranges::{a_job_is_in_range, a_spec_is_in_range, an_event_is_in_range};
+pub use ranges::{a_spec_is_in_range, an_event_is_in_range};
 pub use reading::a_recording_is_read_back;
+pub use rec_run::a_job_is_in_range;
 pub use theorem::what_is_recorded_is_found;

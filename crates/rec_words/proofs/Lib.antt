@@ -1,2 +1,4 @@
 pub mod Matches
 pub mod SettingsRead
+pub mod KeysRead
+pub mod FormatRead

@@ -2,4 +2,5 @@ pub mod Commands
 pub mod CommandTexts
 pub mod WordsFaults
 pub mod Settings
+pub mod Format
 pub mod SettingsViews

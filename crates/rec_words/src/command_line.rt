@@ -31,7 +31,7 @@ output, on one line, for verify, run and dis. The first fault of the text is tol
 error, with its line, counted from 1:
   asm <number> <Name> line <n>     Syntax, Number, UnknownMnemonic, OperandNotAllowed,
                                    LabelMissing, LabelTwice, Backward or TooFar
-  asm 9 TooLong                    more than 512 instructions
+  asm 9 TooLong                    more than 4,096 instructions
 
 Exit status: 0 answered; 1 no program; 2 words; 3 the file; 4 no memory.
 
@@ -41,7 +41,7 @@ Example:
 const DIS: &str = "\
 Reads a program's listing, and prints the program in the text of the Linux kernel's bpf_asm on
 standard output, a line for each instruction, with labels where jumps lead. asm reads a text of
-at most 512 instructions as the same program. What has no text is told on standard error:
+at most 4,096 instructions as the same program. What has no text is told on standard error:
   dis 1 NoForm <i>                 instruction i has no legal code, or a number in a field that
                                    it doesn't use, as tcpdump leaves them (7 0 0 5); verify and
                                    run pass over such a number, the text could not say it

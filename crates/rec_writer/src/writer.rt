@@ -11,7 +11,7 @@ use crate::packet::{RECORDS, packet_channel, packet_header};
 use arrayvec::ArrayVec;
 use ch11_packet::{end_body, program_body};
 use rec_channel::MAX_CHANNELS;
-use rec_lane::Piece;
+use rec_lane::{Piece, ProgramPiece};
 use std::io::Write;
 use std::marker::Model;
 
@@ -48,6 +48,7 @@ impl<W: Write> Model for Writer<W> {
 }
 
 impl<W: Write> Writer<W> {
+    ghost use Rattle.rec_lane.specs.declared.piece.Piece.TheVariants.{Program};
     ghost use Rattle.rec_lane.specs.Views.{piece_data};
     ghost use Rattle.rec_lane.specs.Pieces.{channel_of};
     ghost use Rattle.rec_writer.specs.Encoding.{piece_bytes};
@@ -126,15 +127,7 @@ impl<W: Write> Writer<W> {
         ensures channels { channels_in self.new.numbers ≡ channels_in self.old.numbers }
     {
         match piece {
-            Piece::Program(program) => {
-                let body = program_body(
-                    program.channel,
-                    program.version,
-                    program.first,
-                    &program.program,
-                );
-                self.put_body(piece, body.as_slice())
-            }
+            Piece::Program(program) => self.put_program(piece, program),
             Piece::Data(data) => self.put_body(piece, data.body.bytes()),
             Piece::End(end) => {
                 let body = end_body(end.channel, end.offered, end.kept);
@@ -167,6 +160,27 @@ impl<W: Write> Writer<W> {
             Ok(()) => Ok(out),
             Err(_) => Err((WriteFault::Output { whole, bytes }, out)),
         }
+    }
+
+    /// Writes the packet of a program. Its record may be long, and stays off the stack of a call
+    /// that writes frames.
+    #[cold]
+    #[inline(never)]
+    fn put_program(&mut self, piece: &Piece, program: &ProgramPiece) -> Result<(), WriteFault>
+        requires program { piece.now ≡ Program program.now }
+        requires known { Knows self.old (channel_of (piece_data piece.now)) }
+        ensures whole { IfOk result (λ _. PutsWhole self.old self.new (piece_data piece.now)) }
+        ensures fault { IfErr result (PutFails self.old self.new (piece_data piece.now)) }
+        ensures version { self.new.version ≡ self.old.version }
+        ensures channels { channels_in self.new.numbers ≡ channels_in self.old.numbers }
+    {
+        let body = program_body(
+            program.channel,
+            program.version,
+            program.first,
+            &program.program,
+        );
+        self.put_body(piece, body.as_slice())
     }
 
     /// Writes the packet of a piece with this body.

@@ -4,7 +4,7 @@ use bpf_insn::{Form, Insn, Op, Src, form_of};
 use std::alloc::{AllocError, Global};
 
 /// The most instructions of a valid program.
-const MOST_INSNS: usize = 512;
+const MOST_INSNS: usize = 4_096;
 /// How many scratch words there are.
 const SCRATCH_WORDS: u32 = 16;
 

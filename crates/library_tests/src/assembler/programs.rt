@@ -88,15 +88,15 @@ fn assembled_first(alloc: Global, text: &str) -> Result<Option<Insn>, AsmFault> 
 }
 
 #[test]
-fn a_test_leads_over_255_instructions_and_a_jump_over_510(rt: HostRuntime) -> Result<(), Fail> {
+fn a_test_leads_over_255_instructions_and_a_jump_over_4094(rt: HostRuntime) -> Result<(), Fail> {
     let table = [
         ("jeq #0,far\n", 255, Ok(Some(insn(21, 255, 0, 0)))),
         ("jne #0,far\n", 255, Ok(Some(insn(21, 0, 255, 0)))),
         ("jeq #0,far\n", 256, Err(AsmFault::TooFar { line: 1 })),
         ("jne #0,far\n", 256, Err(AsmFault::TooFar { line: 1 })),
         ("jmp far\n", 256, Ok(Some(insn(5, 0, 0, 256)))),
-        ("jmp far\n", 510, Ok(Some(insn(5, 0, 0, 510)))),
-        ("jmp far\n", 511, Err(AsmFault::TooLong)),
+        ("jmp far\n", 4_094, Ok(Some(insn(5, 0, 0, 4_094)))),
+        ("jmp far\n", 4_095, Err(AsmFault::TooLong)),
     ];
     for (first, count, answer) in table {
         let text = padded(rt.alloc(), first, count, "far: ret #1")?;
@@ -106,20 +106,20 @@ fn a_test_leads_over_255_instructions_and_a_jump_over_510(rt: HostRuntime) -> Re
 }
 
 #[test]
-fn a_program_has_at_most_512_instructions(rt: HostRuntime) -> Result<(), Fail> {
-    let text = padded(rt.alloc(), "", 512, "")?;
+fn a_program_has_at_most_4096_instructions(rt: HostRuntime) -> Result<(), Fail> {
+    let text = padded(rt.alloc(), "", 4_096, "")?;
     let program = assemble(rt.alloc(), &text)?;
-    assert_eq!(rt; program.len(), 512);
+    assert_eq!(rt; program.len(), 4_096);
     let table = [
         ("ret #1", AsmFault::TooLong),
         ("ret #1\nret 08", AsmFault::TooLong),
-        ("ret 08", AsmFault::Number { line: 513 }),
-        ("x: x: ret #1", AsmFault::LabelTwice { line: 513 }),
-        ("ret 5", AsmFault::OperandNotAllowed { line: 513 }),
-        ("ret #1 #2", AsmFault::Syntax { line: 513 }),
+        ("ret 08", AsmFault::Number { line: 4_097 }),
+        ("x: x: ret #1", AsmFault::LabelTwice { line: 4_097 }),
+        ("ret 5", AsmFault::OperandNotAllowed { line: 4_097 }),
+        ("ret #1 #2", AsmFault::Syntax { line: 4_097 }),
     ];
     for (last, fault) in table {
-        let text = padded(rt.alloc(), "", 512, last)?;
+        let text = padded(rt.alloc(), "", 4_096, last)?;
         assert_eq!(rt; assembled_first(rt.alloc(), &text), Err(fault));
     }
     Ok(())
@@ -170,18 +170,43 @@ fn lines_past_1000_are_counted(rt: HostRuntime) -> Result<(), Fail> {
 }
 
 #[test]
-fn each_of_512_labels_is_found(rt: HostRuntime) -> Result<(), Fail> {
+fn each_of_4096_labels_is_found(rt: HostRuntime) -> Result<(), Fail> {
     let mut text = String::new(rt.alloc());
-    for at in 0..511 {
+    for at in 0..4_095 {
         let next = at + 1;
         let line = format!(in rt.alloc(); "l{at}: jmp l{next}\n")?;
         text.push_str(&line)?;
     }
-    text.push_str("l511: jeq #0,end\nend: ")?;
+    text.push_str("l4095: jeq #0,end\nend: ")?;
     assert_eq!(rt;
         assemble(rt.alloc(), &text).err(),
-        Some(AsmFault::Syntax { line: 513 })
+        Some(AsmFault::Syntax { line: 4_097 })
     );
+    Ok(())
+}
+
+#[test]
+fn each_of_4096_lines_leads_over_255_instructions(rt: HostRuntime) -> Result<(), Fail> {
+    let tests = 4_096 - 256;
+    let mut text = String::new(rt.alloc());
+    for at in 0..tests {
+        let far = at + 256;
+        let line = format!(in rt.alloc(); "l{at}: jeq #{at},l{far}\n")?;
+        text.push_str(&line)?;
+    }
+    for at in tests..4_096 {
+        let line = format!(in rt.alloc(); "l{at}: ret #{at}\n")?;
+        text.push_str(&line)?;
+    }
+    let mut expected = Vec::new(rt.alloc());
+    for at in 0..tests {
+        expected.push(insn(21, 255, 0, at))?;
+    }
+    for at in tests..4_096 {
+        expected.push(insn(6, 0, 0, at))?;
+    }
+    let program = assemble(rt.alloc(), &text)?;
+    assert_eq!(rt; program.as_slice(), expected.as_slice());
     Ok(())
 }
 

@@ -58,23 +58,23 @@ fn returns(k: u32) -> Insn {
 #[test]
 fn the_record_of_the_longest_program_is_written_and_read(rt: HostRuntime) -> Result<(), Fail> {
     let mut insns = Vec::new(rt.alloc());
-    for k in 0..512 {
+    for k in 0..4_096 {
         insns.push(returns(k))?;
     }
     let body = program_body(1, 0, 0, &verify(insns)?);
-    assert_eq!(rt; body.len(), 4_124);
-    let head = "00000000 43425052 0100 0100 00000000 0000000000000000 0002 0000";
+    assert_eq!(rt; body.len(), 32_796);
+    let head = "00000000 43425052 0100 0100 00000000 0000000000000000 0010 0000";
     let head = all_bytes(rt.alloc(), head)?;
     assert_eq!(rt; body.get(..28), Some(head.as_slice()));
-    let last = "06000000 ff010000";
+    let last = "06000000 ff0f0000";
     let last = all_bytes(rt.alloc(), last)?;
-    assert_eq!(rt; body.get(4_116..), Some(last.as_slice()));
+    assert_eq!(rt; body.get(32_788..), Some(last.as_slice()));
     let Some(Record::Program(program)) = decode_record(&body)? else {
         return Err("a program's record")?;
     };
-    assert_eq!(rt; program.count, 512);
-    assert_eq!(rt; program.insn_at(511), Some(returns(511)));
-    assert_eq!(rt; program.insn_at(512), None);
+    assert_eq!(rt; program.count, 4_096);
+    assert_eq!(rt; program.insn_at(4_095), Some(returns(4_095)));
+    assert_eq!(rt; program.insn_at(4_096), None);
     Ok(())
 }
 

@@ -4,9 +4,9 @@ ghost use Rattle.std.specs.Prelude.{◌≤◌, vec_len, vec_capacity};
 
 use super::errors::print_error;
 use super::lines::{Lines, MAX_LINES, Request, request_in};
-use super::programs::{ProgramFault, program_in};
-use bpf_insn::ListingFault;
-use bpf_verify::Verified;
+use super::programs::{ListedFault, insns_in};
+use bpf_insn::{Insn, ListingFault};
+use bpf_verify::verify;
 use cli_streams::Ending;
 use rec_run::{Answer, Change, Control, Told};
 use std::alloc::{AllocFailed, Global};
@@ -239,9 +239,12 @@ fn change_in<R: AllocGlobal + Files>(rt: &R, line: &[u8]) -> Result<Change, Unma
         Ok(request) => request,
         Err(channel) => return Err(Unmade::Refused(channel, Refusal::Line)),
     };
-    let program = match regular_program(rt, file) {
-        Ok(program) => program,
+    let insns = match listed_insns(rt, file) {
+        Ok(insns) => insns,
         Err(fault) => return Err(unmade_by(channel, fault)),
+    };
+    let Ok(program) = verify(insns) else {
+        return Err(Unmade::Refused(channel, Refusal::Program));
     };
     match Arc::new(rt.alloc(), program) {
         Ok(program) => Ok(Change { channel, program }),
@@ -249,25 +252,24 @@ fn change_in<R: AllocGlobal + Files>(rt: &R, line: &[u8]) -> Result<Change, Unma
     }
 }
 
-/// The program that a regular file lists. Another file is refused before it is opened: a pipe would
+/// The instructions that a regular file lists. Another file is refused before it is opened: a pipe would
 /// hold up all later lines, and a channel's own would lose frames. No more is read than the file is
 /// long: a file of the system's own has no length, and may wait as a pipe does.
-fn regular_program<R: AllocGlobal + Files>(rt: &R, file: &str) -> Result<Verified, ProgramFault> {
+fn listed_insns<R: AllocGlobal + Files>(rt: &R, file: &str) -> Result<Vec<Insn>, ListedFault> {
     let found = rt.metadata(file)?;
     if !found.is_file() {
-        return Err(ProgramFault::File(io::Error::from(ErrorKind::InvalidInput)));
+        return Err(ListedFault::File(io::Error::from(ErrorKind::InvalidInput)));
     }
-    program_in(rt.alloc(), &mut fs::open(rt, file)?.take(found.len()))
+    insns_in(rt.alloc(), &mut fs::open(rt, file)?.take(found.len()))
 }
 
-/// What a fault of a program's file comes to.
-fn unmade_by(channel: u16, fault: ProgramFault) -> Unmade {
+/// What a fault of a listing's file comes to.
+fn unmade_by(channel: u16, fault: ListedFault) -> Unmade {
     match fault {
-        ProgramFault::File(error) if error.kind() == ErrorKind::OutOfMemory => Unmade::Memory,
-        ProgramFault::Listing(ListingFault::Memory) => Unmade::Memory,
-        ProgramFault::File(_) => Unmade::Refused(channel, Refusal::File),
-        ProgramFault::Listing(_) => Unmade::Refused(channel, Refusal::Listing),
-        ProgramFault::Refused(_) => Unmade::Refused(channel, Refusal::Program),
+        ListedFault::File(error) if error.kind() == ErrorKind::OutOfMemory => Unmade::Memory,
+        ListedFault::Listing(ListingFault::Memory) => Unmade::Memory,
+        ListedFault::File(_) => Unmade::Refused(channel, Refusal::File),
+        ListedFault::Listing(_) => Unmade::Refused(channel, Refusal::Listing),
     }
 }
 

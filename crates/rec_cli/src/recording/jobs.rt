@@ -3,8 +3,8 @@
 ghost use Rattle.std.specs.Prelude.{◌≡◌, IfOk, None};
 
 use super::closing::ClosingSource;
-use super::programs::{ProgramFault, program_in};
-use bpf_verify::Verified;
+use super::programs::{ListedFault, insns_in};
+use bpf_verify::{Verified, verify};
 use ch11_packet::Limit;
 use cli_streams::{Ending, Inputs};
 use eth_frame::{FeedSource, FrameSource};
@@ -106,10 +106,13 @@ fn program_of<'a, R: AllocGlobal + Files>(
         Err(error) => return Err(Ending::of_named_read(filter, &error)),
     };
     inputs.add(&file)?;
-    match program_in(rt.alloc(), &mut file) {
+    let insns = match insns_in(rt.alloc(), &mut file) {
+        Ok(insns) => insns,
+        Err(ListedFault::File(error)) => return Err(Ending::of_named_read(filter, &error)),
+        Err(ListedFault::Listing(fault)) => return Err(Ending::Listing(fault)),
+    };
+    match verify(insns) {
         Ok(program) => Ok(program),
-        Err(ProgramFault::File(error)) => Err(Ending::of_named_read(filter, &error)),
-        Err(ProgramFault::Listing(fault)) => Err(Ending::Listing(fault)),
-        Err(ProgramFault::Refused(refused)) => Err(Ending::Refused(refused)),
+        Err(refused) => Err(Ending::of_refusal(rt.alloc(), refused)),
     }
 }

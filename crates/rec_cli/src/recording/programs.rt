@@ -1,44 +1,34 @@
-//! The programs of filters, from the files that list them.
+//! The listings of filters, from their files.
 
-use bpf_insn::{ListingFault, parse_listing};
-use bpf_verify::{Refused, Verified, verify};
+use bpf_insn::{Insn, ListingFault, parse_listing};
 use cli_streams::{MAX_LISTING, bounded_text};
 use std::alloc::Global;
 use std::io;
 use std::io::Read;
 
-/// Why a file gives no program.
+/// Why a file lists nothing.
 #[derive(Debug, Drop)]
-pub(super) enum ProgramFault {
+pub(super) enum ListedFault {
     /// It can't be read, is no UTF-8, or is longer than a listing may be.
     File(io::Error),
     /// It has no listing.
     Listing(ListingFault),
-    /// The listed program may not be installed.
-    Refused(Refused),
 }
 
-impl From<io::Error> for ProgramFault {
-    fn from(error: io::Error) -> ProgramFault {
-        ProgramFault::File(error)
+impl From<io::Error> for ListedFault {
+    fn from(error: io::Error) -> ListedFault {
+        ListedFault::File(error)
     }
 }
 
-impl From<ListingFault> for ProgramFault {
-    fn from(fault: ListingFault) -> ProgramFault {
-        ProgramFault::Listing(fault)
+impl From<ListingFault> for ListedFault {
+    fn from(fault: ListingFault) -> ListedFault {
+        ListedFault::Listing(fault)
     }
 }
 
-impl From<Refused> for ProgramFault {
-    fn from(refused: Refused) -> ProgramFault {
-        ProgramFault::Refused(refused)
-    }
-}
-
-/// The program that an open file lists.
-pub(super) fn program_in<F: Read>(alloc: Global, file: &mut F) -> Result<Verified, ProgramFault> {
+/// The instructions that an open file lists.
+pub(super) fn insns_in<F: Read>(alloc: Global, file: &mut F) -> Result<Vec<Insn>, ListedFault> {
     let listing = bounded_text(alloc, MAX_LISTING, file)?;
-    let program = parse_listing(alloc, listing.as_str())?;
-    Ok(verify(program)?)
+    Ok(parse_listing(alloc, listing.as_str())?)
 }

@@ -43,15 +43,15 @@ fn verdicts_agree(rt: HostRuntime) -> Result<(), Fail> {
     Ok(())
 }
 
-/// Programs of returns alone: none is too few, and 513 are too many.
+/// Programs of returns alone: none is too few, and 4,097 are too many.
 #[test]
 fn verdicts_agree_at_the_least_and_greatest_lengths(rt: HostRuntime) -> Result<(), Fail> {
     let alloc = rt.alloc();
     let table = [
         (0, Kind::Empty),
         (1, Kind::Valid),
-        (512, Kind::Valid),
-        (513, Kind::TooLong),
+        (4_096, Kind::Valid),
+        (4_097, Kind::TooLong),
     ];
     for (length, kind) in table {
         let program = vec![in alloc; insn(0x06, 0, 0, 0); length]?;

@@ -1,24 +1,10 @@
-use Rattle.std.proofs.Common.{◌<◌, length, sym, ◌∙◌, arith}
-use Rattle.std.proofs.lemmas.Bool.{eqb-false}
-use Rattle.bpf_verify.proofs.UnsetReads.{valid_or_unset}
+use Rattle.std.proofs.Common.{subst}
+use Rattle.bpf_verify.specs.Flaws.{HasFlaw}
+use Rattle.bpf_verify.specs.declared.flaw.Flaw.TheVariants.{Unset}
+use Rattle.bpf_verify.proofs.WellFormed.{read_below}
 use Rattle.bpf_verify.proofs.verifier.fault_of.Goals as goal
 
-pub unset_read-requires : goal.unset_read-requires
-unset_read-requires c =
-    let some : 0 < length c.args.insns.now = let ne = eqb-false _ _ (sym c.is_empty.ensures ∙ c.if-is_empty.false) in omega (arith, ne) in
-    record {
-      sized = (some, c.if-insns-gt-MAX_INSNS.false);
-      unbroken = c.in_default.ensures.fault;
-      ends = c.ends_with_return.ensures.0 c.if-not-ends_with_return.false;
-    }
-
-pub returns-clause-fault : goal.returns-clause-fault
-returns-clause-fault c =
-    let some : 0 < length c.args.insns.now = let ne = eqb-false _ _ (sym c.is_empty.ensures ∙ c.if-is_empty.false) in omega (arith, ne) in
-    valid_or_unset c.args.insns.now c.unset_read.result
-    (record {
-      sized = (some, c.if-insns-gt-MAX_INSNS.false);
-      unbroken = c.in_default.ensures.fault;
-      ends = c.ends_with_return.ensures.0 c.if-not-ends_with_return.false;
-    })
-    c.unset_read.ensures
+pub path_to-path-requires-clause-word : goal.path_to-path-requires-clause-word
+path_to-path-requires-clause-word c =
+    let unset : HasFlaw c.args.insns.now (Unset c.in-Unset.at c.in-Unset.word) = subst (HasFlaw c.args.insns.now) c.in-Unset.is c.requires in
+    read_below c.args.insns.now c.in-Unset.at c.in-Unset.word unset.0 unset.2

@@ -6,8 +6,8 @@ use Rattle.bpf_verify.proofs.verifier.verify.Goals as goal
 
 pub returns-in-Some-clause-decides : goal.returns-in-Some-clause-decides
 returns-in-Some-clause-decides c =
-    let refused = subst (λ p. Refuses p c.in-Some.fault) c.as_slice.ensures.value c.in-Some.ensures.fault in
-    (λ no. absurd (both_ways _ refl no), λ valid. absurd (refused_not_valid c.args.program.items c.in-Some.fault refused valid))
+    let refused = subst (λ p. Refuses p c.fault_of-fault.result) c.as_slice-insns.ensures.value c.fault_of-fault.ensures in
+    (λ no. absurd (both_ways _ refl no), λ valid. absurd (refused_not_valid c.args.program.items c.fault_of-fault.result refused valid))
 
 pub returns-in-Some-clause-refused : goal.returns-in-Some-clause-refused
-returns-in-Some-clause-refused c = subst (λ p. Refuses p c.in-Some.fault) c.as_slice.ensures.value c.in-Some.ensures.fault
+returns-in-Some-clause-refused c = subst (λ p. Refuses p c.fault_of-fault.result) c.as_slice-insns.ensures.value c.fault_of-fault.ensures

@@ -4,6 +4,7 @@ use Rattle.rec_reader.specs.Packets.{packets_len}
 use Rattle.rec_reader.specs.Reading.{Reads}
 use Rattle.rec_reader.specs.Views.{packet_data}
 use Rattle.rec_reader.proofs.Chains.{rest_within, takes_on, place_is}
+use Rattle.rec_reader.proofs.Extracting.{counts_packet}
 use Rattle.rec_reader.proofs.Feeds.{takes_packet}
 use Rattle.rec_reader.proofs.extract.extract_channel.Goals as goal
 
@@ -30,5 +31,6 @@ packets-preserved g c =
     let more = packets ++ packet ∷ [] in (
       more,
       takes_on packets more _ _ _ _ held (omega (arith, within)) (packet, c.in-Ok.ensures.packet, refl),
-      takes_packet _ _ _ c.args.channel packets packet c.packets.invariant.2 c.in_ok-extract_packet.ensures,
+      takes_packet _ _ _ c.args.channel packets packet c.packets.invariant.2 c.in_ok-extract_packet.ensures.feed,
+      counts_packet _ _ _ c.args.channel packets packet c.packets.invariant.3 c.in_ok-extract_packet.ensures.counts,
     )

@@ -1,7 +1,7 @@
 use Rattle.std.proofs.Common.{◌≡◌, ◌≢◌, ℕ, ◌∷◌, All, arith, refl, ap, sym, subst, ◌∙◌}
 use Rattle.rec_writer.specs.Numbers.{AreDistinct}
 use Rattle.rec_run.specs.Jobs.{channels_of_jobs}
-use Rattle.rec_run.proofs.Judging.{written_of, whole_recording, cut_recording, whole_control}
+use Rattle.rec_run.proofs.Judging.{written_of, passed_fit, whole_recording, cut_recording, whole_control}
 use Rattle.rec_run.proofs.Tying.{recorded_run}
 use Rattle.rec_run.proofs.recording.record.Goals as goal
 
@@ -38,8 +38,9 @@ returns-clause-recorded g c =
     let ended_as = g.S.FrameSource.ending in
     let o = c.in_ok-outcome.outcome in
     let first = g.W.Write.contents c.args.out in
+    let fit = passed_fit c.in_ok-prepared.prepared.items c.args.jobs.items c.args.version c.in_ok-prepared.ensures.jobs (omega arith) in
     let w = written_of left failures ended_as first (record { writer = c.new.result; bytes = 0 }) c.args.version _ c.args.jobs.items o c.new.ensures.stands c.new.ensures.version c.in_ok-prepared.ensures.jobs (c.in_ok-outcome.ensures.joined first) in
-    whole_recording left failures ended_as g.W.Write.contents o c.args.jobs.items first c.args.version w.1 w.0 c.conclude.result c.conclude.ensures.recorded
+    whole_recording left failures ended_as g.W.Write.contents o c.args.jobs.items first c.args.version fit w.1 w.0 c.conclude.result c.conclude.ensures.recorded
 
 pub returns-clause-controlled : goal.returns-clause-controlled
 returns-clause-controlled g c =
@@ -48,9 +49,10 @@ returns-clause-controlled g c =
     let ended_as = g.S.FrameSource.ending in
     let o = c.in_ok-outcome.outcome in
     let first = g.W.Write.contents c.args.out in
+    let fit = passed_fit c.in_ok-prepared.prepared.items c.args.jobs.items c.args.version c.in_ok-prepared.ensures.jobs (omega arith) in
     let w = written_of left failures ended_as first (record { writer = c.new.result; bytes = 0 }) c.args.version _ c.args.jobs.items o c.new.ensures.stands c.new.ensures.version c.in_ok-prepared.ensures.jobs (c.in_ok-outcome.ensures.joined first) in
     let same : c.as_slice-6.result.now ≡ channels_of_jobs c.args.jobs.items = c.as_slice-6.ensures.value ∙ c.channels_of-channels.ensures.channels ∙ ap (λ js. channels_of_jobs js) c.as_slice.ensures.value in
-    whole_control left failures ended_as g.W.Write.contents o c.args.jobs.items first c.args.version w.1 w.0 g.C.Control.given g.C.Control.answered g.C.Control.ended _ c.args.control same c.in_ok-outcome.ensures.control c.conclude.result c.conclude.ensures.controlled
+    whole_control left failures ended_as g.W.Write.contents o c.args.jobs.items first c.args.version fit w.1 w.0 g.C.Control.given g.C.Control.answered g.C.Control.ended _ c.args.control same c.in_ok-outcome.ensures.control c.conclude.result c.conclude.ensures.controlled
 
 pub returns-clause-run : goal.returns-clause-run
 returns-clause-run g c =
@@ -64,5 +66,6 @@ returns-clause-cut g c =
     let ended_as = g.S.FrameSource.ending in
     let o = c.in_ok-outcome.outcome in
     let first = g.W.Write.contents c.args.out in
+    let fit = passed_fit c.in_ok-prepared.prepared.items c.args.jobs.items c.args.version c.in_ok-prepared.ensures.jobs (omega arith) in
     let w = written_of left failures ended_as first (record { writer = c.new.result; bytes = 0 }) c.args.version _ c.args.jobs.items o c.new.ensures.stands c.new.ensures.version c.in_ok-prepared.ensures.jobs (c.in_ok-outcome.ensures.joined first) in
-    cut_recording left failures ended_as g.W.Write.contents o c.args.jobs.items first c.args.version w.1 w.0 c.conclude.result c.conclude.ensures.cut
+    cut_recording left failures ended_as g.W.Write.contents o c.args.jobs.items first c.args.version fit w.1 w.0 c.conclude.result c.conclude.ensures.cut

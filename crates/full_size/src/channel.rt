@@ -1,0 +1,143 @@
+//! What each channel is set to, and the frames that it is fed.
+
+ghost use Rattle.std.specs.Prelude.{◌≤◌};
+
+use ch11_packet::{MAX_ETHERNET_PACKET_LEN, MIN_LIMIT};
+use eth_frame::{MAX_FRAME_LEN, MIN_FRAME_LEN};
+use rec_channel::MAX_VERSIONS;
+use std::alloc::AllocError;
+
+/// The number of the shortest frames that a packet of the greatest limit holds.
+pub(crate) const MOST_IN_PACKET: u32 = 17_475;
+
+/// The number of the longest frames that a packet of the greatest limit holds.
+pub(crate) const LONGEST_IN_PACKET: u32 = 31;
+
+/// The length of a frame's head in a feed.
+const HEAD_LEN: usize = 9;
+
+/// What a channel is fed.
+#[derive(Clone, Copy, Debug, PartialEq, Eq)]
+pub(crate) enum Kind {
+    /// A frame for each version that a channel may have, and some more for the last.
+    Versions,
+    /// Over 100,000 frames.
+    Many,
+    /// The shortest frames: two packets with as many as there can be, and one frame more.
+    Shortest,
+    /// The longest frames.
+    Longest,
+    /// No frame.
+    Silent,
+    /// Frames of all lengths up to 1,500 bytes and more.
+    Varied,
+}
+
+/// A channel.
+#[derive(Clone, Copy, Debug)]
+pub(crate) struct Channel {
+    pub(crate) id: u16,
+    pub(crate) kind: Kind,
+    pub(crate) limit: u32,
+}
+
+impl Channel {
+    /// The channel at this index among all.
+    pub(crate) fn at(index: u16) -> Channel {
+        let (kind, limit) = match index {
+            0 => (Kind::Versions, MIN_LIMIT),
+            1 => (Kind::Many, MIN_LIMIT),
+            2 => (Kind::Shortest, MAX_ETHERNET_PACKET_LEN),
+            3 => (Kind::Longest, MAX_ETHERNET_PACKET_LEN),
+            4 => (Kind::Silent, MIN_LIMIT),
+            _ if index % 2 == 0 => (Kind::Varied, MIN_LIMIT),
+            _ => (Kind::Varied, MAX_ETHERNET_PACKET_LEN),
+        };
+        Channel {
+            id: index.wrapping_mul(1_040).wrapping_add(1),
+            kind,
+            limit,
+        }
+    }
+
+    /// How many frames it is fed.
+    pub(crate) fn frames(self) -> u32 {
+        match self.kind {
+            Kind::Versions => MAX_VERSIONS as u32 + 76,
+            Kind::Many => 100_001,
+            Kind::Shortest => 2 * MOST_IN_PACKET + 1,
+            Kind::Longest => 3 * LONGEST_IN_PACKET + 7,
+            Kind::Silent => 0,
+            Kind::Varied => 500,
+        }
+    }
+
+    /// How many programs it has.
+    pub(crate) fn versions(self) -> u32 {
+        match self.kind {
+            Kind::Versions => MAX_VERSIONS as u32,
+            _ => 1,
+        }
+    }
+
+    /// The version that the frame of this number meets.
+    pub(crate) fn version_at(self, number: u32) -> u32 {
+        number.min(self.versions().saturating_sub(1))
+    }
+
+    /// Whether the program in force accepts the frame of this number.
+    pub(crate) fn accepts(self, number: u32) -> bool {
+        match self.kind {
+            Kind::Versions => is_keeping(self.version_at(number)),
+            Kind::Many => (self.frame_len(number) - 4) % 3 != 0,
+            Kind::Varied => number % 2 == 1,
+            Kind::Shortest | Kind::Longest | Kind::Silent => true,
+        }
+    }
+
+    /// How many frames its programs accept.
+    pub(crate) fn kept(self) -> u64 {
+        (0..self.frames())
+            .filter(|number| self.accepts(*number))
+            .count() as u64
+    }
+
+    /// The length of the frame of this number.
+    fn frame_len(self, number: u32) -> u16
+        ensures { MIN_FRAME_LEN ≤ result }
+    {
+        let more = match self.kind {
+            Kind::Shortest | Kind::Silent => 0,
+            Kind::Longest => MAX_FRAME_LEN as u16 - MIN_FRAME_LEN as u16,
+            Kind::Versions | Kind::Many => (number % 23) as u16,
+            Kind::Varied => (u64::from(number) * 37 % 1_500) as u16,
+        };
+        MIN_FRAME_LEN as u16 + more
+    }
+
+    /// Adds the record of the frame of this number to a feed. Its counter is its number, its marks
+    /// are the number's two lowest bits, and its first byte is its lowest byte.
+    pub(crate) fn push_record(self, number: u32, feed: &mut Vec<u8>) -> Result<(), AllocError> {
+        let len = self.frame_len(number);
+        let [low, ..] = number.to_le_bytes();
+        feed.extend_from_slice(&number.to_le_bytes())?;
+        feed.extend_from_slice(&[0, 0, low & 3])?;
+        feed.extend_from_slice(&len.to_le_bytes())?;
+        let mut byte = low;
+        for _ in 0..len {
+            feed.push(byte)?;
+            byte = byte.wrapping_add(37);
+        }
+        Ok(())
+    }
+}
+
+/// Whether this version of a channel with many accepts each frame; the others drop each.
+pub(crate) fn is_keeping(version: u32) -> bool {
+    version % 3 != 2
+}
+
+/// The frame's bytes in its record.
+pub(crate) fn bytes_in(record: &[u8]) -> &[u8] {
+    record.get(HEAD_LEN..).unwrap_or(&[])
+}

@@ -1,0 +1,70 @@
+//! The filters of the channels.
+
+use crate::channel::{Kind, is_keeping};
+use anyhow::{Context, Result};
+use bpf_insn::{Insn, MAX_INSNS, parse_listing};
+use bpf_verify::{Verified, verify};
+use std::alloc::Global;
+use std::sync::Arc;
+
+/// Accepts each frame.
+const KEEPS: &str = "1,6 0 0 1,";
+
+/// Drops each frame.
+const DROPS: &str = "1,6 0 0 0,";
+
+/// Accepts a frame whose view's length is no multiple of 3.
+const BY_LENGTH: &str = "3,128 0 0 0,148 0 0 3,22 0 0 0,";
+
+/// Accepts a frame whose first byte is odd.
+const BY_FIRST_BYTE: &str = "4,48 0 0 0,69 0 1 1,6 0 0 1,6 0 0 0,";
+
+/// The version that has the greatest program, which accepts each frame.
+const GREATEST: u32 = 700;
+
+/// The first program of a channel.
+pub(crate) fn first_program(alloc: Global, kind: Kind) -> Result<Arc<Verified, Global>> {
+    match kind {
+        Kind::Versions => version(alloc, 0),
+        Kind::Many => listed(alloc, BY_LENGTH),
+        Kind::Varied => listed(alloc, BY_FIRST_BYTE),
+        Kind::Shortest | Kind::Longest | Kind::Silent => listed(alloc, KEEPS),
+    }
+}
+
+/// The program of a version of a channel with many.
+pub(crate) fn version(alloc: Global, version: u32) -> Result<Arc<Verified, Global>> {
+    if version == GREATEST {
+        return verified(alloc, greatest(alloc)?);
+    }
+    listed(alloc, if is_keeping(version) { KEEPS } else { DROPS })
+}
+
+/// A program with as many instructions as there may be: loads of 1, and a return of it.
+fn greatest(alloc: Global) -> Result<Vec<Insn>> {
+    let mut insns = Vec::new(alloc);
+    for _ in 1..MAX_INSNS {
+        insns.push(Insn {
+            code: 0,
+            jt: 0,
+            jf: 0,
+            k: 1,
+        })?;
+    }
+    insns.push(Insn {
+        code: 22,
+        jt: 0,
+        jf: 0,
+        k: 0,
+    })?;
+    Ok(insns)
+}
+
+fn listed(alloc: Global, listing: &str) -> Result<Arc<Verified, Global>> {
+    verified(alloc, parse_listing(alloc, listing)?)
+}
+
+fn verified(alloc: Global, insns: Vec<Insn>) -> Result<Arc<Verified, Global>> {
+    let program = verify(insns).ok().context("a valid program")?;
+    Ok(Arc::new(alloc, program)?)
+}
