@@ -1,0 +1,216 @@
+#!/usr/bin/env python3
+"""Times recordings from an interface beside dumpcap and tcpdump, and feeds that are made of a capture file.
+
+usage: bench/wire.py [--frames N] [--rounds N] [--part wire|files]
+
+It makes a network namespace with a pair of virtual interfaces, sends frames of 64, 300 and 1,500 bytes into
+one of them as fast as bin/send_frames can, and records what the other receives: by tools/live, with a filter
+that keeps all and one that keeps a 32nd, and by `dumpcap -w` and `tcpdump -w`, which take all or have the
+kernel drop what the same filter drops. Each has 64 MiB of the kernel's buffer. Then it makes a feed of a
+capture of as many frames, by tools/feed and by `capture -r`.
+
+It prints tables for RESULTS.md, with the machine's load. It wants root, bin/bpfrec and bin/capture (make
+build), bin/send_frames (make bin/send_frames), and Debian's iproute2, tcpdump and wireshark-common. Files go
+to TMPDIR: in memory (TMPDIR=/dev/shm) no disk is measured with it.
+"""
+import argparse
+import array
+import fcntl
+import os
+import re
+import shutil
+import signal
+import socket
+import statistics
+import struct
+import subprocess
+import sys
+import tempfile
+import time
+from pathlib import Path
+
+ROOT = Path(__file__).resolve().parent.parent
+LIVE, FEED, CAPTURE, SENDER = (ROOT / it for it in ("tools/live", "tools/feed", "bin/capture", "bin/send_frames"))
+WANTED = {"ip": "iproute2", "tcpdump": "tcpdump", "dumpcap": "wireshark-common"}
+INSIDE = "BPFREC_WIRE_INSIDE"
+LENGTHS = (64, 300, 1_500)
+FILTERS = {"all": "1,6 0 0 4294967295,", "port": "4,40 0 0 36,21 0 1 53,6 0 0 4294967295,6 0 0 0,"}
+EXPRESSIONS = {"all": [], "port": ["udp[2:2] = 53"]}
+KEPT_SHARE = {"all": "all", "port": "3 %"}
+BUFFER_MIB = 64
+PATIENCE = 120
+
+# ---- the namespace
+
+
+def run(*words):
+    return subprocess.run([str(it) for it in words], check=True, capture_output=True, text=True).stdout
+
+
+def turn_offloads_off(interface):
+    """What `ethtool -K INTERFACE tso off gso off gro off` does: no frames are joined."""
+    with socket.socket(socket.AF_INET, socket.SOCK_DGRAM) as asked:
+        for command in (0x1F, 0x24, 0x2C):
+            value = array.array("I", [command, 0])
+            fcntl.ioctl(asked, 0x8946, struct.pack("16sP16x", interface.encode(), value.buffer_info()[0]))
+
+
+def make_pair():
+    run("ip", "link", "set", "lo", "up")
+    run("ip", "link", "add", "tx0", "type", "veth", "peer", "name", "rx0")
+    for interface in ("tx0", "rx0"):
+        quiet = Path(f"/proc/sys/net/ipv6/conf/{interface}/disable_ipv6")
+        if quiet.exists():
+            quiet.write_text("1")
+        turn_offloads_off(interface)
+        run("ip", "link", "set", interface, "up")
+    time.sleep(0.5)
+
+
+# ---- recordings
+
+
+def commands(work):
+    """What records, by the name of the program and of the filter: its words, and what it says once it is ready."""
+    made = {}
+    for name in FILTERS:
+        (work / name).write_text(FILTERS[name])
+        (work / f"{name}.toml").write_text(f'[[channel]]\nid = 1\nfilter = "{work / name}"\n')
+        live = [LIVE, "--quiet", "--buffer", BUFFER_MIB, work / f"{name}.toml", work / "out", "rx0=1"]
+        expression = EXPRESSIONS[name]
+        dumpcap = ["dumpcap", "-q", "-i", "rx0", "-B", BUFFER_MIB, *(["-f", *expression] if expression else []), "-w", work / "out"]
+        tcpdump = ["tcpdump", "-Z", "root", "-n", "-i", "rx0", "-B", BUFFER_MIB * 1024, "-w", work / "out", *expression]
+        made["tools/live", name] = live, "origin"
+        made["dumpcap", name] = dumpcap, "File: "
+        made["tcpdump", name] = tcpdump, "listening on"
+    return made
+
+
+def counts_of(program, told, printed):
+    """How many frames a program recorded, and how many the kernel dropped, by its own words."""
+    if program == "tools/live":
+        dropped = re.search(r"rx0 frames \d+ bytes \d+ dropped (\d+)", told)
+        kept = re.search(r"channel 1 versions 1 offered \d+ kept (\d+)", printed)
+    elif program == "dumpcap":
+        kept, dropped = re.search(r"Packets captured: (\d+)", told), re.search(r"on interface '.*': \d+/(\d+)", told)
+    else:
+        kept, dropped = re.search(r"(\d+) packets? captured", told), re.search(r"(\d+) packets? dropped by kernel", told)
+    if not kept or not dropped:
+        sys.exit(f"{program} told {told}{printed}")
+    return int(kept[1]), int(dropped[1])
+
+
+def record_once(work, program, words, ready, length, frames):
+    """A recording: seconds of the sender, seconds until all was recorded, of processors, frames kept and dropped."""
+    with open(work / "told", "w+") as told, open(work / "printed", "w+") as printed:
+        recorder = subprocess.Popen([str(it) for it in words], stdin=subprocess.DEVNULL, stdout=printed, stderr=told,
+                                    start_new_session=True)
+        end = time.monotonic() + PATIENCE
+        while ready not in (work / "told").read_text() and time.monotonic() < end:
+            time.sleep(0.01)
+        time.sleep(0.5)
+        begin = time.monotonic()
+        sending = float(run(SENDER, "tx0", length, frames).split()[1])
+        # dumpcap and tcpdump leave what the kernel holds when they are told to end, so they get time to take it.
+        if program != "tools/live":
+            time.sleep(1)
+        os.killpg(recorder.pid, signal.SIGINT)
+        _, status, used = os.wait4(recorder.pid, 0)
+        spent = time.monotonic() - begin
+        recorder.returncode = status
+        texts = [(work / it).read_text() for it in ("told", "printed")]
+    kept, dropped = counts_of(program, *texts)
+    return sending, spent, used.ru_utime + used.ru_stime, kept, dropped
+
+
+def time_wire(work, frames, rounds):
+    made = commands(work)
+    print("| Bytes | Program | Keeps | Frames sent a second | Taken a second | Dropped by the kernel | least, greatest "
+          "| Processor, ns a frame |\n|---|---|---|---|---|---|---|---|")
+    for length in LENGTHS:
+        runs = {key: [] for key in made}
+        for _ in range(rounds):
+            for key, (words, ready) in made.items():
+                runs[key].append(record_once(work, key[0], words, ready, length, frames))
+        for (program, name), done in runs.items():
+            sent = statistics.median(frames / it[0] for it in done)
+            taken = statistics.median((frames - it[4]) / it[0] for it in done)
+            drops = [it[4] for it in done]
+            processors = statistics.median(1e9 * it[2] / frames for it in done)
+            print(f"| {length} | {program} | {KEPT_SHARE[name]} | {sent:,.0f} | {taken:,.0f} | {statistics.median(drops):,.0f} "
+                  f"| {min(drops):,}, {max(drops):,} | {processors:,.0f} |", flush=True)
+    print(f"\nLoad: {os.getloadavg()[0]:.1f} on {os.cpu_count()} processors")
+
+
+# ---- files
+
+
+def write_capture(path, length, frames):
+    """A capture of numbered frames without their check sequences."""
+    head = bytes.fromhex("020000000002 020000000001 88b5")
+    with open(path, "wb", buffering=1 << 20) as capture:
+        capture.write(struct.pack("<IHHiIII", 0xA1B23C4D, 2, 4, 0, 0, 262_144, 1))
+        for number in range(frames):
+            frame = head + number.to_bytes(8, "big") + bytes(length - 4 - 22)
+            capture.write(struct.pack("<IIII", number // 1_000_000, number % 1_000_000 * 1_000, len(frame), len(frame)) + frame)
+
+
+def time_files(work, frames, rounds):
+    print("| Bytes | Program | Frames a second | Processor, ns a frame | MB/s |\n|---|---|---|---|---|")
+    for length in LENGTHS:
+        capture, feed = work / "capture.pcap", work / "made.feed"
+        write_capture(capture, length, frames)
+        programs = {"capture -r": [CAPTURE, "-r", f"{capture}={feed}"], "tools/feed": [FEED, "from-pcap", capture, feed]}
+        runs = {name: [] for name in programs}
+        for _ in range(rounds):
+            for name, words in programs.items():
+                begin = time.monotonic()
+                done = subprocess.Popen([str(it) for it in words], stdout=subprocess.DEVNULL, stderr=subprocess.DEVNULL)
+                _, status, used = os.wait4(done.pid, 0)
+                done.returncode = status
+                runs[name].append((time.monotonic() - begin, used.ru_utime + used.ru_stime))
+        for name, done in runs.items():
+            seconds, processors = (statistics.median(it[at] for it in done) for at in (0, 1))
+            print(f"| {length} | {name} | {frames / seconds:,.0f} | {1e9 * processors / frames:,.0f} "
+                  f"| {capture.stat().st_size / seconds / 1e6:,.0f} |", flush=True)
+    print(f"\nLoad: {os.getloadavg()[0]:.1f} on {os.cpu_count()} processors")
+
+
+# ---- words
+
+
+def missing():
+    found = [str(it.relative_to(ROOT)) for it in (ROOT / "bin/bpfrec", CAPTURE, SENDER) if not it.exists()]
+    packages = sorted({package for program, package in WANTED.items() if not shutil.which(program)})
+    found += [f"apt-get install {' '.join(packages)}"] if packages else []
+    return found + (["root"] if os.geteuid() != 0 else [])
+
+
+def main():
+    parser = argparse.ArgumentParser(description=__doc__, formatter_class=argparse.RawDescriptionHelpFormatter)
+    parser.add_argument("--frames", type=int, default=1_000_000)
+    parser.add_argument("--rounds", type=int, default=5)
+    parser.add_argument("--part", choices=["wire", "files"])
+    words = parser.parse_args()
+    if not os.environ.get(INSIDE):
+        if missing():
+            print(f"bench/wire.py wants {', '.join(missing())}", file=sys.stderr)
+            return 2
+        name = f"bpfrec_wire_{os.getpid()}"
+        run("ip", "netns", "add", name)
+        try:
+            again = ["ip", "netns", "exec", name, sys.executable, __file__, *sys.argv[1:]]
+            return subprocess.run(again, env={**os.environ, INSIDE: "1"}).returncode
+        finally:
+            run("ip", "netns", "del", name)
+    with tempfile.TemporaryDirectory() as folder:
+        if words.part in (None, "wire"):
+            make_pair()
+            time_wire(Path(folder), words.frames, words.rounds)
+        if words.part in (None, "files"):
+            time_files(Path(folder), words.frames, words.rounds)
+    return 0
+
+
+if __name__ == "__main__":
+    sys.exit(main())

@@ -1,0 +1,81 @@
+#include "adapter.h"
+
+#include <linux/ethtool.h>
+#include <linux/sockios.h>
+#include <net/if.h>
+#include <stddef.h>
+#include <stdint.h>
+#include <stdio.h>
+#include <stdlib.h>
+#include <string.h>
+#include <sys/ioctl.h>
+#include <sys/socket.h>
+#include <unistd.h>
+
+enum { FEATURES_A_BLOCK = 32 };
+
+static const char *const JOINING[] = {"rx-gro", "rx-lro", "rx-gro-hw", "tx-generic-segmentation", "tx-tcp-segmentation"};
+
+static int ask(int socket, const char *interface, void *question)
+{
+    struct ifreq request = {0};
+    snprintf(request.ifr_name, sizeof request.ifr_name, "%s", interface);
+    request.ifr_data = question;
+    return ioctl(socket, SIOCETHTOOL, &request);
+}
+
+/* How many features the kernel knows. */
+static uint32_t count_features(int socket, const char *interface)
+{
+    union {
+        struct ethtool_sset_info info;
+        unsigned char room[sizeof(struct ethtool_sset_info) + sizeof(uint32_t)];
+    } sets = {.info = {.cmd = ETHTOOL_GSSET_INFO, .sset_mask = 1ULL << ETH_SS_FEATURES}};
+    uint32_t count = 0;
+    if (ask(socket, interface, &sets) == 0 && sets.info.sset_mask != 0)
+        memcpy(&count, sets.room + sizeof(struct ethtool_sset_info), sizeof count);
+    return count;
+}
+
+static void note(struct adapter *adapter, const char *name)
+{
+    if (strcmp(name, "rx-fcs") == 0)
+        adapter->gives_check_sequences = 1;
+    for (size_t i = 0; i < sizeof JOINING / sizeof *JOINING; i++) {
+        size_t len = strlen(adapter->joining);
+        if (strcmp(name, JOINING[i]) == 0)
+            snprintf(adapter->joining + len, JOINING_LEN - len, "%s%s", len ? ", " : "", name);
+    }
+}
+
+static void ask_features(int socket, const char *interface, uint32_t count, struct adapter *adapter)
+{
+    uint32_t blocks = (count + FEATURES_A_BLOCK - 1) / FEATURES_A_BLOCK;
+    struct ethtool_gstrings *names = calloc(1, sizeof *names + (size_t)count * ETH_GSTRING_LEN);
+    struct ethtool_gfeatures *features = calloc(1, sizeof *features + blocks * sizeof features->features[0]);
+    if (names != NULL && features != NULL) {
+        *names = (struct ethtool_gstrings){.cmd = ETHTOOL_GSTRINGS, .string_set = ETH_SS_FEATURES, .len = count};
+        *features = (struct ethtool_gfeatures){.cmd = ETHTOOL_GFEATURES, .size = blocks};
+        if (ask(socket, interface, names) == 0 && ask(socket, interface, features) == 0)
+            for (uint32_t at = 0; at < count; at++) {
+                char name[ETH_GSTRING_LEN + 1] = {0};
+                memcpy(name, names->data + (size_t)at * ETH_GSTRING_LEN, ETH_GSTRING_LEN);
+                if (features->features[at / FEATURES_A_BLOCK].active >> at % FEATURES_A_BLOCK & 1)
+                    note(adapter, name);
+            }
+    }
+    free(names);
+    free(features);
+}
+
+void ask_adapter(const char *interface, struct adapter *adapter)
+{
+    int socket_fd = socket(AF_INET, SOCK_DGRAM | SOCK_CLOEXEC, 0);
+    *adapter = (struct adapter){0};
+    if (socket_fd < 0)
+        return;
+    uint32_t count = count_features(socket_fd, interface);
+    if (count > 0)
+        ask_features(socket_fd, interface, count, adapter);
+    close(socket_fd);
+}

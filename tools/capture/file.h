@@ -1,0 +1,56 @@
+/* Capture files: classic pcap (draft-ietf-opsawg-pcap) and pcapng (draft-ietf-opsawg-pcapng), frame by frame. */
+#ifndef FILE_H
+#define FILE_H
+
+#include "feed.h"
+#include "moment.h"
+
+#include <stdint.h>
+
+enum { FAULT_LEN = 160, EVERY_INTERFACE = -1 };
+
+/* An interface of a section, as its description says. */
+struct described {
+    uint16_t link_type;
+    uint32_t most_captured; /* 0 where nothing is cut */
+    uint64_t units_per_second; /* 0 where the resolution is one that isn't read */
+    unsigned resolution;
+    int64_t seconds_before;
+    unsigned check_sequence_len;
+};
+
+struct file {
+    const char *path;
+    int fd;
+    int waits;    /* whether it is no regular file, so a read of it may wait */
+    int chosen;   /* the number of the interface whose frames are read, or EVERY_INTERFACE */
+    int is_found; /* whether some section has the chosen interface */
+    int is_big_endian;
+    int is_classic;
+    uint32_t nanoseconds_per_unit;
+    struct described *interfaces;
+    uint32_t count, room;
+    unsigned char *bytes;
+    size_t begin, end, size;
+    uint64_t at; /* the place in the file of the byte at `begin` */
+    void (*before_waiting)(void *); /* called before a read that may wait */
+    void *told;
+    char fault[FAULT_LEN]; /* what is wrong, where a call says so */
+};
+
+/* A frame of a file; a simple packet block has no time. */
+struct found {
+    struct captured captured;
+    int has_time;
+    nanoseconds moment;
+};
+
+/* Opens a file, where `-` is standard input, and reads its head. Whether it is a capture. */
+int open_file(struct file *file, const char *path, int chosen);
+
+/* Reads the next frame, whose bytes stay until the next call: 1, or 0 at the end, or -1 at a fault. */
+int next_found(struct file *file, struct found *found);
+
+void close_file(struct file *file);
+
+#endif

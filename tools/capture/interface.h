@@ -1,0 +1,38 @@
+/* An interface whose frames become a feed, by libpcap. */
+#ifndef INTERFACE_H
+#define INTERFACE_H
+
+#include "feed.h"
+#include "moment.h"
+#include "words.h"
+
+#include <pcap/pcap.h>
+
+struct interface {
+    const char *name;
+    const char *path;
+    const struct words *words;
+    pcap_t *pcap;
+    unsigned number; /* the kernel's */
+    int has_check_sequences;
+    int nanoseconds_per_unit;
+    struct feed feed;
+    struct pcap_stat drops;
+    int64_t next_told;
+    int taken; /* frames since the last wait */
+    int is_detached;
+    int is_down;
+    int is_gone;
+};
+
+/* Begins to capture an interface's frames, which the kernel keeps until they are taken. Whether it could;
+ * else a line has said why not. */
+int open_interface(struct interface *interface, const char *name, const char *path, const struct words *words);
+
+/* Writes the frames into the feed until the run is stopped or the feed or the interface is gone, and tells the counts. */
+void run_interface(struct interface *interface);
+
+/* Whether the interface ended as it should. */
+int is_well(const struct interface *interface);
+
+#endif

@@ -1,0 +1,117 @@
+#define _GNU_SOURCE
+#include "moment.h"
+
+#include <inttypes.h>
+#include <stdio.h>
+#include <string.h>
+#include <time.h>
+
+enum { COUNTER_BITS = 48, MOST_SECOND_DIGITS = 10, MOST_FRACTION_DIGITS = 9 };
+
+/* Reads so many digits at least and at most, and returns how many there were; 0 where they are too few or too many. */
+static int digits(const char *text, int least, int most, int64_t *value)
+{
+    int count = 0;
+    for (*value = 0; text[count] >= '0' && text[count] <= '9'; count++) {
+        if (count == most)
+            return 0;
+        *value = *value * 10 + (text[count] - '0');
+    }
+    return count >= least ? count : 0;
+}
+
+/* Reads what follows a second: nothing, or a point and its fraction. Whether only `end` follows. */
+static int fraction(const char *text, const char *end, int64_t *value)
+{
+    *value = 0;
+    if (*text == '.') {
+        int count = digits(text + 1, 1, MOST_FRACTION_DIGITS, value);
+        if (count == 0)
+            return 0;
+        text += 1 + count;
+        for (; count < MOST_FRACTION_DIGITS; count++)
+            *value *= 10;
+    }
+    return strcmp(text, end) == 0;
+}
+
+/* Reads a number of two or four digits and the sign after it. */
+static const char *field(const char *text, int width, char sign, int *value)
+{
+    int64_t number;
+    if (text == NULL || digits(text, width, width, &number) != width || (sign != 0 && text[width] != sign))
+        return NULL;
+    *value = (int)number;
+    return text + width + (sign != 0);
+}
+
+/* Reads a date and a time of day in UTC. */
+static int calendar(const char *text, nanoseconds *at)
+{
+    struct tm day = {0}, back;
+    int64_t rest;
+    text = field(text, 4, '-', &day.tm_year);
+    text = field(text, 2, '-', &day.tm_mon);
+    text = field(text, 2, 'T', &day.tm_mday);
+    text = field(text, 2, ':', &day.tm_hour);
+    text = field(text, 2, ':', &day.tm_min);
+    text = field(text, 2, 0, &day.tm_sec);
+    if (text == NULL || !fraction(text, "Z", &rest))
+        return 0;
+    day.tm_year -= 1900;
+    day.tm_mon -= 1;
+    struct tm given = day;
+    time_t seconds = timegm(&day);
+    /* A day that no month has becomes one of the next. */
+    if (gmtime_r(&seconds, &back) == NULL || back.tm_mday != given.tm_mday || back.tm_hour != given.tm_hour ||
+        back.tm_min != given.tm_min || back.tm_sec != given.tm_sec || back.tm_mon != given.tm_mon || seconds < 0)
+        return 0;
+    *at = (nanoseconds)seconds * NANOSECONDS_PER_SECOND + rest;
+    return 1;
+}
+
+int origin_of(const char *word, struct origin *origin)
+{
+    *origin = (struct origin){0, 0};
+    if (strcmp(word, "zero") == 0)
+        return 1;
+    if (strcmp(word, "first") == 0) {
+        origin->is_first_frame = 1;
+        return 1;
+    }
+    if (strcmp(word, "now") == 0) {
+        struct timespec now;
+        clock_gettime(CLOCK_REALTIME, &now);
+        nanoseconds at = (nanoseconds)now.tv_sec * NANOSECONDS_PER_SECOND + now.tv_nsec;
+        origin->at = at - at % NANOSECONDS_PER_TICK;
+        return 1;
+    }
+    int64_t seconds, rest;
+    int count = digits(word, 1, MOST_SECOND_DIGITS, &seconds);
+    if (count > 0 && fraction(word + count, "", &rest)) {
+        origin->at = (nanoseconds)seconds * NANOSECONDS_PER_SECOND + rest;
+        return 1;
+    }
+    return calendar(word, &origin->at);
+}
+
+uint64_t counter_at(nanoseconds moment, const struct origin *origin)
+{
+    nanoseconds since = moment - origin->at;
+    nanoseconds ticks = since / NANOSECONDS_PER_TICK - (since % NANOSECONDS_PER_TICK < 0);
+    return (uint64_t)ticks & (((uint64_t)1 << COUNTER_BITS) - 1);
+}
+
+void print_origin(const struct origin *origin, char *text)
+{
+    int64_t seconds = (int64_t)(origin->at / NANOSECONDS_PER_SECOND);
+    int64_t rest = (int64_t)(origin->at % NANOSECONDS_PER_SECOND);
+    snprintf(text, ORIGIN_TEXT_LEN, "%" PRId64 ".%09" PRId64, seconds, rest);
+}
+
+int64_t steady_now(void)
+{
+    struct timespec now;
+    clock_gettime(CLOCK_MONOTONIC, &now);
+    return (int64_t)now.tv_sec * NANOSECONDS_PER_SECOND + now.tv_nsec;
+}

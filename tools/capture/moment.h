@@ -1,0 +1,31 @@
+/* Moments of the wall clock, and the counters that they become. */
+#ifndef MOMENT_H
+#define MOMENT_H
+
+#include <stdint.h>
+
+/* Nanoseconds since 1970-01-01, as wide as the times of any capture file. */
+typedef __int128 nanoseconds;
+
+enum { NANOSECONDS_PER_TICK = 100, NANOSECONDS_PER_SECOND = 1000000000 };
+
+/* The moment at which the counter is 0; the first frame of a file, until that is known. */
+struct origin {
+    int is_first_frame;
+    nanoseconds at;
+};
+
+/* Reads `now`, `zero` (1970-01-01), `first`, seconds since 1970 or `2026-03-01T12:00:00.5Z`; whether it is one. */
+int origin_of(const char *word, struct origin *origin);
+
+/* The 48 bits of the 10 MHz relative time counter at a moment. */
+uint64_t counter_at(nanoseconds moment, const struct origin *origin);
+
+/* An origin as `origin_of` reads it, in seconds; `text` has room for ORIGIN_TEXT_LEN bytes. */
+enum { ORIGIN_TEXT_LEN = 48 };
+void print_origin(const struct origin *origin, char *text);
+
+/* A clock that never goes back, in nanoseconds. */
+int64_t steady_now(void);
+
+#endif

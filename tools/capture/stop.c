@@ -1,0 +1,69 @@
+#define _GNU_SOURCE
+#include "stop.h"
+#include "moment.h"
+
+#include <poll.h>
+#include <pthread.h>
+#include <signal.h>
+#include <stdatomic.h>
+#include <sys/signalfd.h>
+#include <unistd.h>
+
+int stop_fd = -1, hurry_fd = -1;
+
+static int stop_writer = -1, hurry_writer = -1, signals = -1;
+static atomic_int stopping, hurried;
+/* A signal that comes twice within this time is one: a terminal and a script may send the same. */
+static const int64_t ONE_SIGNAL = NANOSECONDS_PER_SECOND;
+
+int is_stopping(void)
+{
+    return atomic_load_explicit(&stopping, memory_order_relaxed);
+}
+
+int is_hurried(void)
+{
+    return atomic_load_explicit(&hurried, memory_order_relaxed);
+}
+
+int prepare_stop(void)
+{
+    sigset_t set;
+    int stop[2], hurry[2];
+    sigemptyset(&set);
+    sigaddset(&set, SIGINT);
+    sigaddset(&set, SIGTERM);
+    sigaddset(&set, SIGHUP);
+    signal(SIGPIPE, SIG_IGN);
+    /* A job in the background may have been started with one of them ignored. */
+    signal(SIGINT, SIG_DFL);
+    signal(SIGTERM, SIG_DFL);
+    signal(SIGHUP, SIG_DFL);
+    if (pthread_sigmask(SIG_BLOCK, &set, NULL) != 0 || pipe(stop) != 0 || pipe(hurry) != 0)
+        return 0;
+    stop_fd = stop[0];
+    stop_writer = stop[1];
+    hurry_fd = hurry[0];
+    hurry_writer = hurry[1];
+    signals = signalfd(-1, &set, SFD_CLOEXEC);
+    return signals >= 0;
+}
+
+void serve_signals(int ended_fd)
+{
+    struct pollfd waits[2] = {{.fd = signals, .events = POLLIN}, {.fd = ended_fd}};
+    int64_t first = 0;
+    while (waits[1].revents == 0) {
+        struct signalfd_siginfo told;
+        if (poll(waits, 2, -1) <= 0 || waits[0].revents == 0 || read(signals, &told, sizeof told) <= 0)
+            continue;
+        if (!is_stopping()) {
+            first = steady_now();
+            atomic_store(&stopping, 1);
+            close(stop_writer);
+        } else if (!is_hurried() && steady_now() - first > ONE_SIGNAL) {
+            atomic_store(&hurried, 1);
+            close(hurry_writer);
+        }
+    }
+}

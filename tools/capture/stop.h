@@ -1,0 +1,17 @@
+/* How a run is ended: asked once, each thread writes what it has; asked again later, it waits for nobody. */
+#ifndef STOP_H
+#define STOP_H
+
+/* Ends that can be polled: each is readable (hung up) once the run is to end, or to end at once. */
+extern int stop_fd, hurry_fd;
+
+/* Makes these ends and keeps INT, TERM and HUP from all threads that start later; whether it could. */
+int prepare_stop(void);
+
+int is_stopping(void);
+int is_hurried(void);
+
+/* Serves the signals until `ended_fd` is hung up, which the last thread closes. */
+void serve_signals(int ended_fd);
+
+#endif

@@ -1,0 +1,171 @@
+#define _GNU_SOURCE
+#include "words.h"
+#include "file.h"
+
+#include <getopt.h>
+#include <stdarg.h>
+#include <stdio.h>
+#include <stdlib.h>
+#include <string.h>
+#include <unistd.h>
+
+enum { LEAST_BUFFER = 1, MOST_BUFFER = 2047, MOST_INTERFACE = 65535, LINE_LEN = 512 };
+
+static const char USAGE[] =
+    "usage: capture [OPTION..] INTERFACE=PIPE..\n"
+    "       capture [OPTION..] -r FILE=FEED..\n"
+    "\n"
+    "Makes feeds for bpfrec of the frames of interfaces, as they come, or of capture files (pcap or pcapng).\n"
+    "A PIPE is a named pipe, which is waited for until it has a reader, or a file; - is standard output, and\n"
+    "as FILE standard input. INT, TERM and HUP end it: what the kernel still holds is written; a second\n"
+    "signal, a second later or more, ends it at once.\n"
+    "\n"
+    "  --origin WHEN          the moment at which counters are 0: now (of interfaces, by itself), zero\n"
+    "                         (1970-01-01), first (of files, by itself: their first frame), or a time, as\n"
+    "                         1764590400.25 or 2025-12-01T12:00:00.25Z\n"
+    "  --buffer MIB           what the kernel keeps of an interface's frames at most: 1 to 2047, by itself 64\n"
+    "  --direction WHICH      both (by itself), in, or out: the frames that the host sends\n"
+    "  --no-promiscuous       only frames that are meant for the host\n"
+    "  --clock WHICH          host (by itself) or adapter: whose time frames have\n"
+    "  --check-sequence WHICH given, missing, or adapter (by itself): whether frames come with their check\n"
+    "                         sequences. Missing ones are computed, wrong ones marked\n"
+    "  --interface N          of a pcapng file the frames of each section's interface N, from 0 on\n"
+    "  --quiet                no lines each second\n"
+    "\n"
+    "Once a second and at the end a line on standard error for each interface: the frames and bytes of its\n"
+    "feed, the frames that the kernel dropped and that the interface missed, those that were passed (cut\n"
+    "short, or of no length that a feed takes), and the milliseconds that the pipe was full.\n"
+    "\n"
+    "Status: 0 it ended as it was told to or its readers left, 1 an interface, a file or a feed failed,\n"
+    "2 the words are wrong, 3 an interface can't be opened and nothing was begun.\n";
+
+enum { FIRST_LONG = 256, ORIGIN, BUFFER, DIRECTION, NO_PROMISCUOUS, CLOCK, CHECK_SEQUENCE, INTERFACE, QUIET, HELP };
+
+static const struct option OPTIONS[] = {
+    {"origin", required_argument, NULL, ORIGIN},
+    {"buffer", required_argument, NULL, BUFFER},
+    {"direction", required_argument, NULL, DIRECTION},
+    {"no-promiscuous", no_argument, NULL, NO_PROMISCUOUS},
+    {"clock", required_argument, NULL, CLOCK},
+    {"check-sequence", required_argument, NULL, CHECK_SEQUENCE},
+    {"interface", required_argument, NULL, INTERFACE},
+    {"quiet", no_argument, NULL, QUIET},
+    {"help", no_argument, NULL, HELP},
+    {NULL, 0, NULL, 0},
+};
+
+void tell(const char *format, ...)
+{
+    char line[LINE_LEN] = "capture: ";
+    size_t begin = strlen(line);
+    va_list values;
+    va_start(values, format);
+    vsnprintf(line + begin, sizeof line - begin - 1, format, values);
+    va_end(values);
+    strcat(line, "\n");
+    (void)!write(STDERR_FILENO, line, strlen(line));
+}
+
+/* Reads a number in a range; whether it is one. */
+static int number_of(const char *word, int least, int most, int *number)
+{
+    char *end;
+    long value = strtol(word, &end, 10);
+    if (*word < '0' || *word > '9' || *end != 0 || value < least || value > most)
+        return 0;
+    *number = (int)value;
+    return 1;
+}
+
+/* Finds a word among those of a choice, which end with NULL; whether it is there. */
+static int choice_of(const char *word, const char *const *choices, int *choice)
+{
+    for (*choice = 0; choices[*choice] != NULL; (*choice)++)
+        if (strcmp(word, choices[*choice]) == 0)
+            return 1;
+    return 0;
+}
+
+/* Takes an option's value; whether it is one. */
+static int take_option(int option, const char *value, struct words *words)
+{
+    static const char *const DIRECTIONS[] = {"both", "in", "out", NULL}, *const CLOCKS[] = {"host", "adapter", NULL};
+    static const char *const CHECK_SEQUENCES[] = {"adapter", "given", "missing", NULL};
+    int choice, is_right = 1;
+    switch (option) {
+    case ORIGIN:
+        return origin_of(value, &words->origin);
+    case BUFFER:
+        return number_of(value, LEAST_BUFFER, MOST_BUFFER, &words->buffer_mib);
+    case INTERFACE:
+        return number_of(value, 0, MOST_INTERFACE, &words->interface);
+    case DIRECTION:
+        is_right = choice_of(value, DIRECTIONS, &choice);
+        words->direction = (enum direction)choice;
+        return is_right;
+    case CLOCK:
+        return choice_of(value, CLOCKS, &words->uses_adapter_clock);
+    case CHECK_SEQUENCE:
+        is_right = choice_of(value, CHECK_SEQUENCES, &choice);
+        words->check_sequences = (enum check_sequences)choice;
+        return is_right;
+    case NO_PROMISCUOUS:
+        words->is_promiscuous = 0;
+        return 1;
+    default:
+        words->is_quiet = 1;
+        return 1;
+    }
+}
+
+static int wrong(const char *what, const char *word)
+{
+    tell("%s%s: capture --help has its words", what, word);
+    return 2;
+}
+
+/* Takes apart INTERFACE=PIPE at its first sign, and FILE=FEED at its last. */
+static int take_way(char *given, struct words *words)
+{
+    char *sign = words->are_files ? strrchr(given, '=') : strchr(given, '=');
+    if (sign == NULL || sign == given || sign[1] == 0)
+        return wrong(words->are_files ? "no FILE=FEED: " : "no INTERFACE=PIPE: ", given);
+    *sign = 0;
+    words->ways[words->count++] = (struct way){given, sign + 1};
+    return 0;
+}
+
+static int read_ways(int count, char **given, struct words *words)
+{
+    int status = 0;
+    for (int i = 0; i < count && status == 0; i++)
+        status = take_way(given[i], words);
+    return status == 0 && words->count == 0 ? wrong("nothing to capture", "") : status;
+}
+
+int read_words(int argc, char **argv, struct words *words, int *is_done)
+{
+    int option, has_origin = 0, status = 0;
+    *words = (struct words){.buffer_mib = 64, .interface = EVERY_INTERFACE, .is_promiscuous = 1};
+    *is_done = 0;
+    words->ways = calloc((size_t)argc, sizeof *words->ways);
+    while (status == 0 && (option = getopt_long(argc, argv, "r:", OPTIONS, NULL)) != -1) {
+        if (option == HELP) {
+            *is_done = 1;
+            return fputs(USAGE, stdout) < 0 || fflush(stdout) != 0;
+        }
+        if (option == '?' || words->ways == NULL)
+            return wrong("the words are wrong", "");
+        words->are_files |= option == 'r';
+        has_origin |= option == ORIGIN;
+        if (option == 'r')
+            status = take_way(optarg, words);
+        else if (!take_option(option, optarg, words))
+            status = wrong("no such value: ", optarg);
+    }
+    if (!has_origin)
+        origin_of(words->are_files ? "first" : "now", &words->origin);
+    if (status == 0 && words->origin.is_first_frame && !words->are_files)
+        return wrong("of interfaces the first frame isn't known: --origin first", "");
+    return status == 0 ? read_ways(argc - optind, argv + optind, words) : status;
+}

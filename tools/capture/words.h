@@ -1,0 +1,36 @@
+/* The words of the command line. */
+#ifndef WORDS_H
+#define WORDS_H
+
+#include "moment.h"
+
+enum direction { BOTH_DIRECTIONS, INWARD, OUTWARD };
+enum check_sequences { AS_THE_ADAPTER_SAYS, GIVEN, MISSING };
+
+/* Where frames come from and where they go to. */
+struct way {
+    char *from;
+    char *to;
+};
+
+struct words {
+    int are_files;
+    int buffer_mib;
+    int interface;
+    int is_promiscuous;
+    int is_quiet;
+    int uses_adapter_clock;
+    enum direction direction;
+    enum check_sequences check_sequences;
+    struct origin origin;
+    struct way *ways;
+    int count;
+};
+
+/* Reads the words. 0, or the status with which to end: 0 is for help too, so `is_done` says which. */
+int read_words(int argc, char **argv, struct words *words, int *is_done);
+
+/* A line on standard error, written at once: `capture: ` and what the format makes. */
+void tell(const char *format, ...) __attribute__((format(printf, 1, 2)));
+
+#endif
