@@ -1,5 +1,6 @@
 #!/usr/bin/env python3
-"""Times `bpfrec list`, `bpfrec audit` and `bpfrec extract` on a recording beside `cat` of the same file.
+"""Times `bpfrec list`, `bpfrec audit` and `bpfrec extract` on a recording, and on the same one with a data
+checksum in each packet, beside `cat` of the same file.
 
 usage: bench/read_recording.py BPFREC BENCH [LENGTH [MEGABYTES]]
 
@@ -8,11 +9,12 @@ a recording of MEGABYTES (100) of packets that are full of frames of LENGTH (151
 temporary folder. Each command runs nine times, in turn with the others, with its output to a file there.
 It prints, for each, the best time and the median in milliseconds, and the memory of a further run by
 itself; and the time that the runs of the filter take by themselves, which the audit makes for each frame.
-At the end it says whether `list` and `audit` took less than 16 MB, and at best no longer than twice the
+At the end it says how many times as long each command took with data checksums, by the best times, and whether `list` and `audit` took less than 16 MB, and at best no longer than twice the
 best `cat` and the runs of the filter together; the status is 1 if one of them didn't.
 """
 import os
 import statistics
+import struct
 import subprocess
 import sys
 import tempfile
@@ -58,6 +60,17 @@ def filter_runs(bench, work, length, count):
     return min(float(line.split()[2]) for line in lines if line.startswith("machine.frame")) * count / 1e6
 
 
+def add_sums(path, out):
+    """Writes the same recording with a data checksum of 32 bits in each packet."""
+    with open(path, "rb") as recording, open(out, "wb") as checked:
+        while header := bytearray(recording.read(24)):
+            body = recording.read(int.from_bytes(header[4:8], "little") - 24)
+            header[4:8] = (len(body) + 28).to_bytes(4, "little")
+            header[14] |= 3
+            header[22:] = (sum(struct.unpack("<11H", header[:22])) % 2**16).to_bytes(2, "little")
+            checked.write(header + body + (sum(memoryview(body).cast("I")) % 2**32).to_bytes(4, "little"))
+
+
 def main():
     if not 3 <= len(sys.argv) <= 5:
         print(__doc__.strip())
@@ -67,12 +80,17 @@ def main():
     with tempfile.TemporaryDirectory() as work:
         recording = f"{work}/recording.ch11"
         subprocess.run([bench, "recording", recording, length, megabytes], check=True)
+        checked = f"{work}/checked.ch11"
+        add_sums(recording, checked)
         size = os.path.getsize(recording)
         commands = {
             "cat": ["cat", recording],
             "list": [bpfrec, "list", recording],
             "audit": [bpfrec, "audit", recording],
             "extract": [bpfrec, "extract", recording, "1", f"{work}/feed"],
+            "list, sums": [bpfrec, "list", checked],
+            "audit, sums": [bpfrec, "audit", checked],
+            "extract, sums": [bpfrec, "extract", checked, "1", f"{work}/feed"],
         }
         runs = {name: [] for name in commands}
         for _ in range(ROUNDS):
@@ -81,16 +99,18 @@ def main():
         print(f"a recording of {size:,} bytes, frames of {length}")
         memory = {name: memory_of(words) for name, words in commands.items()}
         for name, times in runs.items():
-            print(f"{name:8} best {min(times):7.1f} ms  median {statistics.median(times):7.1f} ms  memory {memory[name]:6.1f} MB")
+            print(f"{name:14} best {min(times):7.1f} ms  median {statistics.median(times):7.1f} ms  memory {memory[name]:6.1f} MB")
         count = int(open(f"{work}/audit.out").read().split()[5])
         alone = filter_runs(bench, work, int(length), count)
-        print(f"filter   {count:,} runs by themselves {alone:7.1f} ms")
+        print(f"filter         {count:,} runs by themselves {alone:7.1f} ms")
+        for name in ("list", "audit", "extract"):
+            print(f"{name:14} {min(runs[f'{name}, sums']) / min(runs[name]):.2f} times as long with data checksums")
         within = True
         for name in ("list", "audit"):
             times = min(runs[name]) / (min(runs["cat"]) + alone)
             well = memory[name] < MOST_MEMORY and times <= MOST_TIMES
             within = within and well
-            print(f"{name:8} {times:.2f} times cat and the filter, {memory[name]:.1f} MB: {'as it should' if well else 'TOO MUCH'}")
+            print(f"{name:14} {times:.2f} times cat and the filter, {memory[name]:.1f} MB: {'as it should' if well else 'TOO MUCH'}")
     return 0 if within else 1
 
 

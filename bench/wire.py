@@ -5,7 +5,7 @@ usage: bench/wire.py [--frames N] [--rounds N] [--part wire|files]
 
 It makes a network namespace with a pair of virtual interfaces, sends frames of 64, 300 and 1,500 bytes into
 one of them as fast as bin/send_frames can, and records what the other receives: by tools/live, with a filter
-that keeps all and one that keeps a 32nd, and by `dumpcap -w` and `tcpdump -w`, which take all or have the
+that keeps all and one that keeps a 32nd, which the kernel runs too with --prefilter, and by `dumpcap -w` and `tcpdump -w`, which take all or have the
 kernel drop what the same filter drops. Each has 64 MiB of the kernel's buffer. Then it makes a feed of a
 capture of as many frames, by tools/feed and by `capture -r`.
 
@@ -76,11 +76,13 @@ def commands(work):
     for name in FILTERS:
         (work / name).write_text(FILTERS[name])
         (work / f"{name}.toml").write_text(f'[[channel]]\nid = 1\nfilter = "{work / name}"\n')
-        live = [LIVE, "--quiet", "--buffer", BUFFER_MIB, work / f"{name}.toml", work / "out", "rx0=1"]
         expression = EXPRESSIONS[name]
+        live = [LIVE, "--quiet", "--buffer", BUFFER_MIB, work / f"{name}.toml", work / "out", "rx0=1"]
         dumpcap = ["dumpcap", "-q", "-i", "rx0", "-B", BUFFER_MIB, *(["-f", *expression] if expression else []), "-w", work / "out"]
         tcpdump = ["tcpdump", "-Z", "root", "-n", "-i", "rx0", "-B", BUFFER_MIB * 1024, "-w", work / "out", *expression]
         made["tools/live", name] = live, "origin"
+        if expression:
+            made["tools/live --prefilter", name] = [LIVE, "--prefilter", *live[1:]], "origin"
         made["dumpcap", name] = dumpcap, "File: "
         made["tcpdump", name] = tcpdump, "listening on"
     return made
@@ -88,7 +90,7 @@ def commands(work):
 
 def counts_of(program, told, printed):
     """How many frames a program recorded, and how many the kernel dropped, by its own words."""
-    if program == "tools/live":
+    if program.startswith("tools/live"):
         dropped = re.search(r"rx0 frames \d+ bytes \d+ dropped (\d+)", told)
         kept = re.search(r"channel 1 versions 1 offered \d+ kept (\d+)", printed)
     elif program == "dumpcap":
@@ -112,7 +114,7 @@ def record_once(work, program, words, ready, length, frames):
         begin = time.monotonic()
         sending = float(run(SENDER, "tx0", length, frames).split()[1])
         # dumpcap and tcpdump leave what the kernel holds when they are told to end, so they get time to take it.
-        if program != "tools/live":
+        if not program.startswith("tools/live"):
             time.sleep(1)
         os.killpg(recorder.pid, signal.SIGINT)
         _, status, used = os.wait4(recorder.pid, 0)

@@ -24,6 +24,8 @@ struct counts {
     int64_t growths;   /* all of them */
     int64_t recording; /* of these, those before a file was first forced to its disk */
     int64_t late;      /* of these, those since the first bytes of REFUSED_FROM were read */
+    int64_t refused;   /* of these, those that were refused */
+    int64_t largest;   /* how many bytes the greatest growth asked for */
     int64_t started;   /* threads that were started */
     int64_t running;   /* of these, those that haven't ended */
     int64_t left;      /* of these, those that hadn't a tenth of a second after an error was printed */
@@ -89,19 +91,30 @@ __attribute__((constructor)) static void begin(void)
     counting = 1;
 }
 
-static int is_refused(void)
+static void keep_largest(size_t size)
+{
+    int64_t known = __atomic_load_n(&counts->largest, __ATOMIC_SEQ_CST);
+
+    while ((size_t)known < size
+           && !__atomic_compare_exchange_n(&counts->largest, &known, (int64_t)size, 0, __ATOMIC_SEQ_CST, __ATOMIC_SEQ_CST))
+        ;
+}
+
+static int is_refused(size_t size)
 {
     int64_t number;
     int is_late;
 
     if (!counting)
         return 0;
+    keep_largest(size);
     number = add(&counts->growths, 1);
     is_late = __atomic_load_n(&moment, __ATOMIC_SEQ_CST) == WITHIN;
     if (is_late)
         add(&counts->late, 1);
     if (number != refused_growth && !(is_late && !(spares_input && reads_input)))
         return 0;
+    add(&counts->refused, 1);
     errno = ENOMEM;
     return 1;
 }
@@ -110,7 +123,7 @@ void *malloc(size_t size)
 {
     if (!real_malloc)
         real_malloc = dlsym(RTLD_NEXT, "malloc");
-    return is_refused() ? NULL : real_malloc(size);
+    return is_refused(size) ? NULL : real_malloc(size);
 }
 
 void *calloc(size_t count, size_t size)
@@ -118,14 +131,14 @@ void *calloc(size_t count, size_t size)
     static char early[4096]; /* dlsym itself may ask before calloc is found */
     if (!real_calloc)
         return counting ? NULL : (void *)early;
-    return is_refused() ? NULL : real_calloc(count, size);
+    return is_refused(count * size) ? NULL : real_calloc(count, size);
 }
 
 void *realloc(void *old, size_t size)
 {
     if (!real_realloc)
         real_realloc = dlsym(RTLD_NEXT, "realloc");
-    return is_refused() ? NULL : real_realloc(old, size);
+    return is_refused(size) ? NULL : real_realloc(old, size);
 }
 
 ssize_t read(int file, void *bytes, size_t most)

@@ -1,6 +1,7 @@
 #define _GNU_SOURCE
 #include "interface.h"
 #include "adapter.h"
+#include "prefilter.h"
 #include "stop.h"
 
 #include <errno.h>
@@ -102,15 +103,18 @@ static void note_adapter(struct interface *interface)
              interface->name, adapter.joining, interface->name);
 }
 
-int open_interface(struct interface *interface, const char *name, const char *path, const struct words *words)
+int open_interface(struct interface *interface, const struct way *way, const struct words *words)
 {
     char error[PCAP_ERRBUF_SIZE];
-    *interface = (struct interface){.name = name, .path = path, .words = words, .feed = {.fd = -1}};
+    const char *name = way->from;
+    *interface = (struct interface){.name = name, .path = way->to, .words = words, .feed = {.fd = -1}};
     interface->number = if_nametoindex(name);
     interface->pcap = pcap_create(name, error);
     if (interface->pcap == NULL)
         return refused(name, error);
     if (!set_up(interface->pcap, name, words) || !set_direction(interface->pcap, name, words->direction))
+        return 0;
+    if (way->prefilter != NULL && !drop_by_listing(interface->pcap, name, way->prefilter))
         return 0;
     if (pcap_setnonblock(interface->pcap, 1, error) != 0)
         return refused(name, error);

@@ -27,7 +27,7 @@ struct interface {
 
 /* Begins to capture an interface's frames, which the kernel keeps until they are taken. Whether it could;
  * else a line has said why not. */
-int open_interface(struct interface *interface, const char *name, const char *path, const struct words *words);
+int open_interface(struct interface *interface, const struct way *way, const struct words *words);
 
 /* Writes the frames into the feed until the run is stopped or the feed or the interface is gone, and tells the counts. */
 void run_interface(struct interface *interface);

@@ -75,7 +75,7 @@ static int open_all(struct work *works, const struct words *words)
         works[i].is_file = words->are_files;
         if (words->are_files)
             works[i].conversion = (struct conversion){.from = way->from, .to = way->to, .words = words};
-        else if (!open_interface(&works[i].interface, way->from, way->to, words))
+        else if (!open_interface(&works[i].interface, way, words))
             return 0;
     }
     return 1;

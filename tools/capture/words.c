@@ -25,6 +25,9 @@ static const char USAGE[] =
     "                         1764590400.25 or 2025-12-01T12:00:00.25Z\n"
     "  --buffer MIB           what the kernel keeps of an interface's frames at most: 1 to 2047, by itself 64\n"
     "  --direction WHICH      both (by itself), in, or out: the frames that the host sends\n"
+    "  --prefilter INTERFACE=LISTING\n"
+    "                         frames that the listed program drops don't leave the kernel: they are neither\n"
+    "                         counted nor offered to the recorder. A listing is what `bpfrec asm` prints\n"
     "  --no-promiscuous       only frames that are meant for the host\n"
     "  --clock WHICH          host (by itself) or adapter: whose time frames have\n"
     "  --check-sequence WHICH given, missing, or adapter (by itself): whether frames come with their check\n"
@@ -39,12 +42,13 @@ static const char USAGE[] =
     "Status: 0 it ended as it was told to or its readers left, 1 an interface, a file or a feed failed,\n"
     "2 the words are wrong, 3 an interface can't be opened and nothing was begun.\n";
 
-enum { FIRST_LONG = 256, ORIGIN, BUFFER, DIRECTION, NO_PROMISCUOUS, CLOCK, CHECK_SEQUENCE, INTERFACE, QUIET, HELP };
+enum { FIRST_LONG = 256, ORIGIN, BUFFER, DIRECTION, PREFILTER, NO_PROMISCUOUS, CLOCK, CHECK_SEQUENCE, INTERFACE, QUIET, HELP };
 
 static const struct option OPTIONS[] = {
     {"origin", required_argument, NULL, ORIGIN},
     {"buffer", required_argument, NULL, BUFFER},
     {"direction", required_argument, NULL, DIRECTION},
+    {"prefilter", required_argument, NULL, PREFILTER},
     {"no-promiscuous", no_argument, NULL, NO_PROMISCUOUS},
     {"clock", required_argument, NULL, CLOCK},
     {"check-sequence", required_argument, NULL, CHECK_SEQUENCE},
@@ -131,7 +135,35 @@ static int take_way(char *given, struct words *words)
     if (sign == NULL || sign == given || sign[1] == 0)
         return wrong(words->are_files ? "no FILE=FEED: " : "no INTERFACE=PIPE: ", given);
     *sign = 0;
-    words->ways[words->count++] = (struct way){given, sign + 1};
+    words->ways[words->count++] = (struct way){given, sign + 1, NULL};
+    return 0;
+}
+
+/* Takes INTERFACE=LISTING apart, for when its way is known. Whether it is one. */
+static int take_prefilter(char *given, struct words *words)
+{
+    char *sign = strchr(given, '=');
+    if (sign == NULL || sign == given || sign[1] == 0)
+        return 0;
+    *sign = 0;
+    words->prefilters[words->prefilter_count++] = (struct way){given, sign + 1, NULL};
+    return 1;
+}
+
+/* Gives each way its prefilter. 0, or the status where one is of no way. */
+static int place_prefilters(struct words *words)
+{
+    for (int i = 0; i < words->prefilter_count; i++) {
+        const struct way *prefilter = &words->prefilters[i];
+        int is_placed = 0;
+        for (int at = 0; at < words->count; at++)
+            if (!words->are_files && strcmp(words->ways[at].from, prefilter->from) == 0) {
+                words->ways[at].prefilter = prefilter->to;
+                is_placed = 1;
+            }
+        if (!is_placed)
+            return wrong("--prefilter of what isn't captured: ", prefilter->from);
+    }
     return 0;
 }
 
@@ -140,7 +172,9 @@ static int read_ways(int count, char **given, struct words *words)
     int status = 0;
     for (int i = 0; i < count && status == 0; i++)
         status = take_way(given[i], words);
-    return status == 0 && words->count == 0 ? wrong("nothing to capture", "") : status;
+    if (status == 0 && words->count == 0)
+        return wrong("nothing to capture", "");
+    return status == 0 ? place_prefilters(words) : status;
 }
 
 int read_words(int argc, char **argv, struct words *words, int *is_done)
@@ -149,17 +183,20 @@ int read_words(int argc, char **argv, struct words *words, int *is_done)
     *words = (struct words){.buffer_mib = 64, .interface = EVERY_INTERFACE, .is_promiscuous = 1};
     *is_done = 0;
     words->ways = calloc((size_t)argc, sizeof *words->ways);
+    words->prefilters = calloc((size_t)argc, sizeof *words->prefilters);
     while (status == 0 && (option = getopt_long(argc, argv, "r:", OPTIONS, NULL)) != -1) {
         if (option == HELP) {
             *is_done = 1;
             return fputs(USAGE, stdout) < 0 || fflush(stdout) != 0;
         }
-        if (option == '?' || words->ways == NULL)
+        if (option == '?' || words->ways == NULL || words->prefilters == NULL)
             return wrong("the words are wrong", "");
         words->are_files |= option == 'r';
         has_origin |= option == ORIGIN;
         if (option == 'r')
             status = take_way(optarg, words);
+        else if (option == PREFILTER)
+            status = take_prefilter(optarg, words) ? 0 : wrong("no INTERFACE=LISTING: ", optarg);
         else if (!take_option(option, optarg, words))
             status = wrong("no such value: ", optarg);
     }

@@ -7,10 +7,12 @@
 enum direction { BOTH_DIRECTIONS, INWARD, OUTWARD };
 enum check_sequences { AS_THE_ADAPTER_SAYS, GIVEN, MISSING };
 
-/* Where frames come from and where they go to. */
+/* Where frames come from and where they go to, and the listing of a program by which the kernel drops some before;
+ * NULL where there is none. */
 struct way {
     char *from;
     char *to;
+    const char *prefilter;
 };
 
 struct words {
@@ -25,6 +27,8 @@ struct words {
     struct origin origin;
     struct way *ways;
     int count;
+    struct way *prefilters; /* from an interface to a listing, as they were given */
+    int prefilter_count;
 };
 
 /* Reads the words. 0, or the status with which to end: 0 is for help too, so `is_done` says which. */

@@ -1,5 +1,5 @@
-//! Times the machine, what is done with a program before it runs, the feed's reader, packets, the slot, the lane, the writer and
-//! whole recordings, and makes a recording for the program to read.
+//! Times the machine, what is done with a program before it runs, the feed's reader, packets, the sum of a data checksum, the
+//! slot, the lane, the writer and whole recordings, and makes a recording for the program to read.
 //! The first word names the part, and the others say how much of it is timed; `bench/README.md` has them. Without words
 //! it runs a little of each part, and prints what each loop came to.
 #![tactic(auto)]
@@ -13,6 +13,7 @@ mod programs;
 mod recorder;
 mod recording;
 mod slot;
+mod sums;
 mod words;
 mod writer;
 
@@ -56,6 +57,9 @@ fn measure<R: Threads + Wait + Sync>(
     if part == "packets" {
         return packets::measure(rt, words);
     }
+    if part == "sums" {
+        return sums::measure(rt, words);
+    }
     if part == "slot" {
         return slot::measure(rt, waits, words);
     }
@@ -80,6 +84,7 @@ fn self_check<R: Threads + Wait + Sync>(rt: &HostRuntime, waits: &R) -> Result<(
     println!(rt; "programs {}", programs::self_check(rt)?)?;
     println!(rt; "feed {}", feed::self_check(rt)?)?;
     println!(rt; "packets {}", packets::self_check(rt)?)?;
+    println!(rt; "sums {}", sums::self_check(rt)?)?;
     println!(rt; "slot {}", slot::self_check(rt, waits)?)?;
     println!(rt; "lane {}", lane::self_check(rt)?)?;
     println!(rt; "writer {}", writer::self_check(rt)?)?;

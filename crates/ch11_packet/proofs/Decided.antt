@@ -1,10 +1,20 @@
 -- What can be decided.
-use Rattle.std.proofs.Common.{◌≡◌, ℕ, ◌%◌, ◌<◌, ◌≤◌, ◌⊎◌, inl, inr, Bool, true, false, eqb, List, [], ◌∷◌, refl, arith}
+use Rattle.std.proofs.Common.{◌≡◌, ℕ, ◌%◌, ◌⊎◌, inl, inr, Bool, true, false, List, [], ◌∷◌, refl, arith}
 use Rattle.std.proofs.lemmas.Bool.{cases_eq}
 
 pub decide_false : (b : Bool) → (b ≡ false) ⊎ (b ≡ false → ⊥)
 decide_false true = inr (λ e. absurd cc)
 decide_false false = inl refl
+
+pub decide_true : (b : Bool) → (b ≡ true) ⊎ (b ≡ true → ⊥)
+decide_true true = inl refl
+decide_true false = inr (λ e. absurd cc)
+
+pub decide_same : (a b : Bool) → (a ≡ b) ⊎ (a ≡ b → ⊥)
+decide_same true true = inl refl
+decide_same true false = inr (λ e. absurd cc)
+decide_same false true = inr (λ e. absurd cc)
+decide_same false false = inl refl
 
 odd_by : (n : ℕ) → (n % 2 ≡ 1) ⊎ (n % 2 ≡ 1 → ⊥) → (n % 2 ≡ 1) ⊎ (n % 2 ≡ 0)
 odd_by n (inl odd) = inl odd

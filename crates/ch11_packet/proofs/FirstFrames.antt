@@ -7,7 +7,8 @@ use Rattle.std.proofs.lemmas.List.{length-append, take_at, drop_at, drop-drop, d
 use Rattle.ch11_packet.specs.declared.frames.word.TheConstants.{FRAME_HEADER_LEN}
 use Rattle.eth_frame.specs.Bytes.{u32_at}
 use Rattle.ch11_packet.specs.Frames.{frame_len}
-use Rattle.ch11_packet.specs.FramesRead.{ReadFrameData, read_frame_of, has_bit, length_in, first_read, after_first, first_reads, IsReadFrame, read_word, IsFiller, StandsFirst, Begins, IsCut, AreFrames}
+use Rattle.ch11_packet.specs.Flags.{has_bit}
+use Rattle.ch11_packet.specs.FramesRead.{ReadFrameData, read_frame_of, length_in, first_read, after_first, first_reads, IsReadFrame, read_word, IsFiller, StandsFirst, Begins, IsCut, AreFrames}
 use Rattle.eth_frame.proofs.Bytes.{six_again}
 
 -- ---- the word

@@ -1,3 +1,4 @@
+pub mod Sums
 pub mod Headers
 pub mod FrameBytes
 pub mod Bodies

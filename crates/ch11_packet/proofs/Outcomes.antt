@@ -1,6 +1,6 @@
 -- All bytes have an outcome: 24 bytes are a header or have a fault, and so is it with the body of a
 -- packet.
-use Rattle.std.proofs.Common.{◌≡◌, ℕ, zero, suc, ◌+◌, ◌*◌, ◌%◌, ◌^◌, ◌<◌, ◌≤◌, ◌⊎◌, inl, inr, false, List, [], ◌∷◌, ◌++◌, length, take, drop, refl, sym, ap, subst, arith, lit<}
+use Rattle.std.proofs.Common.{◌≡◌, ℕ, zero, suc, ◌+◌, ◌*◌, ◌%◌, ◌^◌, ◌<◌, ◌≤◌, ◌⊎◌, inl, inr, true, false, List, [], ◌∷◌, ◌++◌, length, take, drop, refl, sym, ap, subst, arith, lit<}
 use Rattle.std.proofs.lemmas.List.{length-drop, length-take-le, take-append-drop}
 use Rattle.eth_frame.specs.Bytes.{AreBytes, u16_at, u32_at, u48_at}
 use Rattle.eth_frame.proofs.Bytes.{AreBytes-drop}
@@ -17,12 +17,17 @@ use Rattle.ch11_packet.specs.declared.records.decode.RecordFault.TheVariants.{Ki
 use Rattle.ch11_packet.specs.declared.class.What.{What}
 use Rattle.ch11_packet.specs.declared.class.What.TheVariants.{Frames, Program, End, Other}
 use Rattle.ch11_packet.specs.Header.{HeaderData, LengthsFit, IsHeader, header_bytes, header_at, HasSync, HasHeaderSum, HasLengths, HasFault}
-use Rattle.ch11_packet.specs.FramesRead.{ReadFrameData, has_bit, length_in, StandsFirst, IsFiller, IsCut, SpellsBody, count_in, format_in, HasFormat, HasBodyFault}
+use Rattle.ch11_packet.specs.declared.sum.TheConstants.{CHECKSUM_LEN}
+use Rattle.ch11_packet.specs.declared.class.ClassFault.{ClassFault}
+use Rattle.ch11_packet.specs.declared.class.ClassFault.TheVariants.{DataChecksum, Body}
+use Rattle.ch11_packet.specs.Flags.{has_bit, HasChecksum, IsPlain}
+use Rattle.ch11_packet.specs.FramesRead.{ReadFrameData, length_in, StandsFirst, IsFiller, IsCut, SpellsBody, count_in, format_in, HasFormat, HasBodyFault}
 use Rattle.ch11_packet.specs.RecordsRead.{IsTagged, SpellsRecord, HasRecordFault, RecordData, kind_in, channel_in, insn_count_in, IsKind, HasHead}
 use Rattle.ch11_packet.specs.RecordsRead.RecordData.{OfProgram, OfEnd}
-use Rattle.ch11_packet.specs.Classes.{IsPlain, SaysFrames, SaysRecord, HasClass, HasNoClass, Holds, HoldsNothing, data_in}
+use Rattle.ch11_packet.specs.Classes.{SaysFrames, SaysRecord, HasClass, HasNoClass, HasSum, IsSummed, Holds, HasClassFault, data_in}
 use Rattle.std.proofs.lemmas.Bool.{cases_eq, cases_lt}
-use Rattle.ch11_packet.proofs.Decided.{decide_false, decide_odd, decide_list}
+use Rattle.ch11_packet.proofs.Decided.{decide_false, decide_true, decide_same, decide_odd, decide_list}
+use Rattle.ch11_packet.proofs.Classing.{one_thing, other_or_fault}
 use Rattle.ch11_packet.proofs.Headers.{header_bytes-header_at, IsHeader-header_at}
 use Rattle.ch11_packet.proofs.SplitFrame.{StandsFirst-split}
 use Rattle.ch11_packet.proofs.FirstFrames.{IsFirst-StandsFirst}
@@ -37,18 +42,37 @@ AreBytes-take (suc n) (x ∷ xs) fit (suc i) = AreBytes-take n xs (λ k. fit (su
 
 -- ---- 24 bytes
 
-lengths_by : (kind packet_len data_len : ℕ) → (packet_len < HEADER_LEN + data_len) ⊎ (HEADER_LEN + data_len ≤ packet_len) → (packet_len % 4 ≡ 0) ⊎ (packet_len % 4 ≡ 0 → ⊥)
-    → (kind ≡ ETHERNET_DATA) ⊎ (kind ≡ ETHERNET_DATA → ⊥) → (MAX_ETHERNET_PACKET_LEN < packet_len) ⊎ (packet_len ≤ MAX_ETHERNET_PACKET_LEN)
-    → LengthsFit kind packet_len data_len ⊎ (LengthsFit kind packet_len data_len → ⊥)
-lengths_by kind packet_len data_len (inl over) aligned ethernet most = inr (λ fit. omega (arith, fit.holds, over))
-lengths_by kind packet_len data_len (inr holds) (inr isnt) ethernet most = inr (λ fit. isnt fit.aligned)
-lengths_by kind packet_len data_len (inr holds) (inl aligned) (inr isnt) most = inl (record { holds = holds; aligned = aligned; most = λ e. absurd (isnt e) })
-lengths_by kind packet_len data_len (inr holds) (inl aligned) (inl ethernet) (inl over) = inr (λ fit. omega (arith, fit.most ethernet, over))
-lengths_by kind packet_len data_len (inr holds) (inl aligned) (inl ethernet) (inr most) = inl (record { holds = holds; aligned = aligned; most = λ _. most })
+-- the checksum of a packet that has one fits behind the data
+abbrev Checked : (flags packet_len data_len : ℕ) → Type 0
+Checked flags packet_len data_len = HasChecksum flags → HEADER_LEN + data_len + CHECKSUM_LEN ≤ packet_len
 
-decide_lengths : (kind packet_len data_len : ℕ) → LengthsFit kind packet_len data_len ⊎ (LengthsFit kind packet_len data_len → ⊥)
-decide_lengths kind packet_len data_len =
-    lengths_by kind packet_len data_len (cases_lt packet_len (HEADER_LEN + data_len)) (cases_eq (packet_len % 4) 0) (cases_eq kind ETHERNET_DATA) (cases_lt MAX_ETHERNET_PACKET_LEN packet_len)
+checked_by : (flags packet_len data_len : ℕ) → HasChecksum flags ⊎ (HasChecksum flags → ⊥) → (packet_len < HEADER_LEN + data_len + CHECKSUM_LEN) ⊎ (HEADER_LEN + data_len + CHECKSUM_LEN ≤ packet_len)
+    → Checked flags packet_len data_len ⊎ (Checked flags packet_len data_len → ⊥)
+checked_by flags packet_len data_len (inr isnt) over = inl (λ is. absurd (isnt is))
+checked_by flags packet_len data_len (inl is) (inl over) = inr (λ fits. omega (arith, over, fits is))
+checked_by flags packet_len data_len (inl is) (inr fits) = inl (λ _. fits)
+
+lengths_by : (flags kind packet_len data_len : ℕ) → Checked flags packet_len data_len ⊎ (Checked flags packet_len data_len → ⊥) → (packet_len < HEADER_LEN + data_len) ⊎ (HEADER_LEN + data_len ≤ packet_len) → (packet_len % 4 ≡ 0) ⊎ (packet_len % 4 ≡ 0 → ⊥)
+    → (kind ≡ ETHERNET_DATA) ⊎ (kind ≡ ETHERNET_DATA → ⊥) → (MAX_ETHERNET_PACKET_LEN < packet_len) ⊎ (packet_len ≤ MAX_ETHERNET_PACKET_LEN)
+    → LengthsFit flags kind packet_len data_len ⊎ (LengthsFit flags kind packet_len data_len → ⊥)
+lengths_by flags kind packet_len data_len (inr isnt) holds aligned ethernet most = inr (λ fit. isnt fit.checked)
+lengths_by flags kind packet_len data_len (inl checked) (inl over) aligned ethernet most = inr (λ fit. omega (arith, fit.holds, over))
+lengths_by flags kind packet_len data_len (inl checked) (inr holds) (inr isnt) ethernet most = inr (λ fit. isnt fit.aligned)
+lengths_by flags kind packet_len data_len (inl checked) (inr holds) (inl aligned) (inr isnt) most = inl (record { holds = holds; checked = checked; aligned = aligned; most = λ e. absurd (isnt e) })
+lengths_by flags kind packet_len data_len (inl checked) (inr holds) (inl aligned) (inl ethernet) (inl over) = inr (λ fit. omega (arith, fit.most ethernet, over))
+lengths_by flags kind packet_len data_len (inl checked) (inr holds) (inl aligned) (inl ethernet) (inr most) = inl (record { holds = holds; checked = checked; aligned = aligned; most = λ _. most })
+
+checksum_by : (flags : ℕ) → (has_bit flags 1 ≡ true) ⊎ (has_bit flags 1 ≡ true → ⊥) → (has_bit flags 0 ≡ true) ⊎ (has_bit flags 0 ≡ true → ⊥) → HasChecksum flags ⊎ (HasChecksum flags → ⊥)
+checksum_by flags (inr isnt) low = inr (λ is. isnt is.high)
+checksum_by flags (inl high) (inr isnt) = inr (λ is. isnt is.low)
+checksum_by flags (inl high) (inl low) = inl (record { high = high; low = low })
+
+decide_checksum : (flags : ℕ) → HasChecksum flags ⊎ (HasChecksum flags → ⊥)
+decide_checksum flags = checksum_by flags (decide_true _) (decide_true _)
+
+decide_lengths : (flags kind packet_len data_len : ℕ) → LengthsFit flags kind packet_len data_len ⊎ (LengthsFit flags kind packet_len data_len → ⊥)
+decide_lengths flags kind packet_len data_len =
+    lengths_by flags kind packet_len data_len (checked_by flags packet_len data_len (decide_checksum flags) (cases_lt packet_len (HEADER_LEN + data_len + CHECKSUM_LEN))) (cases_lt packet_len (HEADER_LEN + data_len)) (cases_eq (packet_len % 4) 0) (cases_eq kind ETHERNET_DATA) (cases_lt MAX_ETHERNET_PACKET_LEN packet_len)
 
 -- the bytes are a header's
 abbrev pub AreHeader : List ℕ → Type 0
@@ -64,7 +88,7 @@ header_by bytes fit long (inl sync) (inl sum) (inl lengths) = inl (IsHeader-head
 pub header_or_fault : (bytes : List ℕ) → AreBytes bytes → length bytes ≡ HEADER_LEN → AreHeader bytes ⊎ ((fault : HeaderFault) × HasFault bytes fault)
 header_or_fault bytes fit long =
     let header = header_at bytes in
-    header_by bytes fit long (cases_eq _ _) (cases_eq _ _) (decide_lengths header.kind header.packet_len header.data_len)
+    header_by bytes fit long (cases_eq _ _) (cases_eq _ _) (decide_lengths header.flags header.kind header.packet_len header.data_len)
 
 -- ---- a body of frames
 
@@ -214,16 +238,15 @@ record_or_fault bytes fit tagged = record_by bytes fit tagged (cases_lt _ _)
 -- ---- what a header says
 
 plain_by : (flags : ℕ) → (has_bit flags 7 ≡ false) ⊎ (has_bit flags 7 ≡ false → ⊥) → (has_bit flags 6 ≡ false) ⊎ (has_bit flags 6 ≡ false → ⊥)
-    → (has_bit flags 1 ≡ false) ⊎ (has_bit flags 1 ≡ false → ⊥) → (has_bit flags 0 ≡ false) ⊎ (has_bit flags 0 ≡ false → ⊥) → IsPlain flags ⊎ (IsPlain flags → ⊥)
-plain_by flags (inr isnt) times high low = inr (λ is. isnt is.no_secondary_header)
-plain_by flags (inl header) (inr isnt) high low = inr (λ is. isnt is.no_secondary_times)
-plain_by flags (inl header) (inl times) (inr isnt) low = inr (λ is. isnt is.no_checksum_high)
-plain_by flags (inl header) (inl times) (inl high) (inr isnt) = inr (λ is. isnt is.no_checksum_low)
-plain_by flags (inl header) (inl times) (inl high) (inl low) =
-    inl (record { no_secondary_header = header; no_secondary_times = times; no_checksum_high = high; no_checksum_low = low })
+    → (has_bit flags 1 ≡ has_bit flags 0) ⊎ (has_bit flags 1 ≡ has_bit flags 0 → ⊥) → IsPlain flags ⊎ (IsPlain flags → ⊥)
+plain_by flags (inr isnt) times same = inr (λ is. isnt is.no_secondary_header)
+plain_by flags (inl header) (inr isnt) same = inr (λ is. isnt is.no_secondary_times)
+plain_by flags (inl header) (inl times) (inr isnt) = inr (λ is. isnt is.whole_checksum)
+plain_by flags (inl header) (inl times) (inl same) =
+    inl (record { no_secondary_header = header; no_secondary_times = times; whole_checksum = same })
 
 decide_plain : (flags : ℕ) → IsPlain flags ⊎ (IsPlain flags → ⊥)
-decide_plain flags = plain_by flags (decide_false _) (decide_false _) (decide_false _) (decide_false _)
+decide_plain flags = plain_by flags (decide_false _) (decide_false _) (decide_same _ _)
 
 frames_by : (header : HeaderData) → IsPlain header.flags ⊎ (IsPlain header.flags → ⊥) → (header.kind ≡ ETHERNET_DATA) ⊎ (header.kind ≡ ETHERNET_DATA → ⊥)
     → SaysFrames header ⊎ (SaysFrames header → ⊥)
@@ -264,7 +287,30 @@ class_by header bytes fit (inl says) a_record = class_of_body header bytes says 
 class_by header bytes fit (inr isnt) (inl says) = class_of_tag header bytes fit says (decide_list _ _)
 class_by header bytes fit (inr isnt) (inr none) = inl (Other, inl (isnt, none))
 
-pub holds_or_nothing : (header : HeaderData) (body : List ℕ) → AreBytes body → ((what : What) × Holds header body what) ⊎ HoldsNothing header body
-holds_or_nothing header body fit =
-    class_by header (data_in header body) (AreBytes-take header.data_len body fit)
-    (frames_by header (decide_plain header.flags) (cases_eq _ _)) (says_record_by header (decide_plain header.flags) (cases_eq _ _) (cases_eq _ _))
+-- the packet's sum is right where it is judged, or it isn't
+abbrev Summed : HeaderData → List ℕ → Type 0
+Summed header body = IsSummed header body ⊎ (HasChecksum header.flags × (HasSum body → ⊥))
+
+summed_by : (header : HeaderData) (body : List ℕ) → HasChecksum header.flags ⊎ (HasChecksum header.flags → ⊥) → HasSum body ⊎ (HasSum body → ⊥) → Summed header body
+summed_by header body (inr isnt) sum = inl (λ is. absurd (isnt is))
+summed_by header body (inl is) (inl sum) = inl (λ _. sum)
+summed_by header body (inl is) (inr wrong) = inr (is, wrong)
+
+-- a packet holds something, or it has a fault
+abbrev HoldsOrFault : HeaderData → List ℕ → Type 0
+HoldsOrFault header body = ((what : What) × Holds header body what) ⊎ ((fault : ClassFault) × HasClassFault header body fault)
+
+judged_by : (header : HeaderData) (body : List ℕ) → Summed header body → ClassOrNone header (data_in header body) → HoldsOrFault header body
+judged_by header body (inl right) (inl (what, is)) = inl (what, record { class = is; summed = λ _. right })
+judged_by header body (inl right) (inr none) = inr (Body, (none, right))
+judged_by header body (inr wrong) (inl (Other, is)) = inl (Other, record { class = is; summed = λ judged. absurd (judged is) })
+judged_by header body (inr wrong) (inl (Frames n, is)) = inr (DataChecksum, (λ other. one_thing header (data_in header body) (Frames n) is (λ e. cc) other, wrong.0, wrong.1))
+judged_by header body (inr wrong) (inl (Program c v f n, is)) = inr (DataChecksum, (λ other. one_thing header (data_in header body) (Program c v f n) is (λ e. cc) other, wrong.0, wrong.1))
+judged_by header body (inr wrong) (inl (End c o k, is)) = inr (DataChecksum, (λ other. one_thing header (data_in header body) (End c o k) is (λ e. cc) other, wrong.0, wrong.1))
+judged_by header body (inr wrong) (inr none) = inr (DataChecksum, (λ other. other_or_fault header (data_in header body) other none, wrong.0, wrong.1))
+
+pub holds_or_fault : (header : HeaderData) (body : List ℕ) → AreBytes body → HoldsOrFault header body
+holds_or_fault header body fit =
+    judged_by header body (summed_by header body (decide_checksum header.flags) (cases_eq _ _))
+    (class_by header (data_in header body) (AreBytes-take header.data_len body fit)
+    (frames_by header (decide_plain header.flags) (cases_eq _ _)) (says_record_by header (decide_plain header.flags) (cases_eq _ _) (cases_eq _ _)))

@@ -1,27 +1,25 @@
 -- What a packet holds, by its header and its data (IRIG 106-17 Chapter 11, in this project's
 -- profile): frames, one of the recording's own records, or anything else.
-use Rattle.std.specs.Prelude.{ℕ, ◌≡◌, ◌⊎◌, false, List, take, drop, length, Option, None, Some}
+use Rattle.std.specs.Prelude.{ℕ, ◌≡◌, ◌-◌, ◌⊎◌, ◌↔◌, List, take, drop, length, Option, None, Some}
 use Rattle.bpf_insn.specs.declared.insn.Insn.{Insn}
+use Rattle.eth_frame.specs.Bytes.{u32_at}
 use Rattle.ch11_packet.specs.declared.header.TheConstants.{ETHERNET_DATA, COMPUTER_GENERATED_DATA}
+use Rattle.ch11_packet.specs.declared.sum.TheConstants.{CHECKSUM_LEN}
 use Rattle.ch11_packet.specs.declared.frames.word.TheConstants.{BODY_WORD_LEN}
 use Rattle.ch11_packet.specs.declared.frames.decode.BodyFault.TheVariants.{Format, Short, LeftOver}
 use Rattle.ch11_packet.specs.declared.records.decode.RecordFault.{RecordFault}
 use Rattle.ch11_packet.specs.declared.class.What.{What}
 use Rattle.ch11_packet.specs.declared.class.What.TheVariants.{Frames, Program, End, Other}
+use Rattle.ch11_packet.specs.declared.class.ClassFault.{ClassFault}
+use Rattle.ch11_packet.specs.declared.class.ClassFault.TheVariants.{DataChecksum, Body}
 use Rattle.ch11_packet.specs.Header.{HeaderData}
-use Rattle.ch11_packet.specs.FramesRead.{ReadFrameData, has_bit, count_in, first_reads, SpellsBody, HasBodyFault}
+use Rattle.ch11_packet.specs.Sums.{body_sum}
+use Rattle.ch11_packet.specs.Flags.{HasChecksum, IsPlain}
+use Rattle.ch11_packet.specs.FramesRead.{ReadFrameData, count_in, first_reads, SpellsBody, HasBodyFault}
 use Rattle.ch11_packet.specs.RecordsRead.{IsTagged, SpellsRecord, HasRecordFault}
 use Rattle.ch11_packet.specs.RecordsRead.RecordData.{OfProgram, OfEnd}
 
 -- ---- what a header says
-
--- the packet has no secondary header (flag bit 7), no times in a secondary header's format (bit 6),
--- and no data checksum (bits 1 and 0)
-pub record IsPlain (flags : ℕ) : Type 0 where
-  pub no_secondary_header : has_bit flags 7 ≡ false
-  pub no_secondary_times : has_bit flags 6 ≡ false
-  pub no_checksum_high : has_bit flags 1 ≡ false
-  pub no_checksum_low : has_bit flags 0 ≡ false
 
 -- the data are to be a body of frames: Ethernet data of a plain packet
 abbrev pub SaysFrames : HeaderData → Type 0
@@ -33,7 +31,7 @@ abbrev pub SaysRecord : HeaderData → Type 0
 SaysRecord header =
     IsPlain header.flags × (header.kind ≡ COMPUTER_GENERATED_DATA) × (header.channel ≡ 0)
 
--- a packet's data: what follows its header, without the filler
+-- a packet's data: what follows its header, without the filler and the data checksum
 abbrev pub data_in : HeaderData → (body : List ℕ) → List ℕ
 data_in header body = take header.data_len body
 
@@ -75,28 +73,35 @@ IsAnswer header bytes (Some what) = HasClass header bytes what
 
 -- ---- packets
 
--- a packet of this header, with these bytes after it, holds this
-abbrev pub Holds : HeaderData → (body : List ℕ) → What → Type 0
-Holds header body what = HasClass header (data_in header body) what
+-- the last four bytes after a header are the sum of those before them, the filler among them
+abbrev pub HasSum : (body : List ℕ) → Type 0
+HasSum body =
+    u32_at body (length body - CHECKSUM_LEN) ≡ body_sum (take (length body - CHECKSUM_LEN) body)
 
--- nothing that a packet can hold
-abbrev pub HoldsNothing : HeaderData → (body : List ℕ) → Type 0
-HoldsNothing header body = HasNoClass header (data_in header body)
+-- a packet of this header, with these bytes after it, has no data checksum, or the right one
+abbrev pub IsSummed : HeaderData → (body : List ℕ) → Type 0
+IsSummed header body = HasChecksum header.flags → HasSum body
 
--- the flag bits 7, 6, 1 and 0 are the same
-pub record HasSameFlags (flags other : ℕ) : Type 0 where
-  pub secondary_header : has_bit other 7 ≡ has_bit flags 7
-  pub secondary_times : has_bit other 6 ≡ has_bit flags 6
-  pub checksum_high : has_bit other 1 ≡ has_bit flags 1
-  pub checksum_low : has_bit other 0 ≡ has_bit flags 0
+-- a packet of this header, with these bytes after it, holds this. The data checksum of a packet that
+-- is neither frames nor a record isn't judged
+pub record Holds (header : HeaderData) (body : List ℕ) (what : What) : Type 0 where
+  pub class : HasClass header (data_in header body) what
+  pub summed : ¬ IsOther header (data_in header body) → IsSummed header body
 
--- what is judged of two headers is the same; the other flags, the packet length, the data type
--- version, the sequence number and the relative time counter may differ
+-- what is wrong with a packet that holds nothing: its data checksum, else its body
+abbrev pub HasClassFault : HeaderData → (body : List ℕ) → ClassFault → Type 0
+HasClassFault header body DataChecksum =
+    (¬ IsOther header (data_in header body)) × HasChecksum header.flags × (¬ HasSum body)
+HasClassFault header body Body = HasNoClass header (data_in header body) × IsSummed header body
+
+-- what is judged of two headers is the same, but for whether a data checksum follows; the other
+-- flags, the packet length, the data type version, the sequence number and the relative time counter
+-- may differ
 pub record IsJudgedAs (header other : HeaderData) : Type 0 where
   pub channel : other.channel ≡ header.channel
   pub data_len : other.data_len ≡ header.data_len
   pub kind : other.kind ≡ header.kind
-  pub flags : HasSameFlags header.flags other.flags
+  pub flags : IsPlain header.flags ↔ IsPlain other.flags
 
 -- the frames that the bytes of a body say
 abbrev pub said_frames : List ℕ → List ReadFrameData

@@ -1,8 +1,9 @@
 -- The body of a packet of Ethernet data as it is read (IRIG 106-17 Chapter 11, Ethernet Data
 -- Packets, Format 0, in this project's profile): some bits and bytes may have any value.
-use Rattle.std.specs.Prelude.{ℕ, zero, suc, ◌^◌, ◌/◌, ◌%◌, ◌==◌, Bool, List, [], ◌∷◌, take, drop, ◌≡◌, ◌+◌, ◌*◌, ◌<◌, ◌≤◌, ◌⊎◌, if◌then◌else◌, ◌++◌, length, ◌≢◌}
+use Rattle.std.specs.Prelude.{ℕ, zero, suc, ◌^◌, ◌/◌, ◌%◌, Bool, List, [], ◌∷◌, take, drop, ◌≡◌, ◌+◌, ◌*◌, ◌<◌, ◌≤◌, ◌⊎◌, if◌then◌else◌, ◌++◌, length, ◌≢◌}
 use Rattle.ch11_packet.specs.declared.frames.word.TheConstants.{FRAME_HEADER_LEN, BODY_WORD_LEN}
 use Rattle.eth_frame.specs.Bytes.{u32_at, u48_at}
+use Rattle.ch11_packet.specs.Flags.{has_bit}
 use Rattle.ch11_packet.specs.Frames.{frame_len}
 use Rattle.eth_frame.specs.Frame.{FrameData, frame_of}
 use Rattle.std.specs.Int.{w16, w32, to_le_bytes, bytes_low_first}
@@ -43,10 +44,6 @@ body_frame net speed frame =
 -- a frame's counter, marks and bytes
 abbrev pub frame_in : ReadFrameData → FrameData
 frame_in frame = frame_of frame.counter frame.crc_error frame.frame_error frame.bytes
-
--- whether this bit of a word is set
-abbrev pub has_bit : ℕ → ℕ → Bool
-has_bit word k = word / 2 ^ k % 2 == 1
 
 -- how many bytes a frame has whose word this is
 abbrev pub length_in : ℕ → ℕ

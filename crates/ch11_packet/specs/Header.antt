@@ -5,7 +5,9 @@ use Rattle.std.specs.Int.{w16, from_le_bytes, w32, to_le_bytes, bytes_low_first}
 use Rattle.ch11_packet.specs.declared.header.TheConstants.{SYNC_PATTERN, HEADER_LEN, ETHERNET_DATA, MAX_ETHERNET_PACKET_LEN, CHECKED_LEN}
 use Rattle.ch11_packet.specs.declared.header.HeaderFault.{HeaderFault}
 use Rattle.ch11_packet.specs.declared.header.HeaderFault.TheVariants.{Sync, Checksum, Length}
+use Rattle.ch11_packet.specs.declared.sum.TheConstants.{CHECKSUM_LEN}
 use Rattle.eth_frame.specs.Bytes.{u16_at, u32_at, u48_at}
+use Rattle.ch11_packet.specs.Flags.{HasChecksum}
 
 -- ---- the header's checksum
 
@@ -47,10 +49,11 @@ header_of channel packet_len data_len version sequence flags kind counter = reco
   counter = counter;
 }
 
--- the packet holds its header and its data, its length is a multiple of 4, and a packet of Ethernet
--- data isn't over the greatest length
-pub record LengthsFit (kind packet_len data_len : ℕ) : Type 0 where
+-- the packet holds its header, its data and, where the flags report one, its data checksum of 32
+-- bits, its length is a multiple of 4, and a packet of Ethernet data isn't over the greatest length
+pub record LengthsFit (flags kind packet_len data_len : ℕ) : Type 0 where
   pub holds : HEADER_LEN + data_len ≤ packet_len
+  pub checked : HasChecksum flags → HEADER_LEN + data_len + CHECKSUM_LEN ≤ packet_len
   pub aligned : packet_len % 4 ≡ 0
   pub most : kind ≡ ETHERNET_DATA → packet_len ≤ MAX_ETHERNET_PACKET_LEN
 
@@ -63,7 +66,7 @@ pub record IsHeader (header : HeaderData) : Type 0 where
   pub flags : header.flags < 2 ^ 8
   pub kind : header.kind < 2 ^ 8
   pub counter : header.counter < 2 ^ 48
-  pub lengths : LengthsFit header.kind header.packet_len header.data_len
+  pub lengths : LengthsFit header.flags header.kind header.packet_len header.data_len
 
 -- the 22 bytes before the checksum: the sync pattern and the fields, in order, the lowest byte of
 -- each number first
@@ -95,10 +98,11 @@ HasSync bytes = u16_at bytes 0 ≡ SYNC_PATTERN
 abbrev pub HasHeaderSum : List ℕ → Type 0
 HasHeaderSum bytes = u16_at bytes CHECKED_LEN ≡ header_sum (take CHECKED_LEN bytes)
 
--- the packet's length and the data's length fit each other and the data type
+-- the packet's length and the data's length fit each other, the flags and the data type
 abbrev pub HasLengths : List ℕ → Type 0
 HasLengths bytes =
-    let header = header_at bytes in LengthsFit header.kind header.packet_len header.data_len
+    let header = header_at bytes in
+    LengthsFit header.flags header.kind header.packet_len header.data_len
 
 -- what is wrong with 24 bytes: the sync pattern, else the checksum, else the lengths
 abbrev pub HasFault : List ℕ → HeaderFault → Type 0

@@ -1,3 +1,5 @@
+pub mod Sums
+pub mod Flags
 pub mod Header
 pub mod PacketLen
 pub mod Frames

@@ -1,27 +1,20 @@
 //! What a packet holds: the class of its header and its data.
-ghost use Rattle.std.specs.Prelude.{ℕ, List, ◌≡◌, ◌+◌, ◌<◌, ◌^◌, ◌↔◌, IsTrue, IfSome, IfNone, None, Some, length};
+ghost use Rattle.std.specs.Prelude.{ℕ, List, ◌≡◌, ◌+◌, ◌≤◌, ◌^◌, ◌↔◌, IsTrue, IfOk, Ok, Err, Option, Some, length};
 ghost use Rattle.ch11_packet.specs.declared.header.TheConstants.{HEADER_LEN};
 ghost use Rattle.ch11_packet.specs.declared.class.What.{What};
 ghost use Rattle.ch11_packet.specs.Header.{HeaderData};
-ghost use Rattle.ch11_packet.specs.FramesRead.{has_bit, HasBodyFault};
-ghost use Rattle.ch11_packet.specs.Classes.{IsPlain, SaysFrames, SaysRecord, HasClass, IsAnswer, Holds, HoldsNothing};
+ghost use Rattle.ch11_packet.specs.declared.class.ClassFault.{ClassFault};
+ghost use Rattle.ch11_packet.specs.FramesRead.{HasBodyFault};
+ghost use Rattle.ch11_packet.specs.Classes.{SaysFrames, SaysRecord, HasClass, IsAnswer, HasSum, Holds, HasClassFault};
 ghost use Rattle.ch11_packet.specs.RecordsRead.{SpellsRecord};
 ghost use Rattle.ch11_packet.specs.Views.{header_data, record_data};
 
+use crate::flags::{has_checksum, is_plain};
 use crate::frames::{BodyFault, decode_frames};
 use crate::header::{COMPUTER_GENERATED_DATA, ETHERNET_DATA, Header};
 use crate::records::{Record, decode_record};
-
-/// The bit of the flags that reports a secondary header.
-const SECONDARY_HEADER: u32 = 7;
-
-/// The bit of the flags that reports times in a secondary header's format.
-const SECONDARY_TIMES: u32 = 6;
-
-/// The two bits of the flags that report a data checksum.
-const CHECKSUM_HIGH: u32 = 1;
-
-const CHECKSUM_LOW: u32 = 0;
+use crate::sum::{CHECKSUM_LEN, body_sum};
+use thiserror::Error;
 
 /// The channel ID of the packets of records.
 const RECORDS: u16 = 0;
@@ -51,27 +44,61 @@ pub enum What {
         /// The number of those kept.
         kept: u64,
     },
-    /// Anything else: another data type or format, a secondary header, a data checksum, or
-    /// computer-generated data that are no record.
+    /// Anything else: another data type or format, a secondary header, a data checksum of 8 or 16
+    /// bits, or computer-generated data that are no record.
     Other,
 }
 
-/// What a packet holds, by its header and all bytes after it, the filler among them. `None` if it
-/// has the header of frames and isn't a body of frames in format 0, or of records and has their
-/// tag but isn't a record.
-#[tactic(auto, using(crate::proofs::Classing::class_found, crate::proofs::Classing::fault_found))]
-pub fn classify(header: &Header, body: &[u8]) -> Option<What>
+/// Why a packet holds nothing, in the order in which faults are looked for.
+#[derive(Clone, Copy, Debug, PartialEq, Eq, Error)]
+pub enum ClassFault {
+    /// The data checksum is wrong.
+    #[error("DataChecksum")]
+    DataChecksum,
+    /// The packet has the header of frames and isn't a body of frames in format 0, or of records and
+    /// has their tag but isn't a record.
+    #[error("Body")]
+    Body,
+}
+
+/// What a packet holds, by its header and all bytes after it, the filler and the data checksum among
+/// them; or what is wrong with it. The checksum is judged before the body, and only of a packet that
+/// would hold frames or a record, or has a fault of the body.
+#[tactic(auto, using(crate::proofs::Classing::is_held, crate::proofs::Classing::held_found, crate::proofs::Classing::fault_found, crate::proofs::Classing::sum_found, crate::proofs::Classing::sum_fault))]
+pub fn classify(header: &Header, body: &[u8]) -> Result<What, ClassFault>
     requires { HEADER_LEN + length body.now ≡ header.now.packet_len }
 
     // What it holds.
-    ensures holds { IfSome result (Holds (header_data header.now) body.now) }
+    ensures holds { IfOk result (Holds (header_data header.now) body.now) }
     ensures found { (what : What) → Holds (header_data header.now) body.now what
-        → result ≡ Some what }
+        → result ≡ Ok what }
 
-    // A fault of the body.
-    ensures fault { (result ≡ None) ↔ HoldsNothing (header_data header.now) body.now }
+    // What is wrong with it.
+    ensures fault { (fault : ClassFault) → (result ≡ Err fault)
+        ↔ HasClassFault (header_data header.now) body.now fault }
 {
-    class_of(header, &body[..header.data_len as usize])
+    let class = class_of(header, &body[..header.data_len as usize]);
+    if !is_other(class) && has_checksum(header.flags) && !has_sum(body) {
+        return Err(ClassFault::DataChecksum);
+    }
+    class.ok_or(ClassFault::Body)
+}
+
+/// Whether data are neither frames nor a record, nor have a fault of these.
+fn is_other(class: Option<What>) -> bool
+    ensures { IsTrue result ↔ (class ≡ Some What.Other) }
+{
+    matches!(class, Some(What::Other))
+}
+
+/// Whether the last four of these bytes are the sum of those before them.
+fn has_sum(body: &[u8]) -> bool
+    requires { CHECKSUM_LEN ≤ length body.now }
+    ensures { IsTrue result ↔ HasSum body.now }
+{
+    let at = body.len() - CHECKSUM_LEN;
+    let sum = u32::from_le_bytes([body[at], body[at + 1], body[at + 2], body[at + 3]]);
+    sum == body_sum(&body[..at])
 }
 
 /// What a packet with these data holds.
@@ -86,25 +113,6 @@ fn class_of(header: &Header, bytes: &[u8]) -> Option<What>
         (COMPUTER_GENERATED_DATA, RECORDS) => class_of_records(bytes),
         _ => Some(What::Other),
     }
-}
-
-/// Whether a packet with these flags has no secondary header, no times in its format, and no data
-/// checksum.
-fn is_plain(flags: u8) -> bool
-    ensures { IsTrue result ↔ IsPlain flags }
-{
-    !has_flag(flags, SECONDARY_HEADER)
-        && !has_flag(flags, SECONDARY_TIMES)
-        && !has_flag(flags, CHECKSUM_HIGH)
-        && !has_flag(flags, CHECKSUM_LOW)
-}
-
-/// Whether this bit of the flags is set.
-fn has_flag(flags: u8, bit: u32) -> bool
-    requires { bit < 8 }
-    ensures { result ≡ has_bit flags bit }
-{
-    (flags >> bit) % 2 == 1
 }
 
 /// What the data of a plain packet of Ethernet data are.

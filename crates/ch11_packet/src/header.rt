@@ -2,6 +2,8 @@
 ghost use Rattle.std.specs.Prelude.{◌≡◌, ◌↔◌, IsTrue, take};
 ghost use Rattle.ch11_packet.specs.Header.{IsHeader, LengthsFit, header_of, header_sum};
 
+use crate::flags::has_checksum;
+use crate::sum::CHECKSUM_LEN;
 use eth_frame::{COUNTER_BITS, counter_bytes, counter_of};
 use thiserror::Error;
 
@@ -29,17 +31,18 @@ pub const MAX_ETHERNET_PACKET_LEN: u32 = 524_288;
 pub struct Header {
     /// The channel ID.
     pub channel: u16,
-    /// The packet length: of the whole packet with this header and its filler, in bytes. A
-    /// multiple of 4; for Ethernet data at most [`MAX_ETHERNET_PACKET_LEN`].
+    /// The packet length: of the whole packet with this header, its filler and its data checksum,
+    /// in bytes. A multiple of 4; for Ethernet data at most [`MAX_ETHERNET_PACKET_LEN`].
     pub packet_len: u32,
-    /// The data length: of the packet's body without its trailing filler, in bytes. At most the
-    /// packet length without the header.
+    /// The data length: of the packet's body without its trailing filler and its data checksum, in
+    /// bytes. At most the packet length without the header, and without the data checksum of 32 bits
+    /// where the flags report one.
     pub data_len: u32,
     /// The data type version.
     pub version: u8,
     /// The sequence number: the number of packets of the channel before this one, modulo 256.
     pub sequence: u8,
-    /// The packet flags.
+    /// The packet flags: bits 1 and 0 are both set for a data checksum of 32 bits.
     pub flags: u8,
     /// The data type, as [`ETHERNET_DATA`].
     pub kind: u8,
@@ -59,7 +62,7 @@ pub enum HeaderFault {
     #[error("Checksum")]
     Checksum,
     /// The packet length is below the header's, is no multiple of 4 or too great for the data
-    /// type, or the data length is over what the packet holds.
+    /// type, or the data and the data checksum of 32 bits are more than the packet holds.
     #[error("Length")]
     Length,
 }
@@ -71,8 +74,8 @@ impl Header {
     ghost use Rattle.ch11_packet.specs.Views.{header_data};
 
     /// A header of these fields: `None` if the packet length is below the header's, is no multiple
-    /// of 4 or too great for the data type, if the data length is over what the packet holds, or
-    /// if the counter has more than 48 bits.
+    /// of 4 or too great for the data type, if the data and the data checksum of 32 bits are more
+    /// than the packet holds, or if the counter has more than 48 bits.
     #[allow(clippy::too_many_arguments)]
     pub fn new(
         channel: u16,
@@ -89,7 +92,7 @@ impl Header {
         ensures fields { IfSome result (λ header. header_data header
             ≡ header_of channel packet_len data_len version sequence flags kind counter) }
     {
-        if !lengths_fit(kind, packet_len, data_len) || counter >> COUNTER_BITS != 0 {
+        if !lengths_fit(flags, kind, packet_len, data_len) || counter >> COUNTER_BITS != 0 {
             return None;
         }
         Some(Header {
@@ -159,12 +162,13 @@ impl Header {
     }
 }
 
-/// Whether a packet of this data type and this length is well formed and holds `data_len` bytes of
-/// data.
-fn lengths_fit(kind: u8, packet_len: u32, data_len: u32) -> bool
-    ensures fit { IsTrue result ↔ LengthsFit kind packet_len data_len }
+/// Whether a packet with these flags, of this data type and this length is well formed and holds
+/// `data_len` bytes of data and the data checksum of 32 bits that the flags report.
+fn lengths_fit(flags: u8, kind: u8, packet_len: u32, data_len: u32) -> bool
+    ensures fit { IsTrue result ↔ LengthsFit flags kind packet_len data_len }
 {
-    let Some(room) = packet_len.checked_sub(HEADER_LEN as u32) else {
+    let checksum_len = if has_checksum(flags) { CHECKSUM_LEN } else { 0 };
+    let Some(room) = packet_len.checked_sub((HEADER_LEN + checksum_len) as u32) else {
         return false;
     };
     let short = kind != ETHERNET_DATA || packet_len <= MAX_ETHERNET_PACKET_LEN;

@@ -1,12 +1,15 @@
 //! Laws of packets, which run nothing.
-ghost use Rattle.std.specs.Prelude.{◌≡◌, ◌+◌, ◌*◌, ◌%◌, ◌^◌, ◌<◌, ◌≤◌, ◌↔◌, ◌⊎◌, [], ◌∷◌, ◌++◌, List, ℕ, length, map, take, drop};
+ghost use Rattle.std.specs.Prelude.{◌≡◌, ◌≢◌, ◌+◌, ◌*◌, ◌%◌, ◌^◌, ◌<◌, ◌≤◌, ◌↔◌, ◌⊎◌, [], ◌∷◌, ◌++◌, List, ℕ, length, map, take, drop};
 ghost use Rattle.std.specs.Int.{w16, w32, to_le_bytes};
 ghost use Rattle.bpf_insn.specs.declared.insn.Insn.{Insn};
 ghost use Rattle.eth_frame.specs.Bytes.{AreBytes};
 ghost use Rattle.ch11_packet.specs.Header.{HeaderData, IsHeader, header_bytes, header_at, HasSync, HasHeaderSum, HasLengths, HasFault};
 ghost use Rattle.ch11_packet.specs.declared.header.HeaderFault.{HeaderFault};
+ghost use Rattle.ch11_packet.specs.Sums.{body_sum, word_filler};
 ghost use Rattle.ch11_packet.specs.declared.class.What.{What};
-ghost use Rattle.ch11_packet.specs.Classes.{Holds, HoldsNothing, IsJudgedAs, data_in, said_frames};
+ghost use Rattle.ch11_packet.specs.declared.class.ClassFault.{ClassFault};
+ghost use Rattle.ch11_packet.specs.Flags.{HasChecksum};
+ghost use Rattle.ch11_packet.specs.Classes.{IsOther, HasSum, IsSummed, Holds, HasClassFault, IsJudgedAs, data_in, said_frames};
 ghost use Rattle.ch11_packet.specs.PacketLen.{packet_len};
 ghost use Rattle.ch11_packet.specs.Packet.{packet_bytes};
 ghost use Rattle.ch11_packet.specs.Frames.{data_bytes, data_len, frame_len};
@@ -27,6 +30,7 @@ use crate::records::{
     END_RECORD, END_RECORD_LEN, INSN_LEN, MAX_PROGRAM_RECORD_LEN, PROGRAM_HEAD_LEN, PROGRAM_RECORD,
     RECORD_HEAD_LEN,
 };
+use crate::sum::CHECKSUM_LEN;
 use eth_frame::MAX_FRAME_LEN;
 
 /// Law: bytes begin with those of one header at most; a header's bytes say its fields; 24 bytes with
@@ -88,13 +92,15 @@ pub fn the_limits_of_a_packet()
 {}
 
 /// Law: a header begins with 0xEB25 and has 24 bytes, 22 of them before its checksum; the two data
-/// types of Format 0 are 0x68 for Ethernet data and 0x00 for computer-generated data.
+/// types of Format 0 are 0x68 for Ethernet data and 0x00 for computer-generated data; a data checksum
+/// has 4 bytes.
 pub fn the_numbers_of_a_header()
     ensures sync { SYNC_PATTERN ≡ 60197 }
     ensures len { HEADER_LEN ≡ 24 }
     ensures checked { CHECKED_LEN ≡ 22 }
     ensures ethernet { ETHERNET_DATA ≡ 104 }
     ensures computer_generated { COMPUTER_GENERATED_DATA ≡ 0 }
+    ensures data_checksum { CHECKSUM_LEN ≡ 4 }
 {}
 
 /// Law: a body of frames has a word of 4 bytes, and 12 bytes before each frame's; a record has 12
@@ -143,22 +149,50 @@ pub fn record_has_one_reading()
         → SpellsRecord (OfProgram channel version first insns) (with_unused other bytes) }
 {}
 
-/// Law: a packet holds one thing, or its body has a fault, and never both; what isn't judged of a
-/// header, and what follows the data, makes no difference to either; and the bytes of a body say
-/// its frames.
+/// Law: the sum of bytes behind whole words is the sum of both sums, modulo 2^32.
+pub fn a_sum_goes_on_from_whole_words()
+    ensures { (front rest : List ℕ) → length front % 4 ≡ 0
+        → body_sum (front ++ rest) ≡ (body_sum front + body_sum rest) % 2 ^ 32 }
+{}
+
+/// Law: the filler that makes whole words of bytes adds nothing to their sum.
+pub fn filler_adds_nothing_to_a_sum()
+    ensures { (bytes : List ℕ) → body_sum (bytes ++ word_filler (length bytes)) ≡ body_sum bytes }
+{}
+
+/// Law: bytes that differ in one place have other sums, so a data checksum shows each change of one
+/// byte.
+pub fn one_changed_byte_changes_the_sum()
+    ensures { (front rest : List ℕ) (byte other : ℕ) → byte < 2 ^ 8 → other < 2 ^ 8
+        → byte ≢ other → body_sum (front ++ byte ∷ rest) ≢ body_sum (front ++ other ∷ rest) }
+{}
+
+/// Law: a packet holds one thing, or it has one fault, and never both; what isn't judged of a
+/// header, and what follows the data, makes no difference but to the data checksum: where that is
+/// right, or isn't there, the packet holds the same or has the same fault, and where it is wrong, that
+/// is the fault of a packet of frames or of a record; and the bytes of a body say its frames.
 pub fn a_packet_holds_one_thing()
     ensures one { (header : HeaderData) (body : List ℕ) (what other : What)
         → Holds header body what → Holds header body other → what ≡ other }
-    ensures valid { (header : HeaderData) (body : List ℕ) (what : What)
-        → Holds header body what → ¬ HoldsNothing header body }
+    ensures valid { (header : HeaderData) (body : List ℕ) (what : What) (fault : ClassFault)
+        → Holds header body what → ¬ HasClassFault header body fault }
+    ensures one_fault { (header : HeaderData) (body : List ℕ) (fault other : ClassFault)
+        → HasClassFault header body fault → HasClassFault header body other → fault ≡ other }
     ensures some { (header : HeaderData) (body : List ℕ) → AreBytes body
-        → ((what : What) × Holds header body what) ⊎ HoldsNothing header body }
+        → ((what : What) × Holds header body what)
+        ⊎ ((fault : ClassFault) × HasClassFault header body fault) }
     ensures unjudged { (header other : HeaderData) (body more : List ℕ) (what : What)
         → IsJudgedAs header other → data_in other more ≡ data_in header body
+        → (what ≢ What.Other → IsSummed other more)
         → Holds header body what → Holds other more what }
     ensures unjudged_fault { (header other : HeaderData) (body more : List ℕ)
         → IsJudgedAs header other → data_in other more ≡ data_in header body
-        → HoldsNothing header body → HoldsNothing other more }
+        → IsSummed other more
+        → HasClassFault header body ClassFault.Body → HasClassFault other more ClassFault.Body }
+    ensures wrong_sum { (header other : HeaderData) (body more : List ℕ)
+        → IsJudgedAs header other → data_in other more ≡ data_in header body
+        → ¬ IsOther header (data_in header body) → HasChecksum other.flags → ¬ HasSum more
+        → HasClassFault other more ClassFault.DataChecksum }
     ensures frames { (frames : List ReadFrameData) (bytes : List ℕ)
         → SpellsBody frames bytes → said_frames bytes ≡ frames }
 {}

@@ -3,14 +3,16 @@
 #![tactic(auto)]
 
 mod class;
+mod flags;
 mod frames;
 mod header;
 mod laws;
 mod length;
 mod limit;
 mod records;
+mod sum;
 
-pub use class::{What, classify};
+pub use class::{ClassFault, What, classify};
 pub use frames::{
     Blank, BodyFault, DataBody, DataBuilder, FrameWalk, Frames, MAX_SPEED, ReadFrame, decode_frames,
 };
@@ -19,9 +21,11 @@ pub use header::{
     MAX_ETHERNET_PACKET_LEN, SYNC_PATTERN,
 };
 pub use laws::{
-    a_frame_fits_if_its_packet_does, a_packet_holds_one_thing, body_has_one_reading,
-    header_has_one_spelling, least_limit_holds_the_longest_frame, packets_have_their_lengths,
-    record_has_one_reading, the_limits_of_a_packet, the_numbers_of_a_body, the_numbers_of_a_header,
+    a_frame_fits_if_its_packet_does, a_packet_holds_one_thing, a_sum_goes_on_from_whole_words,
+    body_has_one_reading, filler_adds_nothing_to_a_sum, header_has_one_spelling,
+    least_limit_holds_the_longest_frame, one_changed_byte_changes_the_sum,
+    packets_have_their_lengths, record_has_one_reading, the_limits_of_a_packet,
+    the_numbers_of_a_body, the_numbers_of_a_header,
 };
 pub use length::packet_len;
 pub use limit::{Limit, MIN_LIMIT};
@@ -29,3 +33,4 @@ pub use records::{
     END_RECORD_LEN, INSN_LEN, MAX_PROGRAM_RECORD_LEN, PROGRAM_HEAD_LEN, ProgramRecord, Record,
     RecordFault, decode_record, end_body, program_body,
 };
+pub use sum::{CHECKSUM_LEN, body_sum};

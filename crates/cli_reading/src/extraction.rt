@@ -1,5 +1,9 @@
 //! The command that extracts a channel's frames from a recording.
 
+ghost use Rattle.std.specs.Prelude.{OnOk};
+ghost use Rattle.std.specs.Io.KnownBytes.{Appends};
+ghost use Rattle.cli_reading.specs.Lines.{extracted_line, TakesCounts};
+
 use crate::reading::{
     Counts, begin_again, counts_of, is_read_twice, next_packet, open, packet_again, reader_over,
 };
@@ -53,18 +57,45 @@ pub fn extract_frames<'a, R: AllocGlobal + Files, I: Read, O: Write>(
 ) -> Result<(), Ending<'a>>
 where
     R::File: LockFile,
+    ensures { OnOk result (TakesCounts (O.contents output.old) (O.contents output.new)) }
 {
     let channel = channel_of(rt.alloc(), channel)?;
+    let extracted = extract(rt, file, channel, out, input)?;
+    print_extracted(rt.alloc(), output, extracted)
+}
+
+/// Extracts a channel of a recording, and says how many frames were written and passed over.
+fn extract<'a, R: AllocGlobal + Files, I: Read>(
+    rt: &R,
+    file: &'a str,
+    channel: u16,
+    out: &'a str,
+    input: &mut I,
+) -> Result<Extracted, Ending<'a>>
+where
+    R::File: LockFile,
+{
     let mut inputs = Inputs::new(rt.alloc());
     inputs.add_streams(rt)?;
-    let Extracted { frames, passed } = if file == STREAM {
-        inputs.refuse_output(rt, out)?;
-        let mut reader = reader_over(rt.alloc(), input)?;
-        extract_held(rt, file, channel, &inputs, out, &mut reader)?
-    } else {
-        extract_file(rt, file, channel, &mut inputs, out)?
-    };
-    let mut line = Vec::new(rt.alloc());
+    if file != STREAM {
+        return extract_file(rt, file, channel, &mut inputs, out);
+    }
+    inputs.refuse_output(rt, out)?;
+    let mut reader = reader_over(rt.alloc(), input)?;
+    extract_held(rt, file, channel, &inputs, out, &mut reader)
+}
+
+/// Prints how many frames were written, and how many were passed over.
+fn print_extracted<O: Write>(
+    alloc: Global,
+    output: &mut O,
+    extracted: Extracted,
+) -> Result<(), Ending<'static>>
+    ensures { OnOk result (Appends (O.contents output.old) (O.contents output.new)
+        (extracted_line extracted.frames extracted.passed)) }
+{
+    let Extracted { frames, passed } = extracted;
+    let mut line = Vec::new(alloc);
     let built = writeln!(&mut line, "frames {frames} passed {passed}");
     print_line(output, &mut line, built)
 }

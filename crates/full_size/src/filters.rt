@@ -4,14 +4,12 @@ use crate::channel::{Kind, is_keeping};
 use anyhow::{Context, Result};
 use bpf_insn::{Insn, MAX_INSNS, parse_listing};
 use bpf_verify::{Verified, verify};
+use rec_channel::MAX_VERSIONS;
 use std::alloc::Global;
 use std::sync::Arc;
 
 /// Accepts each frame.
 const KEEPS: &str = "1,6 0 0 1,";
-
-/// Drops each frame.
-const DROPS: &str = "1,6 0 0 0,";
 
 /// Accepts a frame whose view's length is no multiple of 3.
 const BY_LENGTH: &str = "3,128 0 0 0,148 0 0 3,22 0 0 0,";
@@ -19,8 +17,9 @@ const BY_LENGTH: &str = "3,128 0 0 0,148 0 0 3,22 0 0 0,";
 /// Accepts a frame whose first byte is odd.
 const BY_FIRST_BYTE: &str = "4,48 0 0 0,69 0 1 1,6 0 0 1,6 0 0 0,";
 
-/// The version that has the greatest program, which accepts each frame.
-const GREATEST: u32 = 700;
+/// How many instructions each version of a channel with many has more than the one before; the last
+/// has the greatest program.
+const MORE_INSNS: usize = MAX_INSNS / MAX_VERSIONS;
 
 /// The first program of a channel.
 pub(crate) fn first_program(alloc: Global, kind: Kind) -> Result<Arc<Verified, Global>> {
@@ -32,18 +31,13 @@ pub(crate) fn first_program(alloc: Global, kind: Kind) -> Result<Arc<Verified, G
     }
 }
 
-/// The program of a version of a channel with many.
+/// The program of a version of a channel with many: loads of 1, and a return.
 pub(crate) fn version(alloc: Global, version: u32) -> Result<Arc<Verified, Global>> {
-    if version == GREATEST {
-        return verified(alloc, greatest(alloc)?);
-    }
-    listed(alloc, if is_keeping(version) { KEEPS } else { DROPS })
-}
-
-/// A program with as many instructions as there may be: loads of 1, and a return of it.
-fn greatest(alloc: Global) -> Result<Vec<Insn>> {
     let mut insns = Vec::new(alloc);
-    for _ in 1..MAX_INSNS {
+    for _ in 1..(version as usize)
+        .saturating_add(1)
+        .saturating_mul(MORE_INSNS)
+    {
         insns.push(Insn {
             code: 0,
             jt: 0,
@@ -52,12 +46,12 @@ fn greatest(alloc: Global) -> Result<Vec<Insn>> {
         })?;
     }
     insns.push(Insn {
-        code: 22,
+        code: 6,
         jt: 0,
         jf: 0,
-        k: 0,
+        k: u32::from(is_keeping(version)),
     })?;
-    Ok(insns)
+    verified(alloc, insns)
 }
 
 fn listed(alloc: Global, listing: &str) -> Result<Arc<Verified, Global>> {

@@ -1,6 +1,7 @@
 //! One recording at full size, made once and read in every way: 64 channels at both limits, of which
 //! one has 1,024 versions that are all met, one over 100,000 frames, one as many frames in a packet as
-//! there can be, one the longest, and one none. What is read is compared with what was fed.
+//! there can be, one the longest, and one none. And a small one through the longest ring of the greatest
+//! packets. What is read is compared with what was fed.
 #![tactic(auto)]
 
 mod changes;
@@ -11,16 +12,16 @@ mod making;
 mod reading;
 mod steps;
 mod streaming;
+mod wide;
 
 use anyhow::{Context, Result};
-use bpf_insn::MAX_INSNS;
-use ch11_packet::INSN_LEN;
 use making::make;
 use reading::{audit_all, extract_all, find_all, index_all};
 use rec_reader::read_recording;
 use std::sync::Wait;
 use std::thread::Threads;
 use streaming::stream;
+use wide::make_wide;
 
 fn main(rt: HostRuntime) -> Result<()> {
     run(&rt, rt)
@@ -30,12 +31,8 @@ fn main(rt: HostRuntime) -> Result<()> {
 fn run<R: Threads + Wait + Sync>(threads: &R, rt: HostRuntime) -> Result<()> {
     let alloc = rt.alloc();
     let made = make(threads, rt)?;
-    let beside = made.bytes.len().saturating_sub(MAX_INSNS * INSN_LEN);
     println!(rt; "recorded {} channels", made.channels)?;
-    println!(rt;
-        "{} packets, {beside} bytes beside the greatest program's instructions",
-        made.pieces
-    )?;
+    println!(rt; "{} packets, {} bytes", made.pieces, made.bytes.len())?;
     let recording = read_recording(alloc, made.bytes.as_slice())
         .ok()
         .context("a recording that is read")?;
@@ -52,6 +49,10 @@ fn run<R: Threads + Wait + Sync>(threads: &R, rt: HostRuntime) -> Result<()> {
     println!(rt;
         "extracted {} frames",
         extract_all(alloc, made.bytes.as_slice(), &recording)?
+    )?;
+    println!(rt;
+        "recorded {} frames through the longest ring of the greatest packets",
+        make_wide(threads, rt)?
     )?;
     Ok(())
 }

@@ -63,7 +63,11 @@ pub(crate) fn make<R: Threads + Wait + Sync>(threads: &R, rt: HostRuntime) -> Re
 }
 
 /// The job of a channel.
-fn job(rt: HostRuntime, steps: &Shared, channel: Channel) -> Result<Job<FeedSource<Feed>>> {
+pub(crate) fn job(
+    rt: HostRuntime,
+    steps: &Shared,
+    channel: Channel,
+) -> Result<Job<FeedSource<Feed>>> {
     let limit = Limit::new(channel.limit).context("a limit")?;
     Ok(Job {
         spec: LaneSpec::new(channel.id, 0, 3, limit).context("settings in range")?,
@@ -117,7 +121,8 @@ fn must_be_told<S: Drop>(report: &Report<S>) -> Result<()> {
     Ok(())
 }
 
-fn is_told<S: Drop>(channel: Channel, told: &ChannelReport<S>) -> bool {
+/// The report of a channel says what it was fed.
+pub(crate) fn is_told<S: Drop>(channel: Channel, told: &ChannelReport<S>) -> bool {
     told.channel == channel.id
         && told.offered == u64::from(channel.frames())
         && told.kept == channel.kept()

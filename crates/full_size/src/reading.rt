@@ -17,11 +17,16 @@ pub(crate) fn find_all(alloc: Global, recording: &Recording<'_>) -> Result<u64> 
     let mut found = 0u64;
     for index in 0..MAX_CHANNELS as u16 {
         let channel = Channel::at(index);
-        let frames = frames_of(alloc, recording, channel.id)?;
-        must_be_fed(alloc, channel, frames.as_slice())?;
-        found = found.saturating_add(frames.len() as u64);
+        found = found.saturating_add(find(alloc, recording, channel)?);
     }
     Ok(found)
+}
+
+/// Finds the frames of a channel, and how many there are.
+pub(crate) fn find(alloc: Global, recording: &Recording<'_>, channel: Channel) -> Result<u64> {
+    let frames = frames_of(alloc, recording, channel.id)?;
+    must_be_fed(alloc, channel, frames.as_slice())?;
+    Ok(frames.len() as u64)
 }
 
 /// The frames are those that the channel was fed and accepted, in order and once each.

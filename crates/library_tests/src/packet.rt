@@ -12,6 +12,7 @@ mod class;
 mod frames;
 mod header;
 mod records;
+mod sum;
 
 /// A broadcast ARP frame without a payload, with its check sequence, and one byte more.
 const ARP: &str = "ffffffffffff 020000000001 0806 a1b2c3d4 e5";

@@ -205,26 +205,32 @@ fn path(alloc: Global, len: usize) -> Result<String, Fail> {
     Ok(path)
 }
 
-/// The longest paths that Linux takes, of the feed and the filter of each of 64 channels: 530,000 bytes.
+/// The feeds of 64 channels have paths of 63, 127 and so on to 4,095 bytes, the longest that Linux
+/// takes, and their filters the longest: the first 1, 2, 4 and so on to all of them, 400,000 bytes.
 #[test]
-fn settings_of_64_channels_with_the_longest_paths_are_read(rt: HostRuntime) -> Result<(), Fail> {
+fn settings_of_64_channels_with_paths_up_to_the_longest_are_read(
+    rt: HostRuntime,
+) -> Result<(), Fail> {
     let alloc = rt.alloc();
     let longest = path(alloc, 4_095)?;
     let mut text = String::new(alloc);
     let mut line = String::from_str(alloc, "65536 64 8")?;
-    for id in 1..65u16 {
+    for id in 1..65u32 {
+        let feed = path(alloc, (64 * id as usize).saturating_sub(1))?;
         let channel = format!(in alloc;
-            "[[channel]]\nid = {id}\nfeed = \"{longest}\"\nfilter = \"{longest}\"\n"
+            "[[channel]]\nid = {id}\nfeed = \"{feed}\"\nfilter = \"{longest}\"\n"
         )?;
         text.push_str(channel.as_str())?;
-        let part = format!(in alloc; " / {id} {longest} {longest} 0 0 9223372036854775807")?;
+        let part = format!(in alloc; " / {id} {feed} {longest} 0 0 9223372036854775807")?;
         line.push_str(part.as_str())?;
+        if id.is_power_of_two() {
+            let told = told(alloc, text.as_str())?;
+            assert!(rt;
+                told.as_str() == line.as_str(),
+                "{} bytes of settings",
+                text.len()
+            );
+        }
     }
-    let told = told(alloc, text.as_str())?;
-    assert!(rt;
-        told.as_str() == line.as_str(),
-        "{} bytes of settings",
-        text.len()
-    );
     Ok(())
 }

@@ -22,7 +22,7 @@ const EMPTY_END: &str = "25eb 0000 34000000 1c000000 08 00 00 00 000000000000 7d
     00000000 43425052 0200 0100 0000000000000000 0000000000000000";
 
 /// What an audit answers, in one line.
-fn told(alloc: Global, answer: Result<Audit, AuditFault>) -> Result<String, Fail> {
+pub(crate) fn told(alloc: Global, answer: Result<Audit, AuditFault>) -> Result<String, Fail> {
     let mut text = String::new(alloc);
     match answer {
         Ok(audit) => {

@@ -5,6 +5,8 @@
 #[cfg(test)]
 mod audit;
 #[cfg(test)]
+mod checksums;
+#[cfg(test)]
 mod index;
 #[cfg(test)]
 mod reader;

@@ -1,4 +1,5 @@
 //! Recordings that are read, whole, cut and damaged.
+use crate::checksums::CHECKED;
 use crate::shared::packets_of;
 use ch11_packet::{ETHERNET_DATA, HEADER_LEN, Header, ReadFrame, What};
 use eth_frame::{FeedSource, FrameBuf, FrameSource, Next, write_feed};
@@ -45,7 +46,7 @@ const HELD: [(u64, What); 4] = [
 ];
 
 /// How bytes are read: each packet's place and what it holds, and the fault with its place.
-fn reading(
+pub(crate) fn reading(
     alloc: Global,
     bytes: &[u8],
 ) -> Result<(Vec<(u64, What)>, Option<(ReadFaultKind, u64)>), Fail> {
@@ -206,7 +207,8 @@ fn other_packets_are_read_and_passed_over(rt: HostRuntime) -> Result<(), Fail> {
     for head in [
         (1, 0x80, 0x68),
         (1, 0x40, 0x68),
-        (1, 0x03, 0x68),
+        (1, 0x01, 0x68),
+        (1, 0x02, 0x68),
         (0, 0x80, 0x00),
         (1, 0x00, 0x00),
         (0, 0x00, 0x01),
@@ -422,14 +424,14 @@ fn a_recording_of_many_packets_is_read(rt: HostRuntime) -> Result<(), Fail> {
 }
 
 /// The recording of two versions; read again if there was no memory for one of its packets, which begin
-/// at multiples of 60.
-fn read_again(alloc: Global, bytes: &[u8]) -> Result<Recording<'_>, Fail> {
+/// at multiples of this length.
+fn read_again(alloc: Global, bytes: &[u8], len: u64) -> Result<Recording<'_>, Fail> {
     match read_recording(alloc, bytes) {
         Ok(recording) => Ok(recording),
         Err(fault) => {
             let ReadEnd { kind, at } = fault.end();
             let before = fault.into_before().packets().len() as u64;
-            if kind != ReadFaultKind::Memory || at != before.saturating_mul(60) {
+            if kind != ReadFaultKind::Memory || at != before.saturating_mul(len) {
                 return Err("no memory for the packet after these")?;
             }
             Ok(packets_of(alloc, bytes))
@@ -442,8 +444,11 @@ fn read_again(alloc: Global, bytes: &[u8]) -> Result<Recording<'_>, Fail> {
 #[test]
 fn a_call_without_memory_is_made_again(rt: HostRuntime) -> Result<(), Fail> {
     let alloc = rt.alloc();
+    let bytes = joined_bytes(alloc, &CHECKED)?;
+    let recording = read_again(alloc, bytes.as_slice(), 64)?;
+    assert_eq!(rt; recording.packets().len(), 4);
     let bytes = joined_bytes(alloc, &TWO_VERSIONS)?;
-    let recording = read_again(alloc, bytes.as_slice())?;
+    let recording = read_again(alloc, bytes.as_slice(), 60)?;
     assert_eq!(rt; recording.packets().len(), 4);
     let frames = match frames_of(alloc, &recording, 1) {
         Ok(frames) => Some(frames.len()),
@@ -473,6 +478,7 @@ fn a_fault_of_reading_has_its_number_its_name_and_its_place(rt: HostRuntime) -> 
         (ReadFaultKind::Checksum, "read 3 Checksum 180"),
         (ReadFaultKind::Length, "read 4 Length 180"),
         (ReadFaultKind::Body, "read 5 Body 180"),
+        (ReadFaultKind::DataChecksum, "read 8 DataChecksum 180"),
         (ReadFaultKind::Memory, "memory"),
     ] {
         let mut printed = String::new(rt.alloc());

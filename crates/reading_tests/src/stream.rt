@@ -101,7 +101,7 @@ fn streamed(
 
 /// Stops unless a recording gives the same packets and the same end as a stream; this end, and the
 /// number of packets.
-fn compare(
+pub(crate) fn compare(
     rt: &impl Abort,
     alloc: Global,
     bytes: &[u8],

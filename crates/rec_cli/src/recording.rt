@@ -1,31 +1,22 @@
 //! The command that records.
 
-mod announced;
 mod changes;
-mod closing;
-mod errors;
 mod fault;
 mod jobs;
-mod lines;
-mod programs;
 mod report;
 
-use self::announced::AnnouncedOutput;
 use self::changes::LineControl;
 use self::fault::output_fault;
 use self::jobs::jobs_of;
 use self::report::print_report;
-use cli_streams::{
-    Ending, Inputs, LockFile, MAX_LISTING, RecordingFault, bounded_text, create_output,
-};
+use cli_recording::{AnnouncedOutput, read_settings};
+use cli_streams::{Ending, Inputs, LockFile, RecordingFault, create_output};
 use rec_run::{Done, RunFault, jobs_ok, record};
-use rec_words::{Settings, SettingsFault, settings_of};
-use std::fs::OpenFile;
-use std::io::{ErrorKind, Read, Write};
+use rec_words::SettingsFault;
+use std::io::{Read, Write};
 use std::rt::Files;
 use std::sync::{Mutex, Wait};
 use std::thread::Threads;
-use std::{fs, io};
 
 /// `record SETTINGS OUT`: records the channels of the settings into OUT, and prints a line for each
 /// channel and how much was written, when OUT is on its disk. Lines of `input` change filters
@@ -70,7 +61,7 @@ where
                 out: recorded,
             },
         ) => {
-            keep(recorded.get_ref()).map_err(|_| Ending::File(out))?;
+            recorded.keep().map_err(|_| Ending::File(out))?;
             print_report(rt.alloc(), output, &report)?;
             control.outcome()
         }
@@ -84,27 +75,5 @@ where
         ) => Err(recorded.ending(output_fault(fault))),
         Err(RunFault::Link) => Err(Ending::Recording(RecordingFault::Link)),
         Err(RunFault::History) => Err(Ending::Recording(RecordingFault::History)),
-    }
-}
-
-/// The settings in a file.
-fn read_settings<'a, R: AllocGlobal + Files>(
-    rt: &R,
-    file: &'a str,
-    inputs: &mut Inputs,
-) -> Result<Settings, Ending<'a>> {
-    let mut opened = fs::open(rt, file).map_err(|error| Ending::of_read(file, &error))?;
-    inputs.add(&opened)?;
-    match bounded_text(rt.alloc(), MAX_LISTING, &mut opened) {
-        Ok(text) => Ok(settings_of(rt.alloc(), text.as_str())?),
-        Err(error) => Err(Ending::of_read(file, &error)),
-    }
-}
-
-/// Forces a recording to its disk. A pipe or a device has none, and says that it can't be.
-fn keep<F: OpenFile>(recorded: &F) -> io::Result<()> {
-    match recorded.sync_all() {
-        Err(error) if error.kind() != ErrorKind::InvalidInput => Err(error),
-        _ => Ok(()),
     }
 }

@@ -1,11 +1,13 @@
 -- The beginning of a recording that is read to its end.
 use Rattle.std.proofs.Common.{◌≡◌, ℕ, ◌+◌, ◌<◌, ◌≤◌, ◌⊎◌, inl, inr, List, [], ◌∷◌, ◌++◌, length, take, drop, None, Some, refl, sym, ap, subst, ◌∙◌, arith}
+use Rattle.std.specs.Prelude.{◌≢◌}
 use Rattle.std.proofs.lemmas.Bool.{cases_lt}
 use Rattle.std.proofs.lemmas.List.{append_assoc, length-append, nil_from_length, take_at, drop_at, take-append-drop, take-append-le, drop-append-le}
 use Rattle.ch11_packet.specs.declared.header.TheConstants.{HEADER_LEN}
 use Rattle.ch11_packet.specs.Header.{HeaderData, IsHeader, header_bytes}
-use Rattle.ch11_packet.specs.Classes.{IsJudgedAs, Holds, data_in}
+use Rattle.ch11_packet.specs.Classes.{IsJudgedAs, IsSummed, Holds, data_in}
 use Rattle.ch11_packet.specs.declared.class.What.{What}
+use Rattle.ch11_packet.specs.declared.class.What.TheVariants.{Other}
 use Rattle.rec_reader.specs.declared.fault.ReadFaultKind.TheVariants.{Truncated}
 use Rattle.rec_reader.specs.Packets.{PacketData, packet_of, SpellsPacket, StandsFirst, Begins}
 use Rattle.rec_reader.specs.Reading.{IsCut, Reads, ReadsAsFront}
@@ -86,13 +88,13 @@ reads_as_front front rest packets reads =
 
 -- ---- what isn't judged
 
-pub spells_again : ((header other : HeaderData) (body more : List ℕ) (what : What) → IsJudgedAs header other → data_in other more ≡ data_in header body → Holds header body what → Holds other more what)
+pub spells_again : ((header other : HeaderData) (body more : List ℕ) (what : What) → IsJudgedAs header other → data_in other more ≡ data_in header body → (what ≢ Other → IsSummed other more) → Holds header body what → Holds other more what)
     → (packet : PacketData) (spelling body : List ℕ) (header : HeaderData) → SpellsPacket packet spelling → IsJudgedAs packet.header header → IsHeader header
-    → data_in header body ≡ data_in packet.header packet.body → HEADER_LEN + length body ≡ header.packet_len
+    → data_in header body ≡ data_in packet.header packet.body → (packet.what ≢ Other → IsSummed header body) → HEADER_LEN + length body ≡ header.packet_len
     → SpellsPacket (packet_of packet.at header body packet.what) (header_bytes header ++ body)
-spells_again again packet spelling body header spells judged is bytes long = record {
+spells_again again packet spelling body header spells judged is bytes sums long = record {
   is_header = is;
   whole = refl;
   long = length-append (header_bytes header) body ∙ ap (λ n. n + length body) (length-header header) ∙ long;
-  holds = again packet.header header packet.body body packet.what judged bytes spells.holds;
+  holds = again packet.header header packet.body body packet.what judged bytes sums spells.holds;
 }

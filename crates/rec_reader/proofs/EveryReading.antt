@@ -8,19 +8,20 @@ use Rattle.ch11_packet.specs.declared.header.TheConstants.{HEADER_LEN}
 use Rattle.ch11_packet.specs.declared.header.HeaderFault.{HeaderFault}
 use Rattle.ch11_packet.specs.declared.class.What.{What}
 use Rattle.ch11_packet.specs.Header.{HeaderData, IsHeader, HasFault, header_at, header_bytes}
-use Rattle.ch11_packet.specs.Classes.{Holds, HoldsNothing, IsJudgedAs, data_in}
+use Rattle.ch11_packet.specs.declared.class.ClassFault.{ClassFault}
+use Rattle.ch11_packet.specs.Classes.{Holds, HasClassFault}
 use Rattle.ch11_packet.proofs.Outcomes.{AreBytes-take}
 use Rattle.rec_reader.specs.declared.fault.ReadFaultKind.{ReadFaultKind}
-use Rattle.rec_reader.specs.declared.fault.ReadFaultKind.TheVariants.{Truncated, Body}
+use Rattle.rec_reader.specs.declared.fault.ReadFaultKind.TheVariants.{Truncated}
 use Rattle.rec_reader.specs.Packets.{PacketData, packet_of, StandsFirst, Begins}
-use Rattle.rec_reader.specs.Reading.{HasHeader, HasReadFault, header_kind, Ends, Reads}
+use Rattle.rec_reader.specs.Reading.{HasHeader, HasReadFault, class_kind, header_kind, Ends, Reads}
 use Rattle.rec_reader.proofs.Splitting.{bad_header, bad_packet, first_header, first_packet, length-headed}
 use Rattle.rec_reader.proofs.Chains.{shorter}
 
 -- what is known of headers and of what packets hold
 pub record Known : Type 0 where
   pub header : (bytes : List ℕ) → AreBytes bytes → length bytes ≡ HEADER_LEN → (IsHeader (header_at bytes) × (bytes ≡ header_bytes (header_at bytes))) ⊎ ((fault : HeaderFault) × HasFault bytes fault)
-  pub thing : (header : HeaderData) (body : List ℕ) → AreBytes body → ((what : What) × Holds header body what) ⊎ HoldsNothing header body
+  pub thing : (header : HeaderData) (body : List ℕ) → AreBytes body → ((what : What) × Holds header body what) ⊎ ((fault : ClassFault) × HasClassFault header body fault)
 
 -- ---- a packet or a fault
 
@@ -39,7 +40,7 @@ with_body known at header bytes behind fit headed whole =
     omega (arith, fits, length-take-le len behind (omega (arith, length-headed header bytes behind headed))) in
     elim (known.thing header body (AreBytes-take len behind fit)) [
       | inl holds ↦ inl (packet_of at header body holds.0, more, first_packet at header bytes behind body more holds.0 headed split long holds.1)
-      | inr nothing ↦ inr (Body, bad_packet header bytes behind body more headed split long nothing)
+      | inr wrong ↦ inr (class_kind wrong.0, bad_packet header bytes behind body more wrong.0 headed split long wrong.1)
     ]
 
 with_header : Known → (at : ℕ) (header : HeaderData) (bytes behind : List ℕ) → AreBytes behind → HasHeader header bytes behind → Outcome at bytes
@@ -105,17 +106,3 @@ pub a_reading : Known → (bytes : List ℕ) → AreBytes bytes → (packets : L
 a_reading known bytes fit =
     let from = read_from known (length bytes) 0 bytes fit (omega arith) in
     (from.packets, from.fault, record { rest = from.rest; held = from.held; ends = from.ends })
-
--- ---- what isn't judged of a packet whose body has a fault
-
-pub bad_again : ((header other : HeaderData) (body more : List ℕ) → IsJudgedAs header other → data_in other more ≡ data_in header body → HoldsNothing header body → HoldsNothing other more)
-    → (header other : HeaderData) (body more rest : List ℕ) → HoldsNothing header body → IsJudgedAs header other → IsHeader other → data_in other more ≡ data_in header body
-    → HEADER_LEN + length more ≡ other.packet_len → HasReadFault (header_bytes other ++ (more ++ rest)) Body
-bad_again again header other body more rest nothing judged is bytes long = record {
-  header = other;
-  body = more;
-  more = rest;
-  headed = record { is_header = is; whole = refl };
-  long = long;
-  nothing = again header other body more judged bytes nothing;
-}

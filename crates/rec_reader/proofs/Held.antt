@@ -18,4 +18,4 @@ pub decoded : {X E : Type 0} (header : HeaderData) (body bytes : List ℕ) (what
     → Holds header body what → IsSome some
 decoded header body bytes what count answer view some is counted read same holds =
     let held = subst (Holds header body) counted holds in
-    same ∙ ok_is _ answer (read held.1 (subst (SpellsBody held.1) (sym is) held.2))
+    same ∙ ok_is _ answer (read held.class.1 (subst (SpellsBody held.class.1) (sym is) held.class.2))

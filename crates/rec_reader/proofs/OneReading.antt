@@ -6,11 +6,13 @@ use Rattle.ch11_packet.specs.declared.header.HeaderFault.{HeaderFault}
 use Rattle.ch11_packet.specs.declared.header.HeaderFault.TheVariants.{Sync as BadSync, Checksum as BadChecksum, Length as BadLength}
 use Rattle.ch11_packet.specs.declared.class.What.{What}
 use Rattle.ch11_packet.specs.Header.{HeaderData, IsHeader, HasSync, HasHeaderSum, HasLengths, header_bytes}
-use Rattle.ch11_packet.specs.Classes.{Holds, HoldsNothing}
+use Rattle.ch11_packet.specs.declared.class.ClassFault.{ClassFault}
+use Rattle.ch11_packet.specs.declared.class.ClassFault.TheVariants.{DataChecksum as BadSum, Body as BadBody}
+use Rattle.ch11_packet.specs.Classes.{Holds, HasClassFault}
 use Rattle.rec_reader.specs.declared.fault.ReadFaultKind.{ReadFaultKind}
-use Rattle.rec_reader.specs.declared.fault.ReadFaultKind.TheVariants.{Truncated, Sync, Checksum, Length, Body, Device, Memory}
+use Rattle.rec_reader.specs.declared.fault.ReadFaultKind.TheVariants.{Truncated, Sync, Checksum, Length, DataChecksum, Body, Device, Memory}
 use Rattle.rec_reader.specs.Packets.{PacketData, packet_of, SpellsPacket, StandsFirst, Begins}
-use Rattle.rec_reader.specs.Reading.{HasHeader, IsCut, HasHeaderFault, HasBadBody, HasReadFault, Ends, Reads}
+use Rattle.rec_reader.specs.Reading.{HasHeader, IsCut, HasHeaderFault, HasBadPacket, HasReadFault, Ends, Reads}
 use Rattle.rec_reader.proofs.Splitting.{length-header, length-headed}
 use Rattle.rec_reader.proofs.Chains.{length-first}
 
@@ -20,7 +22,8 @@ pub record Known : Type 0 where
   pub one_header : (header other : HeaderData) (rest more : List ℕ) → IsHeader header → IsHeader other → header_bytes header ++ rest ≡ header_bytes other ++ more → (header ≡ other) × (rest ≡ more)
   pub valid_header : (header : HeaderData) → IsHeader header → HasSync (header_bytes header) × HasHeaderSum (header_bytes header) × HasLengths (header_bytes header)
   pub one_thing : (header : HeaderData) (body : List ℕ) (what other : What) → Holds header body what → Holds header body other → what ≡ other
-  pub no_fault : (header : HeaderData) (body : List ℕ) (what : What) → Holds header body what → HoldsNothing header body → ⊥
+  pub no_fault : (header : HeaderData) (body : List ℕ) (what : What) (fault : ClassFault) → Holds header body what → HasClassFault header body fault → ⊥
+  pub one_wrong : (header : HeaderData) (body : List ℕ) (fault other : ClassFault) → HasClassFault header body fault → HasClassFault header body other → fault ≡ other
 
 -- ---- the packet that stands first
 
@@ -82,6 +85,7 @@ some_fault bytes Checksum fault = omega (arith, fault.0)
 some_fault bytes Length fault = omega (arith, fault.0)
 some_fault bytes Device fault = elim fault [ ]
 some_fault bytes Memory fault = elim fault [ ]
+some_fault bytes DataChecksum fault = omega (arith, length-headed fault.header bytes _ fault.headed)
 some_fault bytes Body fault = omega (arith, length-headed fault.header bytes _ fault.headed)
 
 headed_front : (header : HeaderData) (bytes behind : List ℕ) → HasHeader header bytes behind → take HEADER_LEN bytes ≡ header_bytes header
@@ -114,8 +118,14 @@ not_cut known header body bytes more headed (inr cut) =
     let same = ap (λ (h : HeaderData). h.packet_len) one.0 in
     omega (arith, length-IsHeaded header body bytes more headed, cut.3, same)
 
-bad_headed : (bytes : List ℕ) (bad : HasBadBody bytes) → IsHeaded bad.header bad.body bytes bad.more
-bad_headed bytes bad = record { is_header = bad.headed.is_header; whole = bad.headed.whole; long = bad.long }
+bad_headed : (bytes : List ℕ) (fault : ClassFault) (bad : HasBadPacket bytes fault) → IsHeaded bad.header bad.body bytes bad.more
+bad_headed bytes fault bad = record { is_header = bad.headed.is_header; whole = bad.headed.whole; long = bad.long }
+
+first_or_bad : Known → (at : ℕ) (packet : PacketData) (bytes more : List ℕ) (fault : ClassFault) → StandsFirst at packet bytes more → HasBadPacket bytes fault → ⊥
+first_or_bad known at packet bytes more fault first bad =
+    let one = one_headed known _ _ _ _ bytes _ _ (headed_first at packet bytes more first) (bad_headed bytes fault bad) in
+    known.no_fault bad.header bad.body packet.what fault
+    (subst (λ h. Holds h bad.body packet.what) one.0 (subst (λ l. Holds packet.header l packet.what) one.1 first.spelled.holds)) bad.wrong
 
 -- where a packet stands first there is no fault
 pub none_first : Known → (at : ℕ) (packet : PacketData) (bytes more : List ℕ) (kind : ReadFaultKind) → StandsFirst at packet bytes more → HasReadFault bytes kind → ⊥
@@ -128,10 +138,8 @@ none_first known at packet bytes more Length first fault =
     no_header_fault known _ bytes _ BadLength (with_header _ _ bytes more (headed_first at packet bytes more first)) fault
 none_first known at packet bytes more Device first fault = elim fault [ ]
 none_first known at packet bytes more Memory first fault = elim fault [ ]
-none_first known at packet bytes more Body first fault =
-    let one = one_headed known _ _ _ _ bytes _ _ (headed_first at packet bytes more first) (bad_headed bytes fault) in
-    known.no_fault fault.header fault.body packet.what
-    (subst (λ h. Holds h fault.body packet.what) one.0 (subst (λ l. Holds packet.header l packet.what) one.1 first.spelled.holds)) fault.nothing
+none_first known at packet bytes more DataChecksum first fault = first_or_bad known at packet bytes more BadSum first fault
+none_first known at packet bytes more Body first fault = first_or_bad known at packet bytes more BadBody first fault
 
 -- ---- one fault
 
@@ -139,11 +147,20 @@ cut_or_wrong : Known → (bytes : List ℕ) (fault : HeaderFault) → IsCut byte
 cut_or_wrong known bytes fault (inl few) wrong = omega (arith, few.1, wrong.0)
 cut_or_wrong known bytes fault (inr cut) wrong = no_header_fault known cut.0 bytes cut.1 fault cut.2 wrong
 
-cut_or_bad : Known → (bytes : List ℕ) → IsCut bytes → HasBadBody bytes → ⊥
-cut_or_bad known bytes cut bad = not_cut known bad.header bad.body bytes bad.more (bad_headed bytes bad) cut
+cut_or_bad : Known → (bytes : List ℕ) (fault : ClassFault) → IsCut bytes → HasBadPacket bytes fault → ⊥
+cut_or_bad known bytes fault cut bad = not_cut known bad.header bad.body bytes bad.more (bad_headed bytes fault bad) cut
 
-wrong_or_bad : Known → (bytes : List ℕ) (fault : HeaderFault) → HasHeaderFault bytes fault → HasBadBody bytes → ⊥
-wrong_or_bad known bytes fault wrong bad = no_header_fault known bad.header bytes _ fault bad.headed wrong
+wrong_or_bad : Known → (bytes : List ℕ) (fault : HeaderFault) (other : ClassFault) → HasHeaderFault bytes fault → HasBadPacket bytes other → ⊥
+wrong_or_bad known bytes fault other wrong bad = no_header_fault known bad.header bytes _ fault bad.headed wrong
+
+one_bad : Known → (bytes : List ℕ) (fault other : ClassFault) → HasBadPacket bytes fault → HasBadPacket bytes other → fault ≡ other
+one_bad known bytes fault other a b =
+    let one = one_headed known _ _ _ _ bytes _ _ (bad_headed bytes fault a) (bad_headed bytes other b) in
+    known.one_wrong b.header b.body fault other
+    (subst (λ h. HasClassFault h b.body fault) one.0 (subst (λ l. HasClassFault a.header l fault) one.1 a.wrong)) b.wrong
+
+sum_or_body : BadSum ≡ BadBody → ⊥
+sum_or_body e = cc
 
 -- the bytes have one fault at most
 pub one_fault : Known → (bytes : List ℕ) (kind other : ReadFaultKind) → HasReadFault bytes kind → HasReadFault bytes other → kind ≡ other
@@ -153,34 +170,47 @@ one_fault known bytes Truncated Truncated a b = refl
 one_fault known bytes Truncated Sync a b = absurd (cut_or_wrong known bytes BadSync a b)
 one_fault known bytes Truncated Checksum a b = absurd (cut_or_wrong known bytes BadChecksum a b)
 one_fault known bytes Truncated Length a b = absurd (cut_or_wrong known bytes BadLength a b)
-one_fault known bytes Truncated Body a b = absurd (cut_or_bad known bytes a b)
+one_fault known bytes Truncated DataChecksum a b = absurd (cut_or_bad known bytes BadSum a b)
+one_fault known bytes Truncated Body a b = absurd (cut_or_bad known bytes BadBody a b)
 one_fault known bytes Truncated Device a b = absurd b
 one_fault known bytes Truncated Memory a b = absurd b
 one_fault known bytes Sync Truncated a b = absurd (cut_or_wrong known bytes BadSync b a)
 one_fault known bytes Sync Sync a b = refl
 one_fault known bytes Sync Checksum a b = absurd (a.1 b.1.0)
 one_fault known bytes Sync Length a b = absurd (a.1 b.1.0)
-one_fault known bytes Sync Body a b = absurd (wrong_or_bad known bytes BadSync a b)
+one_fault known bytes Sync DataChecksum a b = absurd (wrong_or_bad known bytes BadSync BadSum a b)
+one_fault known bytes Sync Body a b = absurd (wrong_or_bad known bytes BadSync BadBody a b)
 one_fault known bytes Sync Device a b = absurd b
 one_fault known bytes Sync Memory a b = absurd b
 one_fault known bytes Checksum Truncated a b = absurd (cut_or_wrong known bytes BadChecksum b a)
 one_fault known bytes Checksum Sync a b = absurd (b.1 a.1.0)
 one_fault known bytes Checksum Checksum a b = refl
 one_fault known bytes Checksum Length a b = absurd (a.1.1 b.1.1)
-one_fault known bytes Checksum Body a b = absurd (wrong_or_bad known bytes BadChecksum a b)
+one_fault known bytes Checksum DataChecksum a b = absurd (wrong_or_bad known bytes BadChecksum BadSum a b)
+one_fault known bytes Checksum Body a b = absurd (wrong_or_bad known bytes BadChecksum BadBody a b)
 one_fault known bytes Checksum Device a b = absurd b
 one_fault known bytes Checksum Memory a b = absurd b
 one_fault known bytes Length Truncated a b = absurd (cut_or_wrong known bytes BadLength b a)
 one_fault known bytes Length Sync a b = absurd (b.1 a.1.0)
 one_fault known bytes Length Checksum a b = absurd (b.1.1 a.1.1)
 one_fault known bytes Length Length a b = refl
-one_fault known bytes Length Body a b = absurd (wrong_or_bad known bytes BadLength a b)
+one_fault known bytes Length DataChecksum a b = absurd (wrong_or_bad known bytes BadLength BadSum a b)
+one_fault known bytes Length Body a b = absurd (wrong_or_bad known bytes BadLength BadBody a b)
 one_fault known bytes Length Device a b = absurd b
 one_fault known bytes Length Memory a b = absurd b
-one_fault known bytes Body Truncated a b = absurd (cut_or_bad known bytes b a)
-one_fault known bytes Body Sync a b = absurd (wrong_or_bad known bytes BadSync b a)
-one_fault known bytes Body Checksum a b = absurd (wrong_or_bad known bytes BadChecksum b a)
-one_fault known bytes Body Length a b = absurd (wrong_or_bad known bytes BadLength b a)
+one_fault known bytes DataChecksum Truncated a b = absurd (cut_or_bad known bytes BadSum b a)
+one_fault known bytes DataChecksum Sync a b = absurd (wrong_or_bad known bytes BadSync BadSum b a)
+one_fault known bytes DataChecksum Checksum a b = absurd (wrong_or_bad known bytes BadChecksum BadSum b a)
+one_fault known bytes DataChecksum Length a b = absurd (wrong_or_bad known bytes BadLength BadSum b a)
+one_fault known bytes DataChecksum DataChecksum a b = refl
+one_fault known bytes DataChecksum Body a b = absurd (sum_or_body (one_bad known bytes BadSum BadBody a b))
+one_fault known bytes DataChecksum Device a b = absurd b
+one_fault known bytes DataChecksum Memory a b = absurd b
+one_fault known bytes Body Truncated a b = absurd (cut_or_bad known bytes BadBody b a)
+one_fault known bytes Body Sync a b = absurd (wrong_or_bad known bytes BadSync BadBody b a)
+one_fault known bytes Body Checksum a b = absurd (wrong_or_bad known bytes BadChecksum BadBody b a)
+one_fault known bytes Body Length a b = absurd (wrong_or_bad known bytes BadLength BadBody b a)
+one_fault known bytes Body DataChecksum a b = absurd (sum_or_body (one_bad known bytes BadSum BadBody b a))
 one_fault known bytes Body Body a b = refl
 one_fault known bytes Body Device a b = absurd b
 one_fault known bytes Body Memory a b = absurd b

@@ -8,9 +8,11 @@ use Rattle.ch11_packet.specs.declared.header.HeaderFault.{HeaderFault}
 use Rattle.ch11_packet.specs.declared.header.HeaderFault.TheVariants.{Sync as BadSync, Checksum as BadChecksum, Length as BadLength}
 use Rattle.ch11_packet.specs.declared.class.What.{What}
 use Rattle.ch11_packet.specs.Header.{HeaderData, IsHeader, HasFault, header_bytes}
-use Rattle.ch11_packet.specs.Classes.{Holds, HoldsNothing}
+use Rattle.ch11_packet.specs.declared.class.ClassFault.{ClassFault}
+use Rattle.ch11_packet.specs.declared.class.ClassFault.TheVariants.{DataChecksum as BadSum, Body as BadBody}
+use Rattle.ch11_packet.specs.Classes.{Holds, HasClassFault}
 use Rattle.rec_reader.specs.Packets.{packet_of, StandsFirst}
-use Rattle.rec_reader.specs.Reading.{HasHeader, IsCut, HasBadBody, HasReadFault, header_kind}
+use Rattle.rec_reader.specs.Reading.{HasHeader, IsCut, HasBadPacket, HasReadFault, class_kind, header_kind}
 
 pub length-header : (header : HeaderData) → length (header_bytes header) ≡ HEADER_LEN
 unfolding header_bytes
@@ -43,16 +45,27 @@ pub cut_packet : (header : HeaderData) (bytes behind : List ℕ) → HasHeader h
 cut_packet header bytes behind headed few =
     inr (header, behind, headed, omega (arith, length-headed header bytes behind headed, few))
 
-pub bad_packet : (header : HeaderData) (bytes behind body more : List ℕ) → HasHeader header bytes behind → behind ≡ body ++ more → HEADER_LEN + length body ≡ header.packet_len
-    → HoldsNothing header body → HasBadBody bytes
-bad_packet header bytes behind body more headed split long nothing = record {
+has_bad_packet : (header : HeaderData) (bytes behind body more : List ℕ) (fault : ClassFault) → HasHeader header bytes behind → behind ≡ body ++ more → HEADER_LEN + length body ≡ header.packet_len
+    → HasClassFault header body fault → HasBadPacket bytes fault
+has_bad_packet header bytes behind body more fault headed split long wrong = record {
   header = header;
   body = body;
   more = more;
   headed = record { is_header = headed.is_header; whole = headed.whole ∙ ap (λ l. header_bytes header ++ l) split };
   long = long;
-  nothing = nothing;
+  wrong = wrong;
 }
+
+pub bad_packet : (header : HeaderData) (bytes behind body more : List ℕ) (fault : ClassFault) → HasHeader header bytes behind → behind ≡ body ++ more → HEADER_LEN + length body ≡ header.packet_len
+    → HasClassFault header body fault → HasReadFault bytes (class_kind fault)
+bad_packet header bytes behind body more BadSum headed split long wrong = has_bad_packet header bytes behind body more BadSum headed split long wrong
+bad_packet header bytes behind body more BadBody headed split long wrong = has_bad_packet header bytes behind body more BadBody headed split long wrong
+
+-- the same of bytes that are put together
+pub bad_bytes : (header : HeaderData) (body more : List ℕ) (fault : ClassFault) → IsHeader header → HEADER_LEN + length body ≡ header.packet_len → HasClassFault header body fault
+    → HasReadFault (header_bytes header ++ (body ++ more)) (class_kind fault)
+bad_bytes header body more fault is long wrong =
+    bad_packet header (header_bytes header ++ (body ++ more)) (body ++ more) body more fault (record { is_header = is; whole = refl }) refl long wrong
 
 pub first_packet : (at : ℕ) (header : HeaderData) (bytes behind body more : List ℕ) (what : What) → HasHeader header bytes behind → behind ≡ body ++ more → HEADER_LEN + length body ≡ header.packet_len
     → Holds header body what → StandsFirst at (packet_of at header body what) bytes more
@@ -68,11 +81,11 @@ first_packet at header bytes behind body more what headed split long holds = rec
   whole = headed.whole ∙ ap (λ l. header_bytes header ++ l) split ∙ sym (append_assoc (header_bytes header) body more);
 }
 
--- a fault of a header, as it is told
-pub is_told : {X : Type 0} (bytes : List ℕ) (answer : Result X ReadFaultKind) (fault : HeaderFault) → IsErrAnd answer (λ kind. kind ≡ header_kind fault) → HasReadFault bytes (header_kind fault)
+-- a fault, as it is told
+pub is_told : {X : Type 0} (bytes : List ℕ) (answer : Result X ReadFaultKind) (told : ReadFaultKind) → IsErrAnd answer (λ kind. kind ≡ told) → HasReadFault bytes told
     → IfErr answer (HasReadFault bytes)
-is_told bytes (Ok x) fault told has = tt
-is_told bytes (Err kind) fault told has = subst (HasReadFault bytes) (sym told) has
+is_told bytes (Ok x) told is has = tt
+is_told bytes (Err kind) told is has = subst (HasReadFault bytes) (sym is) has
 
 pub split_is : (behind front back : List ℕ) (n : ℕ) → front ≡ take n behind → back ≡ drop n behind → behind ≡ front ++ back
 split_is behind front back n is rest = sym (take-append-drop n behind) ∙ ap (λ l. l ++ drop n behind) (sym is) ∙ ap (λ l. front ++ l) (sym rest)

@@ -46,8 +46,8 @@ decoded_program : {E : Type 0} (header : HeaderData) (body bytes : List ℕ) (wh
     → Holds header body what → (program : ProgramRecord) × (answer ≡ Ok (Some (AProgram program)))
 decoded_program header body bytes what channel version first count answer is held read holds =
     let known = subst (Holds header body) held holds in
-    let insns = known.1 in
-    let spells = subst (SpellsRecord (ProgramSaid channel version first insns)) (sym is) known.2 in
+    let insns = known.class.1 in
+    let spells = subst (SpellsRecord (ProgramSaid channel version first insns)) (sym is) known.class.2 in
     let found = decoded_some answer (ProgramSaid channel version first insns) (read (ProgramSaid channel version first insns) spells) in
     let program = is_program found.0 channel version first insns found.2 in
     (program.0, found.1 ∙ ap (λ (r : Record). Ok (Some r)) program.1)
@@ -83,7 +83,7 @@ pub program_is : ((header : HeaderData) (body : List ℕ) (what other : What) �
 program_is one header body bytes what channel version first count program is held spells holds =
     let known = subst (Holds header body) held holds in
     one header body what (Program program.channel program.version program.first program.count) holds
-    (known.0, record_insns program, subst (SpellsRecord (record_data (AProgram program))) is spells, length-stored_insns program.count program.insns.now)
+    (record { class = (known.class.0, record_insns program, subst (SpellsRecord (record_data (AProgram program))) is spells, length-stored_insns program.count program.insns.now); summed = known.summed })
 
 -- ---- instructions that are copied
 

@@ -6,12 +6,13 @@ use Rattle.ch11_packet.specs.declared.header.TheConstants.{HEADER_LEN}
 use Rattle.ch11_packet.specs.declared.header.HeaderFault.{HeaderFault}
 use Rattle.ch11_packet.specs.declared.class.What.{What}
 use Rattle.ch11_packet.specs.Header.{HeaderData, HasFault}
-use Rattle.ch11_packet.specs.Classes.{Holds}
+use Rattle.ch11_packet.specs.declared.class.ClassFault.{ClassFault}
+use Rattle.ch11_packet.specs.Classes.{Holds, HasClassFault}
 use Rattle.rec_reader.specs.declared.fault.ReadEnd.{ReadEnd}
 use Rattle.rec_reader.specs.declared.fault.ReadFaultKind.{ReadFaultKind}
 use Rattle.rec_reader.specs.declared.fault.ReadFaultKind.TheVariants.{Truncated, Device, Memory}
-use Rattle.rec_reader.specs.Reading.{HasHeader, HasReadFault, header_kind}
-use Rattle.rec_reader.proofs.Splitting.{bad_header, cut_packet, first_packet}
+use Rattle.rec_reader.specs.Reading.{HasHeader, HasReadFault, class_kind, header_kind}
+use Rattle.rec_reader.proofs.Splitting.{bad_header, bad_packet, cut_packet, first_packet}
 use Rattle.rec_reader.specs.Packets.{PacketData, packet_of, StandsFirst, packets_len}
 use Rattle.rec_reader.specs.Readers.{ReaderState, StopsOn, TakesFirst, TakesHeader, TakesRest, IsBefore, HasRead}
 use Rattle.rec_reader.proofs.Chains.{length-first, length-Begins, Begins-snoc}
@@ -46,6 +47,15 @@ pub told_body : {X : Type 0} (header : HeaderData) (known : Option (List ℕ)) (
 told_body header known (Ok x) kind told why = tt
 told_body header None (Err other) kind told why = tt
 told_body header (Some behind) (Err other) kind told why = λ bytes headed. subst (StopsOn bytes) (sym told) (stops_on header kind bytes behind headed why)
+
+-- the rest of a packet came, and is wrong
+pub told_class : {X : Type 0} (header : HeaderData) (body : List ℕ) (old new : Option (List ℕ)) (answer : Result X ReadFaultKind) (fault : ClassFault) → IsErrAnd answer (λ told. told ≡ class_kind fault) → Consumes old new body
+    → HEADER_LEN + length body ≡ header.packet_len → HasClassFault header body fault → IfErr answer (λ told. IfSome old (λ behind. (bytes : List ℕ) → HasHeader header bytes behind → StopsOn bytes told))
+told_class header body old new (Ok x) fault told took long wrong = tt
+told_class header body None new (Err kind) fault told took long wrong = tt
+told_class header body (Some behind) None (Err kind) fault told took long wrong = absurd took
+told_class header body (Some behind) (Some more) (Err kind) fault told took long wrong =
+    λ bytes headed. inl (subst (HasReadFault bytes) (sym told) (bad_packet header bytes behind body more fault headed took long wrong))
 
 -- the rest of a packet came
 pub rest_taken : (at : ℕ) (header : HeaderData) (body : List ℕ) (what : What) (packet : PacketData) (old new : Option (List ℕ)) → packet ≡ packet_of at header body what → Consumes old new body

@@ -4,9 +4,11 @@ use Rattle.ch11_packet.specs.declared.header.TheConstants.{HEADER_LEN}
 use Rattle.ch11_packet.specs.declared.header.HeaderFault.{HeaderFault}
 use Rattle.ch11_packet.specs.declared.header.HeaderFault.TheVariants.{Sync as BadSync, Checksum as BadChecksum, Length as BadLength}
 use Rattle.ch11_packet.specs.Header.{HeaderData, IsHeader, HasFault, header_bytes}
-use Rattle.ch11_packet.specs.Classes.{HoldsNothing}
+use Rattle.ch11_packet.specs.declared.class.ClassFault.{ClassFault}
+use Rattle.ch11_packet.specs.declared.class.ClassFault.TheVariants.{DataChecksum as BadSum, Body as BadBody}
+use Rattle.ch11_packet.specs.Classes.{HasClassFault}
 use Rattle.rec_reader.specs.declared.fault.ReadFaultKind.{ReadFaultKind}
-use Rattle.rec_reader.specs.declared.fault.ReadFaultKind.TheVariants.{Truncated, Sync, Checksum, Length, Body, Device, Memory}
+use Rattle.rec_reader.specs.declared.fault.ReadFaultKind.TheVariants.{Truncated, Sync, Checksum, Length, DataChecksum, Body, Device, Memory}
 use Rattle.rec_reader.specs.Packets.{PacketData, Begins}
 
 -- ---- bytes that begin no packet
@@ -27,24 +29,25 @@ IsCut bytes =
 abbrev pub HasHeaderFault : List ℕ → HeaderFault → Type 0
 HasHeaderFault bytes fault = (HEADER_LEN ≤ length bytes) × HasFault (take HEADER_LEN bytes) fault
 
--- a header and its packet's body, which is none
-pub record HasBadBody (bytes : List ℕ) : Type 0 where
+-- a header and its packet's body, with this wrong about them
+pub record HasBadPacket (bytes : List ℕ) (fault : ClassFault) : Type 0 where
   pub header : HeaderData
   pub body : List ℕ
   pub more : List ℕ
   pub headed : HasHeader header bytes (body ++ more)
   pub long : HEADER_LEN + length body ≡ header.packet_len
-  pub nothing : HoldsNothing header body
+  pub wrong : HasClassFault header body fault
 
 -- why the bytes begin no packet: there are fewer than a header has; else its sync pattern, else its
 -- checksum, else its lengths are wrong; else there are fewer bytes than its packet has; else its
--- body has a fault. No bytes have a fault of a device or of memory.
+-- data checksum is wrong; else its body has a fault. No bytes have a fault of a device or of memory.
 abbrev pub HasReadFault : List ℕ → ReadFaultKind → Type 0
 HasReadFault bytes Truncated = IsCut bytes
 HasReadFault bytes Sync = HasHeaderFault bytes BadSync
 HasReadFault bytes Checksum = HasHeaderFault bytes BadChecksum
 HasReadFault bytes Length = HasHeaderFault bytes BadLength
-HasReadFault bytes Body = HasBadBody bytes
+HasReadFault bytes DataChecksum = HasBadPacket bytes BadSum
+HasReadFault bytes Body = HasBadPacket bytes BadBody
 HasReadFault bytes Device = ⊥
 HasReadFault bytes Memory = ⊥
 
@@ -86,3 +89,8 @@ abbrev pub header_kind : HeaderFault → ReadFaultKind
 header_kind BadSync = Sync
 header_kind BadChecksum = Checksum
 header_kind BadLength = Length
+
+-- what a fault of a packet is as a fault of the reader
+abbrev pub class_kind : ClassFault → ReadFaultKind
+class_kind BadSum = DataChecksum
+class_kind BadBody = Body

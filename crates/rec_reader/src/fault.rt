@@ -1,11 +1,11 @@
 //! Why bytes are read no further.
 
 ghost use Rattle.std.specs.Prelude.{◌≡◌};
-ghost use Rattle.rec_reader.specs.Reading.{header_kind};
+ghost use Rattle.rec_reader.specs.Reading.{class_kind, header_kind};
 ghost use Rattle.rec_reader.specs.declared.fault.ReadFaultKind.TheVariants.{Device, Memory};
 
 use crate::recording::Recording;
-use ch11_packet::HeaderFault;
+use ch11_packet::{ClassFault, HeaderFault};
 use std::alloc::{AllocError, AllocFailed};
 use std::error::Error;
 use std::marker::Model;
@@ -13,7 +13,8 @@ use std::{fmt, io};
 use thiserror::Error;
 
 /// Why no packet follows, in the order in which faults are looked for; but a packet is cut also
-/// where its header is whole and too few bytes follow it, which is looked for before its body.
+/// where its header is whole and too few bytes follow it, which is looked for before its data checksum
+/// and its body.
 #[derive(Clone, Copy, Debug, PartialEq, Eq, Error)]
 pub enum ReadFaultKind {
     /// Fewer bytes are left than a header has, or than the header says.
@@ -28,6 +29,9 @@ pub enum ReadFaultKind {
     /// The header's lengths don't fit each other or the data type.
     #[error("4 Length")]
     Length,
+    /// The data checksum of 32 bits is wrong.
+    #[error("8 DataChecksum")]
+    DataChecksum,
     /// The body isn't what its header says: frames that aren't whole or bytes left over after
     /// them, or a record's tag without the record.
     #[error("5 Body")]
@@ -48,6 +52,17 @@ impl From<HeaderFault> for ReadFaultKind {
             HeaderFault::Sync => ReadFaultKind::Sync,
             HeaderFault::Checksum => ReadFaultKind::Checksum,
             HeaderFault::Length => ReadFaultKind::Length,
+        }
+    }
+}
+
+impl From<ClassFault> for ReadFaultKind {
+    ghost from_gives = { λ fault kind. kind ≡ class_kind fault };
+
+    fn from(fault: ClassFault) -> ReadFaultKind {
+        match fault {
+            ClassFault::DataChecksum => ReadFaultKind::DataChecksum,
+            ClassFault::Body => ReadFaultKind::Body,
         }
     }
 }

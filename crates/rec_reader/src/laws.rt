@@ -4,7 +4,8 @@ ghost use Rattle.std.specs.Prelude.{ℕ, ◌≡◌, ◌≢◌, ◌+◌, ◌++◌
 ghost use Rattle.eth_frame.specs.Bytes.{AreBytes};
 ghost use Rattle.ch11_packet.specs.declared.header.TheConstants.{HEADER_LEN};
 ghost use Rattle.ch11_packet.specs.Header.{HeaderData, IsHeader, header_bytes};
-ghost use Rattle.ch11_packet.specs.Classes.{HoldsNothing, IsJudgedAs, data_in};
+ghost use Rattle.ch11_packet.specs.Flags.{HasChecksum};
+ghost use Rattle.ch11_packet.specs.Classes.{IsOther, HasSum, IsSummed, HasClassFault, IsJudgedAs, data_in};
 ghost use Rattle.rec_reader.specs.declared.fault.ReadFaultKind.{ReadFaultKind};
 ghost use Rattle.rec_reader.specs.Packets.{PacketData, SpellsPacket, Begins, packet_of};
 ghost use Rattle.rec_reader.specs.Reading.{HasReadFault, Reads, ReadsAsFront};
@@ -13,6 +14,7 @@ ghost use Rattle.rec_reader.specs.declared.audits.answer.Audit.{Audit};
 ghost use Rattle.rec_reader.specs.declared.audits.answer.AuditFault.{AuditFault};
 ghost use Rattle.bpf_insn.specs.declared.insn.Insn.{Insn};
 ghost use Rattle.ch11_packet.specs.declared.class.What.{What};
+ghost use Rattle.ch11_packet.specs.declared.class.ClassFault.{ClassFault};
 ghost use Rattle.ch11_packet.specs.RecordsRead.{SpellsRecord};
 ghost use Rattle.ch11_packet.specs.RecordsRead.RecordData.{OfProgram as Spelled};
 ghost use Rattle.rec_reader.specs.Channels.{IsNamed, saying_of};
@@ -62,20 +64,29 @@ pub fn a_cut_recording_reads_as_its_front()
 {}
 
 /// Law: a packet with anything else in what isn't judged of its header, and after its data, is a
-/// packet that holds the same, with the same frames; and if its body has a fault, it has one again.
+/// packet that holds the same, with the same frames, if its data checksum is right, or it has none, or
+/// holds neither frames nor a record; and if its body has a fault, it has one again. Where its data
+/// checksum is wrong, that is its fault if it would hold frames or a record or have a fault of these.
 pub fn what_is_not_judged_makes_no_difference()
     ensures packet { (packet : PacketData) (spelling body : List ℕ) (header : HeaderData)
         → SpellsPacket packet spelling → IsJudgedAs packet.header header → IsHeader header
         → data_in header body ≡ data_in packet.header packet.body
+        → (packet.what ≢ What.Other → IsSummed header body)
         → HEADER_LEN + length body ≡ header.packet_len
         → SpellsPacket (packet_of packet.at header body packet.what) (header_bytes header ++ body) }
     ensures frames { (packet : PacketData) (body : List ℕ) (header : HeaderData)
         → data_in header body ≡ data_in packet.header packet.body
         → packet_frames (packet_of packet.at header body packet.what) ≡ packet_frames packet }
     ensures fault { (header other : HeaderData) (body more rest : List ℕ)
-        → HoldsNothing header body → IsJudgedAs header other → IsHeader other
-        → data_in other more ≡ data_in header body → HEADER_LEN + length more ≡ other.packet_len
+        → HasClassFault header body ClassFault.Body → IsJudgedAs header other → IsHeader other
+        → data_in other more ≡ data_in header body → IsSummed other more
+        → HEADER_LEN + length more ≡ other.packet_len
         → HasReadFault (header_bytes other ++ (more ++ rest)) ReadFaultKind.Body }
+    ensures checksum { (header other : HeaderData) (body more rest : List ℕ)
+        → ¬ IsOther header (data_in header body) → IsJudgedAs header other → IsHeader other
+        → data_in other more ≡ data_in header body → HasChecksum other.flags → ¬ HasSum more
+        → HEADER_LEN + length more ≡ other.packet_len
+        → HasReadFault (header_bytes other ++ (more ++ rest)) ReadFaultKind.DataChecksum }
 {
     a_packet_holds_one_thing();
 }

@@ -11,7 +11,7 @@ pub struct OwnedPacket {
     /// The place of its first byte in the recording, counted from 0.
     at: u64,
     header: Header,
-    /// All bytes after the header, the trailing filler among them.
+    /// All bytes after the header, the trailing filler and the data checksum among them.
     body: Vec<u8>,
     what: What,
 }

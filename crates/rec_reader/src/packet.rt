@@ -20,7 +20,7 @@ pub struct Packet<'a> {
     pub at: u64,
     /// Its header.
     pub header: Header,
-    /// All bytes after the header, the trailing filler among them.
+    /// All bytes after the header, the trailing filler and the data checksum among them.
     pub body: &'a [u8],
     /// What it holds.
     pub what: What,
@@ -38,7 +38,7 @@ impl<'a> Packet<'a> {
     ghost use Rattle.rec_reader.specs.Channels.Saying.{OfProgram};
     ghost use Rattle.rec_reader.specs.Views.{packet_data, program_data};
 
-    /// The packet's data: its body without the trailing filler.
+    /// The packet's data: its body without the trailing filler and the data checksum.
     pub fn data(&self) -> &'a [u8]
         ensures { result.now ≡ data_in (header_data self.now.header) self.now.body.now }
     {

@@ -15,11 +15,13 @@ use std::alloc::Global;
 
 /// The packets of a recording's bytes, or the first fault with the packets before it. For each
 /// packet it is looked for in this order: fewer bytes left than a header has; the header's sync
-/// pattern, checksum and lengths; fewer bytes left than the packet's length; its body; memory.
+/// pattern, checksum and lengths; fewer bytes left than the packet's length; its data checksum of 32
+/// bits, if it has one; its body; memory.
 ///
 /// What isn't judged may be anything: a header's data type version, sequence number, relative time
-/// counter and flag bits 5 to 2, and the filler after the data. The memory that it takes is for a
-/// list of the packets that were read; their bytes are not copied.
+/// counter and flag bits 5 to 2, the filler after the data, and the data checksum of a packet that is
+/// neither frames nor a record. The memory that it takes is for a list of the packets that were read;
+/// their bytes are not copied.
 pub fn read_recording(alloc: Global, bytes: &[u8]) -> Result<Recording<'_>, ReadFault<'_>>
     // At Ok.
     ensures read { IfOk result (λ recording. Reads bytes.now recording None) }
@@ -98,9 +100,7 @@ pub(crate) fn read_packet(at: u64, bytes: &[u8]) -> Result<(Packet<'_>, &[u8]), 
     let Some((body, more)) = behind.split_at_checked(len) else {
         return Err(ReadFaultKind::Truncated);
     };
-    let Some(what) = classify(&header, body) else {
-        return Err(ReadFaultKind::Body);
-    };
+    let what = classify(&header, body)?;
     let packet = Packet {
         at,
         header,

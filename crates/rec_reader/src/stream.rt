@@ -166,9 +166,7 @@ fn take_rest<R: Read>(
         (bytes : List ℕ) → HasHeader (header_data header) bytes behind → StopsOn bytes kind)) }
 {
     let body = read_body(alloc, header.packet_len as usize - HEADER_LEN, input)?;
-    let Some(what) = classify(&header, body.as_slice()) else {
-        return Err(ReadFaultKind::Body);
-    };
+    let what = classify(&header, body.as_slice())?;
     Ok(OwnedPacket::of(at, header, body, what))
 }
 

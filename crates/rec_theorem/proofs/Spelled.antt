@@ -1,6 +1,6 @@
 -- The packet of one piece as a reader has it: its bytes spell a packet, whose frames and whose
 -- saying are those of the piece.
-use Rattle.std.proofs.Common.{ℕ, ◌+◌, ◌%◌, ◌^◌, ◌≡◌, ◌≤◌, ◌<◌, ◌==◌, List, [], ◌++◌, length, map, Some, refl, sym, ap, subst, ◌∙◌, arith}
+use Rattle.std.proofs.Common.{ℕ, ◌+◌, ◌%◌, ◌^◌, ◌≡◌, ◌≤◌, ◌<◌, ◌==◌, List, [], ◌++◌, length, map, Some, true, false, refl, sym, ap, subst, ◌∙◌, arith}
 use Rattle.std.specs.Prelude.{if◌then◌else◌}
 use Rattle.std.proofs.lemmas.List.{take_at, length-map}
 use Rattle.bpf_insn.specs.declared.insn.Insn.{Insn}
@@ -13,7 +13,8 @@ use Rattle.ch11_packet.specs.Packet.{packet_filler}
 use Rattle.ch11_packet.specs.Frames.{data_bytes}
 use Rattle.ch11_packet.specs.FramesRead.{ReadFrameData, body_frame}
 use Rattle.ch11_packet.specs.Building.{EthernetBody, IsEthernetBody, first_counter}
-use Rattle.ch11_packet.specs.Classes.{IsPlain, HasClass, data_in, said_frames}
+use Rattle.ch11_packet.specs.Flags.{HasChecksum, IsPlain}
+use Rattle.ch11_packet.specs.Classes.{HasClass, data_in, said_frames}
 use Rattle.ch11_packet.specs.Records.{EndData, IsEndRecord, program_bytes, end_bytes}
 use Rattle.ch11_packet.specs.RecordsRead.{IsProgramRecord, SpellsRecord}
 use Rattle.ch11_packet.specs.RecordsRead.RecordData.{OfProgram as ProgramRecord, OfEnd as EndRecord}
@@ -64,6 +65,10 @@ len_aligned n = omega arith
 len_fits : (n : ℕ) → n < 2 ^ 31 → packet_len n < 2 ^ 32
 len_fits n few = omega (arith, few)
 
+-- flags of 0 report no data checksum
+not_checked : HasChecksum 0 → ⊥
+not_checked has = let high : false ≡ true = has.high in cc
+
 -- a header of numbers in range, with the packet's length from the data's, is one
 made_header : (channel n version sequence kind counter : ℕ) → channel < 2 ^ 16 → packet_len n < 2 ^ 32 → version < 2 ^ 8 → sequence < 2 ^ 8 → kind < 2 ^ 8 → counter < 2 ^ 48
     → (kind ≡ ETHERNET_DATA → packet_len n ≤ MAX_ETHERNET_PACKET_LEN) → IsHeader (header_of channel (packet_len n) n version sequence 0 kind counter)
@@ -75,7 +80,7 @@ made_header channel n version sequence kind counter a b c d e f most = record {
   flags = omega arith;
   kind = e;
   counter = f;
-  lengths = record { holds = len_holds n; aligned = len_aligned n; most = most };
+  lengths = record { holds = len_holds n; checked = λ has. absurd (not_checked has); aligned = len_aligned n; most = most };
 }
 
 record_header : (n version sequence counter : ℕ) → n < 2 ^ 31 → version < 2 ^ 8 → sequence < 2 ^ 8 → counter < 2 ^ 48 → IsHeader (header_of 0 (packet_len n) n version sequence 0 COMPUTER_GENERATED_DATA counter)
@@ -100,7 +105,7 @@ is_header (OfEnd channel counter offered kept) version sequence is a b =
 
 -- flags of 0 are those of a plain packet
 plain : IsPlain 0
-plain = record { no_secondary_header = refl; no_secondary_times = refl; no_checksum_high = refl; no_checksum_low = refl }
+plain = record { no_secondary_header = refl; no_secondary_times = refl; whole_checksum = refl }
 
 -- the written records are spelled with zeros where anything may stand
 spells_program : (channel version first : ℕ) (program : List Insn) → IsProgramRecord channel version first program → SpellsRecord (ProgramRecord channel version first program) (program_bytes channel version first program)
@@ -127,7 +132,10 @@ spells_piece piece version sequence at is a b = record {
   is_header = is_header piece version sequence is a b;
   whole = refl;
   long = length-packet (piece_header piece version sequence) (piece_bytes piece);
-  holds = subst (λ l. HasClass (piece_header piece version sequence) l (held_by piece)) (sym (data_are piece version sequence)) (has_class piece version sequence is);
+  holds = record {
+    class = subst (λ l. HasClass (piece_header piece version sequence) l (held_by piece)) (sym (data_are piece version sequence)) (has_class piece version sequence is);
+    summed = λ _ has. absurd (not_checked has);
+  };
 }
 
 -- ---- what it says

@@ -94,8 +94,8 @@ with these columns:
     end <channel> <offered> <kept> the end of that channel
     other                          anything else, which is passed over
 A recording that can't be read to its end is told on standard error, and nothing is listed:
-  read <number> <Name> <at>        Truncated, Sync, Checksum, Length or Body, and the place of
-                                   the packet that has it
+  read <number> <Name> <at>        Truncated, Sync, Checksum, Length, Body or DataChecksum, and
+                                   the place of the packet that has it
 
 Exit status: 0 listed; 1 not read to its end; 2 words; 3 the file; 4 no memory.
 

@@ -92,6 +92,21 @@ fn sum_of_words(bytes: &[u8]) -> u64 {
     sum
 }
 
+/// The sum of a data checksum, modulo 2^32: each byte counts by its place in its word of four bytes.
+pub(crate) fn data_sum(bytes: &[u8]) -> u64 {
+    let mut sum = 0u64;
+    for (at, byte) in bytes.iter().enumerate() {
+        let weight: u64 = match at % 4 {
+            0 => 1,
+            1 => 256,
+            2 => 65_536,
+            _ => 16_777_216,
+        };
+        sum = sum.wrapping_add(u64::from(*byte).wrapping_mul(weight));
+    }
+    sum % 4_294_967_296
+}
+
 /// The body of a piece's packet.
 fn body_of(alloc: Global, piece: &ReadPiece) -> Result<Vec<u8>, AllocError> {
     match &piece.holds {

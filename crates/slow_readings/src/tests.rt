@@ -4,5 +4,6 @@ mod audit;
 mod lane;
 mod machine;
 mod strangers;
+mod sums;
 mod verifier;
 mod world;

@@ -130,3 +130,92 @@ fn a_packet_of_an_odd_frame_may_leave_its_filler_out(rt: HostRuntime) -> Result<
     }
     Ok(())
 }
+
+/// The headers of packets with a data checksum of 32 bits: the channel, the packet length, the data
+/// length, the sequence number, the data type, the counter, and the sum of the words before it.
+const CHECKED: [(u16, u32, u32, u8, u8, u64, u16); 10] = [
+    // frames: one of 18 bytes, at counter 16 and at 32, one of 19 bytes, and two of 18
+    (1, 64, 34, 0, 0x68, 16, 0x53a3),
+    (1, 64, 34, 0, 0x68, 32, 0x53b3),
+    (1, 64, 36, 0, 0x68, 16, 0x53a5),
+    (1, 92, 64, 0, 0x68, 16, 0x53dd),
+    // records of programs, and of ends
+    (0, 64, 36, 0, 0x00, 16, 0xeba4),
+    (0, 64, 36, 1, 0x00, 32, 0xecb4),
+    (0, 56, 28, 2, 0x00, 32, 0xeda4),
+    (0, 56, 28, 1, 0x00, 32, 0xeca4),
+    (0, 56, 28, 0, 0x00, 0, 0xeb84),
+    // no data at all
+    (1, 28, 0, 0, 0x01, 0, 0xec4d),
+];
+
+#[test]
+fn headers_with_a_data_checksum_are_written_and_read(rt: HostRuntime) -> Result<(), Fail> {
+    for (channel, packet_len, data_len, sequence, kind, counter, sum) in CHECKED {
+        let header = Header::new(
+            channel, packet_len, data_len, 8, sequence, 3, kind, counter,
+        ).ok_or("a header in range")?;
+        let spelled = header.encode();
+        assert_eq!(rt; u16::from_le_bytes([spelled[22], spelled[23]]), sum);
+        assert_eq!(rt; Header::decode(&spelled), Ok(header));
+    }
+    Ok(())
+}
+
+/// Headers whose data end less than four bytes before the packet, or just there: the bytes, the flags,
+/// the packet length, the data length, and whether they are one.
+const NEAR_THE_END: [(&str, (u8, u32, u32), bool); 8] = [
+    (
+        "25eb 0100 40000000 25000000 08 00 03 01 000000000000 96ec",
+        (0x03, 64, 37),
+        false,
+    ),
+    (
+        "25eb 0100 40000000 24000000 08 00 03 01 000000000000 95ec",
+        (0x03, 64, 36),
+        true,
+    ),
+    (
+        "25eb 0100 18000000 00000000 08 00 03 01 000000000000 49ec",
+        (0x03, 24, 0),
+        false,
+    ),
+    (
+        "25eb 0100 1c000000 01000000 08 00 03 01 000000000000 4eec",
+        (0x03, 28, 1),
+        false,
+    ),
+    // with a secondary header too
+    (
+        "25eb 0100 1c000000 01000000 08 00 c3 01 000000000000 0eed",
+        (0xc3, 28, 1),
+        false,
+    ),
+    // one bit alone, and none
+    (
+        "25eb 0100 40000000 25000000 08 00 01 01 000000000000 94ec",
+        (0x01, 64, 37),
+        true,
+    ),
+    (
+        "25eb 0100 40000000 28000000 08 00 02 01 000000000000 98ec",
+        (0x02, 64, 40),
+        true,
+    ),
+    (
+        "25eb 0100 40000000 28000000 08 00 3c 01 000000000000 d2ec",
+        (0x3c, 64, 40),
+        true,
+    ),
+];
+
+#[test]
+fn data_end_four_bytes_before_a_packet_with_a_data_checksum(rt: HostRuntime) -> Result<(), Fail> {
+    for (text, (flags, packet_len, data_len), fits) in NEAR_THE_END {
+        let made = Header::new(1, packet_len, data_len, 8, 0, flags, 1, 0);
+        assert_eq!(rt; made.is_some(), fits, "{text}");
+        let read = Header::decode(&bytes(rt.alloc(), text)?);
+        assert_eq!(rt; read, made.ok_or(HeaderFault::Length), "{text}");
+    }
+    Ok(())
+}

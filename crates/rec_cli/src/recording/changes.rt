@@ -2,63 +2,13 @@
 
 ghost use Rattle.std.specs.Prelude.{◌≤◌, vec_len, vec_capacity};
 
-use super::errors::print_error;
-use super::lines::{Lines, MAX_LINES, Request, request_in};
-use super::programs::{ListedFault, insns_in};
-use bpf_insn::{Insn, ListingFault};
-use bpf_verify::verify;
+use cli_recording::{Asked, Lines, Refusal, Reply, next_asked, print_error};
 use cli_streams::Ending;
 use rec_run::{Answer, Change, Control, Told};
-use std::alloc::{AllocFailed, Global};
-use std::io::{ErrorKind, Read, Write};
+use std::alloc::Global;
+use std::io::{self, Read, Write};
 use std::rt::Files;
 use std::sync::{Arc, Mutex, Wait};
-use std::{fs, io};
-use thiserror::Error;
-
-/// Why a change is not made. Its text is the reason that is printed.
-#[derive(Clone, Copy, Debug, Error)]
-enum Refusal {
-    /// The line is none that asks for a change.
-    #[error("Line")]
-    Line,
-    /// The file can't be read, is no regular file, is no UTF-8, or is longer than a listing may be.
-    #[error("File")]
-    File,
-    /// The file has no listing.
-    #[error("Listing")]
-    Listing,
-    /// The listed program may not be installed.
-    #[error("Program")]
-    Program,
-    /// Nothing of this channel is recorded.
-    #[error("NoChannel")]
-    NoChannel,
-    /// The channel's filter has had as many programs as it may.
-    #[error("VersionsFull")]
-    VersionsFull,
-}
-
-/// An answer to a line. Its text is what is printed.
-#[derive(Clone, Copy, Debug, Error)]
-enum Reply {
-    #[error("installed {channel} {version} {mark}")]
-    Installed {
-        channel: u16,
-        version: u32,
-        mark: u64,
-    },
-    #[error("refused {0} {1}")]
-    Refused(u16, Refusal),
-}
-
-/// Why a line gives no change.
-enum Unmade {
-    /// It is refused: its channel, and why.
-    Refused(u16, Refusal),
-    /// There is no memory for it.
-    Memory,
-}
 
 /// What a control gave and was told.
 #[derive(Drop)]
@@ -186,12 +136,13 @@ impl<
     ghost ended = { λ c. c.ended };
 
     fn next(&mut self) -> Option<Change> {
-        let read = next_change(self.rt, &mut self.lines, self.errors);
-        let Ok(Some(change)) = read else {
+        let read = next_asked(self.rt, &mut self.lines, self.errors);
+        let Ok(Some(Asked { channel, program })) = read else {
             self.lacks_memory = read.is_err();
             self.ended = true;
             return None;
         };
+        let change = Change { channel, program };
         if !self.log.give(&change) {
             self.lacks_memory = true;
             self.ended = true;
@@ -203,73 +154,6 @@ impl<
     fn told(&mut self, told: &Told) {
         print_error(self.rt, self.errors, reply_to(*told));
         self.log.tell(*told);
-    }
-}
-
-/// No memory for a line, or for its change.
-#[derive(Clone, Copy, Debug)]
-struct NoMemory;
-
-/// The change of the next line that gives one; those before it are refused.
-fn next_change<R: AllocGlobal + Files + Wait, I: Read + Drop, E: Write + Drop>(
-    rt: &R,
-    lines: &mut Lines<I>,
-    errors: &Mutex<E>,
-) -> Result<Option<Change>, NoMemory> {
-    'lines: for _ in 0..MAX_LINES {
-        let line = match lines.next() {
-            Ok(Some(line)) => line,
-            Err(error) if error.kind() == ErrorKind::OutOfMemory => return Err(NoMemory),
-            Ok(None) | Err(_) => return Ok(None),
-        };
-        match change_in(rt, line) {
-            Ok(change) => return Ok(Some(change)),
-            Err(Unmade::Refused(channel, refusal)) => {
-                print_error(rt, errors, Reply::Refused(channel, refusal));
-            }
-            Err(Unmade::Memory) => return Err(NoMemory),
-        }
-    }
-    Ok(None)
-}
-
-/// The change that a line asks for.
-fn change_in<R: AllocGlobal + Files>(rt: &R, line: &[u8]) -> Result<Change, Unmade> {
-    let Request { channel, file } = match request_in(line) {
-        Ok(request) => request,
-        Err(channel) => return Err(Unmade::Refused(channel, Refusal::Line)),
-    };
-    let insns = match listed_insns(rt, file) {
-        Ok(insns) => insns,
-        Err(fault) => return Err(unmade_by(channel, fault)),
-    };
-    let Ok(program) = verify(insns) else {
-        return Err(Unmade::Refused(channel, Refusal::Program));
-    };
-    match Arc::new(rt.alloc(), program) {
-        Ok(program) => Ok(Change { channel, program }),
-        Err(_) => Err(Unmade::Memory),
-    }
-}
-
-/// The instructions that a regular file lists. Another file is refused before it is opened: a pipe would
-/// hold up all later lines, and a channel's own would lose frames. No more is read than the file is
-/// long: a file of the system's own has no length, and may wait as a pipe does.
-fn listed_insns<R: AllocGlobal + Files>(rt: &R, file: &str) -> Result<Vec<Insn>, ListedFault> {
-    let found = rt.metadata(file)?;
-    if !found.is_file() {
-        return Err(ListedFault::File(io::Error::from(ErrorKind::InvalidInput)));
-    }
-    insns_in(rt.alloc(), &mut fs::open(rt, file)?.take(found.len()))
-}
-
-/// What a fault of a listing's file comes to.
-fn unmade_by(channel: u16, fault: ListedFault) -> Unmade {
-    match fault {
-        ListedFault::File(error) if error.kind() == ErrorKind::OutOfMemory => Unmade::Memory,
-        ListedFault::Listing(ListingFault::Memory) => Unmade::Memory,
-        ListedFault::File(_) => Unmade::Refused(channel, Refusal::File),
-        ListedFault::Listing(_) => Unmade::Refused(channel, Refusal::Listing),
     }
 }
 

@@ -1,22 +1,27 @@
-use Rattle.ch11_packet.specs.Classes.{data_in}
-use Rattle.ch11_packet.proofs.Classing.{one_class, class_or_fault, holds_again, nothing_again, said_by_body}
-use Rattle.ch11_packet.proofs.Outcomes.{holds_or_nothing}
+use Rattle.ch11_packet.proofs.Classing.{one_held, held_or_fault, one_fault_held, holds_again, fault_again, wrong_sum, said_by_body}
+use Rattle.ch11_packet.proofs.Outcomes.{holds_or_fault}
 use Rattle.ch11_packet.proofs.laws.a_packet_holds_one_thing.Goals as goal
 
 pub returns-clause-one : goal.returns-clause-one
-returns-clause-one c = λ header body what other a b. one_class header (data_in header body) what other a b
+returns-clause-one c = one_held
 
 pub returns-clause-valid : goal.returns-clause-valid
-returns-clause-valid c = λ header body what is none. class_or_fault header (data_in header body) what is none
+returns-clause-valid c = held_or_fault
 
-pub returns-clause-unjudged : goal.returns-clause-unjudged
-returns-clause-unjudged c = λ header other body more what same bytes is. holds_again header other body more what same bytes is
+pub returns-clause-one_fault : goal.returns-clause-one_fault
+returns-clause-one_fault c = one_fault_held
 
 pub returns-clause-some : goal.returns-clause-some
-returns-clause-some c = λ header body fit. holds_or_nothing header body fit
+returns-clause-some c = holds_or_fault
+
+pub returns-clause-unjudged : goal.returns-clause-unjudged
+returns-clause-unjudged c = holds_again
 
 pub returns-clause-unjudged_fault : goal.returns-clause-unjudged_fault
-returns-clause-unjudged_fault c = λ header other body more same bytes is. nothing_again header other body more same bytes is
+returns-clause-unjudged_fault c = fault_again
+
+pub returns-clause-wrong_sum : goal.returns-clause-wrong_sum
+returns-clause-wrong_sum c = wrong_sum
 
 pub returns-clause-frames : goal.returns-clause-frames
 returns-clause-frames c = λ frames bytes spells. said_by_body frames bytes spells

@@ -1,4 +1,4 @@
-use Rattle.std.proofs.Common.{refl, sym, ◌∙◌, true≢false, arith}
+use Rattle.std.proofs.Common.{refl, sym, true≢false, arith}
 use Rattle.ch11_packet.specs.Views.{read_frame_data}
 use Rattle.rec_reader.proofs.Extracting.{counts_record, counts_passed, on_ok}
 use Rattle.rec_reader.proofs.extract.extract_frame.Goals as goal

@@ -7,6 +7,7 @@ known c = record {
   valid_header = c.header_has_one_spelling.ensures.valid;
   one_thing = c.a_packet_holds_one_thing.ensures.one;
   no_fault = c.a_packet_holds_one_thing.ensures.valid;
+  one_wrong = c.a_packet_holds_one_thing.ensures.one_fault;
 }
 
 pub returns-clause-prefix : goal.returns-clause-prefix

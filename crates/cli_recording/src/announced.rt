@@ -1,0 +1,143 @@
+//! The output of a recording, whose failure is told at the moment when it fails.
+
+ghost use Rattle.std.specs.Prelude.{◌≡◌, ◌≢◌, Some};
+ghost use Rattle.cli_streams.specs.declared.ending.Ending.TheVariants.{Told, Recording};
+
+use crate::errors::print_error;
+use cli_streams::{Ending, RecordingFault};
+use std::fs::OpenFile;
+use std::io::{self, ErrorKind, Write};
+use std::sync::{Mutex, Wait};
+
+/// How much of a recording went out.
+#[derive(Clone, Copy, Debug)]
+struct Gone {
+    /// The packets that went out whole.
+    whole: u64,
+    /// The bytes of the next packet that went out.
+    bytes: u64,
+    /// How many bytes that packet has.
+    len: u64,
+}
+
+impl Gone {
+    /// Nothing.
+    const NOTHING: Gone = Gone {
+        whole: 0,
+        bytes: 0,
+        len: 0,
+    };
+
+    /// Counts bytes that went out of a part of a packet. The writer gives a packet part by part, the
+    /// whole header first.
+    fn count(&mut self, part: &[u8], written: usize) {
+        if self.bytes == 0 {
+            self.len = claimed_len(part);
+        }
+        self.bytes = self.bytes.saturating_add(written as u64);
+        if self.len <= self.bytes {
+            self.whole = self.whole.saturating_add(1);
+            self.bytes = 0;
+        }
+    }
+}
+
+/// The length of its packet that a header says, in bytes 4 to 7, the lowest first (IRIG 106-17,
+/// Chapter 11, packet length).
+fn claimed_len(header: &[u8]) -> u64 {
+    match header {
+        [_, _, _, _, low, second, third, high, ..] => {
+            u64::from(u32::from_le_bytes([*low, *second, *third, *high]))
+        }
+        _ => 0,
+    }
+}
+
+/// The output of a recording. Where it fails, that is told on standard error at once, with how much
+/// went out: the recording itself ends only when its feeds have.
+#[derive(Drop)]
+pub struct AnnouncedOutput<'r, R, W: Drop, E: Drop> {
+    rt: &'r R,
+    errors: &'r Mutex<E>,
+    out: W,
+    gone: Gone,
+    told: Option<RecordingFault>,
+}
+
+impl<'r, R: Wait, W: Write + Drop, E: Write + Drop> AnnouncedOutput<'r, R, W, E> {
+    /// An output that nothing went out to.
+    pub fn new(rt: &'r R, errors: &'r Mutex<E>, out: W) -> AnnouncedOutput<'r, R, W, E>
+        ensures { result.out ≡ out }
+    {
+        AnnouncedOutput {
+            rt,
+            errors,
+            out,
+            gone: Gone::NOTHING,
+            told: None,
+        }
+    }
+
+    /// What a fault of this output comes to: nothing more is printed of one that was told.
+    pub fn ending<'a>(&self, fault: RecordingFault) -> Ending<'a>
+        ensures told { self.now.told ≡ Some fault → result ≡ Told }
+        ensures untold { self.now.told ≢ Some fault → result ≡ Recording fault }
+    {
+        if self.told == Some(fault) {
+            Ending::Told
+        } else {
+            Ending::Recording(fault)
+        }
+    }
+
+    /// Tells that the output has failed.
+    fn tell(&mut self)
+        ensures out { self.new.out ≡ self.old.out }
+    {
+        let fault = RecordingFault::Output {
+            whole: self.gone.whole,
+            bytes: self.gone.bytes,
+        };
+        print_error(self.rt, self.errors, fault);
+        self.told = Some(fault);
+    }
+}
+
+impl<'r, R, W: OpenFile + Drop, E: Drop> AnnouncedOutput<'r, R, W, E> {
+    /// Forces what went out to its disk. A pipe or a device has none, and says that it can't be.
+    ///
+    /// # Errors
+    ///
+    /// That of the disk.
+    pub fn keep(&self) -> io::Result<()> {
+        match self.out.sync_all() {
+            Err(error) if error.kind() != ErrorKind::InvalidInput => Err(error),
+            _ => Ok(()),
+        }
+    }
+}
+
+impl<'r, R: Wait, W: Write + Drop, E: Write + Drop> Write for AnnouncedOutput<'r, R, W, E> {
+    ghost contents = { λ o. W.contents o.out };
+
+    fn write(&mut self, part: &[u8]) -> io::Result<usize> {
+        match self.out.write(part) {
+            Ok(written) if 0 < written => {
+                self.gone.count(part, written);
+                Ok(written)
+            }
+            failed => {
+                self.tell();
+                failed
+            }
+        }
+    }
+
+    fn flush(&mut self) -> io::Result<()> {
+        let flushed = self.out.flush();
+        if flushed.is_err() {
+            self.tell();
+        }
+        flushed
+    }
+}

@@ -1,0 +1,83 @@
+//! The files that a recording reads: its settings, and each channel's filter and feed.
+
+ghost use Rattle.std.specs.Prelude.{◌≡◌, IfOk, None};
+
+use crate::closing::ClosingSource;
+use crate::listed::{ListedFault, insns_in};
+use bpf_verify::{Verified, verify};
+use cli_streams::{Ending, Inputs, MAX_LISTING, bounded_text};
+use eth_frame::{FeedSource, FrameSource};
+use rec_words::{Settings, settings_of};
+use std::fs;
+use std::io::BufReader;
+use std::rt::Files;
+
+/// How many bytes of a feed are read at a time.
+const FEED_BUFFER: usize = 65_536;
+
+/// The source of a channel's frames, which closes its feed with the channel's last frame.
+pub type Source<F> = ClosingSource<FeedSource<BufReader<F>>>;
+
+/// The settings in a file, which is added to the inputs.
+pub fn read_settings<'a, R: AllocGlobal + Files>(
+    rt: &R,
+    file: &'a str,
+    inputs: &mut Inputs,
+) -> Result<Settings, Ending<'a>> {
+    let mut opened = fs::open(rt, file).map_err(|error| Ending::of_read(file, &error))?;
+    inputs.add(&opened)?;
+    match bounded_text(rt.alloc(), MAX_LISTING, &mut opened) {
+        Ok(text) => Ok(settings_of(rt.alloc(), text.as_str())?),
+        Err(error) => Err(Ending::of_read(file, &error)),
+    }
+}
+
+/// The program that a filter's file lists; the file is added to the inputs.
+pub fn read_filter<'a, R: AllocGlobal + Files>(
+    rt: &R,
+    filter: String,
+    inputs: &mut Inputs,
+) -> Result<Verified, Ending<'a>> {
+    let mut file = match fs::open(rt, filter.as_str()) {
+        Ok(file) => file,
+        Err(error) => return Err(Ending::of_named_read(filter, &error)),
+    };
+    inputs.add(&file)?;
+    let insns = match insns_in(rt.alloc(), &mut file) {
+        Ok(insns) => insns,
+        Err(ListedFault::File(error)) => return Err(Ending::of_named_read(filter, &error)),
+        Err(ListedFault::Listing(fault)) => return Err(Ending::Listing(fault)),
+    };
+    match verify(insns) {
+        Ok(program) => Ok(program),
+        Err(refused) => Err(Ending::of_refusal(rt.alloc(), refused)),
+    }
+}
+
+/// The first `max` frames of a feed, which is opened here and added to the inputs and to the feeds. A
+/// pipe or a device that is among the feeds is refused.
+pub fn open_feed<'a, R: AllocGlobal + Files>(
+    rt: &R,
+    feed: String,
+    max: u64,
+    inputs: &mut Inputs,
+    feeds: &mut Inputs,
+) -> Result<Source<R::File>, Ending<'a>>
+    ensures open { IfOk result (λ source.
+        ⟦<Source<R::File> as FrameSource>⟧.ending source ≡ None) }
+{
+    // two readers of a pipe would each have a part of its bytes, and no whole frame
+    if feeds.has_stream(rt, feed.as_str()) {
+        return Err(Ending::NamedFile(feed));
+    }
+    let file = match fs::open(rt, feed.as_str()) {
+        Ok(file) => file,
+        Err(error) => return Err(Ending::of_named_read(feed, &error)),
+    };
+    inputs.add(&file)?;
+    feeds.add(&file)?;
+    let Ok(reader) = BufReader::with_capacity(rt.alloc(), FEED_BUFFER, file) else {
+        return Err(Ending::Memory);
+    };
+    Ok(ClosingSource::new(FeedSource::new(reader), max))
+}

@@ -1,0 +1,11 @@
+/* A program that the kernel runs on the frames of an interface, so that those it drops are never brought. */
+#ifndef PREFILTER_H
+#define PREFILTER_H
+
+#include <pcap/pcap.h>
+
+/* Has the kernel drop what the program of a listing drops: `<count>,<code> <jt> <jf> <k>,..`, as `bpfrec asm`
+ * prints it. Whether it could; else a line has said why not. */
+int drop_by_listing(pcap_t *pcap, const char *interface, const char *path);
+
+#endif
