@@ -41,8 +41,7 @@ static int read_listing(FILE *file, struct program *program)
     return fscanf(file, " %c", &behind) == EOF;
 }
 
-/* Lets the program return a frame whole or not at all: the kernel would cut it to as many bytes as is returned.
- * libpcap sees to it where a constant is returned. */
+/* Lets the program return a frame whole or not at all: the kernel would cut it to as many bytes as is returned. */
 static int return_whole_frames(struct program *program)
 {
     static const struct bpf_insn TAIL[TAIL_INSNS] = {
@@ -51,11 +50,15 @@ static int return_whole_frames(struct program *program)
         BPF_STMT(BPF_RET | BPF_K, 0),
     };
     unsigned count = program->count, returns = 0;
-    for (unsigned i = 0; i < count; i++)
-        if (program->insns[i].code == (BPF_RET | BPF_A)) {
-            program->insns[i] = (struct bpf_insn)BPF_STMT(BPF_JMP | BPF_JA, count - i - 1);
+    for (unsigned i = 0; i < count; i++) {
+        struct bpf_insn *insn = &program->insns[i];
+        if (insn->code == (BPF_RET | BPF_K) && insn->k != 0)
+            insn->k = WHOLE_FRAME;
+        if (insn->code == (BPF_RET | BPF_A)) {
+            *insn = (struct bpf_insn)BPF_STMT(BPF_JMP | BPF_JA, count - i - 1);
             returns++;
         }
+    }
     if (returns == 0)
         return 1;
     memcpy(program->insns + count, TAIL, sizeof TAIL);
