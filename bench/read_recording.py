@@ -1,6 +1,6 @@
 #!/usr/bin/env python3
-"""Times `bpfrec list`, `bpfrec audit` and `bpfrec extract` on a recording, and on the same one with a data
-checksum in each packet, beside `cat` of the same file.
+"""Times `bpfrec list`, `bpfrec audit` and `bpfrec extract` on a recording without data checksums, and on the same
+one with a data checksum in each packet, beside `cat` of the same file.
 
 usage: bench/read_recording.py BPFREC BENCH [LENGTH [MEGABYTES]]
 
@@ -60,15 +60,19 @@ def filter_runs(bench, work, length, count):
     return min(float(line.split()[2]) for line in lines if line.startswith("machine.frame")) * count / 1e6
 
 
-def add_sums(path, out):
-    """Writes the same recording with a data checksum of 32 bits in each packet."""
-    with open(path, "rb") as recording, open(out, "wb") as checked:
+def convert(path, out, with_sums):
+    """Writes the same recording with or without a data checksum of 32 bits in each packet."""
+    with open(path, "rb") as recording, open(out, "wb") as converted:
         while header := bytearray(recording.read(24)):
             body = recording.read(int.from_bytes(header[4:8], "little") - 24)
-            header[4:8] = (len(body) + 28).to_bytes(4, "little")
-            header[14] |= 3
+            if header[14] & 3:
+                body = body[:-4]
+            total = sum(memoryview(body).cast("I")) % 2**32
+            trailer = total.to_bytes(4, "little") if with_sums else b""
+            header[4:8] = (24 + len(body) + len(trailer)).to_bytes(4, "little")
+            header[14] = header[14] | 3 if with_sums else header[14] & ~3
             header[22:] = (sum(struct.unpack("<11H", header[:22])) % 2**16).to_bytes(2, "little")
-            checked.write(header + body + (sum(memoryview(body).cast("I")) % 2**32).to_bytes(4, "little"))
+            converted.write(header + body + trailer)
 
 
 def main():
@@ -78,10 +82,11 @@ def main():
     bpfrec, bench = (os.path.abspath(it) for it in sys.argv[1:3])
     length, megabytes = [*sys.argv[3:], *["1518", "100"][len(sys.argv) - 3:]]
     with tempfile.TemporaryDirectory() as work:
-        recording = f"{work}/recording.ch11"
-        subprocess.run([bench, "recording", recording, length, megabytes], check=True)
-        checked = f"{work}/checked.ch11"
-        add_sums(recording, checked)
+        made, recording, checked = (f"{work}/{it}.ch11" for it in ("made", "recording", "checked"))
+        subprocess.run([bench, "recording", made, length, megabytes], check=True)
+        convert(made, recording, False)
+        convert(made, checked, True)
+        os.remove(made)
         size = os.path.getsize(recording)
         commands = {
             "cat": ["cat", recording],

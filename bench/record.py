@@ -1,7 +1,8 @@
 #!/usr/bin/env python3
 """Times `bpfrec record` beside plain C on libpcap, tcpdump and `cat`, on the same frames.
 
-usage: bench/record.py [--frames N] [--rounds N] [--part NAME] [BPFREC [RECORD_FEED]]
+usage: bench/record.py [--frames N] [--rounds N] [--part NAME] [--length NAME] [--before OTHER]
+                       [BPFREC [RECORD_FEED]]
 
 BPFREC is bin/bpfrec (`make build`), RECORD_FEED is bin/record_feed (`make bench` compiles it from
 bench/record_feed.c). Feeds of N (1,000,000) frames, of 64, 300 and 1,500 bytes and of a mix, are made from a
@@ -11,6 +12,8 @@ median, and the least and greatest), frames and megabytes a second, processor ti
 medians. It checks that `extract` of the recording is what the C program kept, byte for byte, and says where a
 peer can't be had. The parts are `peers` (one channel), `channels` (four of a quarter each), `growth` (the
 time a frame and the memory at more frames, versions and channels) and `reading` (list, audit and extract).
+--length takes one of the feeds alone. With --before only BPFREC and OTHER, another build of the program, are
+timed in turn: one channel and four.
 """
 import argparse
 import random
@@ -193,6 +196,24 @@ def time_channels(words, work, lengths_name):
         print_runs(title, done, 4 * quarter, (work / "feed").stat().st_size, "four channels")
 
 
+def time_before(words, work, lengths_name):
+    """This build of the program and another one, in turn: one channel, and four of a quarter each."""
+    quarter = words.frames // 4
+    write_feed(work / "feed", frames_of(LENGTHS[lengths_name], 4 * quarter))
+    write_feed(work / "quarter", frames_of(LENGTHS[lengths_name], quarter))
+    for name in ("all", "port"):
+        one = write_settings(work / "one", [work / "feed"], [work / name])
+        four = write_settings(work / "four", [work / "quarter"] * 4, [work / name] * 4)
+        for channels, settings in (("One channel", one), ("Four channels", four)):
+            commands = {
+                "record": [words.bpfrec, "record", settings, work / "recording"],
+                "before": [words.before, "record", settings, work / "recording"],
+            }
+            done = run_in_turn(commands, words.rounds, work)
+            title = f"{channels}, frames of {lengths_name} bytes, filter `{name}`"
+            print_runs(title, done, 4 * quarter, (work / "feed").stat().st_size, "record")
+
+
 def time_growth(words, work):
     """The time a frame and the memory: at more frames, more versions and more channels."""
     print("\n| Frames | Versions | Channels | ns a frame | Least, greatest | Memory, KiB |\n|---|---|---|---|---|---|")
@@ -232,6 +253,8 @@ def main():
     parser.add_argument("--frames", type=int, default=1_000_000)
     parser.add_argument("--rounds", type=int, default=7)
     parser.add_argument("--part", choices=["peers", "channels", "growth", "reading"])
+    parser.add_argument("--length", choices=LENGTHS)
+    parser.add_argument("--before", type=Path, metavar="OTHER")
     parser.add_argument("bpfrec", nargs="?", type=Path, default=ROOT / "bin/bpfrec")
     parser.add_argument("record_feed", nargs="?", type=Path, default=ROOT / "bin/record_feed")
     words = parser.parse_args()
@@ -242,14 +265,17 @@ def main():
     with tempfile.TemporaryDirectory() as folder:
         work = Path(folder)
         write_filters(work, tcpdump)
-        for lengths_name in LENGTHS:
+        for lengths_name in [words.length] if words.length else LENGTHS:
+            if words.before:
+                time_before(words, work, lengths_name)
+                continue
             if words.part in (None, "peers"):
                 time_peers(words, work, lengths_name, tcpdump)
             if words.part in (None, "channels"):
                 time_channels(words, work, lengths_name)
             if words.part in (None, "reading"):
                 time_reading(words, work, lengths_name)
-        if words.part in (None, "growth"):
+        if words.part in (None, "growth") and not words.before:
             time_growth(words, work)
 
 

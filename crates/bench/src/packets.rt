@@ -22,7 +22,7 @@ pub(crate) fn measure(rt: &HostRuntime, words: &[String]) -> Result<()> {
     let bytes = [0x5a; MAX_FRAME_LEN];
     for (limit, name) in [
         (65_536, "packets.built_65536"),
-        (524_288, "packets.built_524288"),
+        (524_284, "packets.built_524284"),
     ] {
         for len in [64, 300, 1_518, MAX_FRAME_LEN] {
             measure_building(
@@ -37,7 +37,7 @@ pub(crate) fn measure(rt: &HostRuntime, words: &[String]) -> Result<()> {
     measure_headers(rt)?;
     for (limit, name) in [
         (262_144, "packets.read_262144"),
-        (524_288, "packets.read_524288"),
+        (524_284, "packets.read_524284"),
     ] {
         measure_reading(rt, name, limit, total)?;
     }

@@ -8,7 +8,7 @@ use bpf_asm::assemble;
 use bpf_dis::text_of;
 use bpf_insn::{Insn, MAX_INSNS, SCRATCH_WORDS};
 use bpf_machine::Prepared;
-use bpf_verify::{VerifyFault, check_path, verify};
+use bpf_verify::{Refused, VerifyFault, check_path, verify};
 use std::alloc::{AllocError, Global};
 
 /// The number of instructions of a short program.
@@ -33,7 +33,9 @@ pub(crate) fn measure(rt: &HostRuntime, words: &[String]) -> Result<()> {
         time_verify(rt, "verify.line", line(alloc, count)?, turns)?;
         time_verify(rt, "verify.tests", tests(alloc, count)?, turns)?;
         time_verify(rt, "verify.scratch", scratch(alloc, count)?, turns)?;
-        time_path(rt, count, turns)?;
+        let insns = unset(alloc, count)?;
+        time_unset(rt, insns.as_slice(), turns)?;
+        time_path(rt, insns, turns)?;
         time_texts(rt, count, turns)?;
         time_prepare(rt, count, turns)?;
     }
@@ -49,42 +51,68 @@ fn time_verify(rt: &HostRuntime, name: &str, insns: Vec<Insn>, turns: u64) -> Re
         sum = sum.wrapping_add(program.len() as u64);
     }
     let nanos = clock.nanos(rt)?;
-    print(rt, work(name, 8 * insns.len(), turns, sum), nanos)
+    print(
+        rt,
+        work(name, insns.len().saturating_mul(8), turns, sum),
+        nanos,
+    )
 }
 
-/// Refuses a line whose last read is unset, and checks the path, which has an index for each
-/// instruction but the last.
-fn time_path(rt: &HostRuntime, count: usize, turns: u64) -> Result<()> {
-    let mut insns = vec![in rt.alloc(); insn(0x84, 0, 0, 0); count.saturating_sub(2)]?;
-    insns.push(insn(0x60, 0, 0, 7))?;
-    insns.push(insn(0x16, 0, 0, 0))?;
+/// Refuses a line whose last read is unset, a copy each time.
+fn time_unset(rt: &HostRuntime, insns: &[Insn], turns: u64) -> Result<()> {
     let mut checked = 0u64;
     let clock = Clock::start(rt)?;
     for _ in 0..turns {
-        let Err(refused) = verify(copy_of(rt.alloc(), insns.as_slice())?) else {
+        let Err(refused) = verify(copy_of(rt.alloc(), insns)?) else {
             bail!("an unset read is accepted");
         };
         checked = checked.wrapping_add(refused.program.len() as u64);
     }
     let nanos = clock.nanos(rt)?;
-    print(rt, work("verify.unset", 8 * count, turns, checked), nanos)?;
+    print(
+        rt,
+        work(
+            "verify.unset",
+            insns.len().saturating_mul(8),
+            turns,
+            checked,
+        ),
+        nanos,
+    )
+}
+
+/// Checks the path to that read, which has an index for each instruction but the last.
+fn time_path(rt: &HostRuntime, insns: Vec<Insn>, turns: u64) -> Result<()> {
     let Err(refused) = verify(insns) else {
         bail!("an unset read is accepted");
     };
-    let VerifyFault::Unset { word, path, .. } = refused.fault else {
+    let Refused { program, fault } = refused;
+    let VerifyFault::Unset { word, path, .. } = fault else {
         bail!("no unset read");
     };
     let mut paths = 0u64;
     let clock = Clock::start(rt)?;
     for _ in 0..turns {
         paths = paths.wrapping_add(u64::from(check_path(
-            refused.program.as_slice(),
+            program.as_slice(),
             path.as_slice(),
             word,
         )));
     }
     let nanos = clock.nanos(rt)?;
-    print(rt, work("check_path", 8 * count, turns, paths), nanos)
+    print(
+        rt,
+        work("check_path", program.len().saturating_mul(8), turns, paths),
+        nanos,
+    )
+}
+
+/// A line whose last read is of a scratch word that is not set.
+fn unset(alloc: Global, count: usize) -> Result<Vec<Insn>, AllocError> {
+    let mut insns = vec![in alloc; insn(0x84, 0, 0, 0); count.saturating_sub(2)]?;
+    insns.push(insn(0x60, 0, 0, 7))?;
+    insns.push(insn(0x16, 0, 0, 0))?;
+    Ok(insns)
 }
 
 /// Prints a program of tests as its text, and assembles a text with a label a line.
@@ -97,7 +125,11 @@ fn time_texts(rt: &HostRuntime, count: usize, turns: u64) -> Result<()> {
         printed = printed.wrapping_add(text.len() as u64);
     }
     let nanos = clock.nanos(rt)?;
-    print(rt, work("text_of", 8 * count, turns, printed), nanos)?;
+    print(
+        rt,
+        work("text_of", count.saturating_mul(8), turns, printed),
+        nanos,
+    )?;
     let text = labelled(rt.alloc(), count)?;
     let mut assembled = 0u64;
     let clock = Clock::start(rt)?;
@@ -118,7 +150,11 @@ fn time_prepare(rt: &HostRuntime, count: usize, turns: u64) -> Result<()> {
         prepared.prepare(&program);
     }
     let nanos = clock.nanos(rt)?;
-    print(rt, work("prepare", 8 * count, turns, turns), nanos)
+    print(
+        rt,
+        work("prepare", count.saturating_mul(8), turns, turns),
+        nanos,
+    )
 }
 
 fn work<'a>(name: &'a str, bytes: usize, count: u64, sum: u64) -> Work<'a> {
@@ -150,12 +186,8 @@ fn tests(alloc: Global, count: usize) -> Result<Vec<Insn>, AllocError> {
     let last = count.saturating_sub(1);
     for at in 0..count.saturating_sub(2) {
         let far = at.saturating_add(AHEAD).min(last);
-        insns.push(insn(
-            0x15,
-            far.saturating_sub(at).saturating_sub(1) as u8,
-            0,
-            at as u32,
-        ))?;
+        let over = far.saturating_sub(at).saturating_sub(1);
+        insns.push(insn(0x15, u8::try_from(over).unwrap_or(u8::MAX), 0, constant(at)))?;
     }
     insns.push(insn(0x06, 0, 0, 1))?;
     insns.push(insn(0x06, 0, 0, 0))?;
@@ -167,13 +199,13 @@ fn scratch(alloc: Global, count: usize) -> Result<Vec<Insn>, AllocError> {
     let mut insns = Vec::new(alloc);
     for block in 0..count.saturating_sub(1) / 5 {
         let word = (block % SCRATCH_WORDS) as u32;
-        insns.push(insn(0x15, 0, 2, block as u32))?;
+        insns.push(insn(0x15, 0, 2, constant(block)))?;
         insns.push(insn(0x02, 0, 0, word))?;
         insns.push(insn(0x05, 0, 0, 1))?;
         insns.push(insn(0x03, 0, 0, word))?;
         insns.push(insn(0x60, 0, 0, word))?;
     }
-    while insns.len() < count {
+    for _ in insns.len()..count {
         insns.push(insn(0x06, 0, 0, 0))?;
     }
     Ok(insns)
@@ -193,6 +225,11 @@ fn labelled(alloc: Global, count: usize) -> Result<String, AllocError> {
         count.saturating_sub(2)
     )?;
     Ok(text)
+}
+
+/// A number as the constant of an instruction.
+fn constant(number: usize) -> u32 {
+    u32::try_from(number).unwrap_or(u32::MAX)
 }
 
 fn insn(code: u16, jt: u8, jf: u8, k: u32) -> Insn {

@@ -32,7 +32,7 @@ pub(crate) fn self_check(rt: &HostRuntime) -> Result<u64> {
     put_all(&frames_piece(rt, 16_424)?, 100)
 }
 
-/// `writer PACKETS`: that many packets of an end (52 bytes), and of frames of 300 bytes up to
+/// `writer PACKETS`: that many packets of an end (56 bytes), and of frames of 300 bytes up to limits of
 /// 16,424 and 65,536 bytes.
 pub(crate) fn measure(rt: &HostRuntime, words: &[String]) -> Result<()> {
     let packets = number(words, 0)?;

@@ -1,0 +1,86 @@
+#!/usr/bin/env python3
+"""Times `bpfrec upgrade` of a recording without data checksums beside `cp` of the same file.
+
+usage: bench/upgrade.py BPFREC [MEGABYTES]
+
+BPFREC is the program that `make build` leaves in bin/. The recording has MEGABYTES (1,024) of packets of 64,288
+bytes that are full of frames of 1,518 bytes, in a temporary folder (TMPDIR). `cp --reflink=never`, since a
+shared copy reads and writes nothing, and `upgrade` run ROUNDS times each, in turn, and what they wrote is
+removed in between. It prints the median of each with the least and the greatest time, how many times as long
+`upgrade` takes by the medians, and the most memory that it takes, beside that of one packet alone. The status
+is 1 if it takes over 1.6 times as long, or over a megabyte more than for one packet.
+"""
+import os
+import statistics
+import subprocess
+import sys
+import tempfile
+import time
+
+ROUNDS = 5
+
+# what `upgrade` may take: times as long as `cp`, and megabytes more than for one packet
+MOST_TIMES = 1.6
+MOST_MORE = 1
+
+# the frames of a packet, and their length
+FRAMES, LENGTH = 42, 1_518
+
+
+def packet():
+    """A packet of frames without a data checksum."""
+    frame = bytes(8) + LENGTH.to_bytes(4, "little") + bytes(at % 251 for at in range(LENGTH))
+    body = FRAMES.to_bytes(4, "little") + frame * FRAMES
+    filler = bytes(-len(body) % 4)
+    lengths = [24 + len(body) + len(filler), len(body)]
+    header = bytes.fromhex("25eb0100") + b"".join(it.to_bytes(4, "little") for it in lengths) + bytes.fromhex("08000068") + bytes(6)
+    total = sum(int.from_bytes(header[at:at + 2], "little") for at in range(0, 22, 2))
+    return header + (total % 2**16).to_bytes(2, "little") + body + filler
+
+
+def seconds_of(words, out):
+    """The seconds that a run takes that writes this file, which is removed then."""
+    begin = time.monotonic()
+    ran = subprocess.run(words, capture_output=True)
+    spent = time.monotonic() - begin
+    if ran.returncode != 0:
+        sys.exit(f"{' '.join(words)} ended with status {ran.returncode}")
+    os.remove(out)
+    return spent
+
+
+def memory_of(words):
+    """The most memory of a run in megabytes. A child of this script would have the script's own."""
+    ran = subprocess.run(["/usr/bin/time", "-f", "%M", *words], stdout=subprocess.DEVNULL, stderr=subprocess.PIPE, text=True, check=True)
+    return int(ran.stderr.split()[-1]) * 1024 / 1e6
+
+
+def main():
+    if not 2 <= len(sys.argv) <= 3:
+        print(__doc__.strip())
+        return 2
+    bpfrec, megabytes = os.path.abspath(sys.argv[1]), int([*sys.argv[2:], "1024"][0])
+    with tempfile.TemporaryDirectory() as work:
+        one, old, out = (f"{work}/{it}" for it in ("one.ch11", "old.ch11", "out"))
+        content = packet()
+        count = megabytes * 2**20 // len(content)
+        for path, packets in [(one, 1), (old, count)]:
+            with open(path, "wb") as recording:
+                for _ in range(packets):
+                    recording.write(content)
+        runs = {"cp": ["cp", "--reflink=never", old, out], "upgrade": [bpfrec, "upgrade", old, out]}
+        times = {name: [] for name in runs}
+        for _ in range(ROUNDS):
+            for name, words in runs.items():
+                times[name].append(seconds_of(words, out))
+        memory = [memory_of([bpfrec, "upgrade", it, out]) for it in (one, old)]
+    print(f"{megabytes} MiB, {count} packets of {len(content)} bytes")
+    for name, spent in times.items():
+        print(f"{name:8} {statistics.median(spent):.2f} s ({min(spent):.2f} to {max(spent):.2f})")
+    longer = statistics.median(times["upgrade"]) / statistics.median(times["cp"])
+    print(f"upgrade takes {longer:.2f} times as long as cp, and {memory[1]:.1f} MB, for one packet {memory[0]:.1f} MB")
+    return 0 if longer <= MOST_TIMES and memory[1] - memory[0] <= MOST_MORE else 1
+
+
+if __name__ == "__main__":
+    sys.exit(main())
