@@ -2,7 +2,11 @@
 RT ?= rt
 export RT
 
-.PHONY: help demo build capture quick crate test gate refused-growth fuzz bench clean
+PREFIX ?= /usr/local
+DESTDIR ?=
+export PREFIX DESTDIR
+
+.PHONY: help demo build capture quick crate test gate install uninstall deb refused-growth fuzz bench clean
 
 help: ## lists the targets
 	@grep -E '^[a-z-]+:.*## ' Makefile | sed -E 's/:[^#]*## /\t/' | expand -t 18
@@ -27,6 +31,15 @@ test: ## all proofs, all tests and stored runs, over kept work, and the edits of
 
 gate: ## everything from nothing by the toolchain's gate: proofs, every edit, tests, two compilers
 	@tools/gate
+
+install: ## installs what make build has made, with the tools and the page: PREFIX=/usr/local DESTDIR=..
+	@tools/install
+
+uninstall: ## removes what make install has installed
+	@tools/install --uninstall
+
+deb: ## a Debian package of the same: bin/bpfrec_<version>_<architecture>.deb
+	@tools/make_deb
 
 refused-growth: build ## refuses each growth of memory of each command, and of calls beside them, in turn
 	cd crates/recorder_tests && $(RT) test -- without_memory

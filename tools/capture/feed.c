@@ -73,6 +73,55 @@ int open_feed(struct feed *feed, const char *path)
     return 1;
 }
 
+/* Opens what the path names by now without waiting, where standard output is what it was. */
+static int open_anew(const struct feed *feed, int flags)
+{
+    if (strcmp(feed->path, "-") == 0)
+        return dup(feed->fd);
+    return open(feed->path, O_WRONLY | O_NONBLOCK | O_CLOEXEC | flags, 0666);
+}
+
+/* What a fault of opening means for a switch: a pipe without a reader may get one. */
+static enum switching switching_of(int error)
+{
+    return error == ENXIO ? SWITCH_LATER : SWITCH_FAILED;
+}
+
+/* Whether two descriptors are of one file or pipe. */
+static int is_one(int first, int second)
+{
+    struct stat kinds[2];
+    return fstat(first, &kinds[0]) == 0 && fstat(second, &kinds[1]) == 0 && kinds[0].st_dev == kinds[1].st_dev &&
+           kinds[0].st_ino == kinds[1].st_ino;
+}
+
+enum switching switch_feed(struct feed *feed)
+{
+    int fd = open_anew(feed, O_CREAT);
+    if (fd < 0)
+        return switching_of(errno);
+    if (is_one(fd, feed->fd)) {
+        close(fd);
+        return SWITCHED;
+    }
+    /* It is emptied only where it is a file, and another one. */
+    (void)!ftruncate(fd, 0);
+    (void)!fcntl(fd, F_SETPIPE_SZ, PIPE_LEN);
+    flush_feed(feed);
+    close(feed->fd);
+    feed->fd = fd;
+    return SWITCHED;
+}
+
+enum switching pass_feed(const struct feed *feed)
+{
+    int fd = strcmp(feed->path, "-") == 0 ? -1 : open_anew(feed, 0);
+    if (fd < 0)
+        return switching_of(errno);
+    close(fd);
+    return SWITCHED;
+}
+
 /* Waits until the pipe takes bytes again. Whether it may be tried again. */
 static int wait_for_room(struct feed *feed)
 {

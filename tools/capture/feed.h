@@ -48,6 +48,19 @@ int open_feed(struct feed *feed, const char *path);
  * is counted as passed. Whether the feed is still open. */
 int put_frame(struct feed *feed, uint64_t counter, const struct captured *captured);
 
+enum switching {
+    SWITCHED,
+    SWITCH_LATER,  /* a pipe has no reader yet */
+    SWITCH_FAILED, /* `errno` says why */
+};
+
+/* Goes over to what the path names by now: what waits is written to the file or pipe before, so each record is whole in
+ * one of them. Else it goes on as before. */
+enum switching switch_feed(struct feed *feed);
+
+/* Opens what the path names by now and closes it, for a feed that has ended. */
+enum switching pass_feed(const struct feed *feed);
+
 /* Writes what waits. Whether the feed is still open. */
 int flush_feed(struct feed *feed);
 

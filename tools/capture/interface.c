@@ -20,6 +20,9 @@ enum {
     /* So many frames since the last wait are a burst. */
     FRAMES_OF_A_BURST = 16,
     NAP_NANOSECONDS = 250000,
+    /* How long a wait may take before a switch of the feed is seen, and before one is tried again. */
+    MOST_PAUSE_MS = 100,
+    SWITCH_PAUSE_MS = 2,
     BYTES_A_MIB = 1 << 20,
 };
 
@@ -184,6 +187,34 @@ static int is_only_down(struct interface *interface)
     return 1;
 }
 
+/* Keeps that a switch was done, or can't be. */
+static void note_switch(struct interface *interface, int asked, enum switching switching)
+{
+    if (switching == SWITCH_FAILED)
+        tell("%s: %s: %s, and it goes on as before", interface->name, interface->path, strerror(errno));
+    if (switching != SWITCH_LATER)
+        interface->switched = asked;
+}
+
+/* Goes over to another feed where that was asked for and can be done. */
+static void follow_switches(struct interface *interface)
+{
+    int asked = switches_asked();
+    if (asked != interface->switched)
+        note_switch(interface, asked, switch_feed(&interface->feed));
+}
+
+/* How long to wait for frames, in milliseconds. */
+static int pause_of(const struct interface *interface)
+{
+    int64_t left = (interface->next_told - steady_now()) / 1000000 + 1;
+    if (interface->switched != switches_asked())
+        return SWITCH_PAUSE_MS;
+    if (interface->words->is_quiet || left > MOST_PAUSE_MS)
+        return MOST_PAUSE_MS;
+    return left > 0 ? (int)left : 0;
+}
+
 /* Waits for frames or for the end of the run. In a burst it sleeps a moment without waiting for anything: the kernel
  * would wake it for each single frame, which takes more time than the frame itself. */
 static void wait_for_frames(struct interface *interface)
@@ -195,10 +226,8 @@ static void wait_for_frames(struct interface *interface)
         return;
     }
     struct pollfd waits[2] = {{.fd = pcap_get_selectable_fd(interface->pcap), .events = POLLIN}, {.fd = stop_fd}};
-    int64_t left = interface->next_told - steady_now();
-    int pause = interface->words->is_quiet ? -1 : (int)(left > 0 ? left / 1000000 + 1 : 0);
     /* libpcap says nothing of an interface that is only down. */
-    if (poll(waits, 2, pause) > 0 && (waits[0].revents & (POLLERR | POLLHUP)) != 0)
+    if (poll(waits, 2, pause_of(interface)) > 0 && (waits[0].revents & (POLLERR | POLLHUP)) != 0)
         is_only_down(interface);
 }
 
@@ -207,6 +236,7 @@ static int turn(struct interface *interface)
 {
     if (is_stopping() && !interface->is_detached)
         detach(interface);
+    follow_switches(interface);
     int count = pcap_dispatch(interface->pcap, FRAMES_A_TURN, take_frame, (unsigned char *)interface);
     if (count < 0 && !is_only_down(interface))
         return 0;
@@ -233,11 +263,26 @@ void run_interface(struct interface *interface)
     flush_feed(feed);
     if (interface->is_gone)
         tell("%s: the interface is gone", interface->name);
-    close_feed(feed);
-    if (feed->state != FEED_OPEN)
+    int was_open = feed->state == FEED_OPEN;
+    if (!was_open)
         tell("%s: %s %s", interface->name, interface->path, feed_fault(feed));
+    /* Before the pipe is closed, so that the counts come ahead of what its reader tells then. */
     tell_counts(interface);
+    close_feed(feed);
+    if (was_open && feed->state != FEED_OPEN)
+        tell("%s: %s %s", interface->name, interface->path, feed_fault(feed));
     pcap_close(interface->pcap);
+}
+
+void pass_later_feeds(struct interface *interface, const atomic_int *running)
+{
+    while (atomic_load(running) > 0 && !is_stopping()) {
+        int asked = switches_asked();
+        if (asked != interface->switched)
+            note_switch(interface, asked, pass_feed(&interface->feed));
+        struct pollfd stop = {.fd = stop_fd};
+        poll(&stop, 1, asked != interface->switched ? SWITCH_PAUSE_MS : MOST_PAUSE_MS);
+    }
 }
 
 int is_well(const struct interface *interface)

@@ -7,6 +7,7 @@
 #include "words.h"
 
 #include <pcap/pcap.h>
+#include <stdatomic.h>
 
 struct interface {
     const char *name;
@@ -20,6 +21,7 @@ struct interface {
     struct pcap_stat drops;
     int64_t next_told;
     int taken; /* frames since the last wait */
+    int switched; /* how many switches of the feed were done */
     int is_detached;
     int is_down;
     int is_gone;
@@ -31,6 +33,10 @@ int open_interface(struct interface *interface, const struct way *way, const str
 
 /* Writes the frames into the feed until the run is stopped or the feed or the interface is gone, and tells the counts. */
 void run_interface(struct interface *interface);
+
+/* What an interface does once it has ended, until all have or the run is stopped: whatever its path names later gets
+ * nothing and is closed. `running` is how many haven't ended. */
+void pass_later_feeds(struct interface *interface, const atomic_int *running);
 
 /* Whether the interface ended as it should. */
 int is_well(const struct interface *interface);

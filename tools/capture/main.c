@@ -38,6 +38,8 @@ static void *run(void *it)
         run_interface(&work->interface);
     if (atomic_fetch_sub(&running, 1) == 1)
         close(ended_writer);
+    else if (!work->is_file)
+        pass_later_feeds(&work->interface, &running);
     return NULL;
 }
 

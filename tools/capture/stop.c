@@ -12,7 +12,7 @@
 int stop_fd = -1, hurry_fd = -1;
 
 static int stop_writer = -1, hurry_writer = -1, signals = -1;
-static atomic_int stopping, hurried;
+static atomic_int stopping, hurried, switches;
 /* A signal that comes twice within this time is one: a terminal and a script may send the same. */
 static const int64_t ONE_SIGNAL = NANOSECONDS_PER_SECOND;
 
@@ -26,6 +26,11 @@ int is_hurried(void)
     return atomic_load_explicit(&hurried, memory_order_relaxed);
 }
 
+int switches_asked(void)
+{
+    return atomic_load_explicit(&switches, memory_order_relaxed);
+}
+
 int prepare_stop(void)
 {
     sigset_t set;
@@ -34,6 +39,7 @@ int prepare_stop(void)
     sigaddset(&set, SIGINT);
     sigaddset(&set, SIGTERM);
     sigaddset(&set, SIGHUP);
+    sigaddset(&set, SIGUSR1);
     signal(SIGPIPE, SIG_IGN);
     /* A job in the background may have been started with one of them ignored. */
     signal(SIGINT, SIG_DFL);
@@ -57,7 +63,9 @@ void serve_signals(int ended_fd)
         struct signalfd_siginfo told;
         if (poll(waits, 2, -1) <= 0 || waits[0].revents == 0 || read(signals, &told, sizeof told) <= 0)
             continue;
-        if (!is_stopping()) {
+        if (told.ssi_signo == SIGUSR1) {
+            atomic_fetch_add(&switches, 1);
+        } else if (!is_stopping()) {
             first = steady_now();
             atomic_store(&stopping, 1);
             close(stop_writer);

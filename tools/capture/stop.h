@@ -5,11 +5,14 @@
 /* Ends that can be polled: each is readable (hung up) once the run is to end, or to end at once. */
 extern int stop_fd, hurry_fd;
 
-/* Makes these ends and keeps INT, TERM and HUP from all threads that start later; whether it could. */
+/* Makes these ends and keeps INT, TERM, HUP and USR1 from all threads that start later; whether it could. */
 int prepare_stop(void);
 
 int is_stopping(void);
 int is_hurried(void);
+
+/* How many times the feeds were asked, by USR1, to go over to what their paths name by then. */
+int switches_asked(void);
 
 /* Serves the signals until `ended_fd` is hung up, which the last thread closes. */
 void serve_signals(int ended_fd);

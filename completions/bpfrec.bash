@@ -1,0 +1,61 @@
+# bash completion for bpfrec and its tools; made by tools/make_man of the program's help.
+
+# _bpfrec_files KIND: files that end so, and folders; all files where there are none
+_bpfrec_files() {
+    local word=${COMP_WORDS[COMP_CWORD]}
+    compopt -o filenames 2> /dev/null
+    mapfile -t COMPREPLY < <(compgen -f -X "!*.$1" -- "$word"; compgen -d -- "$word")
+    [[ ${#COMPREPLY[@]} != 0 && $1 != '*' ]] || mapfile -t COMPREPLY < <(compgen -f -- "$word")
+}
+
+_bpfrec_words() {
+    mapfile -t COMPREPLY < <(compgen -W "$1" -- "${COMP_WORDS[COMP_CWORD]}")
+}
+
+_bpfrec() {
+    local commands='asm dis verify run list audit extract upgrade record simulate version'
+    COMPREPLY=()
+    if [[ $COMP_CWORD == 1 ]]; then
+        _bpfrec_words "$commands help --help --version"
+        return
+    elif [[ ${COMP_WORDS[COMP_CWORD]} == -* ]]; then
+        _bpfrec_words --help
+        return
+    fi
+    case ${COMP_WORDS[1]}/$COMP_CWORD in
+        help/2) _bpfrec_words "$commands" ;;
+        asm/2) _bpfrec_files bpf ;;
+        dis/2) _bpfrec_files txt ;;
+        verify/2) _bpfrec_files txt ;;
+        run/2) _bpfrec_files txt ;;
+        list/2) _bpfrec_files ch11 ;;
+        audit/2) _bpfrec_files ch11 ;;
+        extract/2) _bpfrec_files ch11 ;;
+        extract/4) _bpfrec_files feed ;;
+        upgrade/2) _bpfrec_files ch11 ;;
+        upgrade/3) _bpfrec_files ch11 ;;
+        record/2) _bpfrec_files toml ;;
+        record/3) _bpfrec_files ch11 ;;
+        simulate/2) _bpfrec_files script ;;
+    esac
+}
+
+_bpfrec_tool() {
+    local options='' kind=''
+    case $1 in
+        bpfrec-live) options='--every --size --prefilter --origin --buffer --direction --no-promiscuous --clock --check-sequence --quiet --help' kind=toml ;;
+        bpfrec-capture) options='-r --origin --buffer --direction --prefilter --no-promiscuous --clock --check-sequence --interface --quiet --help' kind='*' ;;
+        bpfrec-feed) options='from-pcap to-pcap show make --origin --interface --drop-check-sequence --help' kind='*' ;;
+        bpfrec-info) options='--json --html --help' kind=ch11 ;;
+        bpfrec-salvage) options='--help' kind=ch11 ;;
+        bpfrec-preflight) options='--out --capture --help' kind=toml ;;
+    esac
+    if [[ ${COMP_WORDS[COMP_CWORD]} == -* || $1 == bpfrec-feed && $COMP_CWORD == 1 ]]; then
+        _bpfrec_words "$options"
+    else
+        _bpfrec_files "$kind"
+    fi
+}
+
+complete -F _bpfrec bpfrec
+complete -F _bpfrec_tool bpfrec-live bpfrec-capture bpfrec-feed bpfrec-info bpfrec-salvage bpfrec-preflight
