@@ -17,7 +17,7 @@ ROOT = Path(__file__).resolve().parent.parent
 RT = shlex.split(os.environ.get("RT", "rt"))
 SEEN = ROOT / "tools" / "edits_seen.txt"
 # What is checked beside the crates.
-CHECKS = ("check_links", "check_examples", "check_uses")
+CHECKS = ("check_links", "check_examples", "check_uses", "check_man")
 # What is checked of the program once it is built, and where it stands then.
 MEMORY, PROGRAM = "check_memory", Path("crates/bpfrec/out/bpfrec")
 # The files and folders of a crate that a step reads.

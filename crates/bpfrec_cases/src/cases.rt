@@ -1,12 +1,13 @@
-//! The words of each run, but for those on texts.
+//! The words of each run, but for those on texts. The runs are in tables of some sixty, since a check
+//! of a function takes time and memory for each row of a table that it names.
 
 /// The view of an ARP frame, a broadcast.
 pub(crate) const ARP: &str = "ffffffffffff0200000000010806";
 /// The view of an IPv4 frame whose header has 20 bytes.
 pub(crate) const IPV4: &str = "ffffffffffff020000000001080045";
 
-/// The words of each run.
-pub(crate) static CASES: [&[&str]; 118] = [
+/// Runs on programs and texts.
+pub(crate) static PROGRAMS: [&[&str]; 61] = [
     // programs that may be installed, and what they return
     &["verify", "arp"],
     &["verify", "arp_lines"],
@@ -74,6 +75,10 @@ pub(crate) static CASES: [&[&str]; 118] = [
     &["dis", "return_of_x"],
     &["dis", "jump_out"],
     &["dis", "wrong_count"],
+];
+
+/// Runs on recordings without data checksums.
+pub(crate) static RECORDINGS: [&[&str]; 23] = [
     // recordings, whole, cut and damaged
     &["list", "recordings/two_versions.ch11"],
     &["list", "recordings/frames.ch11"],
@@ -99,6 +104,10 @@ pub(crate) static CASES: [&[&str]; 118] = [
     &["audit", "recordings/bad_checksum.ch11"],
     &["audit", "recordings/bad_body.ch11"],
     &["audit", "nowhere"],
+];
+
+/// Files that can't be read, words that are no command, and the version.
+pub(crate) static REFUSED: [&[&str]; 38] = [
     // files that can't be read, or are no text
     &["verify", "nowhere"],
     &["verify", "."],
@@ -111,6 +120,8 @@ pub(crate) static CASES: [&[&str]; 118] = [
     &["list", "nowhere"],
     &["list", "."],
     &["extract", "recordings/two_versions.ch11", "1", "/dev/full"],
+    &["upgrade", "recordings/two_versions.ch11", "/dev/full"],
+    &["upgrade", "recordings/two_versions.ch11", "/dev/null"],
     // words that are no command
     &["verify"],
     &["verify", "arp", "arp"],
@@ -123,6 +134,8 @@ pub(crate) static CASES: [&[&str]; 118] = [
     &["audit"],
     &["extract", "recordings/two_versions.ch11", "1"],
     &["extract"],
+    &["upgrade", "recordings/two_versions.ch11"],
+    &["upgrade"],
     &["simulate"],
     &["simulate", "nowhere"],
     &["simulate", "not_utf8"],
@@ -138,8 +151,22 @@ pub(crate) static CASES: [&[&str]; 118] = [
     &["versions"],
 ];
 
+/// The words of each run on recordings with data checksums: right, wrong in a packet, cut inside the
+/// packet whose checksum is wrong, a filter that accepts nothing, and packets with and without one.
+pub(crate) static CHECKED: [&[&str]; 9] = [
+    &["list", "recordings/two_versions_checked.ch11"],
+    &["audit", "recordings/two_versions_checked.ch11"],
+    &["list", "recordings/bad_sum.ch11"],
+    &["audit", "recordings/bad_sum.ch11"],
+    &["list", "recordings/bad_sum_cut.ch11"],
+    &["audit", "recordings/bad_sum_cut.ch11"],
+    &["audit", "recordings/rejecting_checked.ch11"],
+    &["list", "recordings/both_profiles.ch11"],
+    &["audit", "recordings/both_profiles.ch11"],
+];
+
 /// Words that ask for help.
-pub(crate) static HELP: [&[&str]; 13] = [
+pub(crate) static HELP: [&[&str]; 14] = [
     &["--help"],
     &["-h"],
     &["help"],
@@ -151,6 +178,7 @@ pub(crate) static HELP: [&[&str]; 13] = [
     &["audit", "--help"],
     &["extract", "--help"],
     &["help", "extract"],
+    &["upgrade", "--help"],
     &["simulate", "--help"],
     &["version", "--help"],
 ];

@@ -11,7 +11,7 @@ pub(crate) struct ExtractCase {
 
 /// Recordings with their channels; recordings that aren't read to their end, for which no feed is
 /// created; words that are no channel; and feeds that can't be created.
-pub(crate) static EXTRACTS: [ExtractCase; 18] = [
+pub(crate) static EXTRACTS: [ExtractCase; 21] = [
     ExtractCase {
         recording: "recordings/two_versions.ch11",
         channel: "1",
@@ -43,6 +43,16 @@ pub(crate) static EXTRACTS: [ExtractCase; 18] = [
         feed: "feed_secondary",
     },
     ExtractCase {
+        recording: "recordings/two_versions_checked.ch11",
+        channel: "1",
+        feed: "feed_checked",
+    },
+    ExtractCase {
+        recording: "recordings/both_profiles.ch11",
+        channel: "1",
+        feed: "feed_both",
+    },
+    ExtractCase {
         recording: "empty",
         channel: "0",
         feed: "feed_0",
@@ -57,6 +67,11 @@ pub(crate) static EXTRACTS: [ExtractCase; 18] = [
         recording: "recordings/bad_checksum.ch11",
         channel: "1",
         feed: "feed_bad",
+    },
+    ExtractCase {
+        recording: "recordings/bad_sum.ch11",
+        channel: "1",
+        feed: "feed_sum",
     },
     ExtractCase {
         recording: "nowhere",

@@ -11,9 +11,10 @@ mod records;
 mod run;
 mod scripts;
 mod texts;
+mod upgrades;
 
 use audits::show_audits;
-use cases::{CASES, HELP};
+use cases::{CHECKED, HELP, PROGRAMS, RECORDINGS, REFUSED};
 use extracts::{EXTRACTS, ExtractCase};
 use rec_cli::LockFile;
 use records::show_records;
@@ -24,32 +25,127 @@ use std::sync::Wait;
 use std::thread::Threads;
 use std::{fs, io};
 use texts::{FILTERS, TEXTS, TextCase};
+use upgrades::{UPGRADES, UpgradeCase};
 
 /// The number of packets of a long recording, of 52 bytes each.
 const LONG: u64 = 40_000;
 
 fn main(rt: HostRuntime) -> io::Result<()> {
-    for words in CASES {
-        show_run(&rt, words, NOTHING)?;
-    }
-    for case in &EXTRACTS {
-        show_extract(&rt, case)?;
-    }
+    show_programs(&rt)?;
+    show_recordings(&rt)?;
+    show_refused(&rt)?;
+    show_checked(&rt)?;
+    show_extracts(&rt)?;
+    show_upgrades(&rt)?;
     show_long_list(&rt)?;
-    for text in &TEXTS {
-        show_text(&rt, text)?;
-    }
-    for filter in &FILTERS {
-        show_text(&rt, filter)?;
-    }
-    for words in HELP {
-        show_help(&rt, words)?;
-    }
+    show_texts(&rt)?;
+    show_filters(&rt)?;
+    show_helps(&rt)?;
     show_piped(&rt)?;
     show_closed_output(&rt)?;
     show_records(&rt)?;
     show_audits(&rt)?;
     show_scripts(&rt)
+}
+
+/// Each table has a function of its own, since its check takes time and memory for each row.
+fn show_programs<R: AllocGlobal + Files + Print + Threads + Wait + Sync>(rt: &R) -> io::Result<()>
+where
+    R::File: Send + LockFile,
+    R::Dir: Send,
+{
+    for words in PROGRAMS {
+        show_run(rt, words, NOTHING)?;
+    }
+    Ok(())
+}
+
+fn show_recordings<R: AllocGlobal + Files + Print + Threads + Wait + Sync>(rt: &R) -> io::Result<()>
+where
+    R::File: Send + LockFile,
+    R::Dir: Send,
+{
+    for words in RECORDINGS {
+        show_run(rt, words, NOTHING)?;
+    }
+    Ok(())
+}
+
+fn show_refused<R: AllocGlobal + Files + Print + Threads + Wait + Sync>(rt: &R) -> io::Result<()>
+where
+    R::File: Send + LockFile,
+    R::Dir: Send,
+{
+    for words in REFUSED {
+        show_run(rt, words, NOTHING)?;
+    }
+    Ok(())
+}
+
+fn show_checked<R: AllocGlobal + Files + Print + Threads + Wait + Sync>(rt: &R) -> io::Result<()>
+where
+    R::File: Send + LockFile,
+    R::Dir: Send,
+{
+    for words in CHECKED {
+        show_run(rt, words, NOTHING)?;
+    }
+    Ok(())
+}
+
+fn show_extracts<R: AllocGlobal + Files + Print + Threads + Wait + Sync>(rt: &R) -> io::Result<()>
+where
+    R::File: Send + LockFile,
+    R::Dir: Send,
+{
+    for case in &EXTRACTS {
+        show_extract(rt, case)?;
+    }
+    Ok(())
+}
+
+fn show_upgrades<R: AllocGlobal + Files + Print + Threads + Wait + Sync>(rt: &R) -> io::Result<()>
+where
+    R::File: Send + LockFile,
+    R::Dir: Send,
+{
+    for case in &UPGRADES {
+        show_upgrade(rt, case)?;
+    }
+    Ok(())
+}
+
+fn show_texts<R: AllocGlobal + Files + Print + Threads + Wait + Sync>(rt: &R) -> io::Result<()>
+where
+    R::File: Send + LockFile,
+    R::Dir: Send,
+{
+    for text in &TEXTS {
+        show_text(rt, text)?;
+    }
+    Ok(())
+}
+
+fn show_filters<R: AllocGlobal + Files + Print + Threads + Wait + Sync>(rt: &R) -> io::Result<()>
+where
+    R::File: Send + LockFile,
+    R::Dir: Send,
+{
+    for filter in &FILTERS {
+        show_text(rt, filter)?;
+    }
+    Ok(())
+}
+
+fn show_helps<R: AllocGlobal + Files + Print + Threads + Wait + Sync>(rt: &R) -> io::Result<()>
+where
+    R::File: Send + LockFile,
+    R::Dir: Send,
+{
+    for words in HELP {
+        show_help(rt, words)?;
+    }
+    Ok(())
 }
 
 /// A text: its listing is stored as the file `listing`, and then checked and run on each view.
@@ -117,14 +213,39 @@ where
         &["extract", case.recording, case.channel, case.feed],
         NOTHING,
     )?;
-    let Ok(bytes) = fs::read(rt, case.feed) else {
-        return println!(rt; "no feed");
+    show_file(rt, "feed", case.feed)?;
+    Ok(())
+}
+
+/// A recording's upgrade: what is printed, and then the bytes of the file, if it was created, and its
+/// audit.
+fn show_upgrade<R: AllocGlobal + Files + Print + Threads + Wait + Sync>(
+    rt: &R,
+    case: &UpgradeCase,
+) -> io::Result<()>
+where
+    R::File: Send + LockFile,
+    R::Dir: Send,
+{
+    show_run(rt, &["upgrade", case.recording, case.out], NOTHING)?;
+    if show_file(rt, "file", case.out)? {
+        show_run(rt, &["audit", case.out], NOTHING)?;
+    }
+    Ok(())
+}
+
+/// The bytes of a file behind a word, if it was created; whether it was.
+fn show_file<R: AllocGlobal + Files + Print>(rt: &R, word: &str, file: &str) -> io::Result<bool> {
+    let Ok(bytes) = fs::read(rt, file) else {
+        println!(rt; "no {word}")?;
+        return Ok(false);
     };
-    print!(rt; "feed")?;
+    print!(rt; "{word}")?;
     for byte in &bytes {
         print!(rt; " {byte:02x}")?;
     }
-    println!(rt)
+    println!(rt)?;
+    Ok(true)
 }
 
 /// Help is shown by its stream, its status and the commands that it names, not by its text.
@@ -139,8 +260,8 @@ where
     let run = run_program(rt, words, NOTHING)?;
     title(rt, words)?;
     for name in [
-        "asm", "dis", "verify", "run", "audit", "extract", "simulate", "FILE", "HEX", "CHANNEL",
-        "OUT", "Usage",
+        "asm", "dis", "verify", "run", "audit", "extract", "upgrade", "simulate", "FILE", "HEX",
+        "CHANNEL", "OUT", "Usage",
     ] {
         if run.output().contains(name) {
             println!(rt; "names {name}")?;
@@ -166,15 +287,23 @@ where
             &["extract", "-", "1", "feed_piped"],
         ),
         ("recordings/two_versions.ch11", &["audit", "-"]),
+        (
+            "recordings/two_versions.ch11",
+            &["upgrade", "-", "new_piped"],
+        ),
         ("recordings/cut_to_210.ch11", &["list", "-"]),
         (
             "recordings/cut_to_210.ch11",
             &["extract", "-", "1", "feed_cut"],
         ),
+        ("recordings/cut_to_210.ch11", &["upgrade", "-", "new_cut"]),
         ("not_utf8", &["asm", "-"]),
     ] {
         let input = fs::read(rt, file)?;
         show_run(rt, words, Input::Bytes(input.as_slice()))?;
+    }
+    for (word, file) in [("feed", "feed_piped"), ("file", "new_piped")] {
+        show_file(rt, word, file)?;
     }
     Ok(())
 }
@@ -199,6 +328,7 @@ where
             "1",
             "feed_closed",
         ],
+        &["upgrade", "recordings/two_versions.ch11", "new_closed"],
         &["--help"],
     ] {
         show_closed(rt, words)?;

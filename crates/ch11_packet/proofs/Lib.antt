@@ -13,3 +13,5 @@ pub mod Lengths
 pub mod Classing
 pub mod Decided
 pub mod Outcomes
+pub mod Sending
+pub mod Summed

@@ -1,6 +1,7 @@
 pub mod Sums
 pub mod Flags
 pub mod Header
+pub mod Profiles
 pub mod PacketLen
 pub mod Frames
 pub mod FramesRead
@@ -9,4 +10,5 @@ pub mod Records
 pub mod RecordsRead
 pub mod Views
 pub mod Packet
+pub mod Outputs
 pub mod Classes

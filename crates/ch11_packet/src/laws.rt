@@ -10,8 +10,10 @@ ghost use Rattle.ch11_packet.specs.declared.class.What.{What};
 ghost use Rattle.ch11_packet.specs.declared.class.ClassFault.{ClassFault};
 ghost use Rattle.ch11_packet.specs.Flags.{HasChecksum};
 ghost use Rattle.ch11_packet.specs.Classes.{IsOther, HasSum, IsSummed, Holds, HasClassFault, IsJudgedAs, data_in, said_frames};
-ghost use Rattle.ch11_packet.specs.PacketLen.{packet_len};
-ghost use Rattle.ch11_packet.specs.Packet.{packet_bytes};
+ghost use Rattle.ch11_packet.specs.Profiles.{Profile};
+ghost use Rattle.ch11_packet.specs.Profiles.Profile.{WithoutSum, WithSum};
+ghost use Rattle.ch11_packet.specs.PacketLen.{packet_len, written_len};
+ghost use Rattle.ch11_packet.specs.Packet.{packet_trailer, packet_bytes};
 ghost use Rattle.ch11_packet.specs.Frames.{data_bytes, data_len, frame_len};
 ghost use Rattle.eth_frame.specs.Frame.{FrameData};
 ghost use Rattle.ch11_packet.specs.FramesRead.{ReadFrameData, body_frame, SpellsFrame, SpellsBody, HasSameCount};
@@ -25,7 +27,7 @@ use crate::header::{
     CHECKED_LEN, COMPUTER_GENERATED_DATA, ETHERNET_DATA, HEADER_LEN, MAX_ETHERNET_PACKET_LEN,
     SYNC_PATTERN,
 };
-use crate::limit::MIN_LIMIT;
+use crate::limit::{MAX_LIMIT, MIN_LIMIT};
 use crate::records::{
     END_RECORD, END_RECORD_LEN, INSN_LEN, MAX_PROGRAM_RECORD_LEN, PROGRAM_HEAD_LEN, PROGRAM_RECORD,
     RECORD_HEAD_LEN,
@@ -58,35 +60,37 @@ pub fn least_limit_holds_the_longest_frame()
     ensures exact { packet_len (BODY_WORD_LEN + frame_len MAX_FRAME_LEN) ≡ MIN_LIMIT }
 {}
 
-/// Law: a whole packet is as long as its header and its data with the filler, and so are the three
-/// kinds of data.
+/// Law: a whole packet is as long as its header and its data with the filler, and in the second
+/// profile the data checksum; and the three kinds of data have their lengths.
 #[tactic(auto, unfolding(crate::specs::Records::program_bytes, crate::specs::Records::end_bytes))]
 pub fn packets_have_their_lengths()
-    ensures packet { (header : HeaderData) (body : List ℕ)
-        → length (packet_bytes header body) ≡ packet_len (length body) }
+    ensures packet { (profile : Profile) (header : HeaderData) (body : List ℕ)
+        → length (packet_bytes profile header body) ≡ written_len profile (length body) }
     ensures frames { (net speed : ℕ) (frames : List FrameData)
         → length (data_bytes net speed frames) ≡ data_len frames }
-    ensures packet_of_frames { (header : HeaderData) (net speed : ℕ) (frames : List FrameData)
-        → length (packet_bytes header (data_bytes net speed frames))
-        ≡ packet_len (data_len frames) }
+    ensures packet_of_frames { (profile : Profile) (header : HeaderData) (net speed : ℕ)
+        (frames : List FrameData)
+        → length (packet_bytes profile header (data_bytes net speed frames))
+        ≡ written_len profile (data_len frames) }
     ensures program { (channel version first : ℕ) (insns : List Insn)
         → length (program_bytes channel version first insns)
         ≡ PROGRAM_HEAD_LEN + INSN_LEN * length insns }
     ensures ending { (end : EndData) → length (end_bytes end) ≡ END_RECORD_LEN }
 {}
 
-/// Law: the packet of a builder's frames and a further one isn't longer than the limit exactly if
-/// that frame fits, whatever the packet's header says.
+/// Law: the packet of a builder's frames and a further one isn't longer than the limit, without a data
+/// checksum, exactly if that frame fits, whatever the packet's header says.
 pub fn a_frame_fits_if_its_packet_does()
     ensures { (header : HeaderData) (body : OpenBody) (frame : FrameData)
-        → Fits body (length frame.bytes) ↔ (length (packet_bytes header
+        → Fits body (length frame.bytes) ↔ (length (packet_bytes WithoutSum header
         (data_bytes body.net body.speed (body.frames ++ frame ∷ []))) ≤ body.limit) }
 {}
 
-/// Law: a packet of frames has at most 524,288 bytes, and a speed of at most 15; a record of a
-/// program has at most 32,796 bytes.
+/// Law: a packet of frames has at most 524,288 bytes, at most 524,284 of them without its data
+/// checksum, and a speed of at most 15; a record of a program has at most 32,796 bytes.
 pub fn the_limits_of_a_packet()
     ensures ethernet { MAX_ETHERNET_PACKET_LEN ≡ 524288 }
+    ensures limit { MAX_LIMIT ≡ 524284 }
     ensures speed { MAX_SPEED ≡ 15 }
     ensures program { MAX_PROGRAM_RECORD_LEN ≡ 32796 }
 {}
@@ -165,6 +169,11 @@ pub fn filler_adds_nothing_to_a_sum()
 pub fn one_changed_byte_changes_the_sum()
     ensures { (front rest : List ℕ) (byte other : ℕ) → byte < 2 ^ 8 → other < 2 ^ 8
         → byte ≢ other → body_sum (front ++ byte ∷ rest) ≢ body_sum (front ++ other ∷ rest) }
+{}
+
+/// Law: the data checksum of a packet that is written is right, whatever its body is.
+pub fn a_written_packet_has_its_sum()
+    ensures { (body : List ℕ) → HasSum (body ++ packet_trailer WithSum body) }
 {}
 
 /// Law: a packet holds one thing, or it has one fault, and never both; what isn't judged of a

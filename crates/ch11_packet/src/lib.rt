@@ -9,6 +9,7 @@ mod header;
 mod laws;
 mod length;
 mod limit;
+mod output;
 mod records;
 mod sum;
 
@@ -22,13 +23,14 @@ pub use header::{
 };
 pub use laws::{
     a_frame_fits_if_its_packet_does, a_packet_holds_one_thing, a_sum_goes_on_from_whole_words,
-    body_has_one_reading, filler_adds_nothing_to_a_sum, header_has_one_spelling,
-    least_limit_holds_the_longest_frame, one_changed_byte_changes_the_sum,
+    a_written_packet_has_its_sum, body_has_one_reading, filler_adds_nothing_to_a_sum,
+    header_has_one_spelling, least_limit_holds_the_longest_frame, one_changed_byte_changes_the_sum,
     packets_have_their_lengths, record_has_one_reading, the_limits_of_a_packet,
     the_numbers_of_a_body, the_numbers_of_a_header,
 };
-pub use length::packet_len;
-pub use limit::{Limit, MIN_LIMIT};
+pub use length::{packet_len, written_len};
+pub use limit::{Limit, MAX_LIMIT, MIN_LIMIT};
+pub use output::{write_packet, write_parts};
 pub use records::{
     END_RECORD_LEN, INSN_LEN, MAX_PROGRAM_RECORD_LEN, PROGRAM_HEAD_LEN, ProgramRecord, Record,
     RecordFault, decode_record, end_body, program_body,

@@ -4,38 +4,15 @@ ghost use Rattle.std.specs.Prelude.{OnOk};
 ghost use Rattle.std.specs.Io.KnownBytes.{Appends};
 ghost use Rattle.cli_reading.specs.Lines.{extracted_line, TakesCounts};
 
+use crate::output_file::{buffered_output, write_held};
 use crate::reading::{
     Counts, begin_again, counts_of, is_read_twice, next_packet, open, packet_again, reader_over,
 };
-use cli_streams::{Ending, Inputs, LockFile, STREAM, channel_in, create_output, print_line};
+use cli_streams::{Ending, Inputs, LockFile, STREAM, channel_in, print_line};
 use rec_reader::{Extracted, Reader, extract_packet};
 use std::alloc::Global;
-use std::io;
-use std::io::{BufWriter, ErrorKind, Read, Write};
+use std::io::{Read, Write};
 use std::rt::Files;
-
-/// A feed's file. It is created after the buffer before it, so that there is none if there is no
-/// memory for the buffer.
-#[derive(Drop)]
-struct FeedFile<F> {
-    file: Option<F>,
-}
-
-impl<F: Write> Write for FeedFile<F> {
-    fn write(&mut self, buf: &[u8]) -> io::Result<usize> {
-        match &mut self.file {
-            Some(file) => file.write(buf),
-            None => Err(io::Error::from(ErrorKind::NotFound)),
-        }
-    }
-
-    fn flush(&mut self) -> io::Result<()> {
-        match &mut self.file {
-            Some(file) => file.flush(),
-            None => Ok(()),
-        }
-    }
-}
 
 /// No frames.
 const NOTHING: Extracted = Extracted {
@@ -122,7 +99,7 @@ where
     let judged = counts_of(file, &mut reader_over(alloc, &mut recording)?)?;
     begin_again(file, &mut recording)?;
     let mut reader = reader_over(alloc, &mut recording)?;
-    let mut feed = feed_of(rt, inputs, out)?;
+    let mut feed = buffered_output(rt, inputs, out)?;
     extract_again(file, &mut reader, judged, channel, out, &mut feed)
 }
 
@@ -175,26 +152,8 @@ where
         // memory takes all bytes, if there is some
         written.map_err(|_| Ending::Memory)?;
     }
-    let mut feed = create_output(rt, inputs, out)?;
-    feed.write_all(held.as_slice())
-        .map_err(|_| Ending::File(out))?;
-    feed.flush().map_err(|_| Ending::File(out))?;
+    write_held(rt, inputs, out, held.as_slice())?;
     Ok(extracted)
-}
-
-/// A feed's file, created after the buffer before it.
-fn feed_of<'a, R: AllocGlobal + Files>(
-    rt: &R,
-    inputs: &Inputs,
-    out: &'a str,
-) -> Result<BufWriter<FeedFile<R::File>>, Ending<'a>>
-where
-    R::File: LockFile,
-{
-    let uncreated = FeedFile { file: None };
-    let mut feed = BufWriter::new(rt.alloc(), uncreated).map_err(|_| Ending::Memory)?;
-    feed.get_mut().file = Some(create_output(rt, inputs, out)?);
-    Ok(feed)
 }
 
 /// The channel that a word names: a number from 0 to 65,535, in decimal digits alone.

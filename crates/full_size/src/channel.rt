@@ -2,7 +2,7 @@
 
 ghost use Rattle.std.specs.Prelude.{◌≤◌};
 
-use ch11_packet::{MAX_ETHERNET_PACKET_LEN, MIN_LIMIT};
+use ch11_packet::{MAX_LIMIT, MIN_LIMIT};
 use eth_frame::{MAX_FRAME_LEN, MIN_FRAME_LEN};
 use rec_channel::MAX_VERSIONS;
 use std::alloc::AllocError;
@@ -47,11 +47,11 @@ impl Channel {
         let (kind, limit) = match index {
             0 => (Kind::Versions, MIN_LIMIT),
             1 => (Kind::Many, MIN_LIMIT),
-            2 => (Kind::Shortest, MAX_ETHERNET_PACKET_LEN),
-            3 => (Kind::Longest, MAX_ETHERNET_PACKET_LEN),
+            2 => (Kind::Shortest, MAX_LIMIT),
+            3 => (Kind::Longest, MAX_LIMIT),
             4 => (Kind::Silent, MIN_LIMIT),
             _ if index % 2 == 0 => (Kind::Varied, MIN_LIMIT),
-            _ => (Kind::Varied, MAX_ETHERNET_PACKET_LEN),
+            _ => (Kind::Varied, MAX_LIMIT),
         };
         Channel {
             id: index.wrapping_mul(1_040).wrapping_add(1),

@@ -11,6 +11,7 @@ use std::test::Fail;
 mod class;
 mod frames;
 mod header;
+mod output;
 mod records;
 mod sum;
 

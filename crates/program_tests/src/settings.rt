@@ -69,9 +69,9 @@ fn what_is_not_set_has_its_default(rt: HostRuntime) -> Result<(), Fail> {
 fn keys_of_the_recording_are_taken_to_their_limits(rt: HostRuntime) -> Result<(), Fail> {
     let table = [
         ("limit = 16424", "16424 64 8"),
-        ("limit = 524288", "524288 64 8"),
+        ("limit = 524284", "524284 64 8"),
         ("limit = 16423", "settings 4 Value limit"),
-        ("limit = 524289", "settings 4 Value limit"),
+        ("limit = 524285", "settings 4 Value limit"),
         ("limit = 16424.0", "settings 4 Value limit"),
         ("limit = \"65536\"", "settings 4 Value limit"),
         ("ring = 1", "65536 1 8"),

@@ -5,24 +5,9 @@ use crate::shared::packets_of;
 use crate::stream::compare;
 use ch11_packet::{HEADER_LEN, Header, What, body_sum};
 use rec_reader::*;
-use samples::{ACCEPTING, END, FRAMES, REJECTING, all_bytes, joined_bytes};
+use samples::{ACCEPTING, CHECKED, END, FRAMES, REJECTING, all_bytes, joined_bytes};
 use std::alloc::Global;
 use std::test::Fail;
-
-/// The end of a channel after two frames, of which one was kept.
-const CHECKED_END: &str = "25eb 0000 38000000 1c000000 08 02 03 00 200000000000 a4ed \
-    00000000 43425052 0200 0100 0200000000000000 0100000000000000 48425152";
-
-/// The recording of two versions in packets with data checksums: 248 bytes.
-pub(crate) const CHECKED: [&str; 4] = [
-    "25eb 0000 40000000 24000000 08 00 03 00 100000000000 a4eb \
-        00000000 43425052 0100 0100 00000000 0000000000000000 0100 0000 0600000000000000 4b425152",
-    "25eb 0000 40000000 24000000 08 01 03 00 200000000000 b4ec \
-        00000000 43425052 0100 0100 01000000 0100000000000000 0100 0000 0600000001000000 4e425152",
-    "25eb 0100 40000000 22000000 08 00 03 68 200000000000 b353 \
-        01000000 200000000000 0000 12000003 ffffffffffff 020000000001 0806 a1b2c3d4 0000 fcdaa4b6",
-    CHECKED_END,
-];
 
 /// The same packets without data checksums.
 const PLAIN: [&str; 4] = [REJECTING, ACCEPTING, FRAMES, END];
@@ -284,7 +269,7 @@ fn kind_of(what: Option<What>, added: u32) -> Option<ReadFaultKind> {
 #[test]
 fn the_sum_of_each_kind_of_packet_is_judged(rt: HostRuntime) -> Result<(), Fail> {
     let alloc = rt.alloc();
-    let end = all_bytes(alloc, CHECKED_END)?;
+    let end = all_bytes(alloc, CHECKED[3])?;
     for (head, text, what) in KINDS {
         for added in [0, 1, 0x8000_0000] {
             let mut bytes = packet(alloc, head, text, added)?;

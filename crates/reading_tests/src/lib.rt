@@ -1,4 +1,4 @@
-//! The tests of what reads recordings, by its public calls: whole or as a stream, the index, and the
+//! The tests of what reads recordings, by its public calls: whole or as a stream, the index, the
 //! audit.
 #![tactic(auto)]
 
@@ -14,3 +14,5 @@ mod reader;
 mod shared;
 #[cfg(test)]
 mod stream;
+#[cfg(test)]
+mod upgrades;

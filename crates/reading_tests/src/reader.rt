@@ -1,10 +1,9 @@
 //! Recordings that are read, whole, cut and damaged.
-use crate::checksums::CHECKED;
 use crate::shared::packets_of;
 use ch11_packet::{ETHERNET_DATA, HEADER_LEN, Header, ReadFrame, What};
 use eth_frame::{FeedSource, FrameBuf, FrameSource, Next, write_feed};
 use rec_reader::*;
-use samples::{ACCEPTING, END, FRAMES, REJECTING, all_bytes, joined_bytes};
+use samples::{ACCEPTING, CHECKED, END, FRAMES, REJECTING, all_bytes, joined_bytes};
 use std::alloc::Global;
 use std::fmt::Write as _;
 use std::io;

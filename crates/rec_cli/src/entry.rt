@@ -5,7 +5,7 @@ ghost use Rattle.cli_filters.specs.Lines.{AnswersLines};
 
 use crate::recording::record_channels;
 use cli_filters::{answer_lines, assemble_file, disassemble_file, run_file, verify_file};
-use cli_reading::{audit_recording, extract_frames, list_packets};
+use cli_reading::{audit_recording, extract_frames, list_packets, upgrade_recording};
 use cli_simulate::simulate_script;
 use cli_streams::{ANSWERED, Ending, LockFile, print_line, print_text};
 use rec_words::{VERSION, Words, WordsFault, words_of};
@@ -95,6 +95,9 @@ where
         Words::Extract { file, channel, out } => extract_frames(
             rt, file, channel, out, input, output,
         ),
+        Words::Upgrade { recording, out } => {
+            upgrade_recording(rt, recording, out, input, output)
+        }
         Words::Simulate { file } => simulate_script(rt, file, input, output),
         Words::Version => print_version(rt.alloc(), output),
         Words::Record { .. } | Words::NoCommand => Err(Ending::Words(String::new(rt.alloc()))),

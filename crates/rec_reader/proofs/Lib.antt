@@ -21,3 +21,6 @@ pub mod Recordings
 pub mod Filled
 pub mod Streaming
 pub mod Indexing
+pub mod Alike
+pub mod Upgrading
+pub mod UpgradeSteps

@@ -19,7 +19,7 @@ one_more_packet (p ∷ ps) zero item within is = ap (λ (q : Packet). packet_dat
 one_more_packet (p ∷ ps) (suc n) item within is =
     ap (λ l. packet_data p ∷ l) (one_more_packet ps n item (omega arith) is) ∙ ap (λ m. packets_data (take m (p ∷ ps))) (let same : suc (n + 1) ≡ suc n + 1 = omega arith in same)
 
-first_and_rest : (items : List Packet) (n : ℕ) → packets_data items ≡ packets_data (take n items) ++ packets_data (drop n items)
+pub first_and_rest : (items : List Packet) (n : ℕ) → packets_data items ≡ packets_data (take n items) ++ packets_data (drop n items)
 first_and_rest items n = ap packets_data (sym (take-append-drop n items)) ∙ map-append packet_data (take n items) (drop n items)
 
 -- a fault among the first packets is the audit's

@@ -4,6 +4,7 @@ pub mod ChannelFrames
 pub mod Extracting
 pub mod Channels
 pub mod Audits
+pub mod Upgrades
 pub mod Auditors
 pub mod Readers
 pub mod Indexes

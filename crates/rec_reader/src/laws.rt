@@ -1,13 +1,13 @@
 //! Laws of recordings, which run nothing.
 
-ghost use Rattle.std.specs.Prelude.{ℕ, ◌≡◌, ◌≢◌, ◌+◌, ◌++◌, List, [], length, Option, None, Some, Result, Ok, Err};
+ghost use Rattle.std.specs.Prelude.{ℕ, ◌≡◌, ◌≢◌, ◌+◌, ◌++◌, ◌↔◌, false, List, [], All, length, map, Option, None, Some, Result, Ok, Err};
 ghost use Rattle.eth_frame.specs.Bytes.{AreBytes};
 ghost use Rattle.ch11_packet.specs.declared.header.TheConstants.{HEADER_LEN};
 ghost use Rattle.ch11_packet.specs.Header.{HeaderData, IsHeader, header_bytes};
 ghost use Rattle.ch11_packet.specs.Flags.{HasChecksum};
 ghost use Rattle.ch11_packet.specs.Classes.{IsOther, HasSum, IsSummed, HasClassFault, IsJudgedAs, data_in};
 ghost use Rattle.rec_reader.specs.declared.fault.ReadFaultKind.{ReadFaultKind};
-ghost use Rattle.rec_reader.specs.Packets.{PacketData, SpellsPacket, Begins, packet_of};
+ghost use Rattle.rec_reader.specs.Packets.{PacketData, SpellsPacket, Begins, BeginSomeBytes, packet_of};
 ghost use Rattle.rec_reader.specs.Reading.{HasReadFault, Reads, ReadsAsFront};
 ghost use Rattle.rec_reader.specs.ChannelFrames.{packet_frames, channel_frames};
 ghost use Rattle.rec_reader.specs.declared.audits.answer.Audit.{Audit};
@@ -20,6 +20,7 @@ ghost use Rattle.ch11_packet.specs.RecordsRead.RecordData.{OfProgram as Spelled}
 ghost use Rattle.rec_reader.specs.Channels.{IsNamed, saying_of};
 ghost use Rattle.rec_reader.specs.Channels.Saying.{OfProgram};
 ghost use Rattle.rec_reader.specs.Audits.{AreApproved, Judges, Audits, EndsWell};
+ghost use Rattle.rec_reader.specs.Upgrades.{is_old, spellings, upgrade, upgrade_bytes};
 
 use ch11_packet::{a_packet_holds_one_thing, header_has_one_spelling};
 
@@ -127,3 +128,54 @@ pub fn an_approved_recording_is_what_it_says()
     ensures ends { (packets : List PacketData) (audit : Audit) → Audits packets (Ok audit)
         → (channel : ℕ) → IsNamed channel packets → EndsWell channel packets }
 {}
+
+/// Law: an upgrade of an upgrade is itself, and nothing of it is old.
+pub fn an_upgrade_is_upgraded()
+    ensures packets { (packets : List PacketData)
+        → upgrade (upgrade packets) ≡ upgrade packets }
+    ensures bytes { (packets : List PacketData)
+        → upgrade_bytes (upgrade packets) ≡ upgrade_bytes packets }
+    ensures none_old { (packets : List PacketData)
+        → All (λ packet. is_old packet ≡ false) (upgrade packets) }
+{}
+
+/// Law: the bytes of an upgrade are read to their end, as its packets; those of a recording are the
+/// bytes of its packets; and a recording of which no packet is old is its own upgrade, byte for byte.
+pub fn an_upgrade_is_read_as_its_packets()
+    ensures read { (packets : List PacketData) → BeginSomeBytes packets
+        → Reads (upgrade_bytes packets) (upgrade packets) None }
+    ensures spelled { (bytes : List ℕ) (packets : List PacketData)
+        → Reads bytes packets None → bytes ≡ spellings packets }
+    ensures unchanged { (bytes : List ℕ) (packets : List PacketData)
+        → Reads bytes packets None → All (λ packet. is_old packet ≡ false) packets
+        → upgrade_bytes packets ≡ bytes }
+{
+    what_is_not_judged_makes_no_difference();
+}
+
+/// Law: an upgrade says what the packets say. The frames of each channel are the same, and so are,
+/// packet by packet, what they hold, with the fields of programs and ends, and what they say of their
+/// channels; it has the same audit; and where the audit of an upgrade says yes, that means of the
+/// packets what it means of the upgrade.
+pub fn an_upgrade_says_what_its_packets_say()
+    ensures frames { (channel : ℕ) (packets : List PacketData) → BeginSomeBytes packets
+        → channel_frames channel (upgrade packets) ≡ channel_frames channel packets }
+    ensures held { (packets : List PacketData) → BeginSomeBytes packets
+        → map (λ (packet : PacketData). packet.what) (upgrade packets)
+        ≡ map (λ (packet : PacketData). packet.what) packets }
+    ensures said { (packets : List PacketData) → BeginSomeBytes packets
+        → map saying_of (upgrade packets) ≡ map saying_of packets }
+    ensures audit { (packets : List PacketData) (answer : Result Audit AuditFault)
+        → BeginSomeBytes packets → Audits packets answer ↔ Audits (upgrade packets) answer }
+    ensures one { (packets : List PacketData) (answer other : Result Audit AuditFault)
+        → BeginSomeBytes packets → Audits packets answer → Audits (upgrade packets) other
+        → answer ≢ Err AuditFault.Memory → other ≢ Err AuditFault.Memory → answer ≡ other }
+    ensures approved { (packets : List PacketData) (audit : Audit) → BeginSomeBytes packets
+        → Audits (upgrade packets) (Ok audit) → AreApproved packets }
+    ensures ends { (packets : List PacketData) (audit : Audit) → BeginSomeBytes packets
+        → Audits (upgrade packets) (Ok audit)
+        → (channel : ℕ) → IsNamed channel packets → EndsWell channel packets }
+{
+    packets_have_one_audit();
+    an_approved_recording_is_what_it_says();
+}

@@ -1,8 +1,7 @@
 -- The ranges of what a recording is of, which are those of its types.
 use Rattle.std.specs.Prelude.{ℕ, ◌<◌, ◌≤◌, ◌^◌, List, All}
 use Rattle.ch11_packet.specs.declared.frames.word.TheConstants.{MAX_SPEED}
-use Rattle.ch11_packet.specs.declared.limit.TheConstants.{MIN_LIMIT}
-use Rattle.ch11_packet.specs.declared.header.TheConstants.{MAX_ETHERNET_PACKET_LEN}
+use Rattle.ch11_packet.specs.declared.limit.TheConstants.{MIN_LIMIT, MAX_LIMIT}
 use Rattle.rec_lane.specs.Pieces.{LaneSettings}
 use Rattle.rec_lane.specs.Settings.{spec_data}
 use Rattle.rec_run.specs.declared.job.Job.{Job}
@@ -15,7 +14,7 @@ pub record AreSettings (settings : LaneSettings) : Type 0 where
   pub net_fits : settings.net < 2 ^ 8
   pub speed_fits : settings.speed ≤ MAX_SPEED
   pub least : MIN_LIMIT ≤ settings.limit
-  pub most : settings.limit ≤ MAX_ETHERNET_PACKET_LEN
+  pub most : settings.limit ≤ MAX_LIMIT
 
 module _ {S : Type 0} where
   -- the job's numbers are those of its types: its settings are in range, and fewer than 2^64 frames

@@ -4,6 +4,7 @@ use Rattle.std.specs.List.{flat_map, filter, Any}
 use Rattle.std.proofs.lemmas.List.{append_assoc, append-nil, length-append}
 use Rattle.std.proofs.lemmas.List.Elements.{All-head, All-weaker, filter-append}
 use Rattle.std.proofs.lemmas.Grind.{flat_map-append}
+use Rattle.ch11_packet.specs.Profiles.Profile.{WithSum}
 use Rattle.ch11_packet.proofs.Lengths.{length-packet}
 use Rattle.rec_lane.specs.Offered.{accepted}
 use Rattle.rec_lane.specs.Pieces.{PieceData, channel_of}
@@ -81,14 +82,14 @@ part_of packet cut (x ∷ xs) more whole short (inr reads) = absurd (too_long pa
 -- a proper beginning of a piece's packet is empty, or a packet that is cut
 part_read : (version sequence : ℕ) (piece : PieceData) (cut rest : List ℕ) → IsWritable piece → version < 2 ^ 8 → sequence < 2 ^ 8 → cut ++ rest ≡ packet_of piece version sequence → rest ≢ [] → (cut ≡ []) ⊎ IsCutPacket cut
 part_read version sequence piece cut rest is small fits whole some =
-    let packet = read_packet piece version sequence 0 in
+    let packet = read_packet WithSum piece version sequence 0 in
     let bytes = packet_of piece version sequence in
     let reads : Reads (cut ++ rest) (packet ∷ []) None = record {
       rest = [];
-      held = ([], record { place = refl; spelling = bytes; spelled = spells_piece piece version sequence 0 is small fits; whole = whole ∙ sym (append-nil bytes) }, refl);
+      held = ([], record { place = refl; spelling = bytes; spelled = spells_piece WithSum piece version sequence 0 is small fits; whole = whole ∙ sym (append-nil bytes) }, refl);
       ends = refl;
     } in
-    let long = length-packet (piece_header piece version sequence) (piece_bytes piece) in
+    let long = length-packet WithSum (piece_header piece version sequence) (piece_bytes piece) in
     let both = ap length whole in
     let sum = length-append cut rest in
     let left = some_long rest some in
@@ -98,8 +99,8 @@ part_read version sequence piece cut rest is small fits whole some =
 -- packets of pieces and then such a beginning are read as these packets
 cut_read : (version : ℕ) (pieces : List PieceData) (cut : List ℕ) → version < 2 ^ 8 → All IsWritable pieces → (cut ≡ []) ⊎ IsCutPacket cut
     → Reads (writer_output version pieces ++ cut) (packets_of version pieces) None ⊎ Reads (writer_output version pieces ++ cut) (packets_of version pieces) (Some Truncated)
-cut_read version pieces cut small all (inl none) = inl (record { rest = cut; held = they_begin version 0 [] pieces cut small all; ends = none })
-cut_read version pieces cut small all (inr part) = inr (record { rest = cut; held = they_begin version 0 [] pieces cut small all; ends = part })
+cut_read version pieces cut small all (inl none) = inl (record { rest = cut; held = they_begin WithSum version 0 [] pieces cut small all; ends = none })
+cut_read version pieces cut small all (inr part) = inr (record { rest = cut; held = they_begin WithSum version 0 [] pieces cut small all; ends = part })
 
 -- a cut of one more piece, or of none
 cut_of : (version : ℕ) (pieces begun : List PieceData) (cut : List ℕ) → version < 2 ^ 8 → All IsWritable begun → IsCutOf version pieces begun cut → (cut ≡ []) ⊎ IsCutPacket cut

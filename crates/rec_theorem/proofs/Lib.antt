@@ -12,3 +12,4 @@ pub mod Runs
 pub mod SomePieces
 pub mod SomeRecordings
 pub mod SomeWorlds
+pub mod OldPieces

@@ -7,7 +7,8 @@ use Rattle.std.proofs.lemmas.Bool.{cases_Bool}
 use Rattle.std.proofs.lemmas.List.{append-nil, length-map, map-append}
 use Rattle.std.proofs.lemmas.List.Elements.{All-nil, All-cons, All-head, All-tail, All-append, All-map, All-weaker}
 use Rattle.eth_frame.specs.Frame.{IsFrame}
-use Rattle.ch11_packet.specs.PacketLen.{packet_len}
+use Rattle.ch11_packet.specs.Profiles.Profile.{WithSum}
+use Rattle.ch11_packet.specs.PacketLen.{written_len}
 use Rattle.ch11_packet.proofs.Lengths.{length-packet}
 use Rattle.rec_channel.specs.History.{IsHistory}
 use Rattle.rec_lane.specs.Offered.{OfferedFrame, frames_of}
@@ -130,14 +131,14 @@ completed w at c piece = world_after w at (piece_written c) (piece ∷ [])
 completes : (ring : ℕ) (specs : List SpecData) (before : List ℕ) (writer : WriterState) (w : WorldState) → RunsFromOpening ring specs w → (s : IsCutShort before writer w) → RunsFromOpening ring specs (completed w s.at s.channel s.piece)
 completes ring specs before writer w run s =
     let channel = s.channel.settings.channel in
-    let bytes = packet_len (length (piece_bytes s.piece)) in
+    let bytes = written_len WithSum (length (piece_bytes s.piece)) in
     let step : WorldStep ring w (OfWrite channel) (Ok (Wrote bytes)) (completed w s.at s.channel s.piece) = (
       s.at,
       s.channel,
       piece_written s.channel,
       s.piece ∷ [],
       record { there = s.there; named = refl },
-      (s.piece, s.next, s.sent, λ version sequence. length-packet (piece_header s.piece version sequence) (piece_bytes s.piece), refl, refl),
+      (s.piece, s.next, s.sent, λ version sequence. length-packet WithSum (piece_header s.piece version sequence) (piece_bytes s.piece), refl, refl),
       refl,
     ) in
     (run.0 ++ OfWrite channel ∷ [], run.1 ++ Ok (Wrote bytes) ∷ [], run.2, run.3, run_more ring run.0 run.1 (opening_world specs) w (completed w s.at s.channel s.piece) (OfWrite channel) (Ok (Wrote bytes)) run.4 step)

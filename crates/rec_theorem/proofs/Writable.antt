@@ -117,7 +117,7 @@ accepted_framed history count group known =
 -- ---- the pieces of a group, and of a channel
 
 module _ (s : LaneSettings) (history : List Version) (count : ℕ) (is : AreSettings s) (few : count < 2 ^ 64) (versions : length history ≤ 1024) where
-  -- a group's program is writable: it has at most 512 instructions
+  -- a group's program is writable: it has at most 4,096 instructions
   writable_program : (group : List OfferedFrame) → All (IsKnown history count) group → All IsWritable (program_piece s group)
   writable_program [] known = All-nil IsWritable
   writable_program (f ∷ fs) known =

@@ -229,7 +229,7 @@ distinct_all all d = ap (λ found. unwrap_or (option_map (λ id. Err (same_chann
 -- ---- the document
 
 abbrev limit_key : Key
-limit_key = record { name = codes "limit"; kind = of_number 16424 524288; needed = false }
+limit_key = record { name = codes "limit"; kind = of_number 16424 524284; needed = false }
 
 abbrev ring_key : Key
 ring_key = record { name = codes "ring"; kind = of_number 1 4096; needed = false }
@@ -241,8 +241,8 @@ document_says : (m : Members) → MatchResult (settings_in m) (AreSettings m) (I
 document_says m =
     let wrong = wrong_at top_keys document_format m in
     then_says (AreSettings m) (only top_keys m) _ (only_says top_keys m) (λ ms has.
-    then_says (AreSettings m) (number_or 65536 16424 524288 (codes "limit") m) _ (number_or_says 65536 16424 524288 (codes "limit") m) (λ limit l.
-    let one = All-cons (IsWell m) limit_key [] (well_or 65536 16424 524288 limit (codes "limit") m l) (All-nil (IsWell m)) in
+    then_says (AreSettings m) (number_or 65536 16424 524284 (codes "limit") m) _ (number_or_says 65536 16424 524284 (codes "limit") m) (λ limit l.
+    let one = All-cons (IsWell m) limit_key [] (well_or 65536 16424 524284 limit (codes "limit") m l) (All-nil (IsWell m)) in
     then_says (AreSettings m) (number_or 64 1 4096 (codes "ring") m) _ (number_or_says 64 1 4096 (codes "ring") m) (λ ring r.
     let two = All-push (IsWell m) (limit_key ∷ []) ring_key one (well_or 64 1 4096 ring (codes "ring") m r) in
     then_says (AreSettings m) (number_or 8 0 255 (codes "version") m) _ (number_or_says 8 0 255 (codes "version") m) (λ version v.
@@ -273,7 +273,7 @@ document_says m =
 document_ok : (m : Members) (s : SettingsData) → AreSettings m s → settings_in m ≡ Ok s
 document_ok m s are =
     then_ok (only top_keys m) m _ _ (only_ok top_keys m are.only)
-    (then_ok (number_or 65536 16424 524288 (codes "limit") m) s.limit _ _ (number_or_ok 65536 16424 524288 s.limit (codes "limit") m are.limit_is)
+    (then_ok (number_or 65536 16424 524284 (codes "limit") m) s.limit _ _ (number_or_ok 65536 16424 524284 s.limit (codes "limit") m are.limit_is)
     (then_ok (number_or 64 1 4096 (codes "ring") m) s.ring _ _ (number_or_ok 64 1 4096 s.ring (codes "ring") m are.ring_is)
     (then_ok (number_or 8 0 255 (codes "version") m) s.version _ _ (number_or_ok 8 0 255 s.version (codes "version") m are.version_is)
     (then_ok (channel_tables m) are.tables _ _ (tables_ok m are.tables are.tables_are are.some are.few)

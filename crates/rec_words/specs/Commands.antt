@@ -3,7 +3,7 @@ use Rattle.std.specs.Prelude.{◌≡◌, ◌≢◌, List, [], ◌∷◌, Option,
 use Rattle.clap.specs.Words.{App, Row, Rule, Text, first_of, new_app, new_rule, with_rule, with_subcommand}
 use Rattle.clap.specs.declared.builder.ArgAction.TheVariants.{Set}
 use Rattle.rec_words.specs.declared.words.Words.{Words}
-use Rattle.rec_words.specs.declared.words.Words.TheVariants.{NoCommand, Asm, Dis, Verify, Run, List as ListOf, Audit, Extract, Record, Simulate, Version}
+use Rattle.rec_words.specs.declared.words.Words.TheVariants.{NoCommand, Asm, Dis, Verify, Run, List as ListOf, Audit, Extract, Upgrade, Record, Simulate, Version}
 
 -- a word that must be given
 abbrev pub operand : Text → Rule
@@ -28,6 +28,7 @@ commands =
     ∷ (codes "list", codes "FILE" ∷ [])
     ∷ (codes "audit", codes "FILE" ∷ [])
     ∷ (codes "extract", codes "FILE" ∷ codes "CHANNEL" ∷ codes "OUT" ∷ [])
+    ∷ (codes "upgrade", codes "IN" ∷ codes "OUT" ∷ [])
     ∷ (codes "record", codes "SETTINGS" ∷ codes "OUT" ∷ [])
     ∷ (codes "simulate", codes "FILE" ∷ [])
     ∷ (codes "version", [])
@@ -63,8 +64,9 @@ AsksFor met NoCommand =
     (rows : List Row) → (met ≢ Some (codes "asm", rows)) × (met ≢ Some (codes "dis", rows))
     × (met ≢ Some (codes "verify", rows)) × (met ≢ Some (codes "run", rows))
     × (met ≢ Some (codes "list", rows)) × (met ≢ Some (codes "audit", rows))
-    × (met ≢ Some (codes "extract", rows)) × (met ≢ Some (codes "record", rows))
-    × (met ≢ Some (codes "simulate", rows)) × (met ≢ Some (codes "version", rows))
+    × (met ≢ Some (codes "extract", rows)) × (met ≢ Some (codes "upgrade", rows))
+    × (met ≢ Some (codes "record", rows)) × (met ≢ Some (codes "simulate", rows))
+    × (met ≢ Some (codes "version", rows))
 AsksFor met (Asm file) =
     (rows : List Row) × (met ≡ Some (codes "asm", rows)) × (file.now ≡ word_for (codes "FILE") rows)
 AsksFor met (Dis file) =
@@ -84,6 +86,9 @@ AsksFor met (Extract file channel out) =
     (rows : List Row) × (met ≡ Some (codes "extract", rows))
     × (file.now ≡ word_for (codes "FILE") rows) × (channel.now ≡ word_for (codes "CHANNEL") rows)
     × (out.now ≡ word_for (codes "OUT") rows)
+AsksFor met (Upgrade recording out) =
+    (rows : List Row) × (met ≡ Some (codes "upgrade", rows))
+    × (recording.now ≡ word_for (codes "IN") rows) × (out.now ≡ word_for (codes "OUT") rows)
 AsksFor met (Record settings out) =
     (rows : List Row) × (met ≡ Some (codes "record", rows))
     × (settings.now ≡ word_for (codes "SETTINGS") rows) × (out.now ≡ word_for (codes "OUT") rows)

@@ -22,7 +22,7 @@ pub record Key : Type 0 where
 -- the keys of the document beside its channels, in the order in which they are judged
 abbrev pub document_format : List Key
 document_format =
-    record { name = codes "limit"; kind = of_number 16424 524288; needed = false }
+    record { name = codes "limit"; kind = of_number 16424 524284; needed = false }
     ∷ record { name = codes "ring"; kind = of_number 1 4096; needed = false }
     ∷ record { name = codes "version"; kind = of_number 0 255; needed = false }
     ∷ []
@@ -127,7 +127,7 @@ AreDistinct ids = AllPairs (λ (one other : ℕ). one ≢ other) ids
 -- this is set of a recording in the table of its document
 pub record AreSettings (members : Members) (settings : SettingsData) : Type 0 where
   pub only : HasOnly top_keys members
-  pub limit_is : IsNumber members (codes "limit") 16424 524288 65536 settings.limit
+  pub limit_is : IsNumber members (codes "limit") 16424 524284 65536 settings.limit
   pub ring_is : IsNumber members (codes "ring") 1 4096 64 settings.ring
   pub version_is : IsNumber members (codes "version") 0 255 8 settings.version
   pub tables : List Members

@@ -143,7 +143,7 @@ distinct all =
 abbrev pub settings_in : Members → Result SettingsData Fault
 settings_in members = do
   _ ← only top_keys members
-  limit ← number_or 65536 16424 524288 (codes "limit") members
+  limit ← number_or 65536 16424 524284 (codes "limit") members
   ring ← number_or 64 1 4096 (codes "ring") members
   version ← number_or 8 0 255 (codes "version") members
   tables ← channel_tables members

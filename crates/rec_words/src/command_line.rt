@@ -85,7 +85,7 @@ with these columns:
   <channel>                        its channel ID; 0 of a record, which tells a program or an end
   <type>                           its data type, in hexadecimal: 68 frames, 00 a record
   <sequence>                       its number among its channel's packets, modulo 256
-  <length> <data length>           its bytes, and those of its body without filler
+  <length> <data length>           its bytes, and those of its body without filler and checksum
   <counter>                        its relative time counter, in units of 100 ns
   <what>                           what it holds:
     frames <n>                     n frames
@@ -135,6 +135,20 @@ Exit status: 0 written; 1 not read to its end; 2 words; 3 a file; 4 no memory.
 Example:
   bpfrec extract flight.ch11 1 channel_1.feed";
 
+const UPGRADE: &str = "\
+Reads a recording, gives each packet of frames, each program and each end that has no data checksum
+one, and writes the recording so into OUT. All that they say stays, so list, audit and extract find
+the same in it, but for the places and the lengths of packets. Each other packet is copied, and so
+is one that would get too long, past 524,288 bytes. Prints on standard output
+  upgraded <n> copied <m>          n packets were given a data checksum, and m were copied
+A recording that is up to date is copied byte for byte: upgraded 0. A recording that can't be read to
+its end is told as by list, and then OUT is not created. OUT may not be IN.
+
+Exit status: 0 written; 1 not read to its end; 2 words; 3 a file; 4 no memory.
+
+Example:
+  bpfrec upgrade last_year.ch11 flight.ch11";
+
 const SIMULATE: &str = "\
 Runs the recorder's core, without threads and files, by a script: what happens to its channels, one
 event after another, in any order. Prints the answer of each event on standard output. The fields of
@@ -183,7 +197,7 @@ Example:
 const RECORD: &str = "\
 Records the channels that SETTINGS names into the file OUT, until every feed has ended and so has
 standard input. SETTINGS is a TOML document:
-  limit = 65536                    the longest packet of frames, in bytes, 16424 to 524288
+  limit = 65536                    the longest packet of frames, in bytes, 16424 to 524284
   ring = 64                        how many pieces of a channel may wait for OUT, 1 to 4096
   version = 8                      the data type version of the packets, 0 to 255
   [[channel]]                      1 to 64 of them, each with an id of its own
@@ -256,6 +270,8 @@ pub(crate) enum HelpText {
     Audit,
     /// [`EXTRACT`]
     Extract,
+    /// [`UPGRADE`]
+    Upgrade,
     /// [`RECORD`]
     Record,
     /// [`SIMULATE`]
@@ -351,6 +367,22 @@ const COMMANDS: &[CommandTexts] = &[
             WordTexts {
                 name: "OUT",
                 help: "The feed that is written",
+            },
+        ],
+    },
+    CommandTexts {
+        name: "upgrade",
+        usage: "bpfrec upgrade",
+        about: "Brings an old recording up to date",
+        help: HelpText::Upgrade,
+        words: &[
+            WordTexts {
+                name: "IN",
+                help: "A recording: packets, one after the other",
+            },
+            WordTexts {
+                name: "OUT",
+                help: "The recording that is written",
             },
         ],
     },
@@ -451,6 +483,7 @@ fn text_of(help: &HelpText) -> &'static str {
         HelpText::List => LIST,
         HelpText::Audit => AUDIT,
         HelpText::Extract => EXTRACT,
+        HelpText::Upgrade => UPGRADE,
         HelpText::Record => RECORD,
         HelpText::Simulate => SIMULATE,
         HelpText::Version => PRINT_VERSION,

@@ -16,7 +16,8 @@ pub use reading::settings_of;
 /// `channel`, and each table of `channel` the keys of [`ChannelSettings`].
 #[derive(Drop)]
 pub struct Settings {
-    /// How long a packet of frames may get, in bytes: 16,424 to 524,288; 65,536 if it isn't set.
+    /// How long a packet of frames may get without its data checksum, in bytes: 16,424 to 524,284;
+    /// 65,536 if it isn't set.
     pub limit: Limit,
     /// How many pieces wait for the output, for each channel: 1 to 4,096; 64 if it isn't set.
     pub ring: usize,

@@ -47,6 +47,11 @@ pub enum Words<'a> {
         channel: &'a str,
         out: &'a str,
     },
+    /// `upgrade IN OUT`
+    Upgrade {
+        recording: &'a str,
+        out: &'a str,
+    },
     /// `record SETTINGS OUT`
     Record {
         settings: &'a str,
@@ -128,6 +133,11 @@ fn command_in<'a>(matches: &ArgMatches<'a>) -> Words<'a>
         let channel = word_for(inner, "CHANNEL");
         let out = word_for(inner, "OUT");
         return Words::Extract { file, channel, out };
+    }
+    if name == "upgrade" {
+        let recording = word_for(inner, "IN");
+        let out = word_for(inner, "OUT");
+        return Words::Upgrade { recording, out };
     }
     if name == "record" {
         let settings = word_for(inner, "SETTINGS");

@@ -1,4 +1,3 @@
 pub mod Places
 pub mod Putting
 pub mod Recordings
-pub mod Sending

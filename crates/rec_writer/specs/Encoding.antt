@@ -2,7 +2,9 @@
 use Rattle.std.specs.Prelude.{ℕ, ◌%◌, ◌==◌, Bool, List, [], ◌∷◌, ◌++◌, length, count_by}
 use Rattle.ch11_packet.specs.declared.header.TheConstants.{ETHERNET_DATA, COMPUTER_GENERATED_DATA}
 use Rattle.ch11_packet.specs.Header.{HeaderData, header_of}
-use Rattle.ch11_packet.specs.PacketLen.{packet_len}
+use Rattle.ch11_packet.specs.Profiles.{Profile, profile_flags}
+use Rattle.ch11_packet.specs.Profiles.Profile.{WithSum}
+use Rattle.ch11_packet.specs.PacketLen.{written_len}
 use Rattle.ch11_packet.specs.Packet.{packet_bytes}
 use Rattle.ch11_packet.specs.Frames.{data_bytes}
 use Rattle.ch11_packet.specs.Building.{first_counter}
@@ -39,16 +41,24 @@ piece_bytes (OfFrames channel body) = data_bytes body.net body.speed body.frames
 piece_bytes (OfEnd channel counter offered kept) =
     end_bytes (record { channel = channel; offered = offered; kept = kept })
 
--- its header, with a data type version and a sequence number
-abbrev pub piece_header : PieceData → (version sequence : ℕ) → HeaderData
-piece_header piece version sequence =
-    header_of (packet_channel piece) (packet_len (length (piece_bytes piece)))
-    (length (piece_bytes piece)) version sequence 0 (packet_kind piece) (packet_counter piece)
+-- its header in a profile, with a data type version and a sequence number
+abbrev pub header_in : Profile → PieceData → (version sequence : ℕ) → HeaderData
+header_in profile piece version sequence =
+    header_of (packet_channel piece) (written_len profile (length (piece_bytes piece)))
+    (length (piece_bytes piece)) version sequence (profile_flags profile) (packet_kind piece)
+    (packet_counter piece)
 
--- its packet
+-- its packet in a profile
+abbrev pub packet_in : Profile → PieceData → (version sequence : ℕ) → List ℕ
+packet_in profile piece version sequence =
+    packet_bytes profile (header_in profile piece version sequence) (piece_bytes piece)
+
+-- its header and its packet as they are written: in the second profile
+abbrev pub piece_header : PieceData → (version sequence : ℕ) → HeaderData
+piece_header piece version sequence = header_in WithSum piece version sequence
+
 abbrev pub packet_of : PieceData → (version sequence : ℕ) → List ℕ
-packet_of piece version sequence =
-    packet_bytes (piece_header piece version sequence) (piece_bytes piece)
+packet_of piece version sequence = packet_in WithSum piece version sequence
 
 -- ---- pieces in order
 
@@ -61,12 +71,16 @@ has_channel channel piece = packet_channel piece == channel
 abbrev pub next_sequence : List PieceData → ℕ → ℕ
 next_sequence earlier channel = count_by (has_channel channel) earlier % 256
 
--- the packets of these pieces, one after the other, after some earlier ones
+-- the packets of these pieces in a profile, one after the other, after some earlier ones
+abbrev pub output_in : Profile → (version : ℕ) → List PieceData → List PieceData → List ℕ
+output_in profile version earlier [] = []
+output_in profile version earlier (piece ∷ pieces) =
+    packet_in profile piece version (next_sequence earlier (packet_channel piece))
+    ++ output_in profile version (earlier ++ piece ∷ []) pieces
+
+-- the packets of these pieces as they are written, after some earlier ones
 abbrev pub output_after : (version : ℕ) → List PieceData → List PieceData → List ℕ
-output_after version earlier [] = []
-output_after version earlier (piece ∷ pieces) =
-    packet_of piece version (next_sequence earlier (packet_channel piece))
-    ++ output_after version (earlier ++ piece ∷ []) pieces
+output_after version earlier pieces = output_in WithSum version earlier pieces
 
 -- what is written of these pieces
 abbrev pub writer_output : (version : ℕ) → List PieceData → List ℕ

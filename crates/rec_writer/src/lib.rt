@@ -5,7 +5,6 @@
 mod fault;
 mod laws;
 mod numbers;
-mod output;
 mod packet;
 mod writer;
 

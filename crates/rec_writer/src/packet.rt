@@ -1,37 +1,38 @@
 //! The packet of a piece: its channel ID, its header, and how long it is.
 
 ghost use Rattle.std.specs.Prelude.{ℕ, ◌≡◌, ◌<◌, ◌≤◌, ◌^◌, length};
-ghost use Rattle.ch11_packet.specs.Header.{header_bytes};
-ghost use Rattle.ch11_packet.specs.PacketLen.{packet_len};
+ghost use Rattle.ch11_packet.specs.Profiles.Profile.{WithSum};
+ghost use Rattle.ch11_packet.specs.PacketLen.{written_len};
+ghost use Rattle.ch11_packet.specs.Views.{header_data};
 ghost use Rattle.ch11_packet.specs.declared.header.TheConstants.{MAX_ETHERNET_PACKET_LEN};
 ghost use Rattle.rec_lane.specs.Views.{piece_data};
 ghost use Rattle.rec_writer.specs.Encoding.{packet_of, packet_channel, packet_kind, packet_counter, piece_bytes, piece_header};
 
 use ch11_packet::{
-    COMPUTER_GENERATED_DATA, END_RECORD_LEN, ETHERNET_DATA, HEADER_LEN, Header, INSN_LEN,
-    PROGRAM_HEAD_LEN, packets_have_their_lengths,
+    COMPUTER_GENERATED_DATA, END_RECORD_LEN, ETHERNET_DATA, Header, INSN_LEN, PROGRAM_HEAD_LEN,
+    packets_have_their_lengths, written_len,
 };
 use rec_lane::Piece;
 
 /// The channel ID of the packets of records.
 pub(crate) const RECORDS: u16 = 0;
 
-/// The packet's flags: no secondary header, no data checksum.
-const FLAGS: u8 = 0;
+/// The packet's flags: no secondary header, and a data checksum of 32 bits.
+const FLAGS: u8 = 0x03;
 
-/// The length of a piece's packet in bytes, with its header and its filler.
+/// The length of a piece's packet in bytes, with its header, its filler and its data checksum.
 pub fn packet_len(piece: &Piece) -> u32
     ensures { (version sequence : ℕ)
         → length (packet_of (piece_data piece.now) version sequence) ≡ result }
 {
     packets_have_their_lengths();
-    ch11_packet::packet_len(data_len(piece)) as u32
+    written_len(data_len(piece)) as u32
 }
 
 /// The length of a piece's body in bytes.
 fn data_len(piece: &Piece) -> usize
     ensures len { result ≡ length (piece_bytes (piece_data piece.now)) }
-    ensures fits { packet_len result ≤ MAX_ETHERNET_PACKET_LEN }
+    ensures fits { written_len WithSum result ≤ MAX_ETHERNET_PACKET_LEN }
 {
     packets_have_their_lengths();
     match piece {
@@ -41,16 +42,17 @@ fn data_len(piece: &Piece) -> usize
     }
 }
 
-/// The header's bytes of a piece's packet.
-pub(crate) fn packet_header(piece: &Piece, version: u8, sequence: u8) -> [u8; HEADER_LEN]
-    ensures bytes { result ≡ header_bytes (piece_header (piece_data piece.now) version sequence) }
-    ensures fits { packet_len (length (piece_bytes (piece_data piece.now)))
+/// The header of a piece's packet.
+pub(crate) fn packet_header(piece: &Piece, version: u8, sequence: u8) -> Header
+    ensures fields { header_data result
+        ≡ piece_header (piece_data piece.now) version sequence }
+    ensures fits { written_len WithSum (length (piece_bytes (piece_data piece.now)))
         ≤ MAX_ETHERNET_PACKET_LEN }
 {
     let data_len = data_len(piece);
     match Header::new(
         packet_channel(piece),
-        ch11_packet::packet_len(data_len) as u32,
+        written_len(data_len) as u32,
         data_len as u32,
         version,
         sequence,
@@ -58,7 +60,7 @@ pub(crate) fn packet_header(piece: &Piece, version: u8, sequence: u8) -> [u8; HE
         packet_kind(piece),
         packet_counter(piece),
     ) {
-        Some(header) => header.encode(),
+        Some(header) => header,
         None => unreachable!(),
     }
 }

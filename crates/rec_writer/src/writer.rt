@@ -6,10 +6,9 @@ ghost use Rattle.rec_writer.specs.Numbers.{channels_in, fresh_numbers, with_pack
 
 use crate::fault::WriteFault;
 use crate::numbers::Numbered;
-use crate::output::write_packet;
 use crate::packet::{RECORDS, packet_channel, packet_header};
 use arrayvec::ArrayVec;
-use ch11_packet::{end_body, program_body};
+use ch11_packet::{body_sum, end_body, program_body, write_packet};
 use rec_channel::MAX_CHANNELS;
 use rec_lane::{Piece, ProgramPiece};
 use std::io::Write;
@@ -51,6 +50,7 @@ impl<W: Write> Writer<W> {
     ghost use Rattle.rec_lane.specs.declared.piece.Piece.TheVariants.{Program};
     ghost use Rattle.rec_lane.specs.Views.{piece_data};
     ghost use Rattle.rec_lane.specs.Pieces.{channel_of};
+    ghost use Rattle.ch11_packet.specs.Sums.{body_sum};
     ghost use Rattle.rec_writer.specs.Encoding.{piece_bytes};
     ghost use Rattle.rec_writer.specs.Numbers.{AreDistinct};
     ghost use Rattle.rec_writer.specs.Writers.{Knows, HasWritten, PutsWhole, PutFails, SendsWhole, SendsPart, FinishFails};
@@ -128,10 +128,10 @@ impl<W: Write> Writer<W> {
     {
         match piece {
             Piece::Program(program) => self.put_program(piece, program),
-            Piece::Data(data) => self.put_body(piece, data.body.bytes()),
+            Piece::Data(data) => self.put_body(piece, data.body.bytes(), data.body.sum()),
             Piece::End(end) => {
                 let body = end_body(end.channel, end.offered, end.kept);
-                self.put_body(piece, &body)
+                self.put_body(piece, &body, body_sum(&body))
             }
         }
     }
@@ -180,14 +180,16 @@ impl<W: Write> Writer<W> {
             program.first,
             &program.program,
         );
-        self.put_body(piece, body.as_slice())
+        let sum = body_sum(body.as_slice());
+        self.put_body(piece, body.as_slice(), sum)
     }
 
-    /// Writes the packet of a piece with this body.
+    /// Writes the packet of a piece with this body, whose bytes have this sum.
     #[tactic(auto, using(crate::proofs::Putting::puts_whole, crate::proofs::Putting::puts_part))]
-    fn put_body(&mut self, piece: &Piece, body: &[u8]) -> Result<(), WriteFault>
+    fn put_body(&mut self, piece: &Piece, body: &[u8], sum: u32) -> Result<(), WriteFault>
         requires known { Knows self.old (channel_of (piece_data piece.now)) }
         requires body { body.now ≡ piece_bytes (piece_data piece.now) }
+        requires sum { sum ≡ body_sum body.now }
         ensures whole { IfOk result (λ _. PutsWhole self.old self.new (piece_data piece.now)) }
         ensures fault { IfErr result (PutFails self.old self.new (piece_data piece.now)) }
         ensures version { self.new.version ≡ self.old.version }
@@ -200,7 +202,7 @@ impl<W: Write> Writer<W> {
             });
         }
         let at = self.number_of(packet_channel(piece));
-        self.send(at, piece, body)
+        self.send(at, piece, body, sum)
     }
 
     /// Where the number of a channel ID stands: that of records, or of a channel that the writer
@@ -217,19 +219,20 @@ impl<W: Write> Writer<W> {
         at
     }
 
-    /// Writes the packet of a piece with this body to an output that has not failed. The packet's
-    /// number stands there.
+    /// Writes the packet of a piece with this body, whose bytes have this sum, to an output that has
+    /// not failed. The packet's number stands there.
     #[tactic(auto, using(crate::proofs::Putting::still_writer, crate::proofs::Putting::channels_after))]
-    fn send(&mut self, at: usize, piece: &Piece, body: &[u8]) -> Result<(), WriteFault>
+    fn send(&mut self, at: usize, piece: &Piece, body: &[u8], sum: u32) -> Result<(), WriteFault>
         requires works { self.old.failed ≡ false }
         requires within { at < length self.old.numbers }
         requires body { body.now ≡ piece_bytes (piece_data piece.now) }
+        requires sum { sum ≡ body_sum body.now }
         ensures whole { OnOk result (SendsWhole self.old self.new at (piece_data piece.now)) }
         ensures part { IfErr result (SendsPart self.old self.new at (piece_data piece.now)) }
         ensures channels { channels_in self.new.numbers ≡ channels_in self.old.numbers }
     {
         let header = packet_header(piece, self.version, self.numbers[at].next);
-        match write_packet(&mut self.out, &header, body) {
+        match write_packet(&mut self.out, &header, body, sum) {
             Ok(()) => {
                 count_packet(&mut self.numbers, at);
                 self.whole = self.whole.saturating_add(1);

@@ -117,6 +117,29 @@ fn a_caller_is_told_of_the_versions_since_its_front(rt: HostRuntime) -> Result<(
     Ok(())
 }
 
+#[test]
+fn a_caller_whose_front_is_ahead_draws_nothing(rt: HostRuntime) -> Result<(), Fail> {
+    let slot = SharedSlot::new(Slot::new(rt.alloc(), program(rt.alloc(), ACCEPT)?, 3)?);
+    let mut front = Front::START;
+    slot.draw_since(&rt, &mut front)?;
+    let seen = front;
+    for (versions, offered) in [(2, 0), (2, 1), (1, 2), (0, 3), (u32::MAX, u64::MAX)] {
+        let ahead = Front { versions, offered };
+        let mut known = ahead;
+        assert_eq!(rt;
+            slot.draw_since(&rt, &mut known).err(),
+            Some(DrawFault::Stale { seen })
+        );
+        assert_eq!(rt; known, ahead);
+    }
+    let DrawnSince::NoVersion(1) = slot.draw_since(&rt, &mut front)? else {
+        return Err(Fail::from("frame 1, the next one"));
+    };
+    let parts = slot.into_slot().into_parts();
+    assert_eq!(rt; (parts.versions.len(), parts.offered), (1, 2));
+    Ok(())
+}
+
 /// How many frames each of the two callers draws.
 const DRAWS: u64 = 1000;
 

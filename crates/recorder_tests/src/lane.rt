@@ -190,7 +190,7 @@ fn a_frame_is_packed_with_the_settings_of_its_lane(rt: HostRuntime) -> Result<()
     let first = Frame::new(16, false, true, arp.as_slice()).ok_or("a frame in range")?;
     let second = Frame::new(32, true, false, odd.as_slice()).ok_or("a frame in range")?;
     let mut slot = Slot::new(rt.alloc(), program(rt.alloc(), ACCEPT)?, 2)?;
-    let mut lane = lane(rt.alloc(), 524_288)?;
+    let mut lane = lane(rt.alloc(), 524_284)?;
     assert_eq!(rt;
         (lane.offered(), lane.kept(), lane.is_ready()),
         (0, 0, false)
@@ -257,7 +257,7 @@ fn a_buffer_is_taken_where_it_is_missing_and_of_the_lanes_limit(
         (16_424, false, true),
         (16_424, true, false),
         (16_428, false, false),
-        (524_288, true, false),
+        (524_284, true, false),
     ];
     for (most, ready, is_taken) in table {
         let mut lane = lane(rt.alloc(), LEAST)?;

@@ -9,7 +9,7 @@ use ch11_packet::Limit;
 use eth_frame::Frame;
 use rec_core::*;
 use rec_lane::LaneSpec;
-use samples::{ACCEPTING, END, FRAMES, REJECTING, all_bytes, joined_bytes, program};
+use samples::{CHECKED, all_bytes, joined_bytes, program};
 use std::alloc::Global;
 use std::io::{ErrorKind, Write};
 use std::process::Abort;
@@ -42,14 +42,14 @@ const INTERLEAVING: [(Step, &str); 13] = [
     (Step::Install(ACCEPT), "installed 1 1"),
     (Step::Take(32), "took 1 1 1"),
     (Step::Send, "sent program 0"),
-    (Step::Write, "wrote 60"),
+    (Step::Write, "wrote 64"),
     (Step::Send, "sent program 1"),
-    (Step::Write, "wrote 60"),
+    (Step::Write, "wrote 64"),
     (Step::Close, "closed 2 1"),
     (Step::Send, "sent frames 1"),
-    (Step::Write, "wrote 60"),
+    (Step::Write, "wrote 64"),
     (Step::Send, "sent end"),
-    (Step::Write, "wrote 52"),
+    (Step::Write, "wrote 56"),
     (Step::Write, "refused 5 NothingToWrite"),
 ];
 
@@ -150,7 +150,7 @@ fn an_interleaving_is_written_to_the_byte(rt: HostRuntime) -> Result<(), Fail> {
     let specs = [spec_of(rt.alloc(), 1, 100, REJECT)?];
     let mut world = core_of(rt.alloc(), &specs, 4, Vec::new(rt.alloc()))?;
     run_steps(&rt, rt.alloc(), &mut world, 1, &INTERLEAVING)?;
-    let want = joined_bytes(rt.alloc(), &[REJECTING, ACCEPTING, FRAMES, END])?;
+    let want = joined_bytes(rt.alloc(), &CHECKED)?;
     assert_eq!(rt; world.out().as_slice(), want.as_slice());
     Ok(())
 }
@@ -204,12 +204,12 @@ fn a_channel_has_1024_versions(rt: HostRuntime) -> Result<(), Fail> {
     Ok(())
 }
 
-/// The end of a channel with no frame, as its packet with a sequence number and its checksum.
-const FIRST_END: &str = "25eb 0000 34000000 1c000000 08 00 00 00 000000000000 7deb \
-    00000000 43425052 0200 0200 0000000000000000 0000000000000000";
+/// The end of a channel with no frame, as its packet with a sequence number and its checksums.
+const FIRST_END: &str = "25eb 0000 38000000 1c000000 08 00 03 00 000000000000 84eb \
+    00000000 43425052 0200 0200 0000000000000000 0000000000000000 45425252";
 
-const SECOND_END: &str = "25eb 0000 34000000 1c000000 08 01 00 00 000000000000 7dec \
-    00000000 43425052 0200 0100 0000000000000000 0000000000000000";
+const SECOND_END: &str = "25eb 0000 38000000 1c000000 08 01 03 00 000000000000 84ec \
+    00000000 43425052 0200 0100 0000000000000000 0000000000000000 45425152";
 
 #[test]
 fn channels_are_written_beside_one_another(rt: HostRuntime) -> Result<(), Fail> {
@@ -221,8 +221,8 @@ fn channels_are_written_beside_one_another(rt: HostRuntime) -> Result<(), Fail> 
     let end = [(Step::Close, "closed 0 0"), (Step::Send, "sent end")];
     run_steps(&rt, rt.alloc(), &mut world, 1, &end)?;
     run_steps(&rt, rt.alloc(), &mut world, 2, &end)?;
-    run_steps(&rt, rt.alloc(), &mut world, 2, &[(Step::Write, "wrote 52")])?;
-    run_steps(&rt, rt.alloc(), &mut world, 1, &[(Step::Write, "wrote 52")])?;
+    run_steps(&rt, rt.alloc(), &mut world, 2, &[(Step::Write, "wrote 56")])?;
+    run_steps(&rt, rt.alloc(), &mut world, 1, &[(Step::Write, "wrote 56")])?;
     let want = joined_bytes(rt.alloc(), &[FIRST_END, SECOND_END])?;
     assert_eq!(rt; world.out().as_slice(), want.as_slice());
     Ok(())
@@ -232,7 +232,7 @@ fn channels_are_written_beside_one_another(rt: HostRuntime) -> Result<(), Fail> 
 /// writes that end past these are refused.
 fn cut_steps(room: usize) -> [(Step, &'static str); 13] {
     let mut steps = INTERLEAVING;
-    for (at, end) in [(4, 60), (6, 120), (9, 180), (11, 232), (12, 232)] {
+    for (at, end) in [(4, 64), (6, 128), (9, 192), (11, 248), (12, 248)] {
         if end > room {
             steps[at].1 = "refused 8 Output";
         }
@@ -242,14 +242,14 @@ fn cut_steps(room: usize) -> [(Step, &'static str); 13] {
 
 #[test]
 fn an_output_that_fails_holds_its_first_bytes(rt: HostRuntime) -> Result<(), Fail> {
-    let want = joined_bytes(rt.alloc(), &[REJECTING, ACCEPTING, FRAMES, END])?;
+    let want = joined_bytes(rt.alloc(), &CHECKED)?;
     let specs = [spec_of(rt.alloc(), 1, 100, REJECT)?];
     for (at_once, then) in [
         (usize::MAX, Then::Fails),
         (1, Then::TakesNone),
         (7, Then::FailsOnce(ErrorKind::Interrupted)),
     ] {
-        for room in 0..232 {
+        for room in 0..248 {
             let out = Output::new(rt.alloc(), room, at_once, then);
             let mut world = core_of(rt.alloc(), &specs, 4, out)?;
             run_steps(&rt, rt.alloc(), &mut world, 1, &cut_steps(room))?;
@@ -258,7 +258,7 @@ fn an_output_that_fails_holds_its_first_bytes(rt: HostRuntime) -> Result<(), Fai
             run_steps(&rt, rt.alloc(), &mut world, 1, &again)?;
             assert_eq!(rt; world.out().bytes.len(), room);
             // the frame that was accepted is read where its packet went out whole
-            let frames: &[u64] = if room < 180 { &[] } else { &[32] };
+            let frames: &[u64] = if room < 192 { &[] } else { &[32] };
             let found = counters_of(rt.alloc(), world.out().bytes.as_slice(), 1)?;
             assert_eq!(rt; found.as_slice(), frames, "{room} bytes");
         }
@@ -294,7 +294,7 @@ fn an_event_without_memory_is_done_again(rt: HostRuntime) -> Result<(), Fail> {
         spec_of(alloc, 1, 100, REJECT)?,
         spec_of(alloc, 2, 1, ACCEPT)?,
     ];
-    let want = joined_bytes(alloc, &[REJECTING, ACCEPTING, FRAMES, END])?;
+    let want = joined_bytes(alloc, &CHECKED)?;
     let mut world = core_of(alloc, &specs, 4, Vec::with_capacity(alloc, want.len())?)?;
     done_again(&rt, alloc, &mut world, 1, &INTERLEAVING)?;
     let close = [(Step::Close, "closed 0 0"), (Step::Send, "sent end")];

@@ -6,7 +6,7 @@ use ch11_packet::{DataBody, DataBuilder, HEADER_LEN, Header, Limit};
 use eth_frame::Frame;
 use rec_lane::{DataPiece, EndPiece, Piece, ProgramPiece};
 use rec_writer::*;
-use samples::{ACCEPTING, END, FRAMES, REJECTING, joined_bytes, program};
+use samples::{CHECKED, joined_bytes, program};
 use std::alloc::Global;
 use std::io;
 use std::io::{ErrorKind, Write};
@@ -134,11 +134,11 @@ fn put<W: Write>(writer: &mut Writer<W>, piece: &Piece) -> Result<Result<(), Wri
 
 #[test]
 fn each_piece_is_its_packet(rt: HostRuntime) -> Result<(), Fail> {
-    let want = joined_bytes(rt.alloc(), &[REJECTING, ACCEPTING, FRAMES, END])?;
-    for (at_once, writes) in [(usize::MAX, 9), (1, 232)] {
+    let want = joined_bytes(rt.alloc(), &CHECKED)?;
+    for (at_once, writes) in [(usize::MAX, 12), (1, 248)] {
         let out = Output::new(rt.alloc(), usize::MAX, at_once, Then::Fails);
         let mut writer = Writer::new(out, &[1], 8);
-        let ends = [(60, 60), (60, 120), (60, 180), (52, 232)];
+        let ends = [(64, 64), (64, 128), (64, 192), (56, 248)];
         for (piece, (len, end)) in pieces(rt.alloc())?.iter().zip(ends) {
             assert_eq!(rt; put(&mut writer, piece)?, Ok(()));
             assert_eq!(rt; packet_len(piece), len);
@@ -170,23 +170,23 @@ fn sequence_numbers_go_on_from_255_with_0(rt: HostRuntime) -> Result<(), Fail> {
     });
     for number in 0..257 {
         put(&mut writer, &piece)??;
-        let Some(packet) = writer.out().get(number * 60..) else {
+        let Some(packet) = writer.out().get(number * 64..) else {
             return Err("a packet")?;
         };
         assert_eq!(rt; packet.get(13), Some(&((number % 256) as u8)));
     }
     put(&mut writer, &end)??;
-    let Some(packet) = writer.out().get(257 * 60..) else {
+    let Some(packet) = writer.out().get(257 * 64..) else {
         return Err("the end's packet")?;
     };
-    assert_eq!(rt; (packet.len(), packet.get(13)), (52, Some(&0)));
+    assert_eq!(rt; (packet.len(), packet.get(13)), (56, Some(&0)));
     assert_eq!(rt; writer.whole(), 258);
     Ok(())
 }
 
 #[test]
 fn after_a_fault_nothing_is_written(rt: HostRuntime) -> Result<(), Fail> {
-    let want = joined_bytes(rt.alloc(), &[REJECTING, ACCEPTING])?;
+    let want = joined_bytes(rt.alloc(), &CHECKED[..2])?;
     for then in [
         Then::Fails,
         Then::TakesNone,
@@ -197,18 +197,12 @@ fn after_a_fault_nothing_is_written(rt: HostRuntime) -> Result<(), Fail> {
         let all = pieces(rt.alloc())?;
         let (first, second) = (&all[0], &all[1]);
         assert_eq!(rt; put(&mut writer, first)?, Ok(()));
-        let output = WriteFault::Output {
-            whole: 1,
-            bytes: 10,
-        };
+        let output = WriteFault::Output { whole: 1, bytes: 6 };
         assert_eq!(rt; put(&mut writer, second)?, Err(output), "{then:?}");
         let writes = writer.out().writes;
-        let failed = WriteFault::Failed {
-            whole: 1,
-            bytes: 10,
-        };
+        let failed = WriteFault::Failed { whole: 1, bytes: 6 };
         assert_eq!(rt; put(&mut writer, second)?, Err(failed));
-        assert_eq!(rt; (writer.whole(), writer.bytes()), (1, 10));
+        assert_eq!(rt; (writer.whole(), writer.bytes()), (1, 6));
         let Err((fault, out)) = writer.finish() else {
             return Err("a fault")?;
         };
@@ -231,7 +225,7 @@ fn a_flush_that_fails_is_a_fault_with_no_bytes(rt: HostRuntime) -> Result<(), Fa
         return Err("a fault")?;
     };
     assert_eq!(rt; fault, WriteFault::Output { whole: 4, bytes: 0 });
-    assert_eq!(rt; (out.bytes.len(), out.flushes), (232, 1));
+    assert_eq!(rt; (out.bytes.len(), out.flushes), (248, 1));
     Ok(())
 }
 

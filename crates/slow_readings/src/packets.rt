@@ -10,6 +10,12 @@ const SYNC: u64 = 0xeb25;
 /// The bytes of a packet before its body.
 const HEADER: usize = 24;
 
+/// The bytes of a packet's data checksum.
+const CHECKSUM: usize = 4;
+
+/// The flags of a packet with a data checksum of 32 bits.
+const CHECKED: u64 = 3;
+
 /// The data type of a packet of frames.
 const ETHERNET: u64 = 0x68;
 
@@ -35,7 +41,8 @@ pub(crate) fn output_of(
     Ok(output)
 }
 
-/// The bytes of a piece's packet: its header, its body, and zeros up to a multiple of 4 bytes.
+/// The bytes of a piece's packet: its header, its body, zeros up to a multiple of 4 bytes, and four
+/// bytes of the sum of its body.
 pub(crate) fn packet_of(
     alloc: Global,
     piece: &ReadPiece,
@@ -43,10 +50,11 @@ pub(crate) fn packet_of(
     sequence: usize,
 ) -> Result<Vec<u8>, AllocError> {
     let body = body_of(alloc, piece)?;
-    let len = HEADER
+    let filled = HEADER
         .saturating_add(body.len())
         .div_ceil(4)
         .saturating_mul(4);
+    let len = filled.saturating_add(CHECKSUM);
     let mut packet = Vec::new(alloc);
     add_number(&mut packet, SYNC, 2)?;
     add_number(&mut packet, packet_channel(piece), 2)?;
@@ -54,15 +62,16 @@ pub(crate) fn packet_of(
     add_number(&mut packet, body.len() as u64, 4)?;
     add_number(&mut packet, u64::from(version), 1)?;
     add_number(&mut packet, sequence as u64, 1)?;
-    add_number(&mut packet, 0, 1)?;
+    add_number(&mut packet, CHECKED, 1)?;
     add_number(&mut packet, data_type(piece), 1)?;
     add_number(&mut packet, piece.counter, 6)?;
     let sum = sum_of_words(packet.as_slice());
     add_number(&mut packet, sum, 2)?;
     packet.extend_from_slice(body.as_slice())?;
-    for _ in packet.len()..len {
+    for _ in packet.len()..filled {
         packet.push(0)?;
     }
+    add_number(&mut packet, data_sum(body.as_slice()), 4)?;
     Ok(packet)
 }
 

@@ -105,8 +105,8 @@ fn a_writer_puts_100001_pieces(rt: HostRuntime) -> Result<(), Fail> {
     for _ in 0..100_001 {
         put(&mut writer, &end)?;
     }
-    assert_eq!(rt; (writer.whole(), writer.out().writes), (100_001, 200_002));
-    assert_eq!(rt; writer.out().bytes.len(), 5_200_052);
+    assert_eq!(rt; (writer.whole(), writer.out().writes), (100_001, 300_003));
+    assert_eq!(rt; writer.out().bytes.len(), 5_600_056);
     Ok(())
 }
 
@@ -143,9 +143,9 @@ fn push_events(events: &mut Vec<Event>, alloc: Global, channel: u16) -> Result<(
     Ok(())
 }
 
-/// Of channel 1 there go out a program, 300 packets of a frame each, and an end: 60 bytes, 300 times
-/// 16,424, and 52. Of each of the others a program, a packet of 60 frames, and an end: 60 bytes, 1,828
-/// and 52.
+/// Of channel 1 there go out a program, 300 packets of a frame each, and an end: 64 bytes, 300 times
+/// 16,428, and 56. Of each of the others a program, a packet of 60 frames, and an end: 64 bytes, 1,832
+/// and 56.
 #[test]
 fn a_core_of_64_channels_does_thousands_of_events(rt: HostRuntime) -> Result<(), Fail> {
     let alloc = rt.alloc();
@@ -167,6 +167,6 @@ fn a_core_of_64_channels_does_thousands_of_events(rt: HostRuntime) -> Result<(),
     let answers = run_world(alloc, &mut world, events.as_slice())?;
     assert!(rt; answers.iter().all(|answer| answer.is_ok()));
     assert_eq!(rt; answers.len(), 5_126);
-    assert_eq!(rt; world.out().bytes.len(), 5_049_532);
+    assert_eq!(rt; world.out().bytes.len(), 5_051_496);
     Ok(())
 }

@@ -4,7 +4,7 @@ use crate::control::NoChanges;
 use crate::frames::{ACCEPT, LONGEST, Lengths, job};
 use crate::outputs::{Counted, put};
 use crate::signals::Watch;
-use ch11_packet::{DataBuilder, Limit, MAX_ETHERNET_PACKET_LEN};
+use ch11_packet::{DataBuilder, Limit, MAX_LIMIT};
 use eth_frame::Frame;
 use rec_lane::{DataPiece, Piece};
 use rec_run::{Done, jobs_ok, record};
@@ -17,11 +17,11 @@ use std::test::Fail;
 const FILLING: usize = 32;
 
 /// The length of the last of them; the others are the longest.
-const LAST: usize = 15_972;
+const LAST: usize = 15_968;
 
 /// The header of a packet of the greatest length, of channel 1 at counter 0, and the word that begins
 /// its body.
-const FULL: &str = "25eb 0100 00000800 e8ff0700 08 00 00 68 000000000000 2553 20000000";
+const FULL: &str = "25eb 0100 00000800 e4ff0700 08 00 03 68 000000000000 2453 20000000";
 
 /// The length of the frame of a number among those that fill a packet.
 fn filling_len(number: usize) -> usize {
@@ -47,7 +47,7 @@ impl Lengths for Filling {
 
 /// The piece of these frames.
 fn full_piece(alloc: Global) -> Result<Piece, Fail> {
-    let limit = Limit::new(MAX_ETHERNET_PACKET_LEN).ok_or("the greatest limit")?;
+    let limit = Limit::new(MAX_LIMIT).ok_or("the greatest limit")?;
     let mut builder = DataBuilder::with_limit(alloc, limit, 0, 3)?;
     let zeros = vec![in alloc; 0u8; LONGEST]?;
     for number in 0..FILLING {
@@ -68,10 +68,10 @@ fn full_piece(alloc: Global) -> Result<Piece, Fail> {
 }
 
 #[test]
-fn a_full_packet_goes_out_in_two_writes(rt: HostRuntime) -> Result<(), Fail> {
+fn a_full_packet_goes_out_in_three_writes(rt: HostRuntime) -> Result<(), Fail> {
     let head = all_bytes(rt.alloc(), FULL)?;
     let piece = full_piece(rt.alloc())?;
-    for (at_once, writes) in [(usize::MAX, 2), (1, 524_288)] {
+    for (at_once, writes) in [(usize::MAX, 3), (1, 524_288)] {
         let mut writer = Writer::new(Counted::new(rt.alloc(), at_once), &[1], 8);
         put(&mut writer, &piece)?;
         let out = writer.out();
@@ -81,15 +81,15 @@ fn a_full_packet_goes_out_in_two_writes(rt: HostRuntime) -> Result<(), Fail> {
     Ok(())
 }
 
-/// The packet of the program has 60 bytes, and that of the end 52.
+/// The packet of the program has 64 bytes, and that of the end 56.
 #[test]
 fn a_full_packet_is_recorded(rt: HostRuntime) -> Result<(), Fail> {
     let alloc = rt.alloc();
     let watch = Watch::begin(rt, alloc)?;
-    for (at_once, writes) in [(usize::MAX, 6), (1, 524_400)] {
+    for (at_once, writes) in [(usize::MAX, 9), (1, 524_408)] {
         let mut jobs = Vec::new(alloc);
         let lengths = Filling { given: 0 };
-        jobs.push(job(alloc, 1, ACCEPT, MAX_ETHERNET_PACKET_LEN, lengths)?)?;
+        jobs.push(job(alloc, 1, ACCEPT, MAX_LIMIT, lengths)?)?;
         if !jobs_ok(jobs.as_slice()) {
             return Err("jobs that may be recorded")?;
         }
@@ -98,8 +98,8 @@ fn a_full_packet_is_recorded(rt: HostRuntime) -> Result<(), Fail> {
         else {
             return Err("a recording that ends")?;
         };
-        assert_eq!(rt; (report.pieces, report.bytes), (3, 524_400));
-        assert_eq!(rt; (out.bytes.len(), out.writes), (524_400, writes));
+        assert_eq!(rt; (report.pieces, report.bytes), (3, 524_408));
+        assert_eq!(rt; (out.bytes.len(), out.writes), (524_408, writes));
     }
     watch.end(&rt);
     Ok(())

@@ -1,14 +1,15 @@
 //! A body of Ethernet data that is written.
 use crate::frames::blank::Blank;
-use crate::header::MAX_ETHERNET_PACKET_LEN;
-use crate::limit::Limit;
+use crate::limit::{Limit, MAX_LIMIT};
+use eth_frame::counter_of;
 use std::marker::Model;
 
-/// The body of a packet of Ethernet data, with one frame at least.
+/// The body of a packet of Ethernet data, with one frame at least. It keeps the sum of its bytes,
+/// which was taken when they were written, so that whoever writes the packet needn't read them for it.
 #[derive(Debug, Drop)]
 pub struct DataBody {
     bytes: Vec<u8>,
-    first_counter: u64,
+    sum: u32,
     count: u16,
     net: u8,
     speed: u8,
@@ -23,34 +24,35 @@ impl Model for DataBody {
 
     ghost view = { λ b. body_of (frames_in b.count b.bytes.items) b.net b.speed b.limit };
 
-    ghost invariant = { λ b. IsSealed b.count b.net b.speed b.first_counter b.limit
-        (vec_capacity b.bytes) b.bytes.items };
+    ghost invariant = { λ b.
+        IsSealed b.count b.net b.speed b.limit (vec_capacity b.bytes) b.sum b.bytes.items };
 }
 
 impl DataBody {
     ghost use Rattle.std.specs.Prelude.{◌≡◌, ◌^◌, ◌<◌, ◌≤◌, Some, length, slice_get};
     ghost use Rattle.std.specs.Option.{option_map};
     ghost use Rattle.std.specs.Vec.{vec_capacity};
+    ghost use Rattle.ch11_packet.specs.Sums.{body_sum};
     ghost use Rattle.ch11_packet.specs.PacketLen.{packet_len};
     ghost use Rattle.ch11_packet.specs.Frames.{data_bytes, data_len};
     ghost use Rattle.ch11_packet.specs.Building.{IsEthernetBody, body_of, frames_in, IsSealed};
 
-    /// The body with these bytes.
+    /// The body with these bytes, of this sum.
     pub(crate) fn new(
         bytes: Vec<u8>,
+        sum: u32,
         count: u16,
-        first_counter: u64,
         net: u8,
         speed: u8,
         limit: Limit,
     ) -> DataBody
-        requires { IsSealed count net speed first_counter limit (vec_capacity bytes) bytes.items }
+        requires { IsSealed count net speed limit (vec_capacity bytes) sum bytes.items }
         ensures { result ≡ body_of (frames_in count bytes.items) net speed limit }
     {
         DataBody {
             bytes,
+            sum,
             count,
-            first_counter,
             net,
             speed,
             limit,
@@ -62,12 +64,20 @@ impl DataBody {
         // The bytes.
         ensures bytes { result.now ≡ data_bytes self.now.net self.now.speed self.now.frames }
         ensures len { length result.now ≡ data_len self.now.frames }
-        ensures fits { packet_len (length result.now) ≤ MAX_ETHERNET_PACKET_LEN }
+        ensures fits { packet_len (length result.now) ≤ MAX_LIMIT }
 
         // The body that they are of.
         ensures valid { IsEthernetBody self.now }
     {
         self.bytes.as_slice()
+    }
+
+    /// The sum of the body's bytes, for the data checksum of its packet.
+    pub fn sum(&self) -> u32
+        ensures sum { result
+            ≡ body_sum (data_bytes self.now.net self.now.speed self.now.frames) }
+    {
+        self.sum
     }
 
     /// The counter of the body's first frame.
@@ -76,7 +86,10 @@ impl DataBody {
             ≡ Some result }
         ensures fits { result < 2 ^ 48 }
     {
-        self.first_counter
+        let [_, _, _, _, c0, c1, c2, c3, c4, c5, ..] = self.bytes.as_slice() else {
+            unreachable!()
+        };
+        counter_of([*c0, *c1, *c2, *c3, *c4, *c5])
     }
 
     /// The number of the body's frames.

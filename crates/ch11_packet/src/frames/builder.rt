@@ -11,6 +11,7 @@ use crate::frames::word::{
 };
 use crate::length::packet_len;
 use crate::limit::Limit;
+use crate::sum::body_sum;
 use eth_frame::{Frame, counter_bytes};
 use std::alloc::{AllocError, Global};
 use std::marker::Model;
@@ -21,7 +22,6 @@ use std::marker::Model;
 pub struct DataBuilder {
     bytes: Vec<u8>,
     count: u16,
-    first_counter: u64,
     net: u8,
     speed: u8,
     limit: Limit,
@@ -36,7 +36,7 @@ impl Model for DataBuilder {
     ghost view = { λ b. open_of (frames_in b.count b.bytes.items) b.net b.speed b.limit };
 
     ghost invariant = { λ b.
-        IsOpen b.count b.net b.speed b.first_counter b.limit (vec_capacity b.bytes) b.bytes.items };
+        IsOpen b.count b.net b.speed b.limit (vec_capacity b.bytes) b.bytes.items };
 }
 
 impl DataBuilder {
@@ -75,7 +75,6 @@ impl DataBuilder {
         DataBuilder {
             bytes,
             count: 0,
-            first_counter: 0,
             net,
             speed,
             limit,
@@ -103,17 +102,12 @@ impl DataBuilder {
         ensures added { self.new
             ≡ record self.old { frames = self.old.frames ++ frame_data frame.now ∷ [] } }
     {
-        let first_counter = if self.count == 0 {
-            frame.counter
-        } else {
-            self.first_counter
-        };
         append_frame(&mut self.bytes, frame, self.net, self.speed);
-        self.first_counter = first_counter;
         self.count += 1;
     }
 
-    /// The body of the frames that were added, of which there is at least one.
+    /// The body of the frames that were added, of which there is at least one. The sum of its bytes is
+    /// taken here, where they were written, when the first word has the number of frames.
     pub fn seal(self) -> DataBody
         requires { self.frames ≢ [] }
         ensures sealed { result ≡ body_of self.frames self.net self.speed self.limit }
@@ -122,7 +116,6 @@ impl DataBuilder {
         let DataBuilder {
             mut bytes,
             count,
-            first_counter,
             net,
             speed,
             limit,
@@ -130,7 +123,8 @@ impl DataBuilder {
         let [low, high] = count.to_le_bytes();
         bytes[0] = low;
         bytes[1] = high;
-        DataBody::new(bytes, count, first_counter, net, speed, limit)
+        let sum = body_sum(bytes.as_slice());
+        DataBody::new(bytes, sum, count, net, speed, limit)
     }
 }
 

@@ -2,12 +2,13 @@
 use super::*;
 
 #[test]
-fn a_limit_is_16424_to_524288_bytes(rt: HostRuntime) {
+fn a_limit_is_16424_to_524284_bytes(rt: HostRuntime) {
     let table = [
         (16_423, None),
         (16_424, Some(16_424)),
-        (524_288, Some(524_288)),
-        (524_289, None),
+        (524_284, Some(524_284)),
+        (524_285, None),
+        (524_288, None),
     ];
     for (bytes, limit) in table {
         assert_eq!(rt; Limit::new(bytes).map(Limit::get), limit);
@@ -17,7 +18,7 @@ fn a_limit_is_16424_to_524288_bytes(rt: HostRuntime) {
 #[test]
 fn a_body_of_one_frame_is_written(rt: HostRuntime) -> Result<(), Fail> {
     let arp: [u8; 19] = bytes(rt.alloc(), ARP)?;
-    for (len, text) in [(18, BODY), (19, ODD_BODY)] {
+    for (len, text, sum) in [(18, BODY, 0xb6a4_daec), (19, ODD_BODY, 0xb789_daed)] {
         let frame = Frame::new(16, false, false, &arp[..len]).ok_or("a frame in range")?;
         let limit = Limit::new(MIN_LIMIT).ok_or("the least limit")?;
         let mut builder = DataBuilder::with_limit(rt.alloc(), limit, 0, 3)?;
@@ -28,6 +29,7 @@ fn a_body_of_one_frame_is_written(rt: HostRuntime) -> Result<(), Fail> {
         assert_eq!(rt; body.bytes(), all_bytes(rt.alloc(), text)?.as_slice());
         assert_eq!(rt; body.counter(), 16);
         assert_eq!(rt; body.count(), 1);
+        assert_eq!(rt; body.sum(), sum);
     }
     Ok(())
 }
@@ -45,7 +47,7 @@ fn the_longest_frame_fills_the_least_packet(rt: HostRuntime) -> Result<(), Fail>
     }
     let body = builder.seal();
     assert_eq!(rt; body.bytes().len(), 16_400);
-    let header = Header::new(1, 16_424, 16_400, 8, 0, 0, ETHERNET_DATA, 16).ok_or(
+    let header = Header::new(1, 16_428, 16_400, 8, 0, 3, ETHERNET_DATA, 16).ok_or(
         "a header in range",
     )?;
     assert_eq!(rt; Header::decode(&header.encode()), Ok(header));
@@ -58,7 +60,7 @@ fn the_greatest_packet_is_filled_with_every_bit_of_net_and_speed(
 ) -> Result<(), Fail> {
     let bytes = [0x5a; 18];
     let frame = Frame::new(281_474_976_710_655, true, true, &bytes).ok_or("the greatest counter")?;
-    let limit = Limit::new(524_288).ok_or("the greatest limit")?;
+    let limit = Limit::new(524_284).ok_or("the greatest limit")?;
     let mut builder = DataBuilder::with_limit(rt.alloc(), limit, 255, 15)?;
     for _ in 0..17_475 {
         assert!(rt; builder.fits(18));
@@ -254,14 +256,14 @@ fn a_buffer_that_comes_back_has_the_next_frames_alone(rt: HostRuntime) -> Result
     let odd = "01000000 010000000000 0000 13000705 ffffffffffff 020000000001 0806 a1b2c3d4 e5 00";
     let even = "01000000 020000000000 0000 1200ff0f ffffffffffff 020000000001 0806 a1b2c3d4";
     let bodies = [
-        (7, 5, 1, 19, odd),
-        (255, 15, 2, 18, even),
-        (0, 3, 16, 18, BODY),
+        (7, 5, 1, 19, odd, 0xb990_dade),
+        (255, 15, 2, 18, even, 0xc3a3_dade),
+        (0, 3, 16, 18, BODY, 0xb6a4_daec),
     ];
-    for (most, fits_another) in [(16_424, false), (524_288, true)] {
+    for (most, fits_another) in [(16_424, false), (524_284, true)] {
         let limit = Limit::new(most).ok_or("a limit in range")?;
         let mut blank = Blank::with_limit(rt.alloc(), limit)?;
-        for (net, speed, counter, len, text) in bodies {
+        for (net, speed, counter, len, text, sum) in bodies {
             let frame = Frame::new(counter, false, false, &arp[..len]).ok_or("a frame in range")?;
             assert!(rt; speed <= MAX_SPEED);
             let mut builder = DataBuilder::over(blank, net, speed);
@@ -272,7 +274,10 @@ fn a_buffer_that_comes_back_has_the_next_frames_alone(rt: HostRuntime) -> Result
             assert_eq!(rt; builder.fits(16_383), fits_another, "{most}");
             let body = builder.seal();
             assert_eq!(rt; body.bytes(), all_bytes(rt.alloc(), text)?.as_slice());
-            assert_eq!(rt; (body.counter(), body.count()), (counter, 1));
+            assert_eq!(rt;
+                (body.counter(), body.count(), body.sum()),
+                (counter, 1, sum)
+            );
             blank = body.reuse();
             assert_eq!(rt; blank.limit(), limit);
         }

@@ -10,7 +10,7 @@ ghost use Rattle.rec_words.specs.SettingsViews.{settings_data, channel_data, Rep
 use super::fault::SettingsFault;
 use super::keys::{number_at, number_or, only, text_at, value_at};
 use super::{ChannelSettings, Settings};
-use ch11_packet::{Limit, MAX_ETHERNET_PACKET_LEN, MAX_SPEED, MIN_LIMIT};
+use ch11_packet::{Limit, MAX_LIMIT, MAX_SPEED, MIN_LIMIT};
 use rec_channel::{MAX_CHANNELS, MAX_RING};
 use std::alloc::Global;
 use toml::{Table, Value};
@@ -56,20 +56,14 @@ fn settings_in(alloc: Global, table: &Table) -> Result<Settings, SettingsFault>
     })
 }
 
-/// The limit of packets.
+/// The limit of packets, which counts no data checksum.
 fn limit_in(table: &Table) -> Result<Limit, SettingsFault>
     ensures { MatchResult result
-        (λ limit. number_or 65536 16424 524288 (codes "limit") (table_view table.now) ≡ Ok limit)
-        (Reports (number_or 65536 16424 524288 (codes "limit") (table_view table.now))) }
+        (λ limit. number_or 65536 16424 524284 (codes "limit") (table_view table.now) ≡ Ok limit)
+        (Reports (number_or 65536 16424 524284 (codes "limit") (table_view table.now))) }
 {
     let least = u64::from(MIN_LIMIT);
-    let bytes = number_or(
-        table,
-        "limit",
-        least,
-        u64::from(MAX_ETHERNET_PACKET_LEN),
-        65_536,
-    )?;
+    let bytes = number_or(table, "limit", least, u64::from(MAX_LIMIT), 65_536)?;
     Limit::new(bytes as u32).ok_or(SettingsFault::Value { key: "limit" })
 }
 

@@ -259,7 +259,7 @@ fn a_failed_output_stops_the_workers(rt: HostRuntime) -> Result<(), Fail> {
         fault,
         WriteFault::Output {
             whole: 1,
-            bytes: 940
+            bytes: 936
         }
     );
     let ending = report.channels.first().map(|channel| channel.ending);

@@ -17,7 +17,7 @@ use std::test::Fail;
 use std::{io, thread};
 
 /// How many turns a wait takes at most.
-const TURNS: u32 = 10_000_000;
+const TURNS: u32 = 30_000_000;
 
 /// How many turns are soon.
 const SOON: u32 = 100_000;

@@ -11,17 +11,17 @@ use std::sync::{Arc, Wait};
 use std::test::Fail;
 use std::thread::Threads;
 
-/// How many bytes the longest frame has. It fills a packet of the least limit.
-const LONGEST: usize = 16_383;
+/// The least even number of bytes of which two frames don't fit a packet of the least limit.
+const FILLING: usize = 8_188;
 
-/// The stage of the longest frame.
-fn longest(alloc: Global) -> Result<Stage, Fail> {
-    let mut record = all_bytes(alloc, "100000000000 00 ff3f")?;
-    record.resize(9 + LONGEST, 0)?;
+/// The stage of a frame of so many bytes.
+fn filling(alloc: Global) -> Result<Stage, Fail> {
+    let mut record = all_bytes(alloc, "100000000000 00 fc1f")?;
+    record.resize(9 + FILLING, 0)?;
     Ok(plain(record))
 }
 
-/// Records frames of which each fills a packet, while the output takes nothing until the source is
+/// Records frames of which each is alone in its packet, while the output takes nothing until the source is
 /// asked for the last but one: by then the writer has the program's piece, the ring is full, and
 /// the piece after that is still to come. The source is not asked for the last one before the
 /// output goes on. The pieces and bytes that went out, and the frames that are read of them.
@@ -36,13 +36,13 @@ fn fill_the_ring<R: Threads + Wait + Sync>(
     const ASKED_AGAIN: usize = 1;
     let marks = fresh_marks(alloc)?;
     let mut stages = Vec::new(alloc);
-    let mut first = longest(alloc)?;
+    let mut first = filling(alloc)?;
     first.again = ring;
     stages.push(first)?;
-    let mut then = longest(alloc)?;
+    let mut then = filling(alloc)?;
     then.began = ASKED;
     stages.push(then)?;
-    let mut last = longest(alloc)?;
+    let mut last = filling(alloc)?;
     last.began = ASKED_AGAIN;
     stages.push(last)?;
     let mut jobs = Vec::new(alloc);
@@ -59,23 +59,23 @@ fn fill_the_ring<R: Threads + Wait + Sync>(
     };
     let mut frames = 0usize;
     for frame in frames_of(alloc, &recording, 1)?.as_slice() {
-        if frame.bytes.len() == LONGEST {
+        if frame.bytes.len() == FILLING {
             frames = frames.saturating_add(1);
         }
     }
     Ok((done.report.pieces, bytes.len(), frames))
 }
 
-/// The packets are that of the program, 60 bytes, those of `ring + 3` frames, 16,424 bytes each,
-/// and that of the end, 52 bytes.
+/// The packets are that of the program, 64 bytes, those of `ring + 3` frames, 8,232 bytes each,
+/// and that of the end, 56 bytes.
 #[test]
 fn a_ring_has_room_for_1_to_4096_pieces(rt: HostRuntime) -> Result<(), Fail> {
     let alloc = rt.alloc();
-    assert_eq!(rt; fill_the_ring(&rt, alloc, 1)?, (6, 65_808, 4));
-    assert_eq!(rt; fill_the_ring(&rt, alloc, 2)?, (7, 82_232, 5));
+    assert_eq!(rt; fill_the_ring(&rt, alloc, 1)?, (6, 33_048, 4));
+    assert_eq!(rt; fill_the_ring(&rt, alloc, 2)?, (7, 41_280, 5));
     assert_eq!(rt;
         fill_the_ring(&rt, alloc, 4_096)?,
-        (4_101, 67_322_088, 4_099)
+        (4_101, 33_743_088, 4_099)
     );
     Ok(())
 }

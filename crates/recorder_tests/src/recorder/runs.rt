@@ -21,17 +21,17 @@ const REJECT: &str = "1,6 0 0 0,";
 
 /// The recording of a channel with speed 3 that keeps two frames: its program, a packet of both, and
 /// its end.
-const TWO_FRAMES: &str = "25eb 0000 3c000000 24000000 08 00 00 00 100000000000 9deb \
-    00000000 43425052 0100 0100 00000000 0000000000000000 0100 0000 0600000001000000 \
-    25eb 0100 58000000 40000000 08 00 00 68 100000000000 d653 02000000 \
+const TWO_FRAMES: &str = "25eb 0000 40000000 24000000 08 00 03 00 100000000000 a4eb \
+    00000000 43425052 0100 0100 00000000 0000000000000000 0100 0000 0600000001000000 4c425152 \
+    25eb 0100 5c000000 40000000 08 00 03 68 100000000000 dd53 02000000 \
     100000000000 0000 12000003 ffffffffffff 020000000001 0806 a1b2c3d4 \
-    200000000000 0000 12000003 ffffffffffff 020000000001 0806 a1b2c3d4 \
-    25eb 0000 34000000 1c000000 08 01 00 00 200000000000 9dec \
-    00000000 43425052 0200 0100 0200000000000000 0200000000000000";
+    200000000000 0000 12000003 ffffffffffff 020000000001 0806 a1b2c3d4 8f91a191 \
+    25eb 0000 38000000 1c000000 08 01 03 00 200000000000 a4ec \
+    00000000 43425052 0200 0100 0200000000000000 0200000000000000 49425152";
 
 /// The recording of a channel without a frame.
-const NO_FRAME: &str = "25eb 0000 34000000 1c000000 08 00 00 00 000000000000 7deb \
-    00000000 43425052 0200 0100 0000000000000000 0000000000000000";
+const NO_FRAME: &str = "25eb 0000 38000000 1c000000 08 00 03 00 000000000000 84eb \
+    00000000 43425052 0200 0100 0000000000000000 0000000000000000 45425152";
 
 /// A stage that waits for nothing.
 pub(super) fn plain(bytes: Vec<u8>) -> Stage {
@@ -124,15 +124,15 @@ fn an_output_that_fails_cuts_the_recording(rt: HostRuntime) -> Result<(), Fail> 
     let alloc = rt.alloc();
     let all = all_bytes(alloc, TWO_FRAMES)?;
     for (at_once, then) in [(usize::MAX, Then::Fails), (1, Then::TakesNone)] {
-        for room in 0..200usize {
+        for room in 0..212usize {
             let out = Output::new(alloc, room, at_once, then);
             let (bytes, told, fault) = two_frames(&rt, alloc, 2, out)?;
             assert_eq!(rt; bytes.as_slice(), &all[..room.min(all.len())]);
             assert!(rt; told.is_some());
             let (whole, rest, frames): (u64, usize, &[u64]) = match room {
-                0..60 => (0, room, &[]),
-                60..148 => (1, room - 60, &[]),
-                _ => (2, room - 148, &[16, 32]),
+                0..64 => (0, room, &[]),
+                64..156 => (1, room - 64, &[]),
+                _ => (2, room - 156, &[16, 32]),
             };
             let found = counters_of(alloc, bytes.as_slice(), 1)?;
             assert_eq!(rt; found.as_slice(), frames, "{room} bytes");
@@ -218,7 +218,7 @@ fn sources_control_and_output_wait_for_one_another(rt: HostRuntime) -> Result<()
     let control = fresh_script(alloc, Arc::try_clone(&marks)?, steps, TOLD);
     let mut out = output(alloc, marks, usize::MAX);
     out.needs = ASKED_1_AGAIN;
-    out.full = 60;
+    out.full = 64;
     out.full_mark = PACKET_OUT;
     let done = recorded(&rt, alloc, jobs, 1, control, out)?;
     let reports = done.report.channels.as_slice();

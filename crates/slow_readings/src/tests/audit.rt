@@ -5,16 +5,17 @@ ghost use Rattle.std.specs.Prelude.{◌<◌};
 
 use crate::approval::{Answer, ChannelLine, Wrong, answer_of, is_yes_true};
 use crate::draws::Draws;
-use crate::pieces::Channel;
+use crate::packets::data_sum;
+use crate::pieces::{Channel, add_number};
 use crate::shared::{drawn_frame, drawn_length, drawn_program, lane_spec, offer, programs};
 use bpf_verify::Verified;
-use ch11_packet::{ETHERNET_DATA, HEADER_LEN, Header};
+use ch11_packet::{CHECKSUM_LEN, ETHERNET_DATA, HEADER_LEN, Header};
 use eth_frame::MAX_FRAME_LEN;
 use rec_channel::Slot;
 use rec_lane::{Lane, Piece};
 use rec_reader::{AuditFault, Recording, audit, read_recording};
 use rec_writer::Writer;
-use samples::{ACCEPTING, END, FRAMES, REJECTING, joined_bytes};
+use samples::{ACCEPTING, CHECKED, END, FRAMES, REJECTING, all_bytes, joined_bytes};
 use std::alloc::Global;
 use std::process::Abort;
 use std::sync::Arc;
@@ -45,8 +46,14 @@ const PROGRAMS: [&str; 5] = [
     "5,128 0 0 0,148 0 0 3,2 0 0 1,96 0 0 1,22 0 0 0,",
 ];
 
+/// The number of bytes of the longest packet of the recording of 248 bytes.
+const LONGEST_CHECKED: usize = 64;
+
+/// Where a packet's flags stand.
+const FLAGS_AT: usize = 14;
+
 /// The number of bytes of an end's packet.
-const END_LEN: usize = 52;
+const END_LEN: usize = 56;
 
 /// A setup record's packet.
 const SETUP: &str = "25eb 0000 1c000000 04000000 08 00 00 01 000000000000 4dec 00000000";
@@ -200,6 +207,43 @@ fn answers_agree_at_each_damaged_byte(rt: HostRuntime) -> Result<(), Fail> {
             }
             if let Some(kind) = compare(&rt, rt.alloc(), bytes.as_slice())? {
                 kinds.push(kind)?;
+            }
+        }
+    }
+    let yes = count_of(kinds.as_slice(), Kind::Yes);
+    let read = kinds.len();
+    assert!(rt; read >= FEW && yes >= FEW && yes < read, "{yes} of {read}");
+    Ok(())
+}
+
+/// The recording of 248 bytes with a byte of one of its packets set, and the data checksum of that
+/// packet made right again.
+fn damaged(alloc: Global, which: usize, at: usize, value: u8) -> Result<Vec<u8>, Fail> {
+    let mut bytes = Vec::new(alloc);
+    for (number, text) in CHECKED.iter().enumerate() {
+        let mut packet = all_bytes(alloc, text)?;
+        if let Some(byte) = packet.get_mut(at)
+            && number == which
+        {
+            *byte = value;
+        }
+        sum_again(&mut packet)?;
+        bytes.extend_from_slice(packet.as_slice())?;
+    }
+    Ok(bytes)
+}
+
+/// Each byte of the recording of 248 bytes is set to its least and to its greatest value, too.
+#[test]
+fn answers_agree_at_each_damaged_byte_with_its_sum(rt: HostRuntime) -> Result<(), Fail> {
+    let mut kinds = Vec::new(rt.alloc());
+    for which in 0..CHECKED.len() {
+        for at in 0..LONGEST_CHECKED {
+            for value in [0x00, 0xff] {
+                let bytes = damaged(rt.alloc(), which, at, value)?;
+                if let Some(kind) = compare(&rt, rt.alloc(), bytes.as_slice())? {
+                    kinds.push(kind)?;
+                }
             }
         }
     }
@@ -408,7 +452,8 @@ fn drawn_pieces(
     Ok(pieces)
 }
 
-/// Drops, doubles, exchanges or changes packets.
+/// Drops, doubles, exchanges or changes packets. The data checksum of a packet that was changed is
+/// mostly made right again, so that its body is judged.
 fn change(alloc: Global, draws: &mut Draws, packets: &mut Vec<Vec<u8>>) -> Result<(), Fail> {
     if packets.is_empty() {
         return Ok(());
@@ -429,7 +474,24 @@ fn change(alloc: Global, draws: &mut Draws, packets: &mut Vec<Vec<u8>>) -> Resul
         6 | 7 => change_counts(draws, packets),
         _ => change_body(draws, &mut packets[one]),
     }
+    if draws.below(8) != 0 {
+        for packet in packets.iter_mut() {
+            sum_again(packet)?;
+        }
+    }
     Ok(())
+}
+
+/// Makes the data checksum of a packet right, where its flags say that it has one.
+fn sum_again(packet: &mut Vec<u8>) -> Result<(), Fail> {
+    let checked = packet.get(FLAGS_AT).is_some_and(|flags| *flags % 4 == 3);
+    let at = packet.len().saturating_sub(CHECKSUM_LEN);
+    if !checked || at < HEADER_LEN {
+        return Ok(());
+    }
+    let sum = data_sum(packet.get(HEADER_LEN..at).unwrap_or(&[]));
+    packet.truncate(at);
+    Ok(add_number(packet, sum, CHECKSUM_LEN)?)
 }
 
 /// A packet of no frames of a drawn channel.
@@ -465,7 +527,7 @@ fn change_header(draws: &mut Draws, packet: &mut Vec<u8>) -> Result<(), Fail> {
         0 | 1 => channel = u16::from(draws.below(4)),
         2 => kind = draws.below(2).wrapping_mul(0x68),
         3 => kind = draws.below(4),
-        4 => flags = 1 << draws.below(8),
+        4 => flags ^= 1 << draws.below(8),
         _ => data_len = data_len.saturating_sub(1),
     }
     let changed = Header::new(

@@ -50,7 +50,7 @@ fn pieces_agree_at_each_limit(rt: HostRuntime) -> Result<(), Fail> {
     let alloc = rt.alloc();
     let frames = drawn_frames(alloc, &mut Draws::from_seed(1), 96, &LENGTHS)?;
     let versions = ten_versions(alloc, sixteenths_of(frames.len()))?;
-    for limit in [16_424, 16_427, 20_001, 65_536, 524_288] {
+    for limit in [16_424, 16_427, 20_001, 65_536, 524_284] {
         let (frames, versions) = (frames.as_slice(), versions.as_slice());
         let counts = compare(&rt, alloc, channel(limit), frames, versions)?;
         assert_eq!(rt; counts.programs, MET);
@@ -104,7 +104,7 @@ fn pieces_of_the_longest_frames_agree(rt: HostRuntime) -> Result<(), Fail> {
         (2, 16_424, 2),
         (2, 32_819, 2),
         (2, 32_820, 1),
-        (63, 524_288, 3),
+        (63, 524_284, 3),
     ];
     for (count, limit, packets) in cases {
         let frames = drawn_frames(alloc, &mut Draws::from_seed(4), count, &[MAX_FRAME_LEN])?;

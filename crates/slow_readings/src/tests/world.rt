@@ -9,7 +9,7 @@ use bpf_verify::Verified;
 use eth_frame::MAX_FRAME_LEN;
 use rec_core::{ChannelSpec, CoreFault, Event, MAX_RING, Reply, Which, World, run_world, specs_ok};
 use rec_reader::read_recording;
-use samples::{ACCEPTING, END, FRAMES, REJECTING, joined_bytes, program};
+use samples::{CHECKED, joined_bytes, program};
 use std::alloc::Global;
 use std::process::Abort;
 use std::sync::Arc;
@@ -114,7 +114,7 @@ const SORTS: [Sort; 13] = [
 ];
 
 /// Two frames of a channel whose filter is changed between them, event by event to the end of its
-/// recording of 232 bytes.
+/// recording of 248 bytes.
 #[test]
 fn two_versions_are_recorded_event_by_event(rt: HostRuntime) -> Result<(), Fail> {
     let events = [
@@ -122,21 +122,21 @@ fn two_versions_are_recorded_event_by_event(rt: HostRuntime) -> Result<(), Fail>
         (1, Written::Install(ACCEPT), installed(1, 1)),
         (1, Written::Take(32), took(1, 1, 1)),
         (1, Written::Send, Ok(PlainReply::SentProgram(0))),
-        (1, Written::Write, wrote(60)),
+        (1, Written::Write, wrote(64)),
         (1, Written::Send, Ok(PlainReply::SentProgram(1))),
-        (1, Written::Write, wrote(60)),
+        (1, Written::Write, wrote(64)),
         (1, Written::Close, closed(2, 1)),
         (1, Written::Send, Ok(PlainReply::SentFrames(1))),
-        (1, Written::Write, wrote(60)),
+        (1, Written::Write, wrote(64)),
         (1, Written::Send, Ok(PlainReply::SentEnd)),
-        (1, Written::Write, wrote(52)),
+        (1, Written::Write, wrote(56)),
         (1, Written::Write, Err(Refusal::NothingToWrite)),
     ];
     let mut world = PlainWorld::new(rt.alloc(), 4, 8);
     let first = program(rt.alloc(), REJECT)?;
     world.add_channel(rt.alloc(), channel(1, 3), first, 100)?;
     answer_all(&rt, rt.alloc(), &mut world, &events)?;
-    let want = joined_bytes(rt.alloc(), &[REJECTING, ACCEPTING, FRAMES, END])?;
+    let want = joined_bytes(rt.alloc(), &CHECKED)?;
     assert_eq!(rt; world.output(rt.alloc())?.as_slice(), want.as_slice());
     Ok(())
 }

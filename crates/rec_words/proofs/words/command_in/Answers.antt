@@ -56,6 +56,13 @@ returns-then-eq-7 c =
 pub returns-then-eq-8 : goal.returns-then-eq-8
 returns-then-eq-8 c =
     let rows = rows_of (found_of c.in-Some.inner.now) in
-    let named : c.in-Some.name.now ≡ codes "record" = (bytes_eq-Decides c.in-Some.name.now (codes "record")).0 (sym c.eq-8.ensures ∙ c.if-eq-8.true) in
+    let named : c.in-Some.name.now ≡ codes "upgrade" = (bytes_eq-Decides c.in-Some.name.now (codes "upgrade")).0 (sym c.eq-8.ensures ∙ c.if-eq-8.true) in
     let met : subcommand_rows_of c.args.matches.now ≡ Some (c.in-Some.name.now, rows) = pair_is _ _ c.in-Some.name.now rows c.in-Some.ensures.name c.in-Some.ensures.rows in
-    (rows, rw named at met, c.word_for-settings.ensures, c.word_for-out-then-eq-8.ensures)
+    (rows, rw named at met, c.word_for-recording.ensures, c.word_for-out-then-eq-8.ensures)
+
+pub returns-then-eq-9 : goal.returns-then-eq-9
+returns-then-eq-9 c =
+    let rows = rows_of (found_of c.in-Some.inner.now) in
+    let named : c.in-Some.name.now ≡ codes "record" = (bytes_eq-Decides c.in-Some.name.now (codes "record")).0 (sym c.eq-9.ensures ∙ c.if-eq-9.true) in
+    let met : subcommand_rows_of c.args.matches.now ≡ Some (c.in-Some.name.now, rows) = pair_is _ _ c.in-Some.name.now rows c.in-Some.ensures.name c.in-Some.ensures.rows in
+    (rows, rw named at met, c.word_for-settings.ensures, c.word_for-out-then-eq-9.ensures)

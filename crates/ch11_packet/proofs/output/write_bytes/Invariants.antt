@@ -1,6 +1,6 @@
 use Rattle.std.proofs.Common.{◌-◌, ◌≤◌, length, take}
 use Rattle.std.specs.Io.KnownBytes.{Appends}
-use Rattle.rec_writer.proofs.output.write_bytes.Given as goal
+use Rattle.ch11_packet.proofs.output.write_bytes.Given as goal
 
 abbrev pub invariant-writes : goal.invariant-writes
 invariant-writes g l = (l.at ≤ length l.bytes) × Appends (g.W.Write.contents l.initial.out) (g.W.Write.contents l.out) (take l.at l.bytes)

@@ -1,0 +1,59 @@
+//! The file that a command writes, created after its buffer.
+
+use cli_streams::{Ending, Inputs, LockFile, create_output};
+use std::io;
+use std::io::{BufWriter, ErrorKind, Write};
+use std::rt::Files;
+
+/// An output's file. It is created after the buffer before it, so that there is none if there is no
+/// memory for the buffer.
+#[derive(Drop)]
+pub(crate) struct OutputFile<F> {
+    file: Option<F>,
+}
+
+impl<F: Write> Write for OutputFile<F> {
+    fn write(&mut self, buf: &[u8]) -> io::Result<usize> {
+        match &mut self.file {
+            Some(file) => file.write(buf),
+            None => Err(io::Error::from(ErrorKind::NotFound)),
+        }
+    }
+
+    fn flush(&mut self) -> io::Result<()> {
+        match &mut self.file {
+            Some(file) => file.flush(),
+            None => Ok(()),
+        }
+    }
+}
+
+/// An output's file behind a buffer, created after it.
+pub(crate) fn buffered_output<'a, R: AllocGlobal + Files>(
+    rt: &R,
+    inputs: &Inputs,
+    out: &'a str,
+) -> Result<BufWriter<OutputFile<R::File>>, Ending<'a>>
+where
+    R::File: LockFile,
+{
+    let uncreated = OutputFile { file: None };
+    let mut output = BufWriter::new(rt.alloc(), uncreated).map_err(|_| Ending::Memory)?;
+    output.get_mut().file = Some(create_output(rt, inputs, out)?);
+    Ok(output)
+}
+
+/// Writes to an output's file what was held in memory.
+pub(crate) fn write_held<'a, R: AllocGlobal + Files>(
+    rt: &R,
+    inputs: &Inputs,
+    out: &'a str,
+    held: &[u8],
+) -> Result<(), Ending<'a>>
+where
+    R::File: LockFile,
+{
+    let mut output = create_output(rt, inputs, out)?;
+    output.write_all(held).map_err(|_| Ending::File(out))?;
+    output.flush().map_err(|_| Ending::File(out))
+}
