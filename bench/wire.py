@@ -37,7 +37,8 @@ LENGTHS = (64, 300, 1_500)
 FILTERS = {"all": "1,6 0 0 4294967295,", "port": "4,40 0 0 36,21 0 1 53,6 0 0 4294967295,6 0 0 0,"}
 EXPRESSIONS = {"all": [], "port": ["udp[2:2] = 53"]}
 KEPT_SHARE = {"all": "all", "port": "3 %"}
-BUFFER_MIB = 64
+# What bin/capture takes by itself.
+BUFFER_MIB = 256
 PATIENCE = 120
 
 # ---- the namespace
@@ -70,16 +71,16 @@ def make_pair():
 # ---- recordings
 
 
-def commands(work):
+def commands(work, buffer=BUFFER_MIB):
     """What records, by the name of the program and of the filter: its words, and what it says once it is ready."""
     made = {}
     for name in FILTERS:
         (work / name).write_text(FILTERS[name])
         (work / f"{name}.toml").write_text(f'[[channel]]\nid = 1\nfilter = "{work / name}"\n')
         expression = EXPRESSIONS[name]
-        live = [LIVE, "--quiet", "--buffer", BUFFER_MIB, work / f"{name}.toml", work / "out", "rx0=1"]
-        dumpcap = ["dumpcap", "-q", "-i", "rx0", "-B", BUFFER_MIB, *(["-f", *expression] if expression else []), "-w", work / "out"]
-        tcpdump = ["tcpdump", "-Z", "root", "-n", "-i", "rx0", "-B", BUFFER_MIB * 1024, "-w", work / "out", *expression]
+        live = [LIVE, "--quiet", "--buffer", buffer, work / f"{name}.toml", work / "out", "rx0=1"]
+        dumpcap = ["dumpcap", "-q", "-i", "rx0", "-B", buffer, *(["-f", *expression] if expression else []), "-w", work / "out"]
+        tcpdump = ["tcpdump", "-Z", "root", "-n", "-i", "rx0", "-B", buffer * 1024, "-w", work / "out", *expression]
         made["tools/live", name] = live, "origin"
         if expression:
             made["tools/live --prefilter", name] = [LIVE, "--prefilter", *live[1:]], "origin"
@@ -102,11 +103,16 @@ def counts_of(program, told, printed):
     return int(kept[1]), int(dropped[1])
 
 
-def record_once(work, program, words, ready, length, frames):
+def go_ahead():
+    """Puts the session of this process ahead of other sessions' work."""
+    Path("/proc/self/autogroup").write_text("-20")
+
+
+def record_once(work, program, words, ready, length, frames, is_ahead=False):
     """A recording: seconds of the sender, seconds until all was recorded, of processors, frames kept and dropped."""
     with open(work / "told", "w+") as told, open(work / "printed", "w+") as printed:
         recorder = subprocess.Popen([str(it) for it in words], stdin=subprocess.DEVNULL, stdout=printed, stderr=told,
-                                    start_new_session=True)
+                                    start_new_session=True, preexec_fn=go_ahead if is_ahead else None)
         end = time.monotonic() + PATIENCE
         while ready not in (work / "told").read_text() and time.monotonic() < end:
             time.sleep(0.01)
@@ -125,15 +131,15 @@ def record_once(work, program, words, ready, length, frames):
     return sending, spent, used.ru_utime + used.ru_stime, kept, dropped
 
 
-def time_wire(work, frames, rounds):
-    made = commands(work)
+def time_wire(work, frames, rounds, buffer, is_ahead):
+    made = commands(work, buffer)
     print("| Bytes | Program | Keeps | Frames sent a second | Taken a second | Dropped by the kernel | least, greatest "
           "| Processor, ns a frame |\n|---|---|---|---|---|---|---|---|")
     for length in LENGTHS:
         runs = {key: [] for key in made}
         for _ in range(rounds):
             for key, (words, ready) in made.items():
-                runs[key].append(record_once(work, key[0], words, ready, length, frames))
+                runs[key].append(record_once(work, key[0], words, ready, length, frames, is_ahead))
         for (program, name), done in runs.items():
             sent = statistics.median(frames / it[0] for it in done)
             taken = statistics.median((frames - it[4]) / it[0] for it in done)
@@ -162,10 +168,12 @@ def time_files(work, frames, rounds):
     for length in LENGTHS:
         capture, feed = work / "capture.pcap", work / "made.feed"
         write_capture(capture, length, frames)
-        programs = {"capture -r": [CAPTURE, "-r", f"{capture}={feed}"], "tools/feed": [FEED, "from-pcap", capture, feed]}
+        programs = {"capture -r": [CAPTURE, "-r", f"{capture}={feed}"], "tools/feed": [FEED, "from-pcap", capture, feed],
+                    "cp": ["cp", capture, feed]}
         runs = {name: [] for name in programs}
         for _ in range(rounds):
             for name, words in programs.items():
+                feed.unlink(missing_ok=True)
                 begin = time.monotonic()
                 done = subprocess.Popen([str(it) for it in words], stdout=subprocess.DEVNULL, stderr=subprocess.DEVNULL)
                 _, status, used = os.wait4(done.pid, 0)
@@ -193,6 +201,8 @@ def main():
     parser.add_argument("--frames", type=int, default=1_000_000)
     parser.add_argument("--rounds", type=int, default=5)
     parser.add_argument("--part", choices=["wire", "files"])
+    parser.add_argument("--buffer", type=int, default=BUFFER_MIB, help="MiB of the kernel's buffer for each program")
+    parser.add_argument("--ahead", action="store_true", help="put what is timed ahead of other sessions' work")
     words = parser.parse_args()
     if not os.environ.get(INSIDE):
         if missing():
@@ -202,13 +212,15 @@ def main():
         run("ip", "netns", "add", name)
         try:
             again = ["ip", "netns", "exec", name, sys.executable, __file__, *sys.argv[1:]]
-            return subprocess.run(again, env={**os.environ, INSIDE: "1"}).returncode
+            return subprocess.run(again, env={**os.environ, INSIDE: "1"}, start_new_session=words.ahead).returncode
         finally:
             run("ip", "netns", "del", name)
+    if words.ahead:
+        go_ahead()
     with tempfile.TemporaryDirectory() as folder:
         if words.part in (None, "wire"):
             make_pair()
-            time_wire(Path(folder), words.frames, words.rounds)
+            time_wire(Path(folder), words.frames, words.rounds, words.buffer, words.ahead)
         if words.part in (None, "files"):
             time_files(Path(folder), words.frames, words.rounds)
     return 0

@@ -6,7 +6,8 @@ from pathlib import Path
 from typing import NamedTuple
 
 ROOT = Path(__file__).resolve().parent.parent
-HELP, FORMATS = ROOT / "crates/rec_words/src/command_line.rt", ROOT / "docs/FORMATS.md"
+COMMANDS, HELP = ROOT / "crates/rec_words/src/command_line.rt", ROOT / "crates/rec_words/src/command_line/help.rt"
+FORMATS = ROOT / "docs/FORMATS.md"
 # The day of the page's last change, which pages have.
 DATE = "2026-11-25"
 # The sections whose tables the page has, where the first column is one of these.
@@ -76,7 +77,7 @@ class Help:
     """The texts of the program's help."""
 
     def __init__(self):
-        source = HELP.read_text()
+        source = COMMANDS.read_text() + HELP.read_text()
         quoted = r'"((?:[^"\\]|\\.)*)"'
         texts = {name: string_of(it) for name, it in re.findall(rf'const (\w+): &str =\s*{quoted};', source, re.DOTALL)}
         word = rf'WordTexts \{{\s*name: {quoted},\s*help: {quoted},\s*\}}'
@@ -92,7 +93,7 @@ class Help:
                 found.append(words[it[3]] if it[3] else Word(string_of(it[1]), string_of(it[2])))
             self.commands.append(Command(name, string_of(about), texts[named[help_name]], found))
         if len(self.commands) != table.count("    CommandTexts {") or not self.commands:
-            raise SystemExit(f"{HELP.relative_to(ROOT)}: not every command of COMMANDS can be read")
+            raise SystemExit(f"{COMMANDS.relative_to(ROOT)}: not every command of COMMANDS can be read")
 
 
 # ---- the page

@@ -17,11 +17,12 @@ ROOT = Path(__file__).resolve().parent.parent
 RT = shlex.split(os.environ.get("RT", "rt"))
 SEEN = ROOT / "tools" / "edits_seen.txt"
 # What is checked beside the crates.
-CHECKS = ("check_links", "check_examples", "check_uses", "check_man")
+CHECKS = ("check_links", "check_examples", "check_uses", "check_man", "unused")
 # What is checked of the program once it is built, and where it stands then.
 MEMORY, PROGRAM = "check_memory", Path("crates/bpfrec/out/bpfrec")
-# The files and folders of a crate that a step reads.
-READ = ("src", "specs", "proofs", "must-fail", "data", "stdin", "stdout", "args", "status")
+# The files and folders of a crate that a step reads, and the folder that steps of edits read too.
+READ = ("src", "specs", "proofs", "data", "stdin", "stdout", "args", "status")
+EDITS = "must-fail"
 # Crates that promise nothing, and are proved only to be built.
 UNTESTED = ("bench",)
 
@@ -74,16 +75,16 @@ def line_of(name):
 
 
 @functools.lru_cache(maxsize=None)
-def hash_of(name):
-    """A sum of all that a crate and its edits depend on: its files, its line of crates.txt, the
+def hash_of(name, edits=False):
+    """A sum of all that a crate's proof, or its edits, depend on: its files, its line of crates.txt, the
     toolchain's version, and the same sums of the crates below."""
     found = hashlib.sha256(repr((line_of(name), version())).encode())
     for file in sorted((ROOT / "crates" / name).rglob("*")):
         inside = file.relative_to(ROOT / "crates" / name)
-        if file.is_file() and inside.parts[0] in READ:
+        if file.is_file() and inside.parts[0] in (*READ, *[EDITS] * edits):
             found.update(repr((str(inside), file.read_bytes())).encode())
     for it in sorted(it.name for it in crates()[name].deps):
-        found.update(hash_of(it).encode())
+        found.update(hash_of(it, edits).encode())
     return found.hexdigest()
 
 

@@ -2,7 +2,7 @@
 
 A step is something to do with one crate: prove it as a library that others use, build a program and run
 it, prove and run tests, or try edits that must fail. Each runs as a process of its own, by tools/step,
-over the work that the crate's out/ keeps, so a run that is interrupted goes on where it was.
+and is passed over where it was done before, so a run that is interrupted goes on where it was.
 """
 import os
 import re
@@ -47,11 +47,14 @@ class Step:
     crate: str
     words: list = field(default_factory=list)
     waits: list = field(default_factory=list)
+    # whether a library's proof is to be kept function by function, as its edits want it
+    keeps: bool = False
 
     def __post_init__(self):
         self.key = "-".join([self.kind, self.crate, *[it.replace("/", "_") for it in self.words]])
         self.cost = cost_of(self.key, self.crate)
         self.log = LOGS / f"{self.key}.log"
+        self.done = Path(crates()[self.crate].folder) / "out" / f"{self.key}.done"
         self.jobs, self.status, self.process, self.spent = 0, None, None, None
 
     def name(self):
@@ -62,9 +65,9 @@ class Step:
     def is_done(self):
         """Whether an earlier run did this, on the files as they are."""
         crate = crates()[self.crate]
-        done = Path(crate.folder) / "out" / f"{self.key}.done"
-        is_there = crate.is_built() if self.kind == "library" else True
-        return is_there and done.exists() and done.read_text() == hash_of(self.crate)
+        if self.kind == "library" and not (crate.is_built() and (crate.has_kept() or not self.keeps)):
+            return False
+        return self.done.exists() and self.done.read_text() == hash_of(self.crate, self.kind == "edits")
 
     def is_well(self):
         """Whether it was done, now or in an earlier run."""
@@ -77,9 +80,10 @@ class Step:
 
     def start(self, jobs):
         self.jobs = jobs
+        words = [*self.words, *["--keep"] * self.keeps]
         with open(self.log, "w") as log:
             self.process = subprocess.Popen(
-                [sys.executable, ROOT / "tools" / "step", self.kind, self.crate, str(jobs), *self.words],
+                [sys.executable, ROOT / "tools" / "step", self.kind, self.crate, str(jobs), *words],
                 stdin=subprocess.DEVNULL, stdout=log, stderr=subprocess.STDOUT,
             )
 
@@ -104,18 +108,19 @@ class Step:
         return self.log.read_text(errors="replace") if self.log.exists() else ""
 
 
-def steps_for(names):
-    """The steps that prove these libraries and those below them."""
+def steps_for(names, kept=()):
+    """The steps that prove these libraries and those below them; `kept` are the libraries whose edits are
+    to be tried."""
     wanted = dict.fromkeys(it for name in names for it in [*below(name), name])
-    return [Step("library", it, waits=[f"library-{dep}" for dep in below(it)]) for it in wanted]
+    return [Step("library", it, waits=[f"library-{dep}" for dep in below(it)], keeps=it in kept) for it in wanted]
 
 
-def all_steps():
-    """A step for each library, each program and each crate of tests."""
+def all_steps(kept):
+    """A step for each library, each program and each crate of tests; `kept` as in steps_for."""
     others = [it for it in crates() if it not in UNTESTED and it not in libraries()]
     waits = lambda it: [f"library-{dep}" for dep in below(it)]
     kind = lambda it: "twice" if is_program(it) else "tests"
-    return [*steps_for(libraries()), *(Step(kind(it), it, waits=waits(it)) for it in others)]
+    return [*steps_for(libraries(), kept), *(Step(kind(it), it, waits=waits(it)) for it in others)]
 
 
 def edit_steps(name):

@@ -16,7 +16,7 @@ static int is_regular(const char *path)
  * once it is converted. */
 static int first_moment(const struct words *words, const char *path, nanoseconds *moment)
 {
-    struct file file = {.fd = -1};
+    struct file file = {.input.fd = -1};
     struct found found = {0};
     if (open_file(&file, path, words->interface))
         while (next_found(&file, &found) > 0 && !found.has_time)
@@ -65,13 +65,15 @@ static uint64_t counter_of(struct conversion *conversion, const struct found *fo
 /* Whether a run that is stopped leaves the rest of a file: of a pipe it still takes what has come. */
 static int is_left(const struct file *file)
 {
-    return is_hurried() || (is_stopping() && !file->waits);
+    return is_hurried() || (is_stopping() && !file->input.waits);
 }
 
 static void convert(struct conversion *conversion)
 {
     struct found found;
     int more = 1;
+    if (!conversion->file.input.waits)
+        write_beside(&conversion->feed);
     while (more > 0 && !is_left(&conversion->file) && (more = next_found(&conversion->file, &found)) > 0)
         if (!put_frame(&conversion->feed, counter_of(conversion, &found), &found.captured))
             break;
@@ -83,20 +85,20 @@ void run_conversion(struct conversion *conversion)
 {
     struct file *file = &conversion->file;
     struct feed *feed = &conversion->feed;
-    file->fd = feed->fd = -1;
-    file->before_waiting = flush_before_waiting;
-    file->told = conversion;
+    struct output *output = &feed->output;
+    file->input = (struct input){.fd = -1, .before_waiting = flush_before_waiting, .told = conversion};
+    output->fd = -1;
     conversion->origin = conversion->words->origin;
     if (open_file(file, conversion->from, conversion->words->interface) && open_feed(feed, conversion->to))
         convert(conversion);
-    if (file->fault[0] != 0)
-        tell("%s: %s", conversion->from, file->fault);
+    if (file->input.fault[0] != 0)
+        tell("%s: %s", conversion->from, file->input.fault);
     close_feed(feed);
-    if (feed->state != FEED_OPEN) {
-        conversion->is_well &= feed->state == FEED_LEFT;
-        tell("%s: %s", conversion->to, feed_fault(feed));
+    if (!is_open(output)) {
+        conversion->is_well &= output->state == OUTPUT_LEFT;
+        tell("%s: %s", conversion->to, output_fault(output));
     }
     tell("%s frames %" PRIu64 " bytes %" PRIu64 " passed %" PRIu64 " waited %" PRId64, conversion->from, feed->frames,
-         feed->frame_bytes, feed->passed, feed->waited / (NANOSECONDS_PER_SECOND / 1000));
+         feed->frame_bytes, feed->passed, output->waited / (NANOSECONDS_PER_SECOND / 1000));
     close_file(file);
 }

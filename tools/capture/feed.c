@@ -1,15 +1,11 @@
 #define _GNU_SOURCE
 #include "feed.h"
 #include "check_sequence.h"
-#include "stop.h"
+#include "moment.h"
 
 #include <errno.h>
-#include <fcntl.h>
-#include <poll.h>
 #include <stdlib.h>
 #include <string.h>
-#include <sys/stat.h>
-#include <unistd.h>
 
 enum {
     RECORD_HEAD_LEN = 9,
@@ -18,147 +14,56 @@ enum {
     LEAST_WIRE_LEN = 60,
     LEAST_FRAME_LEN = HEADER_LEN + CHECK_SEQUENCE_LEN,
     MOST_FRAME_LEN = 16383,
-    BUFFER_LEN = 1 << 18,
-    PIPE_LEN = 1 << 20,
-    READER_PAUSE_MS = 5,
-    FULL_PAUSE_MS = 200,
+    FIRST_ROOM = 1 << 18,
+    ROOM_BESIDE = 1 << 20,
 };
 
 static const int64_t OLD = 1000000;
 
-static int ended(struct feed *feed, enum feed_state state, int error)
-{
-    feed->state = state;
-    feed->error = error;
-    return 0;
-}
-
-/* Standard output, opened anew where it is a pipe, so that whoever shares it keeps a pipe that waits. */
-static int open_standard_output(void)
-{
-    struct stat kind;
-    if (fstat(STDOUT_FILENO, &kind) == 0 && S_ISFIFO(kind.st_mode))
-        return open("/proc/self/fd/1", O_WRONLY | O_NONBLOCK | O_CLOEXEC);
-    return dup(STDOUT_FILENO);
-}
-
-static int open_path(struct feed *feed, const char *path)
-{
-    if (strcmp(path, "-") == 0)
-        return open_standard_output();
-    for (;;) {
-        int fd = open(path, O_WRONLY | O_NONBLOCK | O_CREAT | O_TRUNC | O_CLOEXEC, 0666);
-        /* ENXIO: a pipe without a reader. */
-        if (fd >= 0 || errno != ENXIO)
-            return fd;
-        struct pollfd stop = {.fd = stop_fd};
-        if (poll(&stop, 1, READER_PAUSE_MS) > 0)
-            return -1;
-        if (feed->while_waiting)
-            feed->while_waiting(feed->told);
-    }
-}
-
 int open_feed(struct feed *feed, const char *path)
 {
-    feed->path = path;
-    feed->bytes = malloc(BUFFER_LEN);
+    feed->room = FIRST_ROOM;
+    feed->bytes = malloc(feed->room);
     if (feed->bytes == NULL)
-        return ended(feed, FEED_FAILED, ENOMEM);
-    feed->fd = open_path(feed, path);
-    if (feed->fd < 0)
-        return is_stopping() ? ended(feed, FEED_ABANDONED, 0) : ended(feed, FEED_FAILED, errno);
-    /* A longer pipe where the system allows one; it is only quicker. */
-    (void)!fcntl(feed->fd, F_SETPIPE_SZ, PIPE_LEN);
-    return 1;
+        return fail_output(&feed->output, ENOMEM);
+    return open_output(&feed->output, path);
 }
 
-/* Opens what the path names by now without waiting, where standard output is what it was. */
-static int open_anew(const struct feed *feed, int flags)
+void write_beside(struct feed *feed)
 {
-    if (strcmp(feed->path, "-") == 0)
-        return dup(feed->fd);
-    return open(feed->path, O_WRONLY | O_NONBLOCK | O_CLOEXEC | flags, 0666);
-}
-
-/* What a fault of opening means for a switch: a pipe without a reader may get one. */
-static enum switching switching_of(int error)
-{
-    return error == ENXIO ? SWITCH_LATER : SWITCH_FAILED;
-}
-
-/* Whether two descriptors are of one file or pipe. */
-static int is_one(int first, int second)
-{
-    struct stat kinds[2];
-    return fstat(first, &kinds[0]) == 0 && fstat(second, &kinds[1]) == 0 && kinds[0].st_dev == kinds[1].st_dev &&
-           kinds[0].st_ino == kinds[1].st_ino;
-}
-
-enum switching switch_feed(struct feed *feed)
-{
-    int fd = open_anew(feed, O_CREAT);
-    if (fd < 0)
-        return switching_of(errno);
-    if (is_one(fd, feed->fd)) {
-        close(fd);
-        return SWITCHED;
-    }
-    /* It is emptied only where it is a file, and another one. */
-    (void)!ftruncate(fd, 0);
-    (void)!fcntl(fd, F_SETPIPE_SZ, PIPE_LEN);
-    flush_feed(feed);
-    close(feed->fd);
-    feed->fd = fd;
-    return SWITCHED;
-}
-
-enum switching pass_feed(const struct feed *feed)
-{
-    int fd = strcmp(feed->path, "-") == 0 ? -1 : open_anew(feed, 0);
-    if (fd < 0)
-        return switching_of(errno);
-    close(fd);
-    return SWITCHED;
-}
-
-/* Waits until the pipe takes bytes again. Whether it may be tried again. */
-static int wait_for_room(struct feed *feed)
-{
-    struct pollfd waits[2] = {{.fd = feed->fd, .events = POLLOUT}, {.fd = hurry_fd}};
-    int64_t begin = steady_now();
-    int ready = poll(waits, 2, FULL_PAUSE_MS);
-    feed->waited += steady_now() - begin;
-    if (ready > 0 && waits[1].revents != 0)
-        return ended(feed, FEED_ABANDONED, 0);
-    if (ready == 0 && feed->while_waiting)
-        feed->while_waiting(feed->told);
-    return 1;
+    unsigned char *more = realloc(feed->bytes, ROOM_BESIDE);
+    if (more == NULL)
+        return;
+    feed->bytes = more;
+    feed->room = ROOM_BESIDE;
+    start_writer(&feed->writer, &feed->output, feed->room);
 }
 
 int flush_feed(struct feed *feed)
 {
-    size_t done = 0;
-    while (feed->state == FEED_OPEN && done < feed->len) {
-        ssize_t count = write(feed->fd, feed->bytes + done, feed->len - done);
-        if (count >= 0)
-            done += (size_t)count;
-        else if (errno == EAGAIN)
-            wait_for_room(feed);
-        else if (errno == EPIPE)
-            ended(feed, FEED_LEFT, 0);
-        else if (errno != EINTR)
-            ended(feed, FEED_FAILED, errno);
-    }
+    size_t len = feed->len;
     feed->len = 0;
-    return feed->state == FEED_OPEN;
+    if (feed->writer.is_started)
+        return hand_over(&feed->writer, &feed->bytes, len);
+    return write_all(&feed->output, feed->bytes, len);
 }
 
 int flush_old(struct feed *feed)
 {
     if (feed->len > 0 && steady_now() - feed->since > OLD)
         return flush_feed(feed);
-    return feed->state == FEED_OPEN;
+    return is_open(&feed->output);
+}
+
+enum switching switch_feed(struct feed *feed)
+{
+    int fd;
+    enum switching switching = open_next(&feed->output, &fd);
+    if (fd >= 0) {
+        flush_feed(feed);
+        go_over(&feed->output, fd);
+    }
+    return switching;
 }
 
 /* Writes a check sequence in its order on the wire. */
@@ -201,9 +106,9 @@ int put_frame(struct feed *feed, uint64_t counter, const struct captured *captur
     size_t len = wire_len(captured);
     if (len == 0) {
         feed->passed++;
-        return feed->state == FEED_OPEN;
+        return 1;
     }
-    if (feed->len + RECORD_HEAD_LEN + len > BUFFER_LEN && !flush_feed(feed))
+    if (feed->len + RECORD_HEAD_LEN + len > feed->room && !flush_feed(feed))
         return 0;
     if (feed->len == 0)
         feed->since = steady_now();
@@ -221,28 +126,13 @@ int put_frame(struct feed *feed, uint64_t counter, const struct captured *captur
     feed->len += RECORD_HEAD_LEN + len;
     feed->frames++;
     feed->frame_bytes += len;
-    return feed->state == FEED_OPEN;
+    return 1;
 }
 
 void close_feed(struct feed *feed)
 {
-    if (feed->fd >= 0 && close(feed->fd) != 0 && feed->state == FEED_OPEN)
-        ended(feed, FEED_FAILED, errno);
-    feed->fd = -1;
+    end_writer(&feed->writer);
+    close_output(&feed->output);
     free(feed->bytes);
     feed->bytes = NULL;
-}
-
-const char *feed_fault(const struct feed *feed)
-{
-    switch (feed->state) {
-    case FEED_LEFT:
-        return "its reader has left";
-    case FEED_ABANDONED:
-        return "was left with frames unwritten, as the run was to end at once";
-    case FEED_FAILED:
-        return strerror(feed->error);
-    default:
-        return "is open";
-    }
 }

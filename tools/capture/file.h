@@ -1,13 +1,14 @@
-/* Capture files: classic pcap (draft-ietf-opsawg-pcap) and pcapng (draft-ietf-opsawg-pcapng), frame by frame. */
+/* Capture files, frame by frame. */
 #ifndef FILE_H
 #define FILE_H
 
 #include "feed.h"
+#include "input.h"
 #include "moment.h"
 
 #include <stdint.h>
 
-enum { FAULT_LEN = 160, EVERY_INTERFACE = -1 };
+enum { EVERY_INTERFACE = -1 };
 
 /* An interface of a section, as its description says. */
 struct described {
@@ -20,22 +21,13 @@ struct described {
 };
 
 struct file {
-    const char *path;
-    int fd;
-    int waits;    /* whether it is no regular file, so a read of it may wait */
+    struct input input;
     int chosen;   /* the number of the interface whose frames are read, or EVERY_INTERFACE */
     int is_found; /* whether some section has the chosen interface */
-    int is_big_endian;
     int is_classic;
     uint32_t nanoseconds_per_unit;
     struct described *interfaces;
     uint32_t count, room;
-    unsigned char *bytes;
-    size_t begin, end, size;
-    uint64_t at; /* the place in the file of the byte at `begin` */
-    void (*before_waiting)(void *); /* called before a read that may wait */
-    void *told;
-    char fault[FAULT_LEN]; /* what is wrong, where a call says so */
 };
 
 /* A frame of a file; a simple packet block has no time. */

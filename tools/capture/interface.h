@@ -20,7 +20,8 @@ struct interface {
     struct feed feed;
     struct pcap_stat drops;
     int64_t next_told;
-    int taken; /* frames since the last wait */
+    int64_t last_wait; /* when it began */
+    int taken; /* frames since then */
     int switched; /* how many switches of the feed were done */
     int is_detached;
     int is_down;

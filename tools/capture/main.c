@@ -124,5 +124,9 @@ int main(int argc, char **argv)
     print_origin(&words.origin, origin);
     if (!words.are_files)
         tell("origin %s", origin);
-    return run_all(works, words.count);
+    status = run_all(works, words.count);
+    free(works);
+    free(words.ways);
+    free(words.prefilters);
+    return status;
 }

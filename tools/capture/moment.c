@@ -97,9 +97,13 @@ int origin_of(const char *word, struct origin *origin)
 
 uint64_t counter_at(nanoseconds moment, const struct origin *origin)
 {
+    static const uint64_t MASK = ((uint64_t)1 << COUNTER_BITS) - 1;
     nanoseconds since = moment - origin->at;
+    /* Mostly so, and a division of 64 bits is a multiplication. */
+    if (since >= 0 && since <= INT64_MAX)
+        return (uint64_t)since / NANOSECONDS_PER_TICK & MASK;
     nanoseconds ticks = since / NANOSECONDS_PER_TICK - (since % NANOSECONDS_PER_TICK < 0);
-    return (uint64_t)ticks & (((uint64_t)1 << COUNTER_BITS) - 1);
+    return (uint64_t)ticks & MASK;
 }
 
 void print_origin(const struct origin *origin, char *text)

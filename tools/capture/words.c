@@ -9,7 +9,15 @@
 #include <string.h>
 #include <unistd.h>
 
-enum { LEAST_BUFFER = 1, MOST_BUFFER = 2047, MOST_INTERFACE = 65535, LINE_LEN = 512 };
+enum {
+    LEAST_BUFFER = 1,
+    USUAL_BUFFER = 256,
+    MOST_BUFFER = 2047,
+    BUFFERS_IN_MEMORY = 16,
+    BYTES_A_MIB = 1 << 20,
+    MOST_INTERFACE = 65535,
+    LINE_LEN = 512,
+};
 
 static const char USAGE[] =
     "usage: capture [OPTION..] INTERFACE=PIPE..\n"
@@ -24,7 +32,8 @@ static const char USAGE[] =
     "  --origin WHEN          the moment at which counters are 0: now (of interfaces, by itself), zero\n"
     "                         (1970-01-01), first (of files, by itself: their first frame), or a time, as\n"
     "                         1764590400.25 or 2025-12-01T12:00:00.25Z\n"
-    "  --buffer MIB           what the kernel keeps of an interface's frames at most: 1 to 2047, by itself 64\n"
+    "  --buffer MIB           what the kernel keeps of an interface's frames at most: 1 to 2047, by itself 256,\n"
+    "                         or a sixteenth of the memory where that is less\n"
     "  --direction WHICH      both (by itself), in, or out: the frames that the host sends\n"
     "  --prefilter INTERFACE=LISTING\n"
     "                         frames that the listed program drops don't leave the kernel: they are neither\n"
@@ -178,10 +187,18 @@ static int read_ways(int count, char **given, struct words *words)
     return status == 0 ? place_prefilters(words) : status;
 }
 
+/* The kernel's buffer in MiB, where no other is given. */
+static int usual_buffer(void)
+{
+    int64_t pages = sysconf(_SC_PHYS_PAGES), page_len = sysconf(_SC_PAGESIZE);
+    int64_t share = pages * page_len / BYTES_A_MIB / BUFFERS_IN_MEMORY;
+    return share >= USUAL_BUFFER ? USUAL_BUFFER : share > LEAST_BUFFER ? (int)share : LEAST_BUFFER;
+}
+
 int read_words(int argc, char **argv, struct words *words, int *is_done)
 {
     int option, has_origin = 0, status = 0;
-    *words = (struct words){.buffer_mib = 64, .interface = EVERY_INTERFACE, .is_promiscuous = 1};
+    *words = (struct words){.buffer_mib = usual_buffer(), .interface = EVERY_INTERFACE, .is_promiscuous = 1};
     *is_done = 0;
     words->ways = calloc((size_t)argc, sizeof *words->ways);
     words->prefilters = calloc((size_t)argc, sizeof *words->prefilters);

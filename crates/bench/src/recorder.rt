@@ -1,7 +1,5 @@
 //! Whole recordings from feeds in memory into an output that keeps nothing.
 
-ghost use Rattle.std.specs.Prelude.{◌≤◌, vec_len, vec_capacity};
-
 use crate::clock::{Clock, Work, print};
 use crate::words::number;
 use anyhow::{Context, Result, bail};
@@ -10,7 +8,7 @@ use bpf_verify::verify;
 use ch11_packet::Limit;
 use eth_frame::{FeedSource, Frame, write_feed};
 use rec_lane::LaneSpec;
-use rec_run::{Change, Control, Job, Told, jobs_ok, record};
+use rec_run::{Change, Control, ControlLog, Job, Told, jobs_ok, record};
 use std::alloc::Global;
 use std::io::{self, Read, Write};
 use std::sync::{Arc, Wait};
@@ -66,29 +64,22 @@ impl Write for Counted {
 /// A control that gives no change.
 #[derive(Drop)]
 struct NoChanges {
-    given: Vec<Change>,
-    told: Vec<Told>,
-    ended: bool,
-    ghost room: { vec_len given ≤ vec_capacity told },
+    log: ControlLog,
 }
 
 impl Control for NoChanges {
-    ghost use Rattle.std.specs.Prelude.{map};
-    ghost use Rattle.rec_run.specs.Changes.{given_of, answered_of};
+    ghost given = { λ c. c.log.given };
 
-    ghost given = { λ c. map given_of c.given.items };
+    ghost answered = { λ c. c.log.answered };
 
-    ghost answered = { λ c. map answered_of c.told.items };
-
-    ghost ended = { λ c. c.ended };
+    ghost ended = { λ c. c.log.ended };
 
     fn next(&mut self) -> Option<Change> {
-        self.ended = true;
-        None
+        self.log.end()
     }
 
     fn told(&mut self, told: &Told) {
-        self.told.push_reserved(*told);
+        self.log.tell(told);
     }
 }
 
@@ -139,9 +130,7 @@ fn run<R: Threads + Wait + Sync>(
         bail!("1 to 64 channels");
     }
     let control = NoChanges {
-        given: Vec::new(alloc),
-        told: Vec::new(alloc),
-        ended: false,
+        log: ControlLog::new(alloc),
     };
     match record(rt, alloc, jobs, 64, 8, control, Counted { bytes: 0 }) {
         Ok(done) => Ok(done.report.bytes),

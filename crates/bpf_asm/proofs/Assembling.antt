@@ -20,7 +20,7 @@ use Rattle.bpf_asm.specs.Denotes.{HaveShapes, Label, labels_from, templates_of, 
 use Rattle.bpf_asm.specs.FirstFault.{in_line, names_of, Once, AreWell, LineBreaks, FaultInLine, AreFollowed, JumpBreaks, Misled, FirstFault, DenotesNone, KeepsSomething}
 use Rattle.bpf_asm.specs.FirstFault.LineBreaks.{InLabels, InInsn, InLength}
 use Rattle.bpf_asm.specs.Views.{insn_data, template_data, jump_data, unlinked_data}
-use Rattle.bpf_asm.specs.Drafts.{cons_numbered, numbered_templates, templates_in, BreaksAmong, label_shape, Ends, IsDraftOf}
+use Rattle.bpf_asm.specs.Drafts.{cons_numbered, numbered_templates, templates_in, BreaksAmong, label_shape, EndsLabels, IsDraftOf}
 use Rattle.bpf_asm.proofs.Readings.{shape_is, shape_read}
 use Rattle.bpf_asm.proofs.ShapeLists.{shapes_length, count, count_append, names_append, names_more, once_front, insns_more}
 use Rattle.bpf_asm.proofs.FirstFaults.{never_both, linked_denotes}
@@ -276,7 +276,7 @@ pub unfollowed : (text : List ℕ) (shapes : List Shape) (draft : Draft) (number
     → IsDraftOf shapes draft → draft.unfollowed ≡ Some number
     → FirstFault text (Syntax number) × DenotesNone text
 unfollowed text shapes draft number shaped h is =
-    let P : Option ℕ → Type 0 = λ o. Ends shapes o in
+    let P : Option ℕ → Type 0 = λ o. EndsLabels shapes o in
     refused text (Syntax number) (inr (inl (record {
       shapes = shapes;
       well = well_so_far (lines_of (without_comments text)) shapes draft shaped h;
@@ -286,7 +286,7 @@ unfollowed text shapes draft number shaped h is =
     })))
 
 pub followed : (shapes : List Shape) (draft : Draft) → IsDraftOf shapes draft → draft.unfollowed ≡ None → AreFollowed shapes
-followed shapes draft h is = let P : Option ℕ → Type 0 = λ o. Ends shapes o in subst P is h.unfollowed
+followed shapes draft h is = let P : Option ℕ → Type 0 = λ o. EndsLabels shapes o in subst P is h.unfollowed
 
 pub line_refused : (text : List ℕ) (fault : AsmFault) → (fault ≡ Memory) ⊎ FaultInLine (lines_of (without_comments text)) fault
     → (fault ≡ Memory) ⊎ (FirstFault text fault × DenotesNone text)

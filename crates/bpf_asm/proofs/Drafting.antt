@@ -17,7 +17,7 @@ use Rattle.bpf_asm.specs.Grammar.{Shape, HasShape}
 use Rattle.bpf_asm.specs.Denotes.{Label, labels_from, index_after}
 use Rattle.bpf_asm.specs.FirstFault.{in_line, names_of, Once, LabelsOnce, LineBreaks, AreFollowed, IsEmpty, Unfollowed}
 use Rattle.bpf_asm.specs.FirstFault.LineBreaks.{InTokens, InLabels, InInsn, InLength}
-use Rattle.bpf_asm.specs.Drafts.{Ends}
+use Rattle.bpf_asm.specs.Drafts.{EndsLabels}
 use Rattle.bpf_asm.proofs.Readings.{shape_is, shape_read, fault_read, fault_is}
 use Rattle.bpf_asm.proofs.ShapeLists.{label_at, count, count_append, labels_more}
 
@@ -198,7 +198,7 @@ no_labels_more : (shapes : List Shape) → labels_from 0 (shapes ++ record { lab
 no_labels_more shapes = labels_more shapes (record { labels = []; insn = None }) ∙ append-nil (labels_from 0 shapes)
 
 -- an empty line changes nothing
-pub ends_empty : (shapes : List Shape) (ending : Option ℕ) → Ends shapes ending → Ends (shapes ++ record { labels = []; insn = None } ∷ []) ending
+pub ends_empty : (shapes : List Shape) (ending : Option ℕ) → EndsLabels shapes ending → EndsLabels (shapes ++ record { labels = []; insn = None } ∷ []) ending
 ends_empty shapes None h =
     let P : List Label → Type 0 = λ ls. All (λ (l : Label). l.at < count (shapes ++ record { labels = []; insn = None } ∷ [])) ls in
     let Q : ℕ → Type 0 = λ n. All (λ (l : Label). l.at < n) (labels_from 0 shapes) in

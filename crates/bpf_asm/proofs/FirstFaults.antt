@@ -18,7 +18,7 @@ use Rattle.bpf_asm.specs.Grammar.{Shape}
 use Rattle.bpf_asm.specs.Denotes.{HaveShapes, Label, labels_from, templates_of, IsInsn, AreInsns, DenotesBy, Denotes}
 use Rattle.bpf_asm.specs.FirstFault.{in_line, names_of, Once, AreWell, LabelsOnce, LineBreaks, FaultInLine, AreFollowed, IsEmpty, Unfollowed, FaultAtEnd, JumpBreaks, Misled, FaultInJump, FirstFaultOf, FirstFault}
 use Rattle.bpf_asm.specs.FirstFault.LineBreaks.{InTokens, InLabels, InInsn, InLength}
-use Rattle.bpf_asm.specs.Drafts.{Ends}
+use Rattle.bpf_asm.specs.Drafts.{EndsLabels}
 use Rattle.bpf_asm.proofs.Programs.{one_shapes}
 use Rattle.bpf_asm.proofs.Readings.{fault_read}
 use Rattle.bpf_asm.proofs.ShapeLists.{Same, Later, two_places, cut_shapes, one_more_shape, label_at, count, count_append, labels_append, templates_append, names_more, once_names, LabelledOnce, labels_once, names_once, insns_length, insn_within, insns_more}
@@ -280,10 +280,10 @@ record Scanned (lines : List (List ℕ)) : Type 0 where
   shapes : List Shape
   well : AreWell lines shapes
   ending : Option ℕ
-  ends : Ends shapes ending
+  ends : EndsLabels shapes ending
 
 abbrev EndsSomehow : List Shape → Type 0
-EndsSomehow shapes = (ending : Option ℕ) × Ends shapes ending
+EndsSomehow shapes = (ending : Option ℕ) × EndsLabels shapes ending
 
 ends_more : (shapes : List Shape) (labels : List (List ℕ)) (insn : Option Template) → EndsSomehow shapes
     → EndsSomehow (shapes ++ record { labels = labels; insn = insn } ∷ [])
@@ -402,7 +402,7 @@ linked_cases : (lines : List (List ℕ)) (shapes : List Shape) → AreWell lines
 linked_cases lines shapes well followed (inl h) = inl (h.0, (shapes, well.shaped, linked_denotes shapes h.0 well.once well.size followed h.1))
 linked_cases lines shapes well followed (inr m) = inr (m.0, inr (inr (record { shapes = shapes; well = well; followed = followed; misled = m.1 })))
 
-ended_cases : (lines : List (List ℕ)) (shapes : List Shape) (ending : Option ℕ) → AreWell lines shapes → Ends shapes ending → DenotesOrBreaks lines
+ended_cases : (lines : List (List ℕ)) (shapes : List Shape) (ending : Option ℕ) → AreWell lines shapes → EndsLabels shapes ending → DenotesOrBreaks lines
 ended_cases lines shapes None well ends = linked_cases lines shapes well ends (link_lines shapes [] shapes [] refl tt)
 ended_cases lines shapes (Some number) well ends =
     inr (Syntax number, inr (inl (record { shapes = shapes; well = well; number = number; labels = ends; reported = refl })))

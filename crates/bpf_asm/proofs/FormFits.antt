@@ -25,12 +25,6 @@ test_unused : (cond : Cond) (src : Src) (k : ℕ) → (src ≡ X → k ≡ 0) �
 test_unused cond K k zero e = cc
 test_unused cond X k zero e = zero refl
 
-by_test : (cond : Cond) (src : Src) (k : ℕ) (holds fails : Option (List ℕ)) (template : Template)
-    → test_template cond src k holds fails ≡ Some template → (src ≡ X → k ≡ 0) → NamesOne holds fails → FitsForm template
-by_test cond src k holds fails template e zero named =
-    fits_so (record { form = form.Test cond src; k = k; jump = Branch holds fails }) template e
-    (record { labels = (holds, fails, refl, named); unused = test_unused cond src k zero })
-
 header_length : (is : Bool) (k : ℕ) (template : Template) → cond is (plain_template form.LdxMsh k) None ≡ Some template → FitsForm template
 header_length true k template e = plain form.LdxMsh k template e refl (λ used. cc)
 header_length false k template e = cc

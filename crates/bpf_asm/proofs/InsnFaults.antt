@@ -10,7 +10,7 @@ use Rattle.bpf_asm.specs.Tokens.Token.{NameToken, NumberToken, SignToken}
 use Rattle.bpf_asm.specs.Operands.{Operand, operand_of}
 use Rattle.bpf_asm.specs.Mnemonics.{mnemonic_of}
 use Rattle.bpf_asm.specs.Templates.{Template, template_of}
-use Rattle.bpf_asm.specs.Lines.{Reading, labels_of, after_labels, insn_of, with_mnemonic, with_shape, insn_or_fault, reading_of}
+use Rattle.bpf_asm.specs.Lines.{Reading, labels_of, after_labels, insn_of_tokens, with_mnemonic, with_shape, insn_or_fault, reading_of}
 use Rattle.bpf_asm.specs.Grammar.{label_tokens}
 use Rattle.bpf_asm.specs.InsnFaults.{IsNoOperand, InsnBreaks, BeginsWithNoLabel, HasInsnFault, fault_reading}
 use Rattle.bpf_asm.specs.InsnFaults.InsnBreaks.{NoName, NoMnemonic, NoOperand, NotTaken}
@@ -57,14 +57,14 @@ no_name : (token : Token) (ts : List Token) (fault : LineFault) → ((name : Lis
 no_name token ts fault other same = breaks_so _ Syntax fault same (NoName token ts other)
 
 -- a fault that is read is the grammar's
-pub breaks_is : (ts : List Token) (fault : LineFault) → insn_of ts ≡ Err fault → InsnBreaks ts fault
+pub breaks_is : (ts : List Token) (fault : LineFault) → insn_of_tokens ts ≡ Err fault → InsnBreaks ts fault
 breaks_is [] fault e = cc
 breaks_is (NumberToken k ∷ ts) fault e = let same : Syntax ≡ fault = cc in no_name (NumberToken k) ts fault (λ name e'. cc) same
 breaks_is (SignToken c ∷ ts) fault e = let same : Syntax ≡ fault = cc in no_name (SignToken c) ts fault (λ name e'. cc) same
 breaks_is (NameToken name ∷ ts) fault e = mnemonic_cases name ts fault (mnemonic_of name) refl e
 
 -- and the other way round
-pub breaks_read : (ts : List Token) (fault : LineFault) → InsnBreaks ts fault → insn_of ts ≡ Err fault
+pub breaks_read : (ts : List Token) (fault : LineFault) → InsnBreaks ts fault → insn_of_tokens ts ≡ Err fault
 breaks_read ts fault (NoName (NameToken name) rest other) = absurd (other name refl)
 breaks_read ts fault (NoName (NumberToken k) rest other) = refl
 breaks_read ts fault (NoName (SignToken c) rest other) = refl
@@ -112,7 +112,7 @@ line_cases line labels fault (Err other) r e = cc
 line_cases line labels fault (Ok tokens) r e =
     let same : read_as tokens ≡ fault_reading labels fault = cc in
     let names : labels_of tokens ≡ labels = ap (λ (x : Reading). x.labels) same in
-    let insn : insn_of (after_labels tokens) ≡ Err fault = ap (λ (x : Reading). x.insn) same in (
+    let insn : insn_of_tokens (after_labels tokens) ≡ Err fault = ap (λ (x : Reading). x.insn) same in (
       after_labels tokens,
       r ∙ ap Ok (labels_split tokens ∙ ap (λ ns. label_tokens ns ++ after_labels tokens) names),
       past_labels tokens,
@@ -131,6 +131,6 @@ pub line_breaks_read : (line : List ℕ) (labels : List (List ℕ)) (fault : Lin
 unfolding NoLabel
 line_breaks_read line labels fault h =
     let both = labels_back labels h.0 (no_label h.0 h.2) in
-    ap (λ (r : Result (List Token) LineFault). r >>= λ tokens. Ok (record { labels = labels_of tokens; insn = insn_of (after_labels tokens) })) h.1
-    ∙ (ap (λ ns. Ok (record { labels = ns; insn = insn_of (after_labels (label_tokens labels ++ h.0)) })) both.0
-    ∙ ap (λ i. Ok (record { labels = labels; insn = i })) (ap insn_of both.1 ∙ breaks_read h.0 fault h.3))
+    ap (λ (r : Result (List Token) LineFault). r >>= λ tokens. Ok (record { labels = labels_of tokens; insn = insn_of_tokens (after_labels tokens) })) h.1
+    ∙ (ap (λ ns. Ok (record { labels = ns; insn = insn_of_tokens (after_labels (label_tokens labels ++ h.0)) })) both.0
+    ∙ ap (λ i. Ok (record { labels = labels; insn = i })) (ap insn_of_tokens both.1 ∙ breaks_read h.0 fault h.3))

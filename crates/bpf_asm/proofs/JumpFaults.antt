@@ -10,7 +10,7 @@ use Rattle.bpf_asm.specs.declared.fault.AsmFault.TheVariants.{LabelMissing, Back
 use Rattle.bpf_insn.specs.Forms.{code_of}
 use Rattle.bpf_asm.specs.Templates.{Template, Jump}
 use Rattle.bpf_asm.specs.Templates.Jump.{NoJump, Always, Branch}
-use Rattle.bpf_asm.specs.Denotes.{Label, Leads, Branches, HasFields, IsInsn}
+use Rattle.bpf_asm.specs.Denotes.{Label, Leads, BranchesToLabels, HasJumpFields, IsInsn}
 use Rattle.bpf_asm.specs.FirstFault.{LabelBreaks, TargetBreaks, JumpBreaks}
 use Rattle.bpf_asm.specs.FirstFault.LabelBreaks.{Missing, Back}
 use Rattle.bpf_asm.proofs.Programs.{one_index}
@@ -28,14 +28,14 @@ leads_well labels at number name offset fault once leads (Back target there back
     absurd (omega (arith, same, back))
 
 target_well : (labels : List Label) (at number : ℕ) (target : Option (List ℕ)) (offset : ℕ) (fault : AsmFault) → LabelledOnce labels
-    → Branches labels at target offset → TargetBreaks labels at number target fault → ⊥
+    → BranchesToLabels labels at target offset → TargetBreaks labels at number target fault → ⊥
 target_well labels at number None offset fault once leads breaks = breaks
 target_well labels at number (Some name) offset fault once leads (inl breaks) = leads_well labels at number name offset fault once leads.1 breaks
 target_well labels at number (Some name) offset fault once leads (inr far) =
     let same : at + 1 + offset ≡ at + 1 + far.0.0 = one_index labels name (at + 1 + offset) (at + 1 + far.0.0) once leads.1 far.0.1 in
     absurd (omega (arith, same, leads.0, far.0.2))
 
-fields_well : (labels : List Label) (at number k : ℕ) (jump : Jump) (insn : Insn) (fault : AsmFault) → LabelledOnce labels → HasFields labels at jump k insn
+fields_well : (labels : List Label) (at number k : ℕ) (jump : Jump) (insn : Insn) (fault : AsmFault) → LabelledOnce labels → HasJumpFields labels at jump k insn
     → JumpBreaks labels at number jump fault → ⊥
 fields_well labels at number k NoJump insn fault once fields breaks = breaks
 fields_well labels at number k (Always name) insn fault once fields breaks = leads_well labels at number name insn.k fault once fields.2 breaks
@@ -119,7 +119,7 @@ label_step labels at number name = label_cases labels at number name (find_label
 
 abbrev BranchesOrBreaks : List Label → ℕ → ℕ → Option (List ℕ) → Type 0
 BranchesOrBreaks labels at number target =
-    ((offset : ℕ) × Branches labels at target offset) ⊎ ((fault : AsmFault) × TargetBreaks labels at number target fault)
+    ((offset : ℕ) × BranchesToLabels labels at target offset) ⊎ ((fault : AsmFault) × TargetBreaks labels at number target fault)
 
 offset_cases : (labels : List Label) (at number : ℕ) (name : List ℕ) (offset : ℕ) → Leads labels at name offset → (255 < offset) ⊎ (offset ≤ 255)
     → BranchesOrBreaks labels at number (Some name)
@@ -136,7 +136,7 @@ target_step labels at number (Some name) = target_cases labels at number name (l
 
 abbrev FieldsOrBreaks : List Label → ℕ → ℕ → ℕ → ℕ → Jump → Type 0
 FieldsOrBreaks labels at number code k jump =
-    ((insn : Insn) × (insn.code ≡ code) × HasFields labels at jump k insn) ⊎ ((fault : AsmFault) × JumpBreaks labels at number jump fault)
+    ((insn : Insn) × (insn.code ≡ code) × HasJumpFields labels at jump k insn) ⊎ ((fault : AsmFault) × JumpBreaks labels at number jump fault)
 
 always_cases : (labels : List Label) (at number code k : ℕ) (name : List ℕ) → LeadsOrBreaks labels at number name
     → FieldsOrBreaks labels at number code k (Always name)

@@ -3,8 +3,8 @@ use Rattle.std.proofs.Common.{ℕ, suc, ◌+◌, ◌≡◌, ◌⊎◌, inl, inr,
 use Rattle.std.specs.List.{prefix_len, before_first}
 use Rattle.std.specs.Char.{is_ascii_digit}
 use Rattle.std.proofs.lemmas.Bool.{cases_Bool, cases_eq, both_ways, ne_eqb, and_right, or_from, or_left, or_cases, and_parts, and_from}
-use Rattle.bpf_asm.specs.Blanked.{is_line_feed, begins_with, closing_len, outside_byte, slash_byte, without_comments_from, with_first}
-use Rattle.bpf_asm.specs.Tokens.{is_blank, is_word, are_joined, joined_len, lexemes}
+use Rattle.bpf_asm.specs.Blanked.{is_line_feed, begins_with, closing_len, outside_byte, slash_byte, without_comments_from, with_first_byte}
+use Rattle.bpf_asm.specs.Tokens.{is_text_blank, is_word, are_joined, joined_len, lexemes}
 
 -- the first line of bytes, the first of which, this many, belong to a comment
 abbrev pub line : ℕ → List ℕ → List ℕ
@@ -24,7 +24,7 @@ pub line_more : (b : ℕ) (bs : List ℕ) → (b ≡ 10 → ⊥) → before_firs
 line_more b bs ne = let e : eqb b 10 ≡ false = ne_eqb b 10 ne in rw e (take_more _ _ _)
 
 -- a blank in front makes no difference
-pub blank_more : (b : ℕ) (bs : List ℕ) → (b ≡ 10 → ⊥) → is_blank b ≡ true
+pub blank_more : (b : ℕ) (bs : List ℕ) → (b ≡ 10 → ⊥) → is_text_blank b ≡ true
     → lexemes (before_first is_line_feed (b ∷ bs)) ≡ lexemes (before_first is_line_feed bs)
 blank_more b bs ne e = rw (line_more b bs ne) (rw e refl)
 
@@ -79,13 +79,13 @@ word_joins : (b c : ℕ) (bs : List ℕ) → are_joined b (c ∷ bs) ≡ true �
 word_joins b c bs e (inl words) = (and_parts _ _ words).1
 word_joins b c bs e (inr minus) = digit_word c (and_parts _ _ minus).1
 
-pub single : (b : ℕ) (bs : List ℕ) → is_blank b ≡ false → are_joined b bs ≡ false → lexemes (b ∷ bs) ≡ (b ∷ []) ∷ lexemes bs
+pub single : (b : ℕ) (bs : List ℕ) → is_text_blank b ≡ false → are_joined b bs ≡ false → lexemes (b ∷ bs) ≡ (b ∷ []) ∷ lexemes bs
 single b bs solid apart = rw (solid, apart) refl
 
-pub joined : (b : ℕ) (bs : List ℕ) → is_blank b ≡ false → are_joined b bs ≡ true → lexemes (b ∷ bs) ≡ with_first b (lexemes bs)
+pub joined : (b : ℕ) (bs : List ℕ) → is_text_blank b ≡ false → are_joined b bs ≡ true → lexemes (b ∷ bs) ≡ with_first_byte b (lexemes bs)
 joined b bs solid together = rw (solid, together) refl
 
-pub word_solid : (b : ℕ) → is_word b ≡ true → is_blank b ≡ false
+pub word_solid : (b : ℕ) → is_word b ≡ true → is_text_blank b ≡ false
 word_solid b e =
     or_from _ _ (or_from _ _ (ne_eqb b 32 (apart is_word b 32 e refl)) (ne_eqb b 9 (apart is_word b 9 e refl))) (ne_eqb b 13 (apart is_word b 13 e refl))
 
@@ -95,7 +95,7 @@ word_rest : (b c : ℕ) (bs : List ℕ) → is_word b ≡ true
     → lexemes (b ∷ line 0 (c ∷ bs)) ≡ (b ∷ take (prefix_len is_word (c ∷ bs)) (c ∷ bs)) ∷ lexemes (line 0 (drop (prefix_len is_word (c ∷ bs)) (c ∷ bs)))
 word_rest b c bs e rest (inl word) =
     let together : are_joined b (c ∷ line 0 bs) ≡ true = or_left _ _ (and_from _ _ e word) in
-    let first = ap (λ l. lexemes (b ∷ l)) (word_line c bs word) ∙ (joined b (c ∷ line 0 bs) (word_solid b e) together ∙ ap (with_first b) (rest word)) in
+    let first = ap (λ l. lexemes (b ∷ l)) (word_line c bs word) ∙ (joined b (c ∷ line 0 bs) (word_solid b e) together ∙ ap (with_first_byte b) (rest word)) in
     first ∙ rw word (rw (take_more, drop_more) refl)
 word_rest b c bs e rest (inr other) =
     single b (line 0 (c ∷ bs)) (word_solid b e) (joins_none b (line 0 (c ∷ bs)) (other_line c bs other)) ∙ rw other refl
@@ -106,13 +106,13 @@ word_lexeme : (b : ℕ) (bs : List ℕ) → is_word b ≡ true
 word_lexeme b [] e = single b [] (word_solid b e) refl
 word_lexeme b (c ∷ bs) e = word_rest b c bs e (word_lexeme c bs) (cases_Bool (is_word c))
 
-joined_lexeme : (b : ℕ) (bs : List ℕ) → is_blank b ≡ false → are_joined b bs ≡ true
+joined_lexeme : (b : ℕ) (bs : List ℕ) → is_text_blank b ≡ false → are_joined b bs ≡ true
     → lexemes (b ∷ line 0 bs) ≡ (b ∷ take (prefix_len is_word bs) bs) ∷ lexemes (line 0 (drop (prefix_len is_word bs) bs))
 joined_lexeme b [] solid e = cc
 joined_lexeme b (c ∷ bs) solid e =
     let word : is_word c ≡ true = word_joins b c bs e (or_cases _ _ e) in
     ap (λ l. lexemes (b ∷ l)) (word_line c bs word) ∙
-    (joined b (c ∷ line 0 bs) solid e ∙ (ap (with_first b) (word_lexeme c bs word) ∙ rw word (rw (take_more, drop_more) refl)))
+    (joined b (c ∷ line 0 bs) solid e ∙ (ap (with_first_byte b) (word_lexeme c bs word) ∙ rw word (rw (take_more, drop_more) refl)))
 
 -- a byte outside comments is joined to the next one of the line where it is joined to the next one of the text
 same_cases : (b c : ℕ) (bs : List ℕ) → are_joined b (c ∷ bs) ≡ false → (is_word c ≡ true) ⊎ (is_word c ≡ false) → are_joined b (line 0 (c ∷ bs)) ≡ false
@@ -131,7 +131,7 @@ alone : (b m : ℕ) (bs : List ℕ) → ((b ≡ 47 → ⊥) → m ≡ 0) → are
 alone b m bs outside e (inl slash) = ap (λ c. are_joined c (line m bs)) slash ∙ slash_alone (line m bs)
 alone b m bs outside e (inr other) = ap (λ k. are_joined b (line k bs)) (outside other) ∙ same_joins b bs e
 
-first_cases : (b m n : ℕ) (bs : List ℕ) → is_blank b ≡ false → ((b ≡ 47 → ⊥) → m ≡ 0) → n ≡ joined_len b bs
+first_cases : (b m n : ℕ) (bs : List ℕ) → is_text_blank b ≡ false → ((b ≡ 47 → ⊥) → m ≡ 0) → n ≡ joined_len b bs
     → (are_joined b bs ≡ true) ⊎ (are_joined b bs ≡ false)
     → lexemes (b ∷ line m bs) ≡ (b ∷ take n bs) ∷ lexemes (line m (drop n bs))
 first_cases b m n bs solid outside is (inl e) =
@@ -143,6 +143,6 @@ first_cases b m n bs solid outside is (inr e) =
     rw long (single b (line m bs) solid (alone b m bs outside e (cases_eq b 47)))
 
 -- a line that begins with this byte, which is no blank, has these bytes as its first token
-pub first_lexeme : (b m n : ℕ) (bs : List ℕ) → is_blank b ≡ false → ((b ≡ 47 → ⊥) → m ≡ 0) → n ≡ joined_len b bs
+pub first_lexeme : (b m n : ℕ) (bs : List ℕ) → is_text_blank b ≡ false → ((b ≡ 47 → ⊥) → m ≡ 0) → n ≡ joined_len b bs
     → lexemes (b ∷ line m bs) ≡ (b ∷ take n bs) ∷ lexemes (line m (drop n bs))
 first_lexeme b m n bs solid outside is = first_cases b m n bs solid outside is (cases_Bool (are_joined b bs))

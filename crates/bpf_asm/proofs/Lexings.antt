@@ -2,8 +2,8 @@
 use Rattle.std.proofs.Common.{ℕ, zero, suc, ◌≡◌, ◌≤◌, ◌⊎◌, inl, inr, true, false, ◌&&◌, eqb, List, [], ◌∷◌, ◌++◌, length, refl, sym, ◌∙◌, ap, arith, subst, length-append}
 use Rattle.std.specs.Char.{is_ascii_digit}
 use Rattle.std.proofs.lemmas.Bool.{cases_Bool, eqb-true, eq-eqb, both_ways, and_left, and_right, and_from, or_from, or_left}
-use Rattle.bpf_asm.specs.Blanked.{with_first}
-use Rattle.bpf_asm.specs.Tokens.{is_blank, is_word, are_joined, lexemes}
+use Rattle.bpf_asm.specs.Blanked.{with_first_byte}
+use Rattle.bpf_asm.specs.Tokens.{is_text_blank, is_word, are_joined, lexemes}
 use Rattle.bpf_asm.specs.Lexing.{IsWords, NoWordFirst, NoDigitFirst, Spells}
 use Rattle.bpf_asm.specs.Lexing.Spells.{Nothing, Blank, Word, Minus, Single}
 use Rattle.bpf_asm.proofs.Lexemes.{digit_word, joins_none, single, joined, word_solid}
@@ -12,11 +12,11 @@ run_word : (b : ℕ) (word rest : List ℕ) → is_word b ≡ true → IsWords w
 run_word b [] rest e words none = single b rest (word_solid b e) (joins_none b rest none)
 run_word b (c ∷ word) rest e words none =
     let together : are_joined b (c ∷ (word ++ rest)) ≡ true = or_left _ _ (and_from _ _ e words.0) in
-    joined b (c ∷ (word ++ rest)) (word_solid b e) together ∙ ap (with_first b) (run_word c word rest words.0 words.1 none)
+    joined b (c ∷ (word ++ rest)) (word_solid b e) together ∙ ap (with_first_byte b) (run_word c word rest words.0 words.1 none)
 
 run_minus : (d : ℕ) (word rest : List ℕ) → is_ascii_digit d ≡ true → IsWords word → NoWordFirst rest
     → lexemes (45 ∷ d ∷ (word ++ rest)) ≡ (45 ∷ d ∷ word) ∷ lexemes rest
-run_minus d word rest e words none = joined 45 (d ∷ (word ++ rest)) refl e ∙ ap (with_first 45) (run_word d word rest (digit_word d e) words none)
+run_minus d word rest e words none = joined 45 (d ∷ (word ++ rest)) refl e ∙ ap (with_first_byte 45) (run_word d word rest (digit_word d e) words none)
 
 minus_cases : (b c : ℕ) (rest : List ℕ) → (b ≡ 45 → is_ascii_digit c ≡ false) → (eqb b 45 ≡ true) ⊎ (eqb b 45 ≡ false)
     → (eqb b 45 && is_ascii_digit c) ≡ false
@@ -81,12 +81,12 @@ minus_spelled c bs shorter e =
     subst P (sym d.whole) (so _ _ _ (run_minus c d.word d.rest e d.words d.none)
     (Minus c d.word d.rest (lexemes d.rest) e d.words d.none (shorter d.rest short)))
 
-single_spelled : (b : ℕ) (bs : List ℕ) → Shorter (length bs) → is_blank b ≡ false → is_word b ≡ false → (b ≡ 45 → NoDigitFirst bs)
+single_spelled : (b : ℕ) (bs : List ℕ) → Shorter (length bs) → is_text_blank b ≡ false → is_word b ≡ false → (b ≡ 45 → NoDigitFirst bs)
     → Spells (b ∷ bs) (lexemes (b ∷ bs))
 single_spelled b bs shorter solid other minus =
     so _ _ _ (single b bs solid (apart_from b bs other minus)) (Single b bs (lexemes bs) solid other minus (shorter bs (omega arith)))
 
-digit_cases : (b c : ℕ) (bs : List ℕ) → Shorter (suc (length bs)) → is_blank b ≡ false → is_word b ≡ false → (eqb b 45 ≡ true) ⊎ (eqb b 45 ≡ false)
+digit_cases : (b c : ℕ) (bs : List ℕ) → Shorter (suc (length bs)) → is_text_blank b ≡ false → is_word b ≡ false → (eqb b 45 ≡ true) ⊎ (eqb b 45 ≡ false)
     → (is_ascii_digit c ≡ true) ⊎ (is_ascii_digit c ≡ false) → Spells (b ∷ c ∷ bs) (lexemes (b ∷ c ∷ bs))
 digit_cases b c bs shorter solid other (inl minus) (inl digit) =
     let P : ℕ → Type 0 = λ x. Spells (x ∷ c ∷ bs) (lexemes (x ∷ c ∷ bs)) in
@@ -94,11 +94,11 @@ digit_cases b c bs shorter solid other (inl minus) (inl digit) =
 digit_cases b c bs shorter solid other (inl minus) (inr none) = single_spelled b (c ∷ bs) shorter solid other (λ _. none)
 digit_cases b c bs shorter solid other (inr fails) digit = single_spelled b (c ∷ bs) shorter solid other (λ e. absurd (both_ways _ fails (eq-eqb b 45 e)))
 
-other_spelled : (b : ℕ) (bs : List ℕ) → Shorter (length bs) → is_blank b ≡ false → is_word b ≡ false → Spells (b ∷ bs) (lexemes (b ∷ bs))
+other_spelled : (b : ℕ) (bs : List ℕ) → Shorter (length bs) → is_text_blank b ≡ false → is_word b ≡ false → Spells (b ∷ bs) (lexemes (b ∷ bs))
 other_spelled b [] shorter solid other = single_spelled b [] shorter solid other (λ _. tt)
 other_spelled b (c ∷ bs) shorter solid other = digit_cases b c bs shorter solid other (cases_Bool _) (cases_Bool _)
 
-begin_cases : (b : ℕ) (bs : List ℕ) → Shorter (length bs) → (is_blank b ≡ true) ⊎ (is_blank b ≡ false) → (is_word b ≡ true) ⊎ (is_word b ≡ false)
+begin_cases : (b : ℕ) (bs : List ℕ) → Shorter (length bs) → (is_text_blank b ≡ true) ⊎ (is_text_blank b ≡ false) → (is_word b ≡ true) ⊎ (is_word b ≡ false)
     → Spells (b ∷ bs) (lexemes (b ∷ bs))
 begin_cases b bs shorter (inl blank) word = so _ _ (lexemes bs) (rw blank refl) (Blank b bs (lexemes bs) blank (shorter bs (omega arith)))
 begin_cases b bs shorter (inr solid) (inl word) = word_spelled b bs shorter word

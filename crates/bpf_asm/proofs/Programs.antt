@@ -9,7 +9,7 @@ use Rattle.bpf_asm.specs.Templates.{Template, Jump}
 use Rattle.bpf_asm.specs.Templates.Jump.{NoJump, Always, Branch}
 use Rattle.bpf_asm.specs.Grammar.{Shape}
 use Rattle.bpf_asm.proofs.Readings.{one_shape}
-use Rattle.bpf_asm.specs.Denotes.{HaveShapes, Label, labels_from, templates_of, Leads, Branches, HasFields, AreInsns, DenotesBy, Denotes}
+use Rattle.bpf_asm.specs.Denotes.{HaveShapes, Label, labels_from, templates_of, Leads, BranchesToLabels, HasJumpFields, AreInsns, DenotesBy, Denotes}
 
 -- lines have one list of shapes
 pub one_shapes : (lines : List (List ℕ)) (ss ts : List Shape) → HaveShapes lines ss → HaveShapes lines ts → ss ≡ ts
@@ -53,7 +53,7 @@ one_index labels name p q once h k = index_cases labels name p q once h k (cases
 one_offset : (labels : List Label) (at : ℕ) (name : List ℕ) (a b : ℕ) → Once labels → Leads labels at name a → Leads labels at name b → a ≡ b
 one_offset labels at name a b once h k = let e = one_index labels name (at + 1 + a) (at + 1 + b) once h k in omega arith
 
-one_branch : (labels : List Label) (at : ℕ) (target : Option (List ℕ)) (a b : ℕ) → Once labels → Branches labels at target a → Branches labels at target b
+one_branch : (labels : List Label) (at : ℕ) (target : Option (List ℕ)) (a b : ℕ) → Once labels → BranchesToLabels labels at target a → BranchesToLabels labels at target b
     → a ≡ b
 one_branch labels at None a b once h k = h ∙ sym k
 one_branch labels at (Some name) a b once h k = one_offset labels at name a b once h.1 k.1
@@ -65,8 +65,8 @@ insn_same i j code jt jf k =
     ∙ (ap (λ x. record { code = j.code; jt = j.jt; jf = x; k = i.k }) jf
     ∙ ap (λ x. record { code = j.code; jt = j.jt; jf = j.jf; k = x }) k))
 
-one_insn_by : (labels : List Label) (at code k : ℕ) (jump : Jump) (i j : Insn) → Once labels → i.code ≡ code → j.code ≡ code → HasFields labels at jump k i
-    → HasFields labels at jump k j → i ≡ j
+one_insn_by : (labels : List Label) (at code k : ℕ) (jump : Jump) (i j : Insn) → Once labels → i.code ≡ code → j.code ≡ code → HasJumpFields labels at jump k i
+    → HasJumpFields labels at jump k j → i ≡ j
 one_insn_by labels at code k NoJump i j once c d h g = insn_same i j (c ∙ sym d) (h.0 ∙ sym g.0) (h.1 ∙ sym g.1) (h.2 ∙ sym g.2)
 one_insn_by labels at code k (Always name) i j once c d h g =
     insn_same i j (c ∙ sym d) (h.0 ∙ sym g.0) (h.1 ∙ sym g.1) (one_offset labels at name i.k j.k once h.2 g.2)

@@ -8,7 +8,7 @@ use Rattle.bpf_asm.specs.Tokens.Token.{NameToken, NumberToken, SignToken}
 use Rattle.bpf_asm.specs.Operands.{Operand, operand_of}
 use Rattle.bpf_asm.specs.Mnemonics.{mnemonic_of}
 use Rattle.bpf_asm.specs.Templates.{Template, template_of}
-use Rattle.bpf_asm.specs.Lines.{Reading, labels_of, after_labels, insn_of, with_mnemonic, with_shape, insn_or_fault, reading_of}
+use Rattle.bpf_asm.specs.Lines.{Reading, labels_of, after_labels, insn_of_tokens, with_mnemonic, with_shape, insn_or_fault, reading_of}
 use Rattle.bpf_asm.specs.Grammar.{WritesInsn, WritesInsnOrNone, label_tokens, Shape, HasShape}
 use Rattle.bpf_asm.proofs.Shapes.{operand_is, operand_read}
 
@@ -92,22 +92,22 @@ mnemonic_cases name ts insn None m e = cc
 mnemonic_cases name ts insn (Some mnemonic) m e = operand_cases name ts insn mnemonic (operand_of ts) m refl e
 
 -- an instruction that is read is written so
-insn_is : (ts : List Token) (insn : Option Template) → insn_of ts ≡ Ok insn → WritesInsnOrNone insn ts
+insn_is : (ts : List Token) (insn : Option Template) → insn_of_tokens ts ≡ Ok insn → WritesInsnOrNone insn ts
 insn_is [] insn e = let P : Option Template → Type 0 = λ i. WritesInsnOrNone i [] in let same : None ≡ insn = cc in subst P same refl
 insn_is (NumberToken k ∷ ts) insn e = cc
 insn_is (SignToken c ∷ ts) insn e = cc
 insn_is (NameToken name ∷ ts) insn e = mnemonic_cases name ts insn (mnemonic_of name) refl e
 
 -- an instruction is read as it is written
-insn_read : (insn : Option Template) (ts : List Token) → WritesInsnOrNone insn ts → insn_of ts ≡ Ok insn
-insn_read None ts h = ap insn_of h
+insn_read : (insn : Option Template) (ts : List Token) → WritesInsnOrNone insn ts → insn_of_tokens ts ≡ Ok insn
+insn_read None ts h = ap insn_of_tokens h
 insn_read (Some template) ts h =
-    ap insn_of h.tokens ∙ (ap (λ m. with_mnemonic m h.operand_tokens) h.known ∙
+    ap insn_of_tokens h.tokens ∙ (ap (λ m. with_mnemonic m h.operand_tokens) h.known ∙
     (ap (with_shape h.mnemonic) (operand_read h.operand h.operand_tokens h.written) ∙ ap insn_or_fault h.taken))
 
 -- what a line with these tokens reads as
 unfoldable pub read_as : List Token → Reading
-read_as tokens = record { labels = labels_of tokens; insn = insn_of (after_labels tokens) }
+read_as tokens = record { labels = labels_of tokens; insn = insn_of_tokens (after_labels tokens) }
 
 reading_cases : (line : List ℕ) (shape : Shape) (r : Result (List Token) LineFault) → line_tokens line ≡ r
     → (r >>= λ tokens. Ok (read_as tokens)) ≡ Ok (record { labels = shape.labels; insn = Ok shape.insn }) → HasShape line shape
@@ -117,7 +117,7 @@ reading_cases line shape (Ok tokens) r e =
     let want : Reading = record { labels = shape.labels; insn = Ok shape.insn } in
     let same : read_as tokens ≡ want = cc in
     let labels : labels_of tokens ≡ shape.labels = ap (λ (x : Reading). x.labels) same in
-    let insn : insn_of (after_labels tokens) ≡ Ok shape.insn = ap (λ (x : Reading). x.insn) same in (
+    let insn : insn_of_tokens (after_labels tokens) ≡ Ok shape.insn = ap (λ (x : Reading). x.insn) same in (
       after_labels tokens,
       r ∙ ap Ok (labels_split tokens ∙ ap (λ ns. label_tokens ns ++ after_labels tokens) labels),
       insn_is
@@ -134,9 +134,9 @@ pub shape_read : (line : List ℕ) (shape : Shape) → HasShape line shape → r
 unfolding NoLabel
 shape_read line shape h =
     let both = labels_back shape.labels h.0 (no_label shape.insn h.0 h.2) in
-    ap (λ (r : Result (List Token) LineFault). r >>= λ tokens. Ok (record { labels = labels_of tokens; insn = insn_of (after_labels tokens) })) h.1
-    ∙ (ap (λ ns. Ok (record { labels = ns; insn = insn_of (after_labels (label_tokens shape.labels ++ h.0)) })) both.0
-    ∙ ap (λ i. Ok (record { labels = shape.labels; insn = i })) (ap insn_of both.1 ∙ insn_read shape.insn h.0 h.2))
+    ap (λ (r : Result (List Token) LineFault). r >>= λ tokens. Ok (record { labels = labels_of tokens; insn = insn_of_tokens (after_labels tokens) })) h.1
+    ∙ (ap (λ ns. Ok (record { labels = ns; insn = insn_of_tokens (after_labels (label_tokens shape.labels ++ h.0)) })) both.0
+    ∙ ap (λ i. Ok (record { labels = shape.labels; insn = i })) (ap insn_of_tokens both.1 ∙ insn_read shape.insn h.0 h.2))
 
 -- a fault of a line's tokens is what the line reads as
 pub fault_read : (line : List ℕ) (fault : LineFault) → line_tokens line ≡ Err fault → reading_of line ≡ Err fault

@@ -18,7 +18,7 @@ use Rattle.bpf_asm.specs.Grammar.{Shape}
 use Rattle.bpf_asm.specs.Denotes.{Label, labels_from, templates_of}
 use Rattle.bpf_asm.specs.FirstFault.{names_of, Once}
 use Rattle.bpf_asm.specs.Views.{template_data, unlinked_data}
-use Rattle.bpf_asm.specs.Drafts.{index_in, IsTableOf, cons_numbered, numbered_templates, label_shape, Ends, IsDraftOf}
+use Rattle.bpf_asm.specs.Drafts.{index_in, IsTableOf, cons_numbered, numbered_templates, label_shape, EndsLabels, IsDraftOf}
 use Rattle.bpf_asm.proofs.ShapeLists.{label_at, label_names, labels_more, names_more, count}
 use Rattle.bpf_asm.proofs.Drafting.{more_none, more_some, ends_insn, ends_labels, ends_empty}
 
@@ -130,7 +130,7 @@ draft_label shapes names name line index draft table at is h none set =
     let missing : All (λ l. l.name ≢ name) (labels_from 0 ss) = table_missing (labels_from 0 ss) draft.labels name h.labels none in
     let here : index ≡ count shapes = is ∙ (h.counted ∙ more_none shapes names) in
     let T : List Label → Type 0 = λ ls. IsTableOf ls table in
-    let L : ℕ → Type 0 = λ n. Ends (shapes ++ label_shape (names ++ name ∷ []) ∷ []) (Some n) in
+    let L : ℕ → Type 0 = λ n. EndsLabels (shapes ++ label_shape (names ++ name ∷ []) ∷ []) (Some n) in
     record {
       insns = h.insns ∙ (numbered_append 1 shapes (label_shape names ∷ []) ∙ sym (numbered_append 1 shapes (label_shape (names ++ name ∷ []) ∷ [])));
       counted = h.counted ∙ (more_none shapes names ∙ sym (more_none shapes (names ++ name ∷ [])));
@@ -178,7 +178,7 @@ draft_insn shapes names line insn draft new at is room h pushed long labels none
     let line_is : insn.line ≡ 1 + length shapes = omega (arith, at, is) in
     let T : LabelTable → Type 0 = λ table. IsTableOf (labels_from 0 (shapes ++ s ∷ [])) table in
     let L : List Label → Type 0 = λ ls. IsTableOf ls draft.labels in
-    let E : Option ℕ → Type 0 = λ o. Ends (shapes ++ s ∷ []) o in
+    let E : Option ℕ → Type 0 = λ o. EndsLabels (shapes ++ s ∷ []) o in
     let N : List (List ℕ) → Type 0 = λ ns. Once ns in
     record {
       insns = ap (map unlinked_data) pushed ∙ (map-append unlinked_data draft.insns.items (insn ∷ [])

@@ -55,11 +55,11 @@ abbrev pub without_comments : List ℕ → List ℕ
 without_comments text = without_comments_from 0 text
 
 -- the lines, where the first has one more byte in front
-abbrev pub with_first : ℕ → List (List ℕ) → List (List ℕ)
-with_first b [] = (b ∷ []) ∷ []
-with_first b (line ∷ lines) = (b ∷ line) ∷ lines
+abbrev pub with_first_byte : ℕ → List (List ℕ) → List (List ℕ)
+with_first_byte b [] = (b ∷ []) ∷ []
+with_first_byte b (line ∷ lines) = (b ∷ line) ∷ lines
 
 -- the lines, which line feeds separate
 abbrev pub lines_of : List ℕ → List (List ℕ)
 lines_of [] = [] ∷ []
-lines_of (b ∷ bs) = if is_line_feed b then [] ∷ lines_of bs else with_first b (lines_of bs)
+lines_of (b ∷ bs) = if is_line_feed b then [] ∷ lines_of bs else with_first_byte b (lines_of bs)

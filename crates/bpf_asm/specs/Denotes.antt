@@ -41,22 +41,22 @@ abbrev pub Leads : List Label → ℕ → List ℕ → ℕ → Type 0
 Leads labels at name offset = Contains labels (record { name = name; at = at + 1 + offset })
 
 -- the offset of a test's label, which is a byte; a label that is left out is the next instruction
-abbrev pub Branches : List Label → ℕ → Option (List ℕ) → ℕ → Type 0
-Branches labels at None offset = offset ≡ 0
-Branches labels at (Some name) offset = (offset ≤ 255) × Leads labels at name offset
+abbrev pub BranchesToLabels : List Label → ℕ → Option (List ℕ) → ℕ → Type 0
+BranchesToLabels labels at None offset = offset ≡ 0
+BranchesToLabels labels at (Some name) offset = (offset ≤ 255) × Leads labels at name offset
 
 -- the fields of the instruction with this index: those that it doesn't use are 0
-abbrev pub HasFields : List Label → ℕ → Jump → ℕ → Insn → Type 0
-HasFields labels at NoJump k insn = (insn.jt ≡ 0) × (insn.jf ≡ 0) × (insn.k ≡ k)
-HasFields labels at (Always name) k insn =
+abbrev pub HasJumpFields : List Label → ℕ → Jump → ℕ → Insn → Type 0
+HasJumpFields labels at NoJump k insn = (insn.jt ≡ 0) × (insn.jf ≡ 0) × (insn.k ≡ k)
+HasJumpFields labels at (Always name) k insn =
     (insn.jt ≡ 0) × (insn.jf ≡ 0) × Leads labels at name insn.k
-HasFields labels at (Branch holds fails) k insn =
-    Branches labels at holds insn.jt × Branches labels at fails insn.jf × (insn.k ≡ k)
+HasJumpFields labels at (Branch holds fails) k insn =
+    BranchesToLabels labels at holds insn.jt × BranchesToLabels labels at fails insn.jf × (insn.k ≡ k)
 
 -- the instruction with this index is the one that its line says
 abbrev pub IsInsn : List Label → ℕ → Template → Insn → Type 0
 IsInsn labels at template insn =
-    (insn.code ≡ code_of template.form) × HasFields labels at template.jump template.k insn
+    (insn.code ≡ code_of template.form) × HasJumpFields labels at template.jump template.k insn
 
 -- so is each instruction from this index on
 abbrev pub AreInsns : List Label → ℕ → List Template → List Insn → Type 0

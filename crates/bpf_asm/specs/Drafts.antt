@@ -13,7 +13,7 @@ use Rattle.bpf_asm.specs.declared.draft.Draft.{Draft}
 use Rattle.bpf_asm.specs.declared.draft.Unlinked.{Unlinked}
 use Rattle.bpf_asm.specs.Templates.{Template}
 use Rattle.bpf_asm.specs.Grammar.{Shape, HasShape}
-use Rattle.bpf_asm.specs.Denotes.{Label, HaveShapes, labels_from, templates_of, Leads, Branches, IsInsn, AreInsns}
+use Rattle.bpf_asm.specs.Denotes.{Label, HaveShapes, labels_from, templates_of, Leads, BranchesToLabels, IsInsn, AreInsns}
 use Rattle.bpf_asm.specs.FirstFault.{names_of, Once, AreFollowed, Unfollowed, LineBreaks, FaultInLine, LabelBreaks, TargetBreaks, JumpBreaks}
 use Rattle.bpf_asm.specs.Views.{template_data, jump_data, unlinked_data}
 
@@ -63,16 +63,16 @@ abbrev pub label_shape : List (List ℕ) → Shape
 label_shape names = record { labels = names; insn = None }
 
 -- where the last labels stand, if no instruction follows them
-abbrev pub Ends : List Shape → Option ℕ → Type 0
-Ends shapes None = AreFollowed shapes
-Ends shapes (Some number) = Unfollowed shapes number
+abbrev pub EndsLabels : List Shape → Option ℕ → Type 0
+EndsLabels shapes None = AreFollowed shapes
+EndsLabels shapes (Some number) = Unfollowed shapes number
 
 -- the draft of lines with these shapes
 pub record IsDraftOf (shapes : List Shape) (draft : Draft) : Type 0 where
   pub insns : map unlinked_data draft.insns.items ≡ numbered_templates 1 shapes
   pub counted : vec_len draft.insns ≡ length (templates_of shapes)
   pub labels : IsTableOf (labels_from 0 shapes) draft.labels
-  pub unfollowed : Ends shapes draft.unfollowed
+  pub unfollowed : EndsLabels shapes draft.unfollowed
   pub once : Once (names_of shapes)
   pub size : length (templates_of shapes) ≤ MAX_INSNS
 
@@ -148,7 +148,7 @@ LinksInsn table at insn result =
 abbrev pub LinksTarget : LabelTable → ℕ → ℕ → Option (List ℕ) → Result ℕ AsmFault → Type 0
 LinksTarget table at number target result =
     (labels : List Label) → IsTableOf labels table
-    → MatchResult result (Branches labels at target) (TargetBreaks labels at number target)
+    → MatchResult result (BranchesToLabels labels at target) (TargetBreaks labels at number target)
 
 -- the offset from the instruction with this index to a label, or the label's fault
 abbrev pub LinksLabel : LabelTable → ℕ → ℕ → List ℕ → Result ℕ AsmFault → Type 0

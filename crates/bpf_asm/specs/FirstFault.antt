@@ -16,7 +16,7 @@ use Rattle.bpf_asm.specs.Templates.{Template, Jump}
 use Rattle.bpf_asm.specs.Templates.Jump.{NoJump, Always, Branch}
 use Rattle.bpf_asm.specs.Lines.{Reading, reading_of}
 use Rattle.bpf_asm.specs.Grammar.{Shape}
-use Rattle.bpf_asm.specs.Denotes.{HaveShapes, Label, labels_from, templates_of, Leads, Branches, AreInsns, Denotes}
+use Rattle.bpf_asm.specs.Denotes.{HaveShapes, Label, labels_from, templates_of, Leads, BranchesToLabels, AreInsns, Denotes}
 
 -- a fault of one line, in the line with this number
 abbrev pub in_line : ℕ → LineFault → AsmFault
@@ -127,7 +127,7 @@ JumpBreaks labels at number NoJump fault = ⊥
 JumpBreaks labels at number (Always name) fault = LabelBreaks labels at number name fault
 JumpBreaks labels at number (Branch holds fails) fault =
     TargetBreaks labels at number holds fault
-    ⊎ (((offset : ℕ) × Branches labels at holds offset)
+    ⊎ (((offset : ℕ) × BranchesToLabels labels at holds offset)
     × TargetBreaks labels at number fails fault)
 
 -- a jump names a label with a fault, and the instructions before it are those of the table

@@ -1,7 +1,7 @@
 -- The tokens of a line, said by how the line is put together from them.
 use Rattle.std.specs.Prelude.{ℕ, ◌≡◌, true, false, List, [], ◌∷◌, ◌++◌}
 use Rattle.std.specs.Char.{is_ascii_digit}
-use Rattle.bpf_asm.specs.Tokens.{is_blank, is_word}
+use Rattle.bpf_asm.specs.Tokens.{is_text_blank, is_word}
 
 -- letters, digits and _ alone
 abbrev pub IsWords : List ℕ → Type 0
@@ -23,7 +23,7 @@ pub data Spells : List ℕ → List (List ℕ) → Type 0 where
   -- nothing
   Nothing : Spells [] []
   -- a blank, and the rest
-  Blank : (b : ℕ) (rest : List ℕ) (lexemes : List (List ℕ)) → is_blank b ≡ true
+  Blank : (b : ℕ) (rest : List ℕ) (lexemes : List (List ℕ)) → is_text_blank b ≡ true
       → Spells rest lexemes → Spells (b ∷ rest) lexemes
   -- a letter, a digit or _, with all of them that follow, and the rest
   Word : (b : ℕ) (word rest : List ℕ) (lexemes : List (List ℕ)) → is_word b ≡ true
@@ -34,6 +34,6 @@ pub data Spells : List ℕ → List (List ℕ) → Type 0 where
       → IsWords word → NoWordFirst rest → Spells rest lexemes
       → Spells (45 ∷ d ∷ (word ++ rest)) ((45 ∷ d ∷ word) ∷ lexemes)
   -- any other byte by itself, a minus only where no digit follows it
-  Single : (b : ℕ) (rest : List ℕ) (lexemes : List (List ℕ)) → is_blank b ≡ false
+  Single : (b : ℕ) (rest : List ℕ) (lexemes : List (List ℕ)) → is_text_blank b ≡ false
       → is_word b ≡ false → (b ≡ 45 → NoDigitFirst rest) → Spells rest lexemes
       → Spells (b ∷ rest) ((b ∷ []) ∷ lexemes)

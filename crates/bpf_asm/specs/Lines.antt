@@ -36,10 +36,10 @@ with_mnemonic None ts = Err UnknownMnemonic
 with_mnemonic (Some mnemonic) ts = with_shape mnemonic (operand_of ts)
 
 -- the instruction that tokens without labels are, none where there are no tokens, or their first fault
-abbrev pub insn_of : List Token → Result (Option Template) LineFault
-insn_of [] = Ok None
-insn_of (NameToken name ∷ ts) = with_mnemonic (mnemonic_of name) ts
-insn_of ts = Err Syntax
+abbrev pub insn_of_tokens : List Token → Result (Option Template) LineFault
+insn_of_tokens [] = Ok None
+insn_of_tokens (NameToken name ∷ ts) = with_mnemonic (mnemonic_of name) ts
+insn_of_tokens ts = Err Syntax
 
 -- what a line whose tokens have no fault reads as: its labels, and then its instruction if it has one, or a fault
 pub record Reading : Type 0 where
@@ -50,4 +50,4 @@ pub record Reading : Type 0 where
 abbrev pub reading_of : List ℕ → Result Reading LineFault
 reading_of line = do
   tokens ← line_tokens line
-  Ok (record { labels = labels_of tokens; insn = insn_of (after_labels tokens) })
+  Ok (record { labels = labels_of tokens; insn = insn_of_tokens (after_labels tokens) })

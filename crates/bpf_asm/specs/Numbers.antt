@@ -34,9 +34,9 @@ after_zero (b ∷ bs) =
     numeral 8 4294967295 (b ∷ bs)
 
 -- the number that a spelling says; None where the spelling is no number, or one past 32 bits
-abbrev pub number_of : List ℕ → Option ℕ
-number_of [] = None
-number_of (b ∷ bs) =
+abbrev pub spelled_number : List ℕ → Option ℕ
+spelled_number [] = None
+spelled_number (b ∷ bs) =
     if b == 45 then option_map negative_of (numeral 10 2147483648 bs) else
     if b == 48 then after_zero bs else
     numeral 10 4294967295 (b ∷ bs)

@@ -4,8 +4,8 @@ use Rattle.std.specs.Char.{is_ascii_digit, is_ascii_alphanumeric}
 use Rattle.std.specs.List.{list_any, prefix_len}
 use Rattle.bpf_asm.specs.declared.fault.LineFault.{LineFault}
 use Rattle.bpf_asm.specs.declared.fault.LineFault.TheVariants.{Syntax, Number}
-use Rattle.bpf_asm.specs.Blanked.{with_first}
-use Rattle.bpf_asm.specs.Numbers.{number_of}
+use Rattle.bpf_asm.specs.Blanked.{with_first_byte}
+use Rattle.bpf_asm.specs.Numbers.{spelled_number}
 
 -- a name, the number that a spelling says, or one of the signs
 pub data Token : Type 0 where
@@ -14,8 +14,8 @@ pub data Token : Type 0 where
   SignToken : ℕ → Token
 
 -- a space, a tab or a carriage return
-abbrev pub is_blank : ℕ → Bool
-is_blank b = b == 32 || b == 9 || b == 13
+abbrev pub is_text_blank : ℕ → Bool
+is_text_blank b = b == 32 || b == 9 || b == 13
 
 -- a letter, a digit or _
 abbrev pub is_word : ℕ → Bool
@@ -38,8 +38,8 @@ joined_len b bs = if are_joined b bs then prefix_len is_word bs else 0
 abbrev pub lexemes : List ℕ → List (List ℕ)
 lexemes [] = []
 lexemes (b ∷ bs) =
-    if is_blank b then lexemes bs else
-    if are_joined b bs then with_first b (lexemes bs) else
+    if is_text_blank b then lexemes bs else
+    if are_joined b bs then with_first_byte b (lexemes bs) else
     (b ∷ []) ∷ lexemes bs
 
 -- it begins with a digit, or with a minus before a digit
@@ -55,7 +55,7 @@ number_token None = Err Number
 abbrev pub token_of : List ℕ → Result Token LineFault
 token_of [] = Err Syntax
 token_of (b ∷ bs) =
-    if is_number b bs then number_token (number_of (b ∷ bs)) else
+    if is_number b bs then number_token (spelled_number (b ∷ bs)) else
     if is_word b then Ok (NameToken (b ∷ bs)) else
     if is_sign b then Ok (SignToken b) else
     Err Syntax

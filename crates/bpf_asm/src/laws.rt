@@ -12,7 +12,7 @@ ghost use Rattle.bpf_asm.specs.Comments.{Blanks};
 ghost use Rattle.bpf_asm.specs.Lexing.{Spells};
 ghost use Rattle.bpf_asm.specs.Tokens.{Token, lexemes};
 ghost use Rattle.bpf_asm.specs.Operands.{Operand, operand_of};
-ghost use Rattle.bpf_asm.specs.Lines.{insn_of, reading_of};
+ghost use Rattle.bpf_asm.specs.Lines.{insn_of_tokens, reading_of};
 ghost use Rattle.bpf_asm.specs.Templates.{Template, FitsForm};
 ghost use Rattle.bpf_asm.specs.Grammar.{IsOperand, WritesInsn, Shape, HasShape, shape_reading};
 ghost use Rattle.bpf_asm.specs.InsnFaults.{InsnBreaks, HasInsnFault, fault_reading};
@@ -66,7 +66,7 @@ pub fn lines_are_read_by_the_grammar()
 /// one that the grammar has.
 pub fn faults_of_instructions_are_those_of_the_grammar()
     ensures insn { (tokens : List Token) (fault : LineFault) →
-        (insn_of tokens ≡ Err fault) ↔ InsnBreaks tokens fault }
+        (insn_of_tokens tokens ≡ Err fault) ↔ InsnBreaks tokens fault }
     ensures line { (line : List ℕ) (labels : List (List ℕ)) (fault : LineFault) →
         (reading_of line ≡ Ok (fault_reading labels fault)) ↔ HasInsnFault line labels fault }
 {}

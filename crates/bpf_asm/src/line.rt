@@ -1,7 +1,7 @@
 //! A line: its labels, and then its instruction or the first fault.
 
 ghost use Rattle.std.specs.Prelude.{◌≡◌, ◌<◌, [], ◌∷◌, Ok, Err, Some, MatchOption, MatchResult, IfSome};
-ghost use Rattle.bpf_asm.specs.Lines.{labels_of, after_labels, insn_of, reading_of};
+ghost use Rattle.bpf_asm.specs.Lines.{labels_of, after_labels, insn_of_tokens, reading_of};
 ghost use Rattle.bpf_asm.specs.Views.{byte_count, line_in, lines_in, tokens_in, labels_in, insn_data, reading_data};
 
 use crate::fault::LineFault;
@@ -68,7 +68,7 @@ pub(crate) fn next_label(labels: Labels<'_>) -> Option<(&[u8], Labels<'_>)>
 
 /// The instruction that the first line's tokens are, without labels.
 fn read_insn(text: Text<'_>) -> Result<Option<Template<'_>>, LineFault>
-    ensures { insn_data result ≡ insn_of (tokens_in text.entry) }
+    ensures { insn_data result ≡ insn_of_tokens (tokens_in text.entry) }
 {
     let Some((first, rest)) = next_token(text) else {
         return Ok(None);

@@ -1,7 +1,7 @@
 //! The number that a spelling says.
 
 ghost use Rattle.std.specs.Prelude.{◌≡◌, ◌≤◌, ◌<◌};
-ghost use Rattle.bpf_asm.specs.Numbers.{number_of, after_zero, numeral, digits_number, negative_of};
+ghost use Rattle.bpf_asm.specs.Numbers.{spelled_number, after_zero, numeral, digits_number, negative_of};
 
 /// The greatest number after a minus.
 const MINUS_MAX: u32 = 2_147_483_648;
@@ -10,7 +10,7 @@ const MINUS_MAX: u32 = 2_147_483_648;
 /// hexadecimal after `0x`, binary after `0b`, or octal after `0`. `None` where the spelling is no
 /// number, or one past 32 bits, or past 2^31 after a minus.
 pub(crate) fn read_number(spelling: &[u8]) -> Option<u32>
-    ensures { result ≡ number_of spelling.now }
+    ensures { result ≡ spelled_number spelling.now }
 {
     let (first, rest) = spelling.split_first()?;
     match *first {

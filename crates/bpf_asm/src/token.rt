@@ -4,7 +4,7 @@ ghost use Rattle.std.specs.Prelude.{◌≡◌, ◌≢◌, ◌+◌, ◌≤◌, �
 ghost use Rattle.std.specs.List.{prefix_len};
 ghost use Rattle.std.specs.Option.{option_map};
 ghost use Rattle.bpf_asm.specs.Operands.{after_sign, first_number, first_name};
-ghost use Rattle.bpf_asm.specs.Tokens.{is_blank, is_word, is_sign, are_joined, joined_len, token_of, line_tokens, lexemes};
+ghost use Rattle.bpf_asm.specs.Tokens.{is_text_blank, is_word, is_sign, are_joined, joined_len, token_of, line_tokens, lexemes};
 ghost use Rattle.bpf_asm.specs.Views.{byte_count, lexemes_in, line_in, tokens_in, token_data, number_and_rest, name_and_rest};
 
 use crate::fault::LineFault;
@@ -129,7 +129,7 @@ fn next_solid(text: Text<'_>) -> Option<(&[u8], u8, Text<'_>)>
     ensures found { MatchOption result
         (lexemes_in text.entry ≡ [])
         (λ r. lexemes_in text.entry ≡ lexemes (r.1 ∷ line_in r.2)) }
-    ensures solid { IfSome result (λ r. is_blank r.1 ≡ false) }
+    ensures solid { IfSome result (λ r. is_text_blank r.1 ≡ false) }
     ensures bytes { IfSome result (λ r. r.0.now ≡ r.1 ∷ r.2.bytes.now) }
     ensures outside { IfSome result (λ r. r.1 ≢ 47 → r.2.commented ≡ 0) }
     ensures shorter { IfSome result (λ r. length r.0.now ≤ byte_count text.entry) }
@@ -179,7 +179,7 @@ fn are_joined(byte: u8, bytes: &[u8]) -> bool
 
 /// A space, a tab or a carriage return.
 fn is_blank(byte: u8) -> bool
-    ensures { result ≡ is_blank byte }
+    ensures { result ≡ is_text_blank byte }
 {
     matches!(byte, b' ' | b'\t' | b'\r')
 }

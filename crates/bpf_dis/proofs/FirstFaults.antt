@@ -7,7 +7,7 @@ use Rattle.bpf_insn.specs.Flow.{FormJumpsOut, JumpsOut}
 use Rattle.bpf_insn.specs.Forms.{form}
 use Rattle.bpf_dis.specs.declared.fault.DisFault.{DisFault}
 use Rattle.bpf_dis.specs.declared.fault.DisFault.TheVariants.{NoForm, JumpOut, Memory}
-use Rattle.bpf_dis.specs.Faults.{UnusedAreZero, FormIsSaid, IsSaid, AreSaidBefore, HasText, IsFaultOf, FormHasFault}
+use Rattle.bpf_dis.specs.Faults.{UnusedAreZero, FormIsSaid, IsSaid, AreSaidBefore, HasText, IsTextFaultOf, FormHasFault}
 use Rattle.bpf_dis.proofs.ProgramTexts.{same_insn}
 
 -- an instruction of this form that can be said and stays inside
@@ -33,12 +33,12 @@ here_out program at insn stands out =
 -- the fault of an instruction before which there is none is the program's
 pub fault_is : (program : List Insn) (at : ℕ) (insn : Insn) (fault : DisFault) → slice_get program at ≡ Some insn → at < length program
     → AreSaidBefore program at
-    → FormHasFault (length program) (form insn.code) at insn fault → IsFaultOf program fault
+    → FormHasFault (length program) (form insn.code) at insn fault → IsTextFaultOf program fault
 fault_is program at insn (NoForm index) stands below before has =
-    let P : ℕ → Type 0 = λ p. IsFaultOf program (NoForm p) in
+    let P : ℕ → Type 0 = λ p. IsTextFaultOf program (NoForm p) in
     subst P (sym has.0) (below, before, λ said. has.1 (here_said program at insn stands said))
 fault_is program at insn (JumpOut index) stands below before has =
-    let P : ℕ → Type 0 = λ p. IsFaultOf program (JumpOut p) in
+    let P : ℕ → Type 0 = λ p. IsTextFaultOf program (JumpOut p) in
     subst P (sym has.0) (below, before, (insn, stands, has.1), (insn, stands, has.2))
 fault_is program at insn Memory stands below before has = absurd has
 
@@ -56,7 +56,7 @@ inside_at program at insn f text below stands formed =
     subst P (sym formed) (λ out. (text at below).1 (insn, stands, out))
 
 -- a program that has a text has no fault
-pub no_fault : (program : List Insn) (fault : DisFault) → HasText program → IsFaultOf program fault → ⊥
+pub no_fault : (program : List Insn) (fault : DisFault) → HasText program → IsTextFaultOf program fault → ⊥
 no_fault program (NoForm at) text h = h.2 (text at h.0).0
 no_fault program (JumpOut at) text h = (text at h.0).1 h.3
 no_fault program Memory text h = h
@@ -72,7 +72,7 @@ one_index program at index before here earlier there (inr (inl below)) = absurd 
 one_index program at index before here earlier there (inr (inr above)) = absurd (there (before index above))
 
 -- a program has one fault at most
-pub one_fault : (program : List Insn) (f g : DisFault) → IsFaultOf program f → IsFaultOf program g → f ≡ g
+pub one_fault : (program : List Insn) (f g : DisFault) → IsTextFaultOf program f → IsTextFaultOf program g → f ≡ g
 one_fault program (NoForm at) (NoForm index) h k =
     ap NoForm (one_index program at index h.1 (λ both. h.2 both.0) k.1 (λ both. k.2 both.0) (cases_order at index))
 one_fault program (NoForm at) (JumpOut index) h k =

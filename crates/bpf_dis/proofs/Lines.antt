@@ -6,7 +6,7 @@ use Rattle.std.proofs.lemmas.List.Folds.{list_all-append}
 use Rattle.bpf_insn.specs.declared.insn.Insn.{Insn}
 use Rattle.bpf_insn.specs.declared.form.Form.{Form}
 use Rattle.bpf_insn.specs.declared.form.Form.TheVariants.{LdImm}
-use Rattle.bpf_asm.specs.Blanked.{without_comments_from, outside_byte, with_first, lines_of}
+use Rattle.bpf_asm.specs.Blanked.{without_comments_from, outside_byte, with_first_byte, lines_of}
 use Rattle.bpf_asm.specs.Tokens.Token.{NameToken}
 use Rattle.bpf_asm.specs.Templates.{Template}
 use Rattle.bpf_asm.specs.Templates.Jump.{NoJump}
@@ -53,7 +53,7 @@ line_first [] rest h = refl
 line_first (b ∷ line) rest h =
     let both = and_parts (is_kept b) (list_all is_kept line) h in
     let other : eqb b 10 ≡ false = not-true (eqb b 10) (and_parts (not (eqb b 10)) (is_shown b) both.0).0 in
-    rw other (ap (with_first b) (line_first line rest both.1))
+    rw other (ap (with_first_byte b) (line_first line rest both.1))
 
 -- the label of a line, where it has one
 abbrev pub line_labels : Bool → ℕ → List (List ℕ)

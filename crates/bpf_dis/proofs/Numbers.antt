@@ -7,7 +7,7 @@ use Rattle.std.proofs.lemmas.Fmt.{decimal_is_IsNumeral, decimal_digit, first_dec
 use Rattle.std.proofs.lemmas.Str.Parse.{digit_from_value}
 use Rattle.bpf_asm.specs.Tokens.{token_of, number_token}
 use Rattle.bpf_asm.specs.Tokens.Token.{NumberToken}
-use Rattle.bpf_asm.specs.Numbers.{are_digits, number_of}
+use Rattle.bpf_asm.specs.Numbers.{are_digits, spelled_number}
 use Rattle.bpf_dis.proofs.Words.{AreWords, digit_word}
 
 digit_is : (b : ℕ) (bs : List ℕ) → AllDigits 10 (b ∷ bs) → is_ascii_digit b ≡ true
@@ -22,14 +22,14 @@ digits_are [] h = refl
 digits_are (b ∷ bs) h = and_from _ _ (lt-ltb _ 10 h.0) (digits_are bs h.1)
 
 -- digits, a first one that isn't 0, and their value
-number_read : (b : ℕ) (bs : List ℕ) (n : ℕ) → AllDigits 10 (b ∷ bs) → 48 < b → digits_value 10 (b ∷ bs) ≡ n → n ≤ 4294967295 → number_of (b ∷ bs) ≡ Some n
+number_read : (b : ℕ) (bs : List ℕ) (n : ℕ) → AllDigits 10 (b ∷ bs) → 48 < b → digits_value 10 (b ∷ bs) ≡ n → n ≤ 4294967295 → spelled_number (b ∷ bs) ≡ Some n
 number_read b bs n digits first value within =
     let minus : eqb b 45 ≡ false = ne_eqb b 45 (λ e. absurd (omega (arith, e, first))) in
     let zero_ : eqb b 48 ≡ false = ne_eqb b 48 (λ e. absurd (omega (arith, e, first))) in
     let small : leb (digits_value 10 (b ∷ bs)) 4294967295 ≡ true = le-leb _ _ (omega (arith, value, within)) in
     rw (minus, zero_) (rw (digits_are (b ∷ bs) digits, small) (ap Some value))
 
-number_is : (b : ℕ) (bs : List ℕ) (n : ℕ) → AllDigits 10 (b ∷ bs) → number_of (b ∷ bs) ≡ Some n → token_of (b ∷ bs) ≡ Ok (NumberToken n)
+number_is : (b : ℕ) (bs : List ℕ) (n : ℕ) → AllDigits 10 (b ∷ bs) → spelled_number (b ∷ bs) ≡ Some n → token_of (b ∷ bs) ≡ Ok (NumberToken n)
 number_is b [] n digits e = rw (digit_is b [] digits) (ap number_token e)
 number_is b (c ∷ bs) n digits e = rw (digit_is b (c ∷ bs) digits) (ap number_token e)
 

@@ -4,7 +4,7 @@ use Rattle.std.specs.Char.{is_ascii_digit}
 use Rattle.std.specs.List.{list_all}
 use Rattle.std.proofs.lemmas.Bool.{and_parts, and_from, both_ways, not-true}
 use Rattle.std.proofs.lemmas.List.Folds.{list_all-append}
-use Rattle.bpf_asm.specs.Tokens.{Token, is_blank, is_word, is_sign, lexemes, token_of, tokens_of, line_tokens}
+use Rattle.bpf_asm.specs.Tokens.{Token, is_text_blank, is_word, is_sign, lexemes, token_of, tokens_of, line_tokens}
 use Rattle.bpf_asm.specs.Tokens.Token.{NameToken, NumberToken, SignToken}
 use Rattle.bpf_asm.specs.Lexing.{NoWordFirst}
 use Rattle.bpf_dis.proofs.Words.{AreWords, word_apart, word_lexeme, sign_lexeme}
@@ -34,7 +34,7 @@ is_kept b = not (eqb b 10) && (not (eqb b 59) && not (eqb b 47))
 
 -- a sign that is a token by itself whatever stands beside it
 abbrev pub is_lone : ℕ → Bool
-is_lone c = is_sign c && (not (is_blank c) && (not (is_word c) && (not (is_ascii_digit c) && (not (eqb c 45) && is_kept c))))
+is_lone c = is_sign c && (not (is_text_blank c) && (not (is_word c) && (not (is_ascii_digit c) && (not (eqb c 45) && is_kept c))))
 
 -- letters, digits and _ that spell a token
 abbrev pub IsWordOf : List ℕ → Token → Type 0
@@ -56,7 +56,7 @@ lexemes_of (Space ∷ ps) = lexemes_of ps
 -- What a sign by itself is.
 record Lone (c : ℕ) : Type 0 where
   sign : is_sign c ≡ true
-  solid : is_blank c ≡ false
+  solid : is_text_blank c ≡ false
   other : is_word c ≡ false
   digit : is_ascii_digit c ≡ false
   minus : eqb c 45 ≡ false

@@ -15,7 +15,7 @@ use Rattle.bpf_insn.specs.declared.form.Cond.{Cond}
 use Rattle.bpf_insn.specs.declared.form.Cond.TheVariants.{Eq, Gt, Ge, Set}
 use Rattle.bpf_insn.specs.Bytes.{InRange}
 use Rattle.bpf_insn.specs.Flow.{jump_targets}
-use Rattle.bpf_asm.specs.Denotes.{Label, HasFields}
+use Rattle.bpf_asm.specs.Denotes.{Label, HasJumpFields}
 use Rattle.bpf_dis.specs.Faults.{UnusedAreZero}
 use Rattle.bpf_insn.specs.Mnemonics.{load_name, op_name, cond_name}
 use Rattle.bpf_insn.specs.Uses.{uses_k}
@@ -271,7 +271,7 @@ EachKnown labels (target ∷ targets) = Contains labels (label_at target) × Eac
 -- the fields are those that the text says, the others 0
 pub fields : (f : Form) (labels : List Label) (at : ℕ) (insn : Insn) → UnusedAreZero f insn → insn.jt ≤ 255 → insn.jf ≤ 255
     → EachKnown labels (jump_targets (Some f) insn at)
-    → HasFields labels at (form_template f at insn).jump (form_template f at insn).k insn
+    → HasJumpFields labels at (form_template f at insn).jump (form_template f at insn).k insn
 fields LdImm labels at insn z t f known = ((z.1 refl).0, (z.1 refl).1, refl)
 fields (LdAbs size) labels at insn z t f known = ((z.1 refl).0, (z.1 refl).1, refl)
 fields (LdInd size) labels at insn z t f known = ((z.1 refl).0, (z.1 refl).1, refl)

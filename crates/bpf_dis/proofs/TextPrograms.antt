@@ -16,7 +16,7 @@ use Rattle.bpf_asm.specs.Tokens.{Token}
 use Rattle.bpf_asm.specs.Templates.{Template, Jump, NamesOne, NamesLabels, FitsForm}
 use Rattle.bpf_asm.specs.Templates.Jump.{NoJump, Always, Branch}
 use Rattle.bpf_asm.specs.Grammar.{Shape, WritesInsn, WritesInsnOrNone}
-use Rattle.bpf_asm.specs.Denotes.{Label, HaveShapes, labels_from, templates_of, Leads, Branches, HasFields, IsInsn, AreInsns, Denotes}
+use Rattle.bpf_asm.specs.Denotes.{Label, HaveShapes, labels_from, templates_of, Leads, BranchesToLabels, HasJumpFields, IsInsn, AreInsns, Denotes}
 use Rattle.bpf_dis.specs.Faults.{UnusedAreZero, FormIsSaid, HasText}
 use Rattle.bpf_dis.proofs.FirstFaults.{said_inside, here_out}
 
@@ -51,14 +51,14 @@ target_below : (n : ℕ) (labels : List Label) (at : ℕ) (name : List ℕ) (off
 target_below n labels at name offset within leads =
     All-contains (λ (label : Label). label.at < n) labels (record { name = name; at = at + 1 + offset }) within leads
 
-branch_below : (n : ℕ) (labels : List Label) (at : ℕ) (target : Option (List ℕ)) (offset : ℕ) → AreWithin n labels → Branches labels at target offset
+branch_below : (n : ℕ) (labels : List Label) (at : ℕ) (target : Option (List ℕ)) (offset : ℕ) → AreWithin n labels → BranchesToLabels labels at target offset
     → at + 1 < n → at + 1 + offset < n
 branch_below n labels at None offset within is next = omega (arith, is, next)
 branch_below n labels at (Some name) offset within leads next = target_below n labels at name offset within leads.1
 
 -- an instruction follows a test, since it names a label
 next_below : (n : ℕ) (labels : List Label) (at : ℕ) (holds fails : Option (List ℕ)) (jt jf : ℕ) → AreWithin n labels → NamesOne holds fails
-    → Branches labels at holds jt → Branches labels at fails jf → at + 1 < n
+    → BranchesToLabels labels at holds jt → BranchesToLabels labels at fails jf → at + 1 < n
 next_below n labels at None None jt jf within named h f = absurd named
 next_below n labels at (Some name) fails jt jf within named h f = let below = target_below n labels at name jt within h.1 in omega (arith, below)
 next_below n labels at None (Some name) jt jf within named h f = let below = target_below n labels at name jf within f.1 in omega (arith, below)
@@ -72,18 +72,18 @@ abbrev IsInside : ℕ → Form → ℕ → Insn → Type 0
 IsInside n f at insn = UnusedAreZero f insn × ¬ FormJumpsOut n (Some f) insn at
 
 test_inside : (n : ℕ) (labels : List Label) (cond : Cond) (src : Src) (at k : ℕ) (holds fails : Option (List ℕ)) (insn : Insn) → AreWithin n labels
-    → NamesOne holds fails → (uses_k (Test cond src) ≡ false → k ≡ 0) → HasFields labels at (Branch holds fails) k insn → IsInside n (Test cond src) at insn
+    → NamesOne holds fails → (uses_k (Test cond src) ≡ false → k ≡ 0) → HasJumpFields labels at (Branch holds fails) k insn → IsInside n (Test cond src) at insn
 test_inside n labels cond src at k holds fails insn within named unused h =
     let next = next_below n labels at holds fails insn.jt insn.jf within named h.0 h.1 in
     let jt = branch_below n labels at holds insn.jt within h.0 next in
     let jf = branch_below n labels at fails insn.jf within h.1 next in
     ((λ e. h.2 ∙ unused e, λ e. cc), λ out. one_below n _ _ out.0 jt jf out.1 out.2)
 
-fields_so : (labels : List Label) (at k : ℕ) (jump other : Jump) (insn : Insn) → jump ≡ other → HasFields labels at jump k insn → HasFields labels at other k insn
-fields_so labels at k jump other insn e h = let P : Jump → Type 0 = λ j. HasFields labels at j k insn in subst P e h
+fields_so : (labels : List Label) (at k : ℕ) (jump other : Jump) (insn : Insn) → jump ≡ other → HasJumpFields labels at jump k insn → HasJumpFields labels at other k insn
+fields_so labels at k jump other insn e h = let P : Jump → Type 0 = λ j. HasJumpFields labels at j k insn in subst P e h
 
 form_inside : (n : ℕ) (labels : List Label) (f : Form) (at k : ℕ) (jump : Jump) (insn : Insn) → AreWithin n labels → NamesLabels f jump
-    → (uses_k f ≡ false → k ≡ 0) → HasFields labels at jump k insn → IsInside n f at insn
+    → (uses_k f ≡ false → k ≡ 0) → HasJumpFields labels at jump k insn → IsInside n f at insn
 form_inside n labels Ja at k jump insn within named unused h =
     let fields = fields_so labels at k jump (Always named.0) insn named.1 h in
     let below = target_below n labels at named.0 insn.k within fields.2 in

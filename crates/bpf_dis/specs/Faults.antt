@@ -33,12 +33,12 @@ abbrev pub HasText : List Insn → Type 0
 HasText program = AreSaidBefore program (length program)
 
 -- the program has no text for this fault: the first instruction that can't be said or jumps out
-abbrev pub IsFaultOf : List Insn → DisFault → Type 0
-IsFaultOf program (NoForm at) =
+abbrev pub IsTextFaultOf : List Insn → DisFault → Type 0
+IsTextFaultOf program (NoForm at) =
     (at < length program) × AreSaidBefore program at × ¬ IsSaid program at
-IsFaultOf program (JumpOut at) =
+IsTextFaultOf program (JumpOut at) =
     (at < length program) × AreSaidBefore program at × IsSaid program at × JumpsOut program at
-IsFaultOf program Memory = ⊥
+IsTextFaultOf program Memory = ⊥
 
 -- an instruction of this form, with this index in a program of `len`, has this fault
 abbrev pub FormHasFault : ℕ → Option Form → ℕ → Insn → DisFault → Type 0

@@ -4,7 +4,7 @@ ghost use Rattle.std.specs.Prelude.{◌≡◌, ◌↔◌, ◌<◌, ◌^◌, All,
 ghost use Rattle.bpf_insn.specs.Bytes.{InRange, AreInRange};
 ghost use Rattle.bpf_insn.specs.Flow.{FormJumpsOut};
 ghost use Rattle.bpf_insn.specs.Forms.{form};
-ghost use Rattle.bpf_dis.specs.Faults.{UnusedAreZero, FormIsSaid, HasText, IsFaultOf, FormHasFault};
+ghost use Rattle.bpf_dis.specs.Faults.{UnusedAreZero, FormIsSaid, HasText, IsTextFaultOf, FormHasFault};
 
 use crate::fault::DisFault;
 use bpf_insn::{Form, Insn, form_of, jumps_out, uses_distances, uses_k};
@@ -13,7 +13,7 @@ use bpf_insn::{Form, Insn, form_of, jumps_out, uses_distances, uses_k};
 pub(crate) fn first_fault(program: &[Insn]) -> Option<DisFault>
     ensures fault { MatchOption result
         (HasText program.now)
-        (λ fault. IsFaultOf program.now fault) }
+        (λ fault. IsTextFaultOf program.now fault) }
     ensures range { IfNone result (AreInRange program.now) }
 {
     'insns: for at in 0..program.len() {

@@ -4,7 +4,7 @@ ghost use Rattle.std.specs.Prelude.{◌≡◌, ◌≤◌, ◌<◌, ◌⊎◌, le
 ghost use Rattle.bpf_insn.specs.declared.insn.TheConstants.{MAX_INSNS};
 ghost use Rattle.bpf_asm.specs.Denotes.{Denotes};
 ghost use Rattle.bpf_dis.specs.declared.fault.DisFault.{DisFault};
-ghost use Rattle.bpf_dis.specs.Faults.{HasText, IsFaultOf};
+ghost use Rattle.bpf_dis.specs.Faults.{HasText, IsTextFaultOf};
 ghost use Rattle.bpf_dis.specs.ProgramText.{program_text};
 
 use crate::check::first_fault;
@@ -28,8 +28,8 @@ pub fn text_of(alloc: Global, program: &[Insn]) -> Result<String, DisFault>
     // At Ok and at each fault: only memory depends on more than the program.
     ensures fault { MatchResult result
         (λ _. HasText program.now)
-        (λ fault. (fault ≡ DisFault.Memory) ⊎ IsFaultOf program.now fault) }
-    ensures first { (fault : DisFault) → IsFaultOf program.now fault → IsErrOf result fault }
+        (λ fault. (fault ≡ DisFault.Memory) ⊎ IsTextFaultOf program.now fault) }
+    ensures first { (fault : DisFault) → IsTextFaultOf program.now fault → IsErrOf result fault }
     // Out of memory: only for a program that has a text, and an instruction.
     ensures memory { IfErr result (λ fault.
         fault ≡ DisFault.Memory → HasText program.now × (0 < length program.now)) }

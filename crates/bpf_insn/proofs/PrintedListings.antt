@@ -11,7 +11,7 @@ use Rattle.std.proofs.lemmas.List.Sums.{suffix_len_is}
 use Rattle.std.proofs.lemmas.Str.Parse.{digit_from_value}
 use Rattle.bpf_insn.specs.declared.insn.Insn.{Insn}
 use Rattle.bpf_insn.specs.Parts.{Part, cut, non_empty, without_ends, is_empty, with_byte}
-use Rattle.bpf_insn.specs.Listing.{listing, listing_of, pieces_from, words_from, is_separator, is_padding, is_blank, numerals_of, insns_of, insn_of, count_of, count_from, insn_from, field_of}
+use Rattle.bpf_insn.specs.Listing.{listing, listing_of, pieces_from, words_from, is_separator, is_padding, is_listing_blank, numerals_of, insns_of, insn_of, count_of, count_from, insn_from, field_of}
 use Rattle.bpf_insn.specs.Printed.{insn_numbers, listing_text}
 use Rattle.bpf_insn.specs.Bytes.{InRange}
 use Rattle.bpf_insn.proofs.Cuts.{filled_some}
@@ -44,7 +44,7 @@ record IsDecimal (n : ℕ) (ds : List ℕ) : Type 0 where
   digits : list_all is_ascii_digit ds ≡ true
   value : digits_value 10 ds ≡ n
   separators : NonePicked is_separator ds
-  blanks : NonePicked is_blank ds
+  blanks : NonePicked is_listing_blank ds
   paddings : NonePicked is_padding ds
 
 some_empty : (ds : List ℕ) → 0 < length ds → is_empty ds ≡ false
@@ -65,7 +65,7 @@ none_digits : (p : ℕ → Bool) → ((b : ℕ) → 48 ≤ b → p b ≡ false) 
 none_digits p safe [] h = tt
 none_digits p safe (b ∷ bs) h = (safe b (digit_from_value b h.0).0, none_digits p safe bs h.1)
 
-blank_no : (b : ℕ) → 48 ≤ b → is_blank b ≡ false
+blank_no : (b : ℕ) → 48 ≤ b → is_listing_blank b ≡ false
 blank_no b h = or_both _ _ (other b 32 h (omega arith)) (other b 9 h (omega arith))
 
 padding_no : (b : ℕ) → 48 ≤ b → is_padding b ≡ false
@@ -82,7 +82,7 @@ decimal_is n small =
       digits = digits_all _ numeral_.0.1;
       value = numeral_.1;
       separators = none_digits is_separator separator_no _ numeral_.0.1;
-      blanks = none_digits is_blank blank_no _ numeral_.0.1;
+      blanks = none_digits is_listing_blank blank_no _ numeral_.0.1;
       paddings = none_digits is_padding padding_no _ numeral_.0.1;
     }
 
@@ -137,10 +137,10 @@ words_nested at a b c d j k l m ha hb hc hd =
     let second = at + length a + 1 in
     let third = second + length b + 1 in
     let fourth = third + length c + 1 in
-    let last = cut_whole is_blank fourth d hd.blanks in
-    let three = cut_front is_blank third 32 c d hc.blanks refl ∙ ap (λ ps. record { at = third; bytes = c } ∷ ps) last in
-    let two = cut_front is_blank second 32 b (c ++ 32 ∷ d) hb.blanks refl ∙ ap (λ ps. record { at = second; bytes = b } ∷ ps) three in
-    let all = cut_front is_blank at 32 a (b ++ 32 ∷ (c ++ 32 ∷ d)) ha.blanks refl ∙ ap (λ ps. record { at = at; bytes = a } ∷ ps) two in
+    let last = cut_whole is_listing_blank fourth d hd.blanks in
+    let three = cut_front is_listing_blank third 32 c d hc.blanks refl ∙ ap (λ ps. record { at = third; bytes = c } ∷ ps) last in
+    let two = cut_front is_listing_blank second 32 b (c ++ 32 ∷ d) hb.blanks refl ∙ ap (λ ps. record { at = second; bytes = b } ∷ ps) three in
+    let all = cut_front is_listing_blank at 32 a (b ++ 32 ∷ (c ++ 32 ∷ d)) ha.blanks refl ∙ ap (λ ps. record { at = at; bytes = a } ∷ ps) two in
     ap non_empty all ∙ filled_four (record { at = at; bytes = a }) (record { at = second; bytes = b }) (record { at = third; bytes = c }) (record { at = fourth; bytes = d }) ha.some hb.some hc.some hd.some
 
 numerals_four : (w x y z : Part) → list_all is_ascii_digit w.bytes ≡ true → list_all is_ascii_digit x.bytes ≡ true → list_all is_ascii_digit y.bytes ≡ true → list_all is_ascii_digit z.bytes ≡ true
@@ -175,7 +175,7 @@ count_said : (at n : ℕ) → n ≤ 65535 → count_of (record { at = at; bytes 
 count_said at n few =
     let d = decimal_is n (omega (arith, few)) in
     let word : Part = record { at = at; bytes = decimal n } in
-    let words : words_from at (decimal n) ≡ word ∷ [] = ap non_empty (cut_whole is_blank at (decimal n) d.blanks) ∙ filled_some word [] d.some in
+    let words : words_from at (decimal n) ≡ word ∷ [] = ap non_empty (cut_whole is_listing_blank at (decimal n) d.blanks) ∙ filled_some word [] d.some in
     let numerals : numerals_of (word ∷ []) ≡ Some (word ∷ []) = rw d.digits refl in
     ap (λ ws. count_from at (numerals_of ws)) words ∙ (ap (λ ws. count_from at ws) numerals ∙ field_is 65535 n word d.value few)
 

@@ -15,12 +15,12 @@ abbrev pub is_separator : ℕ → Bool
 is_separator b = b == 44 || b == 10
 
 -- a space or a tab
-abbrev pub is_blank : ℕ → Bool
-is_blank b = b == 32 || b == 9
+abbrev pub is_listing_blank : ℕ → Bool
+is_listing_blank b = b == 32 || b == 9
 
 -- a space, a tab or a carriage return
 abbrev pub is_padding : ℕ → Bool
-is_padding b = is_blank b || b == 13
+is_padding b = is_listing_blank b || b == 13
 
 -- the pieces of a text that begins at this offset: it is cut at commas and line feeds, padding at
 -- both ends is dropped, and so are empty pieces
@@ -29,7 +29,7 @@ pieces_from at text = non_empty (map (without_ends is_padding) (cut is_separator
 
 -- the words of a piece, which blanks separate
 abbrev pub words_from : ℕ → List ℕ → List Part
-words_from at bytes = non_empty (cut is_blank at bytes)
+words_from at bytes = non_empty (cut is_listing_blank at bytes)
 
 -- a word of decimal digits; leading zeros are allowed
 abbrev pub is_numeral : Part → Bool

@@ -5,7 +5,7 @@ ghost use Rattle.std.specs.Char.{is_ascii_digit};
 ghost use Rattle.std.specs.Str.Parse.{digits_value};
 ghost use Rattle.bpf_insn.specs.Views.{stretch_data, pieces_in, words_in, numerals_in};
 ghost use Rattle.bpf_insn.specs.declared.parse.ListingFault.TheVariants.{Memory};
-ghost use Rattle.bpf_insn.specs.Listing.{listing, pieces_from, ReadsAnInsn, field_of, count_of, insn_of, is_blank, is_padding, is_separator};
+ghost use Rattle.bpf_insn.specs.Listing.{listing, pieces_from, ReadsAnInsn, field_of, count_of, insn_of, is_listing_blank, is_padding, is_separator};
 
 use crate::insn::Insn;
 use crate::stretch::Stretch;
@@ -216,7 +216,7 @@ fn end_padding_len(bytes: &[u8]) -> usize
 
 /// The number of blanks in front.
 fn blanks_len(bytes: &[u8]) -> usize
-    ensures length { result ≡ prefix_len is_blank bytes.now }
+    ensures length { result ≡ prefix_len is_listing_blank bytes.now }
     ensures within { result ≤ length bytes.now }
 {
     bytes
@@ -227,7 +227,7 @@ fn blanks_len(bytes: &[u8]) -> usize
 
 /// The number of bytes before the first blank.
 fn word_len(bytes: &[u8]) -> usize
-    ensures length { result ≡ position_or_len is_blank bytes.now }
+    ensures length { result ≡ position_or_len is_listing_blank bytes.now }
     ensures within { result ≤ length bytes.now }
 {
     bytes
@@ -252,7 +252,7 @@ fn is_padding_byte(byte: u8) -> bool
 
 /// A space or a tab, which separate the numbers of a piece.
 fn is_blank_byte(byte: u8) -> bool
-    ensures { result ≡ is_blank byte }
+    ensures { result ≡ is_listing_blank byte }
 {
     matches!(byte, b' ' | b'\t')
 }

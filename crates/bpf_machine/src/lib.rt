@@ -1,6 +1,7 @@
 //! The filter machine: runs a verified program on a view of a frame (bpf(4), "FILTER MACHINE").
 #![tactic(auto)]
 
+mod kind;
 mod laws;
 mod machine;
 mod operation;

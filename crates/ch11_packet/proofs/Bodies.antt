@@ -17,7 +17,7 @@ use Rattle.ch11_packet.specs.Sums.{body_sum}
 use Rattle.ch11_packet.specs.PacketLen.{packet_len}
 use Rattle.ch11_packet.specs.Frames.{frame_bytes, frame_len, data_bytes, data_len}
 use Rattle.ch11_packet.specs.FramesRead.{body_frame, frame_in, first_reads, SpellsBody}
-use Rattle.ch11_packet.specs.Building.{EthernetBody, IsEthernetBody, body_of, OpenBody, open_of, Fits, first_counter, frames_in, Holds, HasRoom, IsBlank, IsOpen, IsSealed}
+use Rattle.ch11_packet.specs.Building.{EthernetBody, IsEthernetBody, body_of, OpenBody, open_of, Fits, first_counter, frames_in, HoldsFrames, HasRoom, IsBlank, IsOpen, IsSealed}
 use Rattle.ch11_packet.proofs.FrameBytes.{length-frame_bytes, Begins-written, first_reads-flat_map}
 use Rattle.ch11_packet.proofs.FirstFrames.{length-first_reads}
 
@@ -29,7 +29,7 @@ length-frames net speed (f ∷ fs) =
     omega (arith, length-append (frame_bytes net speed f) (flat_map (frame_bytes net speed) fs), length-frame_bytes net speed f, length-frames net speed fs, sum_by-cons (λ (frame : FrameData). frame_len (length frame.bytes)) f fs)
 
 -- the bytes are as many as the body's
-pub length-Holds : (word : ℕ) (frames : List FrameData) (net speed : ℕ) (bytes : List ℕ) → Holds word frames net speed bytes → length bytes ≡ data_len frames
+pub length-Holds : (word : ℕ) (frames : List FrameData) (net speed : ℕ) (bytes : List ℕ) → HoldsFrames word frames net speed bytes → length bytes ≡ data_len frames
 length-Holds word frames net speed bytes holds =
     omega (arith, ap length holds.bytes_are, length-frames net speed frames)
 
@@ -44,7 +44,7 @@ few_frames (f ∷ fs) each =
 -- ---- the frames that are held
 
 -- the frames that are found in the bytes are those that they hold
-pub frames_in-Holds : (word count : ℕ) (frames : List FrameData) (net speed : ℕ) (bytes : List ℕ) → Holds word frames net speed bytes → count ≡ length frames → frames_in count bytes ≡ frames
+pub frames_in-Holds : (word count : ℕ) (frames : List FrameData) (net speed : ℕ) (bytes : List ℕ) → HoldsFrames word frames net speed bytes → count ≡ length frames → frames_in count bytes ≡ frames
 unfolding frames_in
 frames_in-Holds word count frames net speed bytes holds many =
     ap (λ n. frames_in n bytes) many
@@ -96,8 +96,8 @@ pub record Adds (count net speed limit room : ℕ) (old new : List ℕ) (frame :
   pub is_open : IsOpen (count + 1) net speed limit room new
   pub frames : frames_in (count + 1) new ≡ frames_in count old ++ frame ∷ []
 
-Holds-push : (frames : List FrameData) (frame : FrameData) (net speed : ℕ) (old new : List ℕ) → Holds 0 frames net speed old → IsFrame frame
-    → new ≡ old ++ frame_bytes net speed frame → Holds 0 (frames ++ frame ∷ []) net speed new
+Holds-push : (frames : List FrameData) (frame : FrameData) (net speed : ℕ) (old new : List ℕ) → HoldsFrames 0 frames net speed old → IsFrame frame
+    → new ≡ old ++ frame_bytes net speed frame → HoldsFrames 0 (frames ++ frame ∷ []) net speed new
 Holds-push frames frame net speed old new holds is added = record {
   bytes_are = added ∙ ap (λ l. l ++ frame_bytes net speed frame) holds.bytes_are
       ∙ append_assoc (to_le_bytes w32 0) (flat_map (frame_bytes net speed) frames) (frame_bytes net speed frame)
@@ -121,7 +121,7 @@ IsOpen-push count net speed limit room more old new frame is in_range fits added
     let size : length new ≡ data_len fs + frame_len (length frame.bytes) = length-Holds 0 (fs ++ frame ∷ []) net speed new held ∙ data_len-push fs frame in
     record {
       is_open = record {
-        holds = subst (λ (l : List FrameData). Holds 0 l net speed new) (sym found) held;
+        holds = subst (λ (l : List FrameData). HoldsFrames 0 l net speed new) (sym found) held;
         fits = rw size fits;
         roomy = record { least = is.roomy.least; most = is.roomy.most; enough = omega (arith, is.roomy.enough) };
       };
@@ -171,7 +171,7 @@ IsSealed-IsOpen count net speed limit room sum old new is some written summed =
     let few = count_fits count net speed limit room old is in
     let whole : new ≡ to_le_bytes w32 count ++ rest =
     written ∙ ap (λ l. slice_set (slice_set l 0 (count % 256)) 1 (count / 256 % 256)) is.holds.bytes_are ∙ word_of count rest (omega arith) in
-    let held : Holds count fs net speed new = record {
+    let held : HoldsFrames count fs net speed new = record {
       bytes_are = whole;
       in_range = is.holds.in_range;
       net_fits = is.holds.net_fits;
@@ -181,7 +181,7 @@ IsSealed-IsOpen count net speed limit room sum old new is some written summed =
     let size : length new ≡ length old = length-Holds count fs net speed new held ∙ sym (length-IsOpen count net speed limit room old is) in
     record {
       is_sealed = record {
-        holds = subst (λ (l : List FrameData). Holds count l net speed new) (sym found) held;
+        holds = subst (λ (l : List FrameData). HoldsFrames count l net speed new) (sym found) held;
         some = some;
         fits = rw size is.fits;
         roomy = is.roomy;

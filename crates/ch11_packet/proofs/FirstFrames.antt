@@ -8,7 +8,7 @@ use Rattle.ch11_packet.specs.declared.frames.word.TheConstants.{FRAME_HEADER_LEN
 use Rattle.eth_frame.specs.Bytes.{u32_at}
 use Rattle.ch11_packet.specs.Frames.{frame_len}
 use Rattle.ch11_packet.specs.Flags.{has_bit}
-use Rattle.ch11_packet.specs.FramesRead.{ReadFrameData, read_frame_of, length_in, first_read, after_first, first_reads, IsReadFrame, read_word, IsFiller, StandsFirst, Begins, IsCut, AreFrames}
+use Rattle.ch11_packet.specs.FramesRead.{ReadFrameData, read_frame_of, length_in, first_read, after_first, first_reads, IsReadFrame, read_word, IsFiller, FrameStandsFirst, BeginsFrames, IsCutFrame, AreFrames}
 use Rattle.eth_frame.proofs.Bytes.{six_again}
 
 -- ---- the word
@@ -77,7 +77,7 @@ length_in-header frame unused spare rest is fits =
     ap length_in (from_le_bytes-to_le_bytes_4 (read_word frame spare) reads.small) ∙ reads.len_is
 
 -- the bytes of a frame that stands first, behind its header
-StandsFirst-header : (frame : ReadFrameData) (bytes more : List ℕ) (first : StandsFirst frame bytes more)
+StandsFirst-header : (frame : ReadFrameData) (bytes more : List ℕ) (first : FrameStandsFirst frame bytes more)
     → bytes ≡ behind_header frame first.spelled.unused first.spelled.spare (frame.bytes ++ (first.filler ++ more))
 StandsFirst-header frame bytes more first =
     first.whole ∙ ap (λ l. l ++ (first.filler ++ more)) first.spelled.whole
@@ -94,7 +94,7 @@ pub record IsFirst (frame : ReadFrameData) (bytes more : List ℕ) : Type 0 wher
   pub len_is : length_in (u32_at bytes 8) ≡ length frame.bytes
   pub long : FRAME_HEADER_LEN + length frame.bytes ≤ length bytes
 
-pub IsFirst-StandsFirst : (frame : ReadFrameData) (bytes more : List ℕ) → StandsFirst frame bytes more → IsFirst frame bytes more
+pub IsFirst-StandsFirst : (frame : ReadFrameData) (bytes more : List ℕ) → FrameStandsFirst frame bytes more → IsFirst frame bytes more
 IsFirst-StandsFirst frame bytes more first =
     let s = first.spelled in
     let rest = first.filler ++ more in
@@ -113,14 +113,14 @@ IsFirst-StandsFirst frame bytes more first =
       long = omega (arith, ap length whole, length-append frame.bytes rest);
     }
 
-pub not_cut : (frame : ReadFrameData) (bytes more : List ℕ) → StandsFirst frame bytes more → IsCut bytes → ⊥
+pub not_cut : (frame : ReadFrameData) (bytes more : List ℕ) → FrameStandsFirst frame bytes more → IsCutFrame bytes → ⊥
 not_cut frame bytes more first (inl short) = let is = IsFirst-StandsFirst frame bytes more first in omega (arith, is.long, short)
 not_cut frame bytes more first (inr short) = let is = IsFirst-StandsFirst frame bytes more first in omega (arith, is.long, is.len_is, short.1)
 
 -- ---- frames one after the other
 
 -- they are the ones that are read
-pub first_reads-Begins : (frames : List ReadFrameData) (bytes rest : List ℕ) → Begins frames bytes rest → first_reads (length frames) bytes ≡ frames
+pub first_reads-Begins : (frames : List ReadFrameData) (bytes rest : List ℕ) → BeginsFrames frames bytes rest → first_reads (length frames) bytes ≡ frames
 unfolding first_reads
 first_reads-Begins [] bytes rest begins = refl
 first_reads-Begins (f ∷ fs) bytes rest begins =
@@ -133,17 +133,17 @@ first_reads-Begins (f ∷ fs) bytes rest begins =
 pub record GoesOn (frames others : List ReadFrameData) (rest end : List ℕ) : Type 0 where
   pub later : List ReadFrameData
   pub whole : others ≡ frames ++ later
-  pub begins : Begins later rest end
+  pub begins : BeginsFrames later rest end
 
-pub goes_on : (frames others : List ReadFrameData) (bytes rest end : List ℕ) → Begins frames bytes rest → Begins others bytes end → length frames ≤ length others → GoesOn frames others rest end
+pub goes_on : (frames others : List ReadFrameData) (bytes rest end : List ℕ) → BeginsFrames frames bytes rest → BeginsFrames others bytes end → length frames ≤ length others → GoesOn frames others rest end
 goes_on [] others bytes rest end short long fewer =
-    record { later = others; whole = refl; begins = subst (λ l. Begins others l end) short long }
+    record { later = others; whole = refl; begins = subst (λ l. BeginsFrames others l end) short long }
 goes_on (f ∷ fs) [] bytes rest end short long fewer = absurd (omega arith)
 goes_on (f ∷ fs) (g ∷ gs) bytes rest end short long fewer =
     let a = IsFirst-StandsFirst f bytes short.0 short.1 in
     let b = IsFirst-StandsFirst g bytes long.0 long.1 in
     let same : long.0 ≡ short.0 = sym b.more_is ∙ a.more_is in
-    let on = goes_on fs gs short.0 rest end short.2 (subst (λ l. Begins gs l end) same long.2) (omega arith) in
+    let on = goes_on fs gs short.0 rest end short.2 (subst (λ l. BeginsFrames gs l end) same long.2) (omega arith) in
     record {
       later = on.later;
       whole = ap (λ h. h ∷ gs) (sym b.frame_is ∙ a.frame_is) ∙ ap (λ l. f ∷ l) on.whole;
@@ -151,15 +151,15 @@ goes_on (f ∷ fs) (g ∷ gs) bytes rest end short long fewer =
     }
 
 -- a further frame
-pub Begins-snoc : (frames : List ReadFrameData) (frame : ReadFrameData) (bytes rest more : List ℕ) → Begins frames bytes rest → StandsFirst frame rest more → Begins (frames ++ frame ∷ []) bytes more
-Begins-snoc [] frame bytes rest more begins first = (more, subst (λ l. StandsFirst frame l more) (sym begins) first, refl)
+pub Begins-snoc : (frames : List ReadFrameData) (frame : ReadFrameData) (bytes rest more : List ℕ) → BeginsFrames frames bytes rest → FrameStandsFirst frame rest more → BeginsFrames (frames ++ frame ∷ []) bytes more
+Begins-snoc [] frame bytes rest more begins first = (more, subst (λ l. FrameStandsFirst frame l more) (sym begins) first, refl)
 Begins-snoc (f ∷ fs) frame bytes rest more begins first =
     (begins.0, begins.1, Begins-snoc fs frame begins.0 rest more begins.2 first)
 
 -- ---- the frames that are left
 
 -- where no whole frame stands first none is left
-pub none_left : (left : ℕ) (bytes : List ℕ) → AreFrames left bytes → IsCut bytes → first_reads left bytes ≡ []
+pub none_left : (left : ℕ) (bytes : List ℕ) → AreFrames left bytes → IsCutFrame bytes → first_reads left bytes ≡ []
 unfolding first_reads
 none_left zero bytes are cut = refl
 none_left (suc n) bytes are cut = absurd (not_cut _ bytes are.0 are.1 cut)
@@ -170,23 +170,23 @@ pub record TakesFirst (left : ℕ) (frame : ReadFrameData) (bytes more : List �
   pub whole : first_reads left bytes ≡ frame ∷ first_reads (left - 1) more
   pub others : AreFrames (left - 1) more
 
-no_frame : (frame : ReadFrameData) (bytes more : List ℕ) → bytes ≡ [] → StandsFirst frame bytes more → ⊥
+no_frame : (frame : ReadFrameData) (bytes more : List ℕ) → bytes ≡ [] → FrameStandsFirst frame bytes more → ⊥
 no_frame frame bytes more none first =
     let is = IsFirst-StandsFirst frame bytes more first in omega (arith, is.long, ap length none)
 
-pub takes_first : (left : ℕ) (frame : ReadFrameData) (bytes more : List ℕ) → AreFrames left bytes → StandsFirst frame bytes more → TakesFirst left frame bytes more
+pub takes_first : (left : ℕ) (frame : ReadFrameData) (bytes more : List ℕ) → AreFrames left bytes → FrameStandsFirst frame bytes more → TakesFirst left frame bytes more
 unfolding first_reads
 takes_first zero frame bytes more are first = absurd (no_frame frame bytes more are first)
 takes_first (suc n) frame bytes more are first =
     let a = IsFirst-StandsFirst _ bytes are.0 are.1 in
     let b = IsFirst-StandsFirst frame bytes more first in
     let one : n ≡ suc n - 1 = omega arith in
-    let others : Begins (first_reads n more) more [] =
-    subst (λ l. Begins (first_reads n l) l []) (sym a.more_is ∙ b.more_is) (subst (λ l. Begins (first_reads n l) are.0 []) a.more_is are.2) in
+    let others : BeginsFrames (first_reads n more) more [] =
+    subst (λ l. BeginsFrames (first_reads n l) l []) (sym a.more_is ∙ b.more_is) (subst (λ l. BeginsFrames (first_reads n l) are.0 []) a.more_is are.2) in
     record {
       some = omega arith;
       whole = ap (λ g. g ∷ first_reads n (after_first bytes)) b.frame_is ∙ ap (λ l. frame ∷ first_reads n l) b.more_is ∙ ap (λ k. frame ∷ first_reads k more) one;
-      others = subst (λ k. Begins (first_reads k more) more []) one others;
+      others = subst (λ k. BeginsFrames (first_reads k more) more []) one others;
     }
 
 pub length-first_reads : (count : ℕ) (bytes : List ℕ) → length (first_reads count bytes) ≡ count

@@ -8,7 +8,7 @@ use Rattle.std.proofs.lemmas.List.Elements.{All-head, All-tail}
 use Rattle.eth_frame.specs.Frame.{FrameData, IsFrame}
 use Rattle.ch11_packet.specs.declared.frames.word.TheConstants.{MAX_SPEED}
 use Rattle.ch11_packet.specs.Frames.{frame_word, frame_header, frame_filler, frame_bytes, frame_len}
-use Rattle.ch11_packet.specs.FramesRead.{body_frame, frame_in, first_reads, read_word, SpellsFrame, Begins}
+use Rattle.ch11_packet.specs.FramesRead.{body_frame, frame_in, first_reads, read_word, SpellsFrame, BeginsFrames}
 use Rattle.ch11_packet.proofs.FirstFrames.{first_reads-Begins}
 
 -- ---- the word
@@ -46,7 +46,7 @@ SpellsFrame-written net speed frame fields is =
       whole = ap (λ w. bytes_low_first 0 6 frame.counter ++ to_le_bytes w16 0 ++ to_le_bytes w32 w ++ frame.bytes) same;
     }
 
-pub Begins-written : (net speed : ℕ) (frames : List FrameData) → AreFields net speed → All IsFrame frames → Begins (map (body_frame net speed) frames) (flat_map (frame_bytes net speed) frames) []
+pub Begins-written : (net speed : ℕ) (frames : List FrameData) → AreFields net speed → All IsFrame frames → BeginsFrames (map (body_frame net speed) frames) (flat_map (frame_bytes net speed) frames) []
 unfolding frame_bytes
 Begins-written net speed [] fields each = refl
 Begins-written net speed (f ∷ fs) fields each =

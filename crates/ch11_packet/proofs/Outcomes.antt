@@ -16,13 +16,13 @@ use Rattle.ch11_packet.specs.declared.records.decode.RecordFault.{RecordFault}
 use Rattle.ch11_packet.specs.declared.records.decode.RecordFault.TheVariants.{Kind, Channel, Length}
 use Rattle.ch11_packet.specs.declared.class.What.{What}
 use Rattle.ch11_packet.specs.declared.class.What.TheVariants.{Frames, Program, End, Other}
-use Rattle.ch11_packet.specs.Header.{HeaderData, LengthsFit, IsHeader, header_bytes, header_at, HasSync, HasHeaderSum, HasLengths, HasFault}
+use Rattle.ch11_packet.specs.Header.{HeaderData, LengthsFit, IsHeader, header_bytes, header_at, HasSync, HasHeaderSum, HasLengths, HeaderHasFault}
 use Rattle.ch11_packet.specs.declared.sum.TheConstants.{CHECKSUM_LEN}
 use Rattle.ch11_packet.specs.declared.class.ClassFault.{ClassFault}
 use Rattle.ch11_packet.specs.declared.class.ClassFault.TheVariants.{DataChecksum, Body}
 use Rattle.ch11_packet.specs.Flags.{has_bit, HasChecksum, IsPlain}
-use Rattle.ch11_packet.specs.FramesRead.{ReadFrameData, length_in, StandsFirst, IsFiller, IsCut, SpellsBody, count_in, format_in, HasFormat, HasBodyFault}
-use Rattle.ch11_packet.specs.RecordsRead.{IsTagged, SpellsRecord, HasRecordFault, RecordData, kind_in, channel_in, insn_count_in, IsKind, HasHead}
+use Rattle.ch11_packet.specs.FramesRead.{ReadFrameData, length_in, FrameStandsFirst, IsFiller, IsCutFrame, SpellsBody, count_in, format_in, HasFormat, HasBodyFault}
+use Rattle.ch11_packet.specs.RecordsRead.{IsTagged, SpellsRecord, HasRecordFault, RecordData, kind_in, record_channel_in, insn_count_in, IsKind, HasRecordHead}
 use Rattle.ch11_packet.specs.RecordsRead.RecordData.{OfProgram, OfEnd}
 use Rattle.ch11_packet.specs.Classes.{SaysFrames, SaysRecord, HasClass, HasNoClass, HasSum, IsSummed, Holds, HasClassFault, data_in}
 use Rattle.std.proofs.lemmas.Bool.{cases_eq, cases_lt}
@@ -79,13 +79,13 @@ abbrev pub AreHeader : List ℕ → Type 0
 AreHeader bytes = IsHeader (header_at bytes) × (bytes ≡ header_bytes (header_at bytes))
 
 header_by : (bytes : List ℕ) → AreBytes bytes → length bytes ≡ HEADER_LEN → HasSync bytes ⊎ (HasSync bytes → ⊥) → HasHeaderSum bytes ⊎ (HasHeaderSum bytes → ⊥)
-    → HasLengths bytes ⊎ (HasLengths bytes → ⊥) → AreHeader bytes ⊎ ((fault : HeaderFault) × HasFault bytes fault)
+    → HasLengths bytes ⊎ (HasLengths bytes → ⊥) → AreHeader bytes ⊎ ((fault : HeaderFault) × HeaderHasFault bytes fault)
 header_by bytes fit long (inr isnt) sum lengths = inr (Sync, isnt)
 header_by bytes fit long (inl sync) (inr isnt) lengths = inr (Checksum, (sync, isnt))
 header_by bytes fit long (inl sync) (inl sum) (inr isnt) = inr (BadLengths, (sync, sum, isnt))
 header_by bytes fit long (inl sync) (inl sum) (inl lengths) = inl (IsHeader-header_at bytes fit lengths, header_bytes-header_at bytes long fit sync sum)
 
-pub header_or_fault : (bytes : List ℕ) → AreBytes bytes → length bytes ≡ HEADER_LEN → AreHeader bytes ⊎ ((fault : HeaderFault) × HasFault bytes fault)
+pub header_or_fault : (bytes : List ℕ) → AreBytes bytes → length bytes ≡ HEADER_LEN → AreHeader bytes ⊎ ((fault : HeaderFault) × HeaderHasFault bytes fault)
 header_or_fault bytes fit long =
     let header = header_at bytes in
     header_by bytes fit long (cases_eq _ _) (cases_eq _ _) (decide_lengths header.flags header.kind header.packet_len header.data_len)
@@ -105,7 +105,7 @@ same_len bytes = omega arith
 record HasFrame (bytes : List ℕ) : Type 0 where
   frame : ReadFrameData
   more : List ℕ
-  first : StandsFirst frame bytes more
+  first : FrameStandsFirst frame bytes more
 
 whole_frame : (bytes : List ℕ) → AreBytes bytes → FRAME_HEADER_LEN ≤ length bytes → FRAME_HEADER_LEN + length_in (u32_at bytes 8) ≤ length bytes → HasFrame bytes
 whole_frame bytes fit long whole =
@@ -121,12 +121,12 @@ whole_frame bytes fit long whole =
     }
 
 frame_by : (bytes : List ℕ) → AreBytes bytes → (length bytes < FRAME_HEADER_LEN) ⊎ (FRAME_HEADER_LEN ≤ length bytes)
-    → (length bytes < FRAME_HEADER_LEN + length_in (u32_at bytes 8)) ⊎ (FRAME_HEADER_LEN + length_in (u32_at bytes 8) ≤ length bytes) → HasFrame bytes ⊎ IsCut bytes
+    → (length bytes < FRAME_HEADER_LEN + length_in (u32_at bytes 8)) ⊎ (FRAME_HEADER_LEN + length_in (u32_at bytes 8) ≤ length bytes) → HasFrame bytes ⊎ IsCutFrame bytes
 frame_by bytes fit (inl short) all = inr (inl short)
 frame_by bytes fit (inr long) (inl few) = inr (inr (long, few))
 frame_by bytes fit (inr long) (inr whole) = inl (whole_frame bytes fit long whole)
 
-frame_or_cut : (bytes : List ℕ) → AreBytes bytes → HasFrame bytes ⊎ IsCut bytes
+frame_or_cut : (bytes : List ℕ) → AreBytes bytes → HasFrame bytes ⊎ IsCutFrame bytes
 frame_or_cut bytes fit = frame_by bytes fit (cases_lt _ _) (cases_lt _ _)
 
 behind_fit : (bytes : List ℕ) (has : HasFrame bytes) → AreBytes bytes → AreBytes has.more
@@ -140,7 +140,7 @@ record IsShort (count : ℕ) (bytes : List ℕ) : Type 0 where
   rest : List ℕ
   over : Passed passed bytes rest
   fewer : passed < count
-  cut : IsCut rest
+  cut : IsCutFrame rest
 
 passes : (count : ℕ) (bytes rest : List ℕ) (has : HasFrame bytes) → Passed count has.more rest → Passed (suc count) bytes rest
 passes count bytes rest has over = record { frames = has.frame ∷ over.frames; held = (has.more, has.first, over.held); many = ap suc over.many }
@@ -210,19 +210,19 @@ neither : (kind : ℕ) → (kind ≡ PROGRAM_RECORD → ⊥) → (kind ≡ END_R
 neither kind not_program not_end (inl program) = not_program program
 neither kind not_program not_end (inr ending) = not_end ending
 
-program_by : (bytes : List ℕ) → AreBytes bytes → HasHead bytes → kind_in bytes ≡ PROGRAM_RECORD → (channel_in bytes ≡ 0) ⊎ (channel_in bytes ≡ 0 → ⊥)
+program_by : (bytes : List ℕ) → AreBytes bytes → HasRecordHead bytes → kind_in bytes ≡ PROGRAM_RECORD → (record_channel_in bytes ≡ 0) ⊎ (record_channel_in bytes ≡ 0 → ⊥)
     → (length bytes ≡ PROGRAM_HEAD_LEN + INSN_LEN * insn_count_in bytes) ⊎ (length bytes ≡ PROGRAM_HEAD_LEN + INSN_LEN * insn_count_in bytes → ⊥) → RecordOrFault bytes
 program_by bytes fit head kind (inl none) long = inr (Channel, (head, inl kind, none))
 program_by bytes fit head kind (inr named) (inl long) = inl (program_at bytes, SpellsRecord-program bytes fit head.tagged kind named long)
 program_by bytes fit head kind (inr named) (inr isnt) = inr (Length, inr (head, inl kind, named, λ right. isnt (right.program kind)))
 
-end_by : (bytes : List ℕ) → AreBytes bytes → HasHead bytes → kind_in bytes ≡ END_RECORD → (channel_in bytes ≡ 0) ⊎ (channel_in bytes ≡ 0 → ⊥)
+end_by : (bytes : List ℕ) → AreBytes bytes → HasRecordHead bytes → kind_in bytes ≡ END_RECORD → (record_channel_in bytes ≡ 0) ⊎ (record_channel_in bytes ≡ 0 → ⊥)
     → (length bytes ≡ END_RECORD_LEN) ⊎ (length bytes ≡ END_RECORD_LEN → ⊥) → RecordOrFault bytes
 end_by bytes fit head kind (inl none) long = inr (Channel, (head, inr kind, none))
 end_by bytes fit head kind (inr named) (inl long) = inl (end_at bytes, SpellsRecord-end bytes fit head.tagged kind named long)
 end_by bytes fit head kind (inr named) (inr isnt) = inr (Length, inr (head, inr kind, named, λ right. isnt (right.ending kind)))
 
-kind_by : (bytes : List ℕ) → AreBytes bytes → HasHead bytes → (kind_in bytes ≡ PROGRAM_RECORD) ⊎ (kind_in bytes ≡ PROGRAM_RECORD → ⊥)
+kind_by : (bytes : List ℕ) → AreBytes bytes → HasRecordHead bytes → (kind_in bytes ≡ PROGRAM_RECORD) ⊎ (kind_in bytes ≡ PROGRAM_RECORD → ⊥)
     → (kind_in bytes ≡ END_RECORD) ⊎ (kind_in bytes ≡ END_RECORD → ⊥) → RecordOrFault bytes
 kind_by bytes fit head (inl program) ending = program_by bytes fit head program (cases_eq _ _) (cases_eq _ _)
 kind_by bytes fit head (inr isnt) (inl ending) = end_by bytes fit head ending (cases_eq _ _) (cases_eq _ _)

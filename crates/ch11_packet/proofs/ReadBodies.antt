@@ -7,7 +7,7 @@ use Rattle.ch11_packet.specs.declared.frames.word.TheConstants.{BODY_WORD_LEN}
 use Rattle.ch11_packet.specs.declared.frames.decode.BodyFault.{BodyFault}
 use Rattle.ch11_packet.specs.declared.frames.decode.BodyFault.TheVariants.{Format, Short, LeftOver}
 use Rattle.eth_frame.specs.Bytes.{AreBytes, u32_at}
-use Rattle.ch11_packet.specs.FramesRead.{ReadFrameData, first_reads, StandsFirst, Begins, IsCut, AreFrames, SpellsBody, count_in, HasFormat, FramesEnd, MoreFollows, HasBodyFault}
+use Rattle.ch11_packet.specs.FramesRead.{ReadFrameData, first_reads, FrameStandsFirst, BeginsFrames, IsCutFrame, AreFrames, SpellsBody, count_in, HasFormat, FramesEnd, MoreFollows, HasBodyFault}
 use Rattle.eth_frame.proofs.Bytes.{four_bytes}
 use Rattle.ch11_packet.proofs.FirstFrames.{goes_on, GoesOn, not_cut, Begins-snoc, first_reads-Begins, length-first_reads}
 
@@ -17,7 +17,7 @@ use Rattle.ch11_packet.proofs.FirstFrames.{goes_on, GoesOn, not_cut, Begins-snoc
 pub record IsBody (frames : List ReadFrameData) (bytes : List ℕ) : Type 0 where
   pub is_format : HasFormat bytes
   pub all : length frames ≡ count_in bytes
-  pub held : Begins frames (drop BODY_WORD_LEN bytes) []
+  pub held : BeginsFrames frames (drop BODY_WORD_LEN bytes) []
 
 pub IsBody-SpellsBody : (frames : List ReadFrameData) (bytes : List ℕ) → SpellsBody frames bytes → IsBody frames bytes
 IsBody-SpellsBody frames bytes body =
@@ -28,7 +28,7 @@ IsBody-SpellsBody frames bytes body =
     record {
       is_format = record { word = omega (arith, ap length body.whole); format = omega (arith, said) };
       all = omega (arith, said);
-      held = subst (λ l. Begins frames l []) (sym (ap (drop BODY_WORD_LEN) body.whole)) body.held;
+      held = subst (λ l. BeginsFrames frames l []) (sym (ap (drop BODY_WORD_LEN) body.whole)) body.held;
     }
 
 word_cells : (bytes : List ℕ) → BODY_WORD_LEN ≤ length bytes → bytes ≡ (get_or bytes 0 0 ∷ get_or bytes 1 0 ∷ get_or bytes 2 0 ∷ get_or bytes 3 0 ∷ []) ++ drop BODY_WORD_LEN bytes
@@ -56,19 +56,19 @@ SpellsBody-IsBody frames bytes fit body =
 later_of : (frames others : List ReadFrameData) (rest : List ℕ) (more : List ℕ) → length others ≡ length frames → GoesOn frames others rest more → (others ≡ frames) × (more ≡ rest)
 later_of frames others rest more same on =
     let none : on.later ≡ [] = nil_from_length on.later (omega (arith, ap length on.whole, length-append frames on.later)) in
-    (on.whole ∙ ap (λ l. frames ++ l) none ∙ append-nil frames, sym (subst (λ l. Begins l rest more) none on.begins))
+    (on.whole ∙ ap (λ l. frames ++ l) none ∙ append-nil frames, sym (subst (λ l. BeginsFrames l rest more) none on.begins))
 
 -- two readings of as many frames are one
-pub one_reading : (frames others : List ReadFrameData) (bytes rest more : List ℕ) → Begins frames bytes rest → Begins others bytes more → length others ≡ length frames → (others ≡ frames) × (more ≡ rest)
+pub one_reading : (frames others : List ReadFrameData) (bytes rest more : List ℕ) → BeginsFrames frames bytes rest → BeginsFrames others bytes more → length others ≡ length frames → (others ≡ frames) × (more ≡ rest)
 one_reading frames others bytes rest more a b same =
     later_of frames others rest more same (goes_on frames others bytes rest more a b (omega arith))
 
 -- where a reading is cut there is none of more frames
-cut_first : (later : List ReadFrameData) (rest more : List ℕ) → 0 < length later → IsCut rest → Begins later rest more → ⊥
+cut_first : (later : List ReadFrameData) (rest more : List ℕ) → 0 < length later → IsCutFrame rest → BeginsFrames later rest more → ⊥
 cut_first [] rest more some cut begins = omega arith
 cut_first (f ∷ fs) rest more some cut begins = not_cut f rest begins.0 begins.1 cut
 
-none_longer : (frames others : List ReadFrameData) (bytes rest more : List ℕ) → Begins frames bytes rest → IsCut rest → Begins others bytes more → length frames < length others → ⊥
+none_longer : (frames others : List ReadFrameData) (bytes rest more : List ℕ) → BeginsFrames frames bytes rest → IsCutFrame rest → BeginsFrames others bytes more → length frames < length others → ⊥
 none_longer frames others bytes rest more a cut b longer =
     let on = goes_on frames others bytes rest more a b (omega arith) in
     cut_first on.later rest more (omega (arith, ap length on.whole, length-append frames on.later)) cut on.begins
@@ -125,10 +125,10 @@ fault_answered A bytes fault has other =
 -- so many frames were passed over
 pub record Passed (count : ℕ) (bytes rest : List ℕ) : Type 0 where
   pub frames : List ReadFrameData
-  pub held : Begins frames bytes rest
+  pub held : BeginsFrames frames bytes rest
   pub many : length frames ≡ count
 
-pub Passed-next : (count : ℕ) (frame : ReadFrameData) (bytes rest more : List ℕ) → Passed count bytes rest → StandsFirst frame rest more → Passed (count + 1) bytes more
+pub Passed-next : (count : ℕ) (frame : ReadFrameData) (bytes rest more : List ℕ) → Passed count bytes rest → FrameStandsFirst frame rest more → Passed (count + 1) bytes more
 Passed-next count frame bytes rest more passed first = record {
   frames = passed.frames ++ frame ∷ [];
   held = Begins-snoc passed.frames frame bytes rest more passed.held first;
@@ -141,13 +141,13 @@ Passed-next count frame bytes rest more passed first = record {
 abbrev behind : List ℕ → List ℕ
 behind body = take (length body - BODY_WORD_LEN) (drop BODY_WORD_LEN body)
 
-held_behind : (body rest : List ℕ) (frames : List ReadFrameData) → Begins frames (behind body) rest → Begins frames (drop BODY_WORD_LEN body) rest
-held_behind body rest frames held = subst (λ l. Begins frames l rest) (take_rest body BODY_WORD_LEN) held
+held_behind : (body rest : List ℕ) (frames : List ReadFrameData) → BeginsFrames frames (behind body) rest → BeginsFrames frames (drop BODY_WORD_LEN body) rest
+held_behind body rest frames held = subst (λ l. BeginsFrames frames l rest) (take_rest body BODY_WORD_LEN) held
 
 pub read_format : (body : List ℕ) (word : ℕ) → BODY_WORD_LEN ≤ length body → word ≡ u32_at body 0 → word / 2 ^ 28 ≡ 0 → HasFormat body
 read_format body word long said format = record { word = long; format = rw said at format }
 
-pub frames_end : (body rest : List ℕ) (word passed : ℕ) → HasFormat body → word ≡ u32_at body 0 → Passed passed (behind body) rest → passed < word % 2 ^ 16 → IsCut rest → HasBodyFault body Short
+pub frames_end : (body rest : List ℕ) (word passed : ℕ) → HasFormat body → word ≡ u32_at body 0 → Passed passed (behind body) rest → passed < word % 2 ^ 16 → IsCutFrame rest → HasBodyFault body Short
 frames_end body rest word passed is_format said over fewer cut = inr (record {
   is_format = is_format;
   frames = over.frames;
@@ -175,7 +175,7 @@ passed_frames count bytes rest over =
 pub AreFrames-Passed : (count passed : ℕ) (bytes rest : List ℕ) → Passed passed bytes rest → passed ≡ count → rest ≡ [] → AreFrames count bytes
 AreFrames-Passed count passed bytes rest over all none =
     let same : first_reads count bytes ≡ over.frames = ap (λ n. first_reads n bytes) (sym all) ∙ passed_frames passed bytes rest over in
-    subst (λ l. Begins l bytes []) (sym same) (subst (λ l. Begins over.frames bytes l) none over.held)
+    subst (λ l. BeginsFrames l bytes []) (sym same) (subst (λ l. BeginsFrames over.frames bytes l) none over.held)
 
 pub SpellsBody-AreFrames : (body : List ℕ) (word : ℕ) → AreBytes body → HasFormat body → word ≡ u32_at body 0 → AreFrames (word % 2 ^ 16) (behind body) → SpellsBody (first_reads (word % 2 ^ 16) (behind body)) body
 SpellsBody-AreFrames body word fit is_format said are = SpellsBody-IsBody (first_reads (word % 2 ^ 16) (behind body)) body fit (record {

@@ -16,7 +16,7 @@ use Rattle.ch11_packet.specs.declared.records.decode.RecordFault.{RecordFault}
 use Rattle.ch11_packet.specs.declared.records.decode.RecordFault.TheVariants.{Kind, Channel, Length}
 use Rattle.eth_frame.specs.Bytes.{AreBytes, u16_at, u32_at, u64_at}
 use Rattle.ch11_packet.specs.Records.{EndData, IsEndRecord, program_spelling, end_spelling}
-use Rattle.ch11_packet.specs.RecordsRead.{stored_insns, RecordData, IsProgramRecord, SpellsRecord, IsTagged, kind_in, channel_in, insn_count_in, IsKind, HasRecordLength, HasHead, HasFields, HasRecordFault}
+use Rattle.ch11_packet.specs.RecordsRead.{stored_insns, RecordData, IsProgramRecord, SpellsRecord, IsTagged, kind_in, record_channel_in, insn_count_in, IsKind, HasRecordLength, HasRecordHead, HasRecordFields, HasRecordFault}
 use Rattle.ch11_packet.specs.RecordsRead.RecordData.{OfProgram, OfEnd}
 use Rattle.ch11_packet.specs.Views.{record_data}
 use Rattle.eth_frame.proofs.Bytes.{AreBytes-drop, two_bytes, four_bytes, eight_bytes}
@@ -27,19 +27,19 @@ use Rattle.ch11_packet.proofs.StoredInsns.{length-stored_insns, stored_insns-fla
 
 -- the record that bytes say, whatever their tag and their length are
 abbrev pub program_at : List ℕ → RecordData
-program_at bytes = OfProgram (channel_in bytes) (u32_at bytes 12) (u64_at bytes 16) (stored_insns (insn_count_in bytes) (drop PROGRAM_HEAD_LEN bytes))
+program_at bytes = OfProgram (record_channel_in bytes) (u32_at bytes 12) (u64_at bytes 16) (stored_insns (insn_count_in bytes) (drop PROGRAM_HEAD_LEN bytes))
 
 abbrev pub end_in : List ℕ → EndData
-end_in bytes = record { channel = channel_in bytes; offered = u64_at bytes 12; kept = u64_at bytes 20 }
+end_in bytes = record { channel = record_channel_in bytes; offered = u64_at bytes 12; kept = u64_at bytes 20 }
 
 abbrev pub end_at : List ℕ → RecordData
 end_at bytes = OfEnd (end_in bytes)
 
 -- what bytes that are a record say of themselves
 pub record Says (said : RecordData) (bytes : List ℕ) : Type 0 where
-  pub head : HasHead bytes
+  pub head : HasRecordHead bytes
   pub known : IsKind (kind_in bytes)
-  pub named : channel_in bytes ≢ 0
+  pub named : record_channel_in bytes ≢ 0
   pub length_is : HasRecordLength bytes
   pub program : kind_in bytes ≡ PROGRAM_RECORD → said ≡ program_at bytes
   pub ending : kind_in bytes ≡ END_RECORD → said ≡ end_at bytes
@@ -54,7 +54,7 @@ Says-program : (channel version first word unused : ℕ) (insns : List Insn) →
 Says-program channel version first word unused insns is =
     let bytes = program_spelling word unused channel version first insns in
     let kind : kind_in bytes ≡ PROGRAM_RECORD = from_le_bytes-to_le_bytes_2 PROGRAM_RECORD (omega arith) in
-    let channel_is : channel_in bytes ≡ channel = from_le_bytes-to_le_bytes_2 channel is.channel_fits in
+    let channel_is : record_channel_in bytes ≡ channel = from_le_bytes-to_le_bytes_2 channel is.channel_fits in
     let count_is : insn_count_in bytes ≡ length insns = from_le_bytes-to_le_bytes_2 (length insns) is.few in
     record {
       head = record { tagged = refl; whole = omega (arith, length-insns insns) };
@@ -70,7 +70,7 @@ Says-end : (end : EndData) (word : ℕ) → IsEndRecord end → Says (OfEnd end)
 Says-end end word is =
     let bytes = end_spelling word end in
     let kind : kind_in bytes ≡ END_RECORD = from_le_bytes-to_le_bytes_2 END_RECORD (omega arith) in
-    let channel_is : channel_in bytes ≡ end.channel = from_le_bytes-to_le_bytes_2 end.channel is.channel_fits in
+    let channel_is : record_channel_in bytes ≡ end.channel = from_le_bytes-to_le_bytes_2 end.channel is.channel_fits in
     record {
       head = record { tagged = refl; whole = omega arith };
       known = inr kind;
@@ -124,19 +124,19 @@ tag_cells bytes long tagged = sym tagged ∙ ap (λ l. take 4 (drop 4 l)) (front
 
 -- the 12 bytes of a head
 head_again : (bytes : List ℕ) (kind : ℕ) → AreBytes bytes → PROGRAM_HEAD_LEN ≤ length bytes → IsTagged bytes → kind_in bytes ≡ kind → (rest : List ℕ)
-    → to_le_bytes w32 (u32_at bytes 0) ++ codes "CBPR" ++ to_le_bytes w16 kind ++ to_le_bytes w16 (channel_in bytes) ++ rest ≡ take RECORD_HEAD_LEN (front bytes) ++ rest
+    → to_le_bytes w32 (u32_at bytes 0) ++ codes "CBPR" ++ to_le_bytes w16 kind ++ to_le_bytes w16 (record_channel_in bytes) ++ rest ≡ take RECORD_HEAD_LEN (front bytes) ++ rest
 head_again bytes kind fit long tagged kind_is rest =
     let at = λ (i : ℕ). get_or bytes i 0 in
     let word = four_bytes (at 0) (at 1) (at 2) (at 3) (fit 0) (fit 1) (fit 2) (fit 3) in
     let tag = tag_cells bytes long tagged in
     let kinds : to_le_bytes w16 kind ≡ at 8 ∷ at 9 ∷ [] = ap (to_le_bytes w16) (sym kind_is) ∙ two_bytes (at 8) (at 9) (fit 8) (fit 9) in
     let channel = two_bytes (at 10) (at 11) (fit 10) (fit 11) in
-    ap (λ l. l ++ codes "CBPR" ++ to_le_bytes w16 kind ++ to_le_bytes w16 (channel_in bytes) ++ rest) word
-    ∙ ap (λ l. (at 0 ∷ at 1 ∷ at 2 ∷ at 3 ∷ []) ++ l ++ to_le_bytes w16 kind ++ to_le_bytes w16 (channel_in bytes) ++ rest) tag
-    ∙ ap (λ l. (at 0 ∷ at 1 ∷ at 2 ∷ at 3 ∷ at 4 ∷ at 5 ∷ at 6 ∷ at 7 ∷ []) ++ l ++ to_le_bytes w16 (channel_in bytes) ++ rest) kinds
+    ap (λ l. l ++ codes "CBPR" ++ to_le_bytes w16 kind ++ to_le_bytes w16 (record_channel_in bytes) ++ rest) word
+    ∙ ap (λ l. (at 0 ∷ at 1 ∷ at 2 ∷ at 3 ∷ []) ++ l ++ to_le_bytes w16 kind ++ to_le_bytes w16 (record_channel_in bytes) ++ rest) tag
+    ∙ ap (λ l. (at 0 ∷ at 1 ∷ at 2 ∷ at 3 ∷ at 4 ∷ at 5 ∷ at 6 ∷ at 7 ∷ []) ++ l ++ to_le_bytes w16 (record_channel_in bytes) ++ rest) kinds
     ∙ ap (λ l. (at 0 ∷ at 1 ∷ at 2 ∷ at 3 ∷ at 4 ∷ at 5 ∷ at 6 ∷ at 7 ∷ at 8 ∷ at 9 ∷ []) ++ l ++ rest) channel
 
-pub SpellsRecord-program : (bytes : List ℕ) → AreBytes bytes → IsTagged bytes → kind_in bytes ≡ PROGRAM_RECORD → channel_in bytes ≢ 0
+pub SpellsRecord-program : (bytes : List ℕ) → AreBytes bytes → IsTagged bytes → kind_in bytes ≡ PROGRAM_RECORD → record_channel_in bytes ≢ 0
     → length bytes ≡ PROGRAM_HEAD_LEN + INSN_LEN * insn_count_in bytes → SpellsRecord (program_at bytes) bytes
 SpellsRecord-program bytes fit tagged kind named len =
     let at = λ (i : ℕ). get_or bytes i 0 in
@@ -145,7 +145,7 @@ SpellsRecord-program bytes fit tagged kind named len =
     let insns = stored_insns count rest in
     let long : PROGRAM_HEAD_LEN ≤ length bytes = omega (arith, len) in
     let many : length insns ≡ count = length-stored_insns count rest in
-    let is : IsProgramRecord (channel_in bytes) (u32_at bytes 12) (u64_at bytes 16) insns = record {
+    let is : IsProgramRecord (record_channel_in bytes) (u32_at bytes 12) (u64_at bytes 16) insns = record {
       named = omega (arith, named);
       channel_fits = omega (arith, fit 10, fit 11);
       version_fits = omega (arith, fit 12, fit 13, fit 14, fit 15);
@@ -159,7 +159,7 @@ SpellsRecord-program bytes fit tagged kind named len =
     let unused = two_bytes (at 26) (at 27) (fit 26) (fit 27) in
     let stored = flat_map-stored_insns count rest (AreBytes-drop PROGRAM_HEAD_LEN bytes fit) (omega (arith, len, length-drop PROGRAM_HEAD_LEN bytes)) in
     let head = take RECORD_HEAD_LEN (front bytes) in
-    let spelled : program_spelling (u32_at bytes 0) (u16_at bytes 26) (channel_in bytes) (u32_at bytes 12) (u64_at bytes 16) insns ≡ front bytes ++ rest =
+    let spelled : program_spelling (u32_at bytes 0) (u16_at bytes 26) (record_channel_in bytes) (u32_at bytes 12) (u64_at bytes 16) insns ≡ front bytes ++ rest =
     head_again bytes PROGRAM_RECORD fit long tagged kind (to_le_bytes w32 (u32_at bytes 12) ++ to_le_bytes w64 (u64_at bytes 16) ++ to_le_bytes w16 (length insns) ++ to_le_bytes w16 (u16_at bytes 26) ++ flat_map insn_bytes insns)
     ∙ ap (λ l. head ++ (l ++ to_le_bytes w64 (u64_at bytes 16) ++ to_le_bytes w16 (length insns) ++ to_le_bytes w16 (u16_at bytes 26) ++ flat_map insn_bytes insns)) version
     ∙ ap (λ l. (head ++ (at 12 ∷ at 13 ∷ at 14 ∷ at 15 ∷ [])) ++ (l ++ to_le_bytes w16 (length insns) ++ to_le_bytes w16 (u16_at bytes 26) ++ flat_map insn_bytes insns)) first
@@ -168,7 +168,7 @@ SpellsRecord-program bytes fit tagged kind named len =
     ∙ ap (λ l. front bytes ++ l) stored in
     (is, u32_at bytes 0, u16_at bytes 26, front_cells bytes long ∙ sym spelled)
 
-pub SpellsRecord-end : (bytes : List ℕ) → AreBytes bytes → IsTagged bytes → kind_in bytes ≡ END_RECORD → channel_in bytes ≢ 0
+pub SpellsRecord-end : (bytes : List ℕ) → AreBytes bytes → IsTagged bytes → kind_in bytes ≡ END_RECORD → record_channel_in bytes ≢ 0
     → length bytes ≡ END_RECORD_LEN → SpellsRecord (end_at bytes) bytes
 SpellsRecord-end bytes fit tagged kind named len =
     let rest = drop PROGRAM_HEAD_LEN bytes in
@@ -188,7 +188,7 @@ SpellsRecord-end bytes fit tagged kind named len =
 
 -- ---- the record that was made
 
-pub made_program : (bytes : List ℕ) (channel kind c v f n : ℕ) (stored : List ℕ) → AreBytes bytes → HasFields kind channel bytes → kind ≡ PROGRAM_RECORD
+pub made_program : (bytes : List ℕ) (channel kind c v f n : ℕ) (stored : List ℕ) → AreBytes bytes → HasRecordFields kind channel bytes → kind ≡ PROGRAM_RECORD
     → length bytes ≡ PROGRAM_HEAD_LEN + INSN_LEN * insn_count_in bytes
     → c ≡ channel → v ≡ u32_at bytes 12 → f ≡ u64_at bytes 16 → n ≡ insn_count_in bytes → stored ≡ drop PROGRAM_HEAD_LEN bytes
     → SpellsRecord (OfProgram c v f (stored_insns n stored)) bytes
@@ -202,7 +202,7 @@ end_kind : {at : ℕ} (kind : ℕ) → IsKind kind → (kind ≡ PROGRAM_RECORD 
 end_kind kind (inl program) not_program e = absurd (not_program program)
 end_kind kind (inr ending) not_program e = sym e ∙ ending
 
-pub made_end : (bytes : List ℕ) (channel kind : ℕ) (made : Option Record) → AreBytes bytes → HasFields kind channel bytes → (kind ≡ PROGRAM_RECORD → ⊥)
+pub made_end : (bytes : List ℕ) (channel kind : ℕ) (made : Option Record) → AreBytes bytes → HasRecordFields kind channel bytes → (kind ≡ PROGRAM_RECORD → ⊥)
     → (IsSome made → length bytes ≡ END_RECORD_LEN)
     → IfSome made (λ found. found ≡ End channel (u64_at bytes 12) (u64_at bytes 20))
     → IfSome made (λ found. SpellsRecord (record_data found) bytes)

@@ -8,7 +8,7 @@ use Rattle.std.proofs.lemmas.Nat.Bits.{and_pow}
 use Rattle.std.proofs.lemmas.List.{take_all, take_rest, take-append-drop}
 use Rattle.ch11_packet.specs.declared.frames.word.TheConstants.{FRAME_HEADER_LEN}
 use Rattle.eth_frame.specs.Bytes.{AreBytes, u16_at, u32_at, u48_at}
-use Rattle.ch11_packet.specs.FramesRead.{read_frame_of, read_word, IsFiller, StandsFirst}
+use Rattle.ch11_packet.specs.FramesRead.{read_frame_of, read_word, IsFiller, FrameStandsFirst}
 use Rattle.eth_frame.proofs.Bytes.{two_bytes, four_bytes, six_bytes}
 
 -- ---- the filler
@@ -55,7 +55,7 @@ behind body taken after len split =
 pub StandsFirst-split : (body taken after more : List ℕ) (len counter : ℕ) → AreBytes body → FRAME_HEADER_LEN ≤ length body
     → counter ≡ u48_at body 0 → len ≡ u16_at body 8 % 2 ^ 14 → drop FRAME_HEADER_LEN body ≡ taken ++ after → length taken ≡ len
     → (filler : List ℕ) × (after ≡ filler ++ more) × IsFiller len filler more
-    → StandsFirst (read_frame_of counter (not (eqb (bit_and (get_or body 11 0) 128) 0)) (not (eqb (bit_and (get_or body 11 0) 64) 0)) (get_or body 10 0) (get_or body 11 0 % 16) (get_or body 11 0 / 16 % 4) taken) body more
+    → FrameStandsFirst (read_frame_of counter (not (eqb (bit_and (get_or body 11 0) 128) 0)) (not (eqb (bit_and (get_or body 11 0) 64) 0)) (get_or body 10 0) (get_or body 11 0 % 16) (get_or body 11 0 / 16 % 4) taken) body more
 StandsFirst-split body taken after more len counter fit long ec el split many filled =
     let at = λ (i : ℕ). get_or body i 0 in
     let marks = at 11 in

@@ -4,7 +4,7 @@ use Rattle.std.specs.Int.{w16, w32, to_le_bytes}
 use Rattle.std.proofs.lemmas.Nat.{from_le_bytes-to_le_bytes_4}
 use Rattle.ch11_packet.specs.declared.frames.word.TheConstants.{BODY_WORD_LEN}
 use Rattle.eth_frame.specs.Bytes.{u32_at}
-use Rattle.ch11_packet.specs.FramesRead.{ReadFrameData, SpellsFrame, Begins, SpellsBody}
+use Rattle.ch11_packet.specs.FramesRead.{ReadFrameData, SpellsFrame, BeginsFrames, SpellsBody}
 
 -- the bits of a body's word
 pub other_word : (frames : List ReadFrameData) (word other : ℕ) (rest : List ℕ) → word < 2 ^ 32 → other < 2 ^ 28 → other % 2 ^ 16 ≡ word % 2 ^ 16
@@ -22,7 +22,7 @@ other_word frames word other rest fits other_fits same body =
       spare_fits = omega arith;
       rest = rest;
       whole = ap (λ w. to_le_bytes w32 w ++ rest) now;
-      held = subst (λ l. Begins frames l []) (sym (ap (drop BODY_WORD_LEN) body.whole)) body.held;
+      held = subst (λ l. BeginsFrames frames l []) (sym (ap (drop BODY_WORD_LEN) body.whole)) body.held;
     }
 
 -- the two bytes after a frame's counter

@@ -62,7 +62,7 @@ unfoldable pub frames_in : (count : ℕ) (bytes : List ℕ) → List FrameData
 frames_in count bytes = map frame_in (first_reads count (drop BODY_WORD_LEN bytes))
 
 -- the bytes are a word of this number and these frames
-pub record Holds (word : ℕ) (frames : List FrameData) (net speed : ℕ) (bytes : List ℕ) : Type 0 where
+pub record HoldsFrames (word : ℕ) (frames : List FrameData) (net speed : ℕ) (bytes : List ℕ) : Type 0 where
   pub bytes_are : bytes ≡ to_le_bytes w32 word ++ flat_map (frame_bytes net speed) frames
   pub in_range : All IsFrame frames
   pub net_fits : net < 2 ^ 8
@@ -82,14 +82,14 @@ pub record IsBlank (limit room : ℕ) (bytes : List ℕ) : Type 0 where
 -- the bytes hold `count` frames below the limit, with a word of 0, and there is room up to the
 -- limit
 pub record IsOpen (count net speed limit room : ℕ) (bytes : List ℕ) : Type 0 where
-  pub holds : Holds 0 (frames_in count bytes) net speed bytes
+  pub holds : HoldsFrames 0 (frames_in count bytes) net speed bytes
   pub fits : packet_len (length bytes) ≤ limit
   pub roomy : HasRoom limit room
 
 -- the bytes are the body of `count` frames below the limit, at least one, this is their sum, and
 -- there is room up to the limit
 pub record IsSealed (count net speed limit room sum : ℕ) (bytes : List ℕ) : Type 0 where
-  pub holds : Holds count (frames_in count bytes) net speed bytes
+  pub holds : HoldsFrames count (frames_in count bytes) net speed bytes
   pub some : 0 < count
   pub fits : packet_len (length bytes) ≤ limit
   pub roomy : HasRoom limit room

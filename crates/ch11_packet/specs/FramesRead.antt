@@ -102,7 +102,7 @@ abbrev pub IsFiller : (len : ℕ) (filler more : List ℕ) → Type 0
 IsFiller len filler more = (length filler ≡ len % 2) ⊎ ((filler ≡ []) × (more ≡ []))
 
 -- the bytes are the frame's, its filler, and more
-pub record StandsFirst (frame : ReadFrameData) (bytes more : List ℕ) : Type 0 where
+pub record FrameStandsFirst (frame : ReadFrameData) (bytes more : List ℕ) : Type 0 where
   pub spelling : List ℕ
   pub filler : List ℕ
   pub spelled : SpellsFrame frame spelling
@@ -110,22 +110,22 @@ pub record StandsFirst (frame : ReadFrameData) (bytes more : List ℕ) : Type 0 
   pub whole : bytes ≡ spelling ++ (filler ++ more)
 
 -- the bytes are these frames one after the other, and a rest
-abbrev pub Begins : List ReadFrameData → (bytes rest : List ℕ) → Type 0
-Begins [] bytes rest = bytes ≡ rest
-Begins (frame ∷ frames) bytes rest =
-    (more : List ℕ) × StandsFirst frame bytes more × Begins frames more rest
+abbrev pub BeginsFrames : List ReadFrameData → (bytes rest : List ℕ) → Type 0
+BeginsFrames [] bytes rest = bytes ≡ rest
+BeginsFrames (frame ∷ frames) bytes rest =
+    (more : List ℕ) × FrameStandsFirst frame bytes more × BeginsFrames frames more rest
 
 -- no whole frame stands first: there are fewer than the 12 bytes before a frame's bytes, or fewer
 -- bytes follow them than its word says
-abbrev pub IsCut : List ℕ → Type 0
-IsCut bytes =
+abbrev pub IsCutFrame : List ℕ → Type 0
+IsCutFrame bytes =
     (length bytes < FRAME_HEADER_LEN)
     ⊎ ((FRAME_HEADER_LEN ≤ length bytes)
     × (length bytes < FRAME_HEADER_LEN + length_in (u32_at bytes 8)))
 
 -- the bytes are `count` frames one after the other, and nothing else
 abbrev pub AreFrames : (count : ℕ) (bytes : List ℕ) → Type 0
-AreFrames count bytes = Begins (first_reads count bytes) bytes []
+AreFrames count bytes = BeginsFrames (first_reads count bytes) bytes []
 
 -- ---- the bytes of a body
 
@@ -137,7 +137,7 @@ pub record SpellsBody (frames : List ReadFrameData) (bytes : List ℕ) : Type 0 
   pub spare_fits : spare < 2 ^ 12
   pub rest : List ℕ
   pub whole : bytes ≡ to_le_bytes w32 (length frames + spare * 2 ^ 16) ++ rest
-  pub held : Begins frames rest []
+  pub held : BeginsFrames frames rest []
 
 -- the number of frames and the format that a body's word says
 abbrev pub count_in : List ℕ → ℕ
@@ -162,16 +162,16 @@ pub record FramesEnd (bytes : List ℕ) : Type 0 where
   pub is_format : HasFormat bytes
   pub frames : List ReadFrameData
   pub rest : List ℕ
-  pub held : Begins frames (drop BODY_WORD_LEN bytes) rest
+  pub held : BeginsFrames frames (drop BODY_WORD_LEN bytes) rest
   pub fewer : length frames < count_in bytes
-  pub cut : IsCut rest
+  pub cut : IsCutFrame rest
 
 -- after as many frames as the word says more follows
 pub record MoreFollows (bytes : List ℕ) : Type 0 where
   pub is_format : HasFormat bytes
   pub frames : List ReadFrameData
   pub rest : List ℕ
-  pub held : Begins frames (drop BODY_WORD_LEN bytes) rest
+  pub held : BeginsFrames frames (drop BODY_WORD_LEN bytes) rest
   pub all : length frames ≡ count_in bytes
   pub more : rest ≢ []
 

@@ -105,7 +105,7 @@ HasLengths bytes =
     LengthsFit header.flags header.kind header.packet_len header.data_len
 
 -- what is wrong with 24 bytes: the sync pattern, else the checksum, else the lengths
-abbrev pub HasFault : List ℕ → HeaderFault → Type 0
-HasFault bytes Sync = ¬ HasSync bytes
-HasFault bytes Checksum = HasSync bytes × ¬ HasHeaderSum bytes
-HasFault bytes Length = HasSync bytes × HasHeaderSum bytes × ¬ HasLengths bytes
+abbrev pub HeaderHasFault : List ℕ → HeaderFault → Type 0
+HeaderHasFault bytes Sync = ¬ HasSync bytes
+HeaderHasFault bytes Checksum = HasSync bytes × ¬ HasHeaderSum bytes
+HeaderHasFault bytes Length = HasSync bytes × HasHeaderSum bytes × ¬ HasLengths bytes

@@ -66,8 +66,8 @@ IsTagged bytes = take 4 (drop 4 bytes) ≡ codes "CBPR"
 abbrev pub kind_in : List ℕ → ℕ
 kind_in bytes = u16_at bytes 8
 
-abbrev pub channel_in : List ℕ → ℕ
-channel_in bytes = u16_at bytes 10
+abbrev pub record_channel_in : List ℕ → ℕ
+record_channel_in bytes = u16_at bytes 10
 
 abbrev pub insn_count_in : List ℕ → ℕ
 insn_count_in bytes = u16_at bytes 24
@@ -83,24 +83,24 @@ pub record HasRecordLength (bytes : List ℕ) : Type 0 where
   pub ending : kind_in bytes ≡ END_RECORD → length bytes ≡ END_RECORD_LEN
 
 -- a tag with a kind and a channel behind it
-pub record HasHead (bytes : List ℕ) : Type 0 where
+pub record HasRecordHead (bytes : List ℕ) : Type 0 where
   pub tagged : IsTagged bytes
   pub whole : RECORD_HEAD_LEN ≤ length bytes
 
 -- the tag with this kind and this channel, both of them right
-pub record HasFields (kind channel : ℕ) (bytes : List ℕ) : Type 0 where
-  pub head : HasHead bytes
+pub record HasRecordFields (kind channel : ℕ) (bytes : List ℕ) : Type 0 where
+  pub head : HasRecordHead bytes
   pub kind_is : kind ≡ kind_in bytes
-  pub channel_is : channel ≡ channel_in bytes
+  pub channel_is : channel ≡ record_channel_in bytes
   pub known : IsKind kind
   pub named : channel ≢ 0
 
 -- what is wrong with bytes that have the tag and are no record: they end before the kind and the
 -- channel; else the kind, else the channel, else the length
 abbrev pub HasRecordFault : List ℕ → RecordFault → Type 0
-HasRecordFault bytes Kind = HasHead bytes × ¬ IsKind (kind_in bytes)
+HasRecordFault bytes Kind = HasRecordHead bytes × ¬ IsKind (kind_in bytes)
 HasRecordFault bytes Channel =
-    HasHead bytes × IsKind (kind_in bytes) × (channel_in bytes ≡ 0)
+    HasRecordHead bytes × IsKind (kind_in bytes) × (record_channel_in bytes ≡ 0)
 HasRecordFault bytes Length =
     (IsTagged bytes × (length bytes < RECORD_HEAD_LEN))
-    ⊎ (HasHead bytes × IsKind (kind_in bytes) × (channel_in bytes ≢ 0) × ¬ HasRecordLength bytes)
+    ⊎ (HasRecordHead bytes × IsKind (kind_in bytes) × (record_channel_in bytes ≢ 0) × ¬ HasRecordLength bytes)

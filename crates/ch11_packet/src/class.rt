@@ -12,12 +12,9 @@ ghost use Rattle.ch11_packet.specs.Views.{header_data, record_data};
 use crate::flags::{has_checksum, is_plain};
 use crate::frames::{BodyFault, decode_frames};
 use crate::header::{COMPUTER_GENERATED_DATA, ETHERNET_DATA, Header};
-use crate::records::{Record, decode_record};
+use crate::records::{RECORD_CHANNEL, Record, decode_record};
 use crate::sum::{CHECKSUM_LEN, body_sum};
 use thiserror::Error;
-
-/// The channel ID of the packets of records.
-const RECORDS: u16 = 0;
 
 /// What a packet holds.
 #[derive(Clone, Copy, Debug, PartialEq, Eq)]
@@ -110,7 +107,7 @@ fn class_of(header: &Header, bytes: &[u8]) -> Option<What>
     }
     match (header.kind, header.channel) {
         (ETHERNET_DATA, _) => class_of_frames(bytes),
-        (COMPUTER_GENERATED_DATA, RECORDS) => class_of_records(bytes),
+        (COMPUTER_GENERATED_DATA, RECORD_CHANNEL) => class_of_records(bytes),
         _ => Some(What::Other),
     }
 }

@@ -70,7 +70,7 @@ pub enum HeaderFault {
 impl Header {
     ghost use Rattle.std.specs.Prelude.{◌≡◌, ◌↔◌, IsSome, IfSome, IfOk, IsOkAnd, Err};
     ghost use Rattle.ch11_packet.specs.declared.header.HeaderFault.{HeaderFault};
-    ghost use Rattle.ch11_packet.specs.Header.{HeaderData, IsHeader, header_of, header_bytes, HasFault};
+    ghost use Rattle.ch11_packet.specs.Header.{HeaderData, IsHeader, header_of, header_bytes, HeaderHasFault};
     ghost use Rattle.ch11_packet.specs.Views.{header_data};
 
     /// A header of these fields: `None` if the packet length is below the header's, is no multiple
@@ -139,7 +139,7 @@ impl Header {
             → IsOkAnd result (λ read. header_data read ≡ header) }
 
         // At a fault.
-        ensures fault { (fault : HeaderFault) → (result ≡ Err fault) ↔ HasFault bytes.now fault }
+        ensures fault { (fault : HeaderFault) → (result ≡ Err fault) ↔ HeaderHasFault bytes.now fault }
     {
         if u16::from_le_bytes([bytes[0], bytes[1]]) != SYNC_PATTERN {
             return Err(HeaderFault::Sync);

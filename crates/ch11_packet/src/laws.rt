@@ -3,7 +3,7 @@ ghost use Rattle.std.specs.Prelude.{◌≡◌, ◌≢◌, ◌+◌, ◌*◌, ◌%
 ghost use Rattle.std.specs.Int.{w16, w32, to_le_bytes};
 ghost use Rattle.bpf_insn.specs.declared.insn.Insn.{Insn};
 ghost use Rattle.eth_frame.specs.Bytes.{AreBytes};
-ghost use Rattle.ch11_packet.specs.Header.{HeaderData, IsHeader, header_bytes, header_at, HasSync, HasHeaderSum, HasLengths, HasFault};
+ghost use Rattle.ch11_packet.specs.Header.{HeaderData, IsHeader, header_bytes, header_at, HasSync, HasHeaderSum, HasLengths, HeaderHasFault};
 ghost use Rattle.ch11_packet.specs.declared.header.HeaderFault.{HeaderFault};
 ghost use Rattle.ch11_packet.specs.Sums.{body_sum, word_filler};
 ghost use Rattle.ch11_packet.specs.declared.class.What.{What};
@@ -51,7 +51,7 @@ pub fn header_has_one_spelling()
         → IsHeader (header_at bytes) × (bytes ≡ header_bytes (header_at bytes)) }
     ensures some { (bytes : List ℕ) → AreBytes bytes → length bytes ≡ HEADER_LEN
         → (IsHeader (header_at bytes) × (bytes ≡ header_bytes (header_at bytes)))
-        ⊎ ((fault : HeaderFault) × HasFault bytes fault) }
+        ⊎ ((fault : HeaderFault) × HeaderHasFault bytes fault) }
 {}
 
 /// Law: the least limit is 16,424 bytes, which is the length of a packet with the longest frame.

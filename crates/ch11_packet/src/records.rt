@@ -9,6 +9,9 @@ pub use decode::{RecordFault, decode_record};
 pub use encode::{END_RECORD_LEN, end_body, program_body};
 pub use record::{ProgramRecord, Record};
 
+/// The channel ID of the packets of records.
+pub const RECORD_CHANNEL: u16 = 0;
+
 /// The tag of the records, in their bytes 4 to 7.
 pub(crate) const RECORD_TAG: [u8; 4] = [b'C', b'B', b'P', b'R'];
 

@@ -5,8 +5,7 @@ use Rattle.std.specs.Fmt.{decimal}
 use Rattle.std.specs.Io.KnownBytes.{Appends}
 use Rattle.hex.specs.Hex.{decode_of}
 use Rattle.bpf_insn.specs.declared.insn.Insn.{Insn}
-use Rattle.bpf_insn.specs.Listing.{listing}
-use Rattle.bpf_verify.specs.Validity.{Valid}
+use Rattle.cli_streams.specs.Listed.{Lists}
 use Rattle.bpf_machine.specs.Machine.{Runs}
 
 -- a line without a carriage return at its end
@@ -22,10 +21,6 @@ first_line input = without_return (before_first (λ b. b == 10) input)
 -- its second line; empty where it is missing
 abbrev pub second_line : List ℕ → List ℕ
 second_line input = without_return (before_first (λ b. b == 10) (after_first (λ b. b == 10) input))
-
--- this listing lists the program, which is valid
-abbrev pub Lists : List ℕ → List Insn → Type 0
-Lists listing_text program = (listing listing_text ≡ Ok program) × Valid program
 
 -- the program that this listing lists is valid, and it returns the value in `steps` steps
 -- on the view that these hexadecimal digits write

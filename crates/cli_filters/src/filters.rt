@@ -1,10 +1,10 @@
 //! The commands on one filter: to assemble, disassemble, verify and run it.
 
-use crate::outcome::{listed_program, outcome_of, print_outcome};
+use crate::outcome::{outcome_of, print_outcome};
 use bpf_asm::assemble;
 use bpf_dis::text_of;
 use bpf_insn::{parse_listing, print_listing};
-use cli_streams::{Ending, MAX_LISTING, MAX_TEXT, print_line, print_text, text_in};
+use cli_streams::{Ending, MAX_LISTING, MAX_TEXT, listed_program, print_line, print_text, text_in};
 use std::io::{Read, Write};
 use std::rt::Files;
 
@@ -43,7 +43,10 @@ pub fn verify_file<'a, R: AllocGlobal + Files, I: Read, O: Write>(
     output: &mut O,
 ) -> Result<(), Ending<'a>> {
     let listing = text_in(rt, file, MAX_LISTING, input)?;
-    let program = listed_program(rt.alloc(), listing.as_str())?;
+    let program = listed_program(rt.alloc(), listing.as_str()).map_err(|fault| Ending::of_listed(
+        rt.alloc(),
+        fault,
+    ))?;
     let mut line = Vec::new(rt.alloc());
     let built = writeln!(&mut line, "valid {}", program.len());
     print_line(output, &mut line, built)

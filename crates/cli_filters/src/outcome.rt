@@ -2,24 +2,12 @@
 
 ghost use Rattle.std.specs.Prelude.{OnOk, IfOk};
 ghost use Rattle.std.specs.Io.KnownBytes.{Appends};
-ghost use Rattle.cli_filters.specs.Lines.{Lists, RunsOn, outcome_line};
+ghost use Rattle.cli_filters.specs.Lines.{RunsOn, outcome_line};
 
-use bpf_insn::parse_listing;
 use bpf_machine::{Outcome, run};
-use bpf_verify::{Verified, verify};
-use cli_streams::{Ending, print_line, view_of};
+use cli_streams::{Ending, listed_program, print_line, view_of};
 use std::alloc::Global;
 use std::io::Write;
-
-/// The program that is listed, which is valid.
-pub(crate) fn listed_program<'a>(alloc: Global, listing: &str) -> Result<Verified, Ending<'a>>
-    ensures { IfOk result (λ program. Lists listing.now program) }
-{
-    match verify(parse_listing(alloc, listing)?) {
-        Ok(program) => Ok(program),
-        Err(refused) => Err(Ending::of_refusal(alloc, refused)),
-    }
-}
 
 /// What the listed program returns on the view.
 pub(crate) fn outcome_of<'a>(
@@ -29,7 +17,10 @@ pub(crate) fn outcome_of<'a>(
 ) -> Result<Outcome, Ending<'a>>
     ensures { IfOk result (λ outcome. RunsOn listing.now view.now outcome.steps outcome.value) }
 {
-    let program = listed_program(alloc, listing)?;
+    let program = match listed_program(alloc, listing) {
+        Ok(program) => program,
+        Err(fault) => return Err(Ending::of_listed(alloc, fault)),
+    };
     let view = view_of(alloc, view)?;
     Ok(run(&program, view.as_slice()))
 }

@@ -2,9 +2,10 @@
 
 use crate::errors::print_error;
 use crate::lines::{Lines, MAX_LINES, Request, request_in};
-use crate::listed::{ListedFault, insns_in};
-use bpf_insn::{Insn, ListingFault};
-use bpf_verify::{Verified, verify};
+use crate::listed::{FilterFault, program_in};
+use bpf_insn::ListingFault;
+use bpf_verify::Verified;
+use cli_streams::ListedFault;
 use std::alloc::AllocFailed;
 use std::io::{ErrorKind, Read, Write};
 use std::rt::Files;
@@ -98,12 +99,9 @@ fn asked_in<R: AllocGlobal + Files>(rt: &R, line: &[u8]) -> Result<Asked, Unmade
         Ok(request) => request,
         Err(channel) => return Err(Unmade::Refused(channel, Refusal::Line)),
     };
-    let insns = match listed_insns(rt, file) {
-        Ok(insns) => insns,
+    let program = match program_of(rt, file) {
+        Ok(program) => program,
         Err(fault) => return Err(unmade_by(channel, fault)),
-    };
-    let Ok(program) = verify(insns) else {
-        return Err(Unmade::Refused(channel, Refusal::Program));
     };
     match Arc::new(rt.alloc(), program) {
         Ok(program) => Ok(Asked { channel, program }),
@@ -111,23 +109,24 @@ fn asked_in<R: AllocGlobal + Files>(rt: &R, line: &[u8]) -> Result<Asked, Unmade
     }
 }
 
-/// The instructions that a regular file lists. Another file is refused before it is opened: a pipe would
+/// The program that a regular file lists. Another file is refused before it is opened: a pipe would
 /// hold up all later lines, and a channel's own would lose frames. No more is read than the file is
 /// long: a file of the system's own has no length, and may wait as a pipe does.
-fn listed_insns<R: AllocGlobal + Files>(rt: &R, file: &str) -> Result<Vec<Insn>, ListedFault> {
+fn program_of<R: AllocGlobal + Files>(rt: &R, file: &str) -> Result<Verified, FilterFault> {
     let found = rt.metadata(file)?;
     if !found.is_file() {
-        return Err(ListedFault::File(io::Error::from(ErrorKind::InvalidInput)));
+        return Err(FilterFault::File(io::Error::from(ErrorKind::InvalidInput)));
     }
-    insns_in(rt.alloc(), &mut fs::open(rt, file)?.take(found.len()))
+    program_in(rt.alloc(), &mut fs::open(rt, file)?.take(found.len()))
 }
 
-/// What a fault of a listing's file comes to.
-fn unmade_by(channel: u16, fault: ListedFault) -> Unmade {
+/// What a fault of a filter's file comes to.
+fn unmade_by(channel: u16, fault: FilterFault) -> Unmade {
     match fault {
-        ListedFault::File(error) if error.kind() == ErrorKind::OutOfMemory => Unmade::Memory,
-        ListedFault::Listing(ListingFault::Memory) => Unmade::Memory,
-        ListedFault::File(_) => Unmade::Refused(channel, Refusal::File),
-        ListedFault::Listing(_) => Unmade::Refused(channel, Refusal::Listing),
+        FilterFault::File(error) if error.kind() == ErrorKind::OutOfMemory => Unmade::Memory,
+        FilterFault::Listed(ListedFault::Listing(ListingFault::Memory)) => Unmade::Memory,
+        FilterFault::File(_) => Unmade::Refused(channel, Refusal::File),
+        FilterFault::Listed(ListedFault::Listing(_)) => Unmade::Refused(channel, Refusal::Listing),
+        FilterFault::Listed(ListedFault::Refused(_)) => Unmade::Refused(channel, Refusal::Program),
     }
 }

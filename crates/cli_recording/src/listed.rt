@@ -1,34 +1,34 @@
-//! The listings of filters, from their files.
+//! The programs that files list.
 
-use bpf_insn::{Insn, ListingFault, parse_listing};
-use cli_streams::{MAX_LISTING, bounded_text};
+use bpf_verify::Verified;
+use cli_streams::{ListedFault, MAX_LISTING, bounded_text, listed_program};
 use std::alloc::Global;
 use std::io;
 use std::io::Read;
 
-/// Why a file lists nothing.
+/// Why a file gives no program.
 #[derive(Debug, Drop)]
-pub(crate) enum ListedFault {
+pub(crate) enum FilterFault {
     /// It can't be read, is no UTF-8, or is longer than a listing may be.
     File(io::Error),
-    /// It has no listing.
-    Listing(ListingFault),
+    /// It lists no program that may be installed.
+    Listed(ListedFault),
 }
 
-impl From<io::Error> for ListedFault {
-    fn from(error: io::Error) -> ListedFault {
-        ListedFault::File(error)
+impl From<io::Error> for FilterFault {
+    fn from(error: io::Error) -> FilterFault {
+        FilterFault::File(error)
     }
 }
 
-impl From<ListingFault> for ListedFault {
-    fn from(fault: ListingFault) -> ListedFault {
-        ListedFault::Listing(fault)
+impl From<ListedFault> for FilterFault {
+    fn from(fault: ListedFault) -> FilterFault {
+        FilterFault::Listed(fault)
     }
 }
 
-/// The instructions that an open file lists.
-pub(crate) fn insns_in<F: Read>(alloc: Global, file: &mut F) -> Result<Vec<Insn>, ListedFault> {
+/// The program that an open file lists, which is valid.
+pub(crate) fn program_in<F: Read>(alloc: Global, file: &mut F) -> Result<Verified, FilterFault> {
     let listing = bounded_text(alloc, MAX_LISTING, file)?;
-    Ok(parse_listing(alloc, listing.as_str())?)
+    Ok(listed_program(alloc, listing.as_str())?)
 }

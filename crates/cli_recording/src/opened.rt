@@ -3,8 +3,8 @@
 ghost use Rattle.std.specs.Prelude.{◌≡◌, IfOk, None};
 
 use crate::closing::ClosingSource;
-use crate::listed::{ListedFault, insns_in};
-use bpf_verify::{Verified, verify};
+use crate::listed::{FilterFault, program_in};
+use bpf_verify::Verified;
 use cli_streams::{Ending, Inputs, MAX_LISTING, bounded_text};
 use eth_frame::{FeedSource, FrameSource};
 use rec_words::{Settings, settings_of};
@@ -43,14 +43,10 @@ pub fn read_filter<'a, R: AllocGlobal + Files>(
         Err(error) => return Err(Ending::of_named_read(filter, &error)),
     };
     inputs.add(&file)?;
-    let insns = match insns_in(rt.alloc(), &mut file) {
-        Ok(insns) => insns,
-        Err(ListedFault::File(error)) => return Err(Ending::of_named_read(filter, &error)),
-        Err(ListedFault::Listing(fault)) => return Err(Ending::Listing(fault)),
-    };
-    match verify(insns) {
+    match program_in(rt.alloc(), &mut file) {
         Ok(program) => Ok(program),
-        Err(refused) => Err(Ending::of_refusal(rt.alloc(), refused)),
+        Err(FilterFault::File(error)) => Err(Ending::of_named_read(filter, &error)),
+        Err(FilterFault::Listed(fault)) => Err(Ending::of_listed(rt.alloc(), fault)),
     }
 }
 

@@ -3,10 +3,10 @@
 ghost use Rattle.std.specs.Prelude.{◌<◌, ◌≤◌, IfSome};
 ghost use Rattle.rec_channel.specs.declared.limits.TheConstants.{MAX_RING};
 
-use bpf_insn::{ListingFault, parse_listing};
-use bpf_verify::{Verified, verify};
+use bpf_insn::ListingFault;
+use bpf_verify::Verified;
 use ch11_packet::{Limit, MAX_SPEED};
-use cli_streams::channel_in;
+use cli_streams::{ListedFault, channel_in, listed_program};
 use eth_frame::Frame;
 use hex::FromHexError;
 use rec_core::{ChannelSpec, Event, MAX_RING};
@@ -144,10 +144,11 @@ fn take_of(alloc: Global, channel: u16, fields: &str) -> Result<Event, LineFault
 
 /// The program that a listing has, if it is valid.
 fn program_of(alloc: Global, listing: &str) -> Result<Arc<Verified, Global>, LineFault> {
-    let Ok(program) = verify(parse_listing(alloc, listing)?) else {
-        return Err(LineFault::Shape);
-    };
-    Ok(Arc::new(alloc, program)?)
+    match listed_program(alloc, listing) {
+        Ok(program) => Ok(Arc::new(alloc, program)?),
+        Err(ListedFault::Listing(fault)) => Err(LineFault::from(fault)),
+        Err(ListedFault::Refused(_)) => Err(LineFault::Shape),
+    }
 }
 
 /// The number of a word in decimal digits alone, if it is at most this.

@@ -2,6 +2,7 @@
 
 ghost use Rattle.std.specs.Prelude.{◌<◌};
 
+use crate::listed::ListedFault;
 use crate::output::print_line;
 use crate::recording_fault::RecordingFault;
 use crate::view::ViewFault;
@@ -36,7 +37,7 @@ pub enum Ending<'a> {
     /// A file couldn't be read, is no UTF-8 where text is wanted, or couldn't be written.
     #[error("file {0}\n")]
     File(&'a str),
-    /// The same of a file that the settings name.
+    /// A file that the settings name couldn't be read, or is no UTF-8.
     #[error("file {0}\n")]
     NamedFile(String),
     #[error("{0}\n")]
@@ -94,8 +95,12 @@ impl<'a> Ending<'a> {
         }
     }
 
-    /// What a refusal of the verifier comes to.
-    pub fn of_refusal(alloc: Global, refused: Refused) -> Ending<'a> {
+    /// What a text comes to that lists no program which may be installed.
+    pub fn of_listed(alloc: Global, fault: ListedFault) -> Ending<'a> {
+        let refused = match fault {
+            ListedFault::Listing(fault) => return Ending::Listing(fault),
+            ListedFault::Refused(refused) => refused,
+        };
         match Box::new(alloc, refused) {
             Ok(refused) => Ending::Refused(refused),
             Err(_) => Ending::Memory,

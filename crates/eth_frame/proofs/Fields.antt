@@ -6,7 +6,7 @@ use Rattle.eth_frame.specs.declared.frame.TheConstants.{MIN_FRAME_LEN, MAX_FRAME
 use Rattle.eth_frame.specs.declared.feed.head.TheConstants.{MAX_MARKS}
 use Rattle.eth_frame.proofs.Bytes.{six_again}
 use Rattle.eth_frame.specs.Frame.{FrameData, IsFrame}
-use Rattle.eth_frame.specs.FeedRecord.{marks_byte, head_bytes, record_head, counter_field, marks_field, length_field, has_crc_error, has_frame_error, head_fault}
+use Rattle.eth_frame.specs.FeedRecord.{marks_byte, head_bytes, feed_record_head, counter_field, marks_field, length_field, has_crc_error, has_frame_error, head_fault}
 
 -- ---- what a head says is what was put into it
 
@@ -34,12 +34,12 @@ marks_byte-small false true = lit≤ tt
 marks_byte-small true false = lit≤ tt
 marks_byte-small true true = lit≤ tt
 
-pub head_fault-record_head : (frame : FrameData) → IsFrame frame → head_fault (record_head frame) ≡ None
+pub head_fault-record_head : (frame : FrameData) → IsFrame frame → head_fault (feed_record_head frame) ≡ None
 head_fault-record_head frame is =
     let len = length_field-head_bytes frame.counter frame.crc_error frame.frame_error (length frame.bytes) (omega arith) in
-    let a : ltb (length_field (record_head frame)) MIN_FRAME_LEN ≡ false = le-ltb _ _ (omega arith) in
-    let b : ltb MAX_FRAME_LEN (length_field (record_head frame)) ≡ false = le-ltb _ _ (omega arith) in
-    let c : ltb MAX_MARKS (marks_field (record_head frame)) ≡ false = le-ltb _ _ (marks_byte-small frame.crc_error frame.frame_error) in
+    let a : ltb (length_field (feed_record_head frame)) MIN_FRAME_LEN ≡ false = le-ltb _ _ (omega arith) in
+    let b : ltb MAX_FRAME_LEN (length_field (feed_record_head frame)) ≡ false = le-ltb _ _ (omega arith) in
+    let c : ltb MAX_MARKS (marks_field (feed_record_head frame)) ≡ false = le-ltb _ _ (marks_byte-small frame.crc_error frame.frame_error) in
     rw (a, b, c) refl
 
 -- ---- a valid head is what is put into it

@@ -8,7 +8,7 @@ use Rattle.eth_frame.specs.declared.source.SourceFault.TheVariants.{Device}
 use Rattle.eth_frame.specs.declared.source.SourceEnding.{SourceEnding}
 use Rattle.eth_frame.specs.declared.source.SourceEnding.TheVariants.{End, Fault}
 use Rattle.eth_frame.specs.Frame.{FrameData}
-use Rattle.eth_frame.specs.Source.{Left, no_frames, with_first, ending_of, GivesFirst, GivesEnding, Fails}
+use Rattle.eth_frame.specs.Source.{Left, no_frames, with_first_frame, source_ending_of, GivesFirst, GivesEnding, Fails}
 use Rattle.eth_frame.specs.FeedRecord.{record_at}
 use Rattle.eth_frame.specs.Feed.{left_from, left_of_feed, after_record, left_of_source, failures_before}
 use Rattle.eth_frame.specs.FeedTaking.{TakesRecord}
@@ -22,13 +22,13 @@ left_from-drop (suc n) [] = refl
 left_from-drop (suc n) (b ∷ bs) = left_from-drop n bs
 
 -- the bytes begin with a record
-pub left_of_feed-frame : (bytes : List ℕ) (frame : FrameData) → record_at bytes ≡ Ok frame → left_of_feed bytes ≡ with_first frame (left_of_feed (drop (HEAD_LEN + length frame.bytes) bytes))
+pub left_of_feed-frame : (bytes : List ℕ) (frame : FrameData) → record_at bytes ≡ Ok frame → left_of_feed bytes ≡ with_first_frame frame (left_of_feed (drop (HEAD_LEN + length frame.bytes) bytes))
 unfolding left_from
 left_of_feed-frame [] frame e = absurd (let nil = record_at-nil in cc)
 left_of_feed-frame (b ∷ bs) frame e =
     let skipped = (length frame.bytes + HEAD_LEN) - 1 in
     let size : HEAD_LEN + length frame.bytes ≡ suc skipped = omega arith in
-    ap (λ (r : Result FrameData SourceEnding). after_record r (λ n. left_from (n - 1) bs)) e ∙ ap (with_first frame) (left_from-drop skipped bs ∙ ap (λ n. left_of_feed (drop n (b ∷ bs))) (sym size))
+    ap (λ (r : Result FrameData SourceEnding). after_record r (λ n. left_from (n - 1) bs)) e ∙ ap (with_first_frame frame) (left_from-drop skipped bs ∙ ap (λ n. left_of_feed (drop n (b ∷ bs))) (sym size))
 
 -- the bytes begin with no record
 pub left_of_feed-ending : (bytes : List ℕ) (ending : SourceEnding) → record_at bytes ≡ Err ending → left_of_feed bytes ≡ no_frames ending
@@ -44,7 +44,7 @@ Gives (Ok next.Frame) old held new = GivesFirst old held new
 Gives (Ok next.End) old held new = GivesEnding old End new
 Gives (Err fault) old held new = (fault ≡ Device) ⊎ GivesEnding old (Fault fault) new
 
-pub Gives-taken : (ended now : Option SourceEnding) (a c : Option (List ℕ)) (result : Result Next SourceFault) (held : Option FrameData) → ended ≡ None → now ≡ ending_of result
+pub Gives-taken : (ended now : Option SourceEnding) (a c : Option (List ℕ)) (result : Result Next SourceFault) (held : Option FrameData) → ended ≡ None → now ≡ source_ending_of result
     → IfSome a (λ bytes. TakesRecord bytes result held c) → Gives result (left_of_source ended a) held (left_of_source now c)
 Gives-taken (Some ending) now a c result held e n took = absurd cc
 Gives-taken None now None c (Ok next.Frame) held e n took = tt
@@ -53,7 +53,7 @@ Gives-taken None (Some ending) (Some x) c (Ok next.Frame) (Some frame) e n took 
 Gives-taken None None (Some x) None (Ok next.Frame) (Some frame) e n took = absurd (let after = took.1 in cc)
 Gives-taken None None (Some x) (Some z) (Ok next.Frame) (Some frame) e n took =
     let rest : z ≡ drop (HEAD_LEN + length frame.bytes) x = let after = took.1 in cc in
-    left_of_feed-frame x frame took.0 ∙ ap (λ l. with_first frame (left_of_feed l)) (sym rest)
+    left_of_feed-frame x frame took.0 ∙ ap (λ l. with_first_frame frame (left_of_feed l)) (sym rest)
 Gives-taken None now None c (Ok next.End) held e n took = tt
 Gives-taken None None (Some x) c (Ok next.End) held e n took = absurd cc
 Gives-taken None (Some ending) (Some x) c (Ok next.End) held e n took =
@@ -81,7 +81,7 @@ Gives-fault (Ok answer) old held new gives = tt
 Gives-fault (Err fault) old held new gives = gives
 
 -- the device failed
-pub Fails-device : (ended now : Option SourceEnding) (a c : Option (List ℕ)) (result : Result Next SourceFault) → ended ≡ None → now ≡ ending_of result → result ≡ Err Device
+pub Fails-device : (ended now : Option SourceEnding) (a c : Option (List ℕ)) (result : Result Next SourceFault) → ended ≡ None → now ≡ source_ending_of result → result ≡ Err Device
     → Fails (left_of_source ended a) ended (failures_before ended) (left_of_source now c) (failures_before now)
 Fails-device (Some ending) now a c result e n r = absurd cc
 Fails-device None now None c result e n r = tt

@@ -11,10 +11,10 @@ use Rattle.eth_frame.specs.declared.source.SourceFault.TheVariants.{Truncated, L
 use Rattle.eth_frame.specs.declared.source.SourceEnding.{SourceEnding}
 use Rattle.eth_frame.specs.declared.source.SourceEnding.TheVariants.{End, Fault}
 use Rattle.eth_frame.specs.Frame.{FrameData, IsFrame}
-use Rattle.eth_frame.specs.Source.{Left, with_first}
-use Rattle.eth_frame.specs.FeedRecord.{marks_byte, record_head, feed_record, counter_field, marks_field, length_field, has_crc_error, has_frame_error, head_fault, frame_at, body_at, record_at}
+use Rattle.eth_frame.specs.Source.{Left, with_first_frame}
+use Rattle.eth_frame.specs.FeedRecord.{marks_byte, feed_record_head, feed_record, counter_field, marks_field, length_field, has_crc_error, has_frame_error, head_fault, frame_at, body_at, record_at}
 use Rattle.eth_frame.specs.Bytes.{AreBytes}
-use Rattle.eth_frame.specs.Feed.{IsBadLength, Ends, Feed, left_of_feed}
+use Rattle.eth_frame.specs.Feed.{IsBadLength, EndsFeed, Feed, left_of_feed}
 use Rattle.eth_frame.proofs.Bytes.{AreBytes-drop, two_bytes, six_bytes}
 use Rattle.eth_frame.proofs.Records.{record_at-nil, record_at-short, record_at-whole, record_at-split, body_after, frame_after, from_parts}
 use Rattle.eth_frame.proofs.Lefts.{left_of_feed-frame, left_of_feed-ending}
@@ -24,7 +24,7 @@ use Rattle.eth_frame.proofs.Fields.{counter_field-head_bytes, length_field-head_
 
 pub record_at-record : (frame : FrameData) (more : List ℕ) → IsFrame frame → record_at (feed_record frame ++ more) ≡ Ok frame
 record_at-record frame more is =
-    let head = record_head frame in
+    let head = feed_record_head frame in
     let rest = frame.bytes ++ more in
     let len : length_field head ≡ length frame.bytes = length_field-head_bytes frame.counter frame.crc_error frame.frame_error (length frame.bytes) (omega arith) in
     let whole : ltb (length rest) (length_field head) ≡ false = le-ltb _ _ (omega (arith, length-append frame.bytes more)) in
@@ -47,7 +47,7 @@ head_fault-length bytes (inr high) = rw (or_right (ltb (length_field bytes) MIN_
 head_fault-marks : (bytes : List ℕ) → MIN_FRAME_LEN ≤ length_field bytes → length_field bytes ≤ MAX_FRAME_LEN → MAX_MARKS < marks_field bytes → head_fault bytes ≡ Some Marks
 head_fault-marks bytes long short marks = rw (le-ltb _ _ long, le-ltb _ _ short, lt-ltb _ _ marks) refl
 
-pub Ends-record_at : (rest : List ℕ) (ending : SourceEnding) → Ends rest ending → record_at rest ≡ Err ending
+pub Ends-record_at : (rest : List ℕ) (ending : SourceEnding) → EndsFeed rest ending → record_at rest ≡ Err ending
 Ends-record_at rest End ends = ap record_at ends ∙ record_at-nil
 Ends-record_at rest (Fault Truncated) (inl head) = record_at-short rest head.0 head.1
 Ends-record_at rest (Fault Truncated) (inr body) =
@@ -56,7 +56,7 @@ Ends-record_at rest (Fault Length) ends = record_at-whole rest ends.0 ∙ ap (λ
 Ends-record_at rest (Fault Marks) ends = record_at-whole rest ends.0 ∙ ap (λ o. body_at o rest) (head_fault-marks rest ends.1 ends.2 ends.3)
 Ends-record_at rest (Fault Device) ends = absurd ends
 
-left_of_feed-records : (frames : List FrameData) (rest : List ℕ) (ending : SourceEnding) → AllByRecursion IsFrame frames → Ends rest ending
+left_of_feed-records : (frames : List FrameData) (rest : List ℕ) (ending : SourceEnding) → AllByRecursion IsFrame frames → EndsFeed rest ending
     → left_of_feed (flat_map feed_record frames ++ rest) ≡ record { frames = frames; ending = ending }
 left_of_feed-records [] rest ending each ends = left_of_feed-ending rest ending (Ends-record_at rest ending ends)
 left_of_feed-records (f ∷ fs) rest ending each ends =
@@ -64,8 +64,8 @@ left_of_feed-records (f ∷ fs) rest ending each ends =
     let size : length (feed_record f) ≡ HEAD_LEN + length f.bytes = omega arith in
     ap left_of_feed (append_assoc (feed_record f) (flat_map feed_record fs) rest)
     ∙ left_of_feed-frame (feed_record f ++ more) f (record_at-record f more each.0)
-    ∙ ap (λ l. with_first f (left_of_feed l)) (drop_at (feed_record f) more (HEAD_LEN + length f.bytes) size)
-    ∙ ap (with_first f) (left_of_feed-records fs rest ending each.1 ends)
+    ∙ ap (λ l. with_first_frame f (left_of_feed l)) (drop_at (feed_record f) more (HEAD_LEN + length f.bytes) size)
+    ∙ ap (with_first_frame f) (left_of_feed-records fs rest ending each.1 ends)
 
 pub said : (bytes : List ℕ) (frames : List FrameData) (ending : SourceEnding) → Feed bytes frames ending → left_of_feed bytes ≡ record { frames = frames; ending = ending }
 said bytes frames ending feed = ap left_of_feed feed.whole ∙ left_of_feed-records frames feed.rest ending feed.in_range feed.ends
@@ -118,13 +118,13 @@ frame_at-Spelled bytes fit well whole =
     let len : length (take n rest) ≡ n = omega (arith, length-take n rest, length-drop HEAD_LEN bytes) in
     let tail : marks ∷ to_le_bytes w16 (length (take n rest)) ≡ get_or bytes 6 0 ∷ get_or bytes 7 0 ∷ get_or bytes 8 0 ∷ [] =
     ap (λ k. marks ∷ to_le_bytes w16 k) len ∙ ap (λ l. marks ∷ l) (length_bytes bytes fit) ∙ ap (λ m. m ∷ get_or bytes 7 0 ∷ get_or bytes 8 0 ∷ []) (marks_byte-of (marks_field bytes) well.marks) in
-    let head : record_head (frame_at bytes) ≡ get_or bytes 0 0 ∷ get_or bytes 1 0 ∷ get_or bytes 2 0 ∷ get_or bytes 3 0 ∷ get_or bytes 4 0 ∷ get_or bytes 5 0 ∷ get_or bytes 6 0 ∷ get_or bytes 7 0 ∷ get_or bytes 8 0 ∷ [] =
+    let head : feed_record_head (frame_at bytes) ≡ get_or bytes 0 0 ∷ get_or bytes 1 0 ∷ get_or bytes 2 0 ∷ get_or bytes 3 0 ∷ get_or bytes 4 0 ∷ get_or bytes 5 0 ∷ get_or bytes 6 0 ∷ get_or bytes 7 0 ∷ get_or bytes 8 0 ∷ [] =
     ap (λ l. l ++ (marks ∷ to_le_bytes w16 (length (take n rest)))) (counter_bytes bytes fit)
     ∙ ap (λ l. (get_or bytes 0 0 ∷ get_or bytes 1 0 ∷ get_or bytes 2 0 ∷ get_or bytes 3 0 ∷ get_or bytes 4 0 ∷ get_or bytes 5 0 ∷ []) ++ l) tail in
     let body : rest ≡ take n rest ++ drop (HEAD_LEN + length (take n rest)) bytes =
     sym (take-append-drop n rest) ∙ ap (λ l. take n rest ++ l) (drop-drop n HEAD_LEN bytes ∙ ap (λ k. drop (HEAD_LEN + k) bytes) (sym len)) in
     record {
-      parts = head_cells bytes (omega arith) ∙ ap (λ l. l ++ rest) (sym head) ∙ ap (λ l. record_head (frame_at bytes) ++ l) body ∙ sym (append_assoc (record_head (frame_at bytes)) (take n rest) (drop (HEAD_LEN + length (take n rest)) bytes));
+      parts = head_cells bytes (omega arith) ∙ ap (λ l. l ++ rest) (sym head) ∙ ap (λ l. feed_record_head (frame_at bytes) ++ l) body ∙ sym (append_assoc (feed_record_head (frame_at bytes)) (take n rest) (drop (HEAD_LEN + length (take n rest)) bytes));
       in_range = record { counter = omega (arith, fit 0, fit 1, fit 2, fit 3, fit 4, fit 5); shortest = omega arith; longest = omega arith };
     }
 
@@ -170,36 +170,36 @@ fault_tests false false fault e = absurd cc
 bad_length : (n : ℕ) → (ltb n MIN_FRAME_LEN || ltb MAX_FRAME_LEN n) ≡ true → IsBadLength n
 bad_length n e = elim (or_cases _ _ e) [ inl low ↦ inl (ltb-true _ _ low) | inr high ↦ inr (ltb-true _ _ high) ]
 
-head_fault-Ends : (bytes : List ℕ) (fault : SourceFault) → HEAD_LEN ≤ length bytes → head_fault bytes ≡ Some fault → Ends bytes (Fault fault)
+head_fault-Ends : (bytes : List ℕ) (fault : SourceFault) → HEAD_LEN ≤ length bytes → head_fault bytes ≡ Some fault → EndsFeed bytes (Fault fault)
 head_fault-Ends bytes fault whole e =
     elim (fault_tests (ltb (length_field bytes) MIN_FRAME_LEN || ltb MAX_FRAME_LEN (length_field bytes)) (ltb MAX_MARKS (marks_field bytes)) fault e) [
-      | inl bad ↦ subst (λ (f : SourceFault). Ends bytes (Fault f)) bad.1 (whole, bad_length _ bad.0)
+      | inl bad ↦ subst (λ (f : SourceFault). EndsFeed bytes (Fault f)) bad.1 (whole, bad_length _ bad.0)
       | inr wrong ↦
           let parts = or_parts _ _ wrong.0 in
-          subst (λ (f : SourceFault). Ends bytes (Fault f)) wrong.2 (whole, ltb-false _ _ parts.0, ltb-false _ _ parts.1, ltb-true _ _ wrong.1)
+          subst (λ (f : SourceFault). EndsFeed bytes (Fault f)) wrong.2 (whole, ltb-false _ _ parts.0, ltb-false _ _ parts.1, ltb-true _ _ wrong.1)
     ]
 
-body_at-Ends : (o : Option SourceFault) (bytes : List ℕ) (ending : SourceEnding) → HEAD_LEN ≤ length bytes → head_fault bytes ≡ o → body_at o bytes ≡ Err ending → Ends bytes ending
+body_at-Ends : (o : Option SourceFault) (bytes : List ℕ) (ending : SourceEnding) → HEAD_LEN ≤ length bytes → head_fault bytes ≡ o → body_at o bytes ≡ Err ending → EndsFeed bytes ending
 body_at-Ends (Some fault) bytes ending whole o-is e =
     let same : Fault fault ≡ ending = cc in
-    subst (Ends bytes) same (head_fault-Ends bytes fault whole o-is)
+    subst (EndsFeed bytes) same (head_fault-Ends bytes fault whole o-is)
 body_at-Ends None bytes ending whole o-is e =
     let well = well_head bytes o-is in
     let tests = cond_err (ltb (length bytes) (HEAD_LEN + length_field bytes)) (frame_at bytes) (Fault Truncated) ending e in
-    subst (Ends bytes) tests.1 (inr (whole, well.long, well.short, well.marks, ltb-true _ _ tests.0))
+    subst (EndsFeed bytes) tests.1 (inr (whole, well.long, well.short, well.marks, ltb-true _ _ tests.0))
 
 above_zero : (n : ℕ) → (n ≡ 0 → ⊥) → 0 < n
 above_zero zero some = absurd (some refl)
 above_zero (suc n) some = omega arith
 
-pub record_at-Ends : (bytes : List ℕ) (ending : SourceEnding) → record_at bytes ≡ Err ending → Ends bytes ending
+pub record_at-Ends : (bytes : List ℕ) (ending : SourceEnding) → record_at bytes ≡ Err ending → EndsFeed bytes ending
 unfolding record_at
 record_at-Ends bytes ending e =
     elim (err_tests (eqb (length bytes) 0) (ltb (length bytes) HEAD_LEN) (body_at (head_fault bytes) bytes) ending e) [
-      | inl none ↦ subst (Ends bytes) none.1 (nil_from_length bytes (eqb-true _ _ none.0))
+      | inl none ↦ subst (EndsFeed bytes) none.1 (nil_from_length bytes (eqb-true _ _ none.0))
       | inr some ↦
           elim some [
-            | inl short ↦ subst (Ends bytes) short.2 (inl (above_zero _ (eqb-false _ _ short.0), ltb-true _ _ short.1))
+            | inl short ↦ subst (EndsFeed bytes) short.2 (inl (above_zero _ (eqb-false _ _ short.0), ltb-true _ _ short.1))
             | inr whole ↦ body_at-Ends (head_fault bytes) bytes ending (ltb-false _ _ whole.0) refl whole.1
           ]
     ]

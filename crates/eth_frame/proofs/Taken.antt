@@ -10,7 +10,7 @@ use Rattle.eth_frame.specs.declared.source.SourceFault.{SourceFault}
 use Rattle.eth_frame.specs.declared.source.SourceFault.TheVariants.{Truncated, Device}
 use Rattle.eth_frame.specs.declared.source.SourceEnding.TheVariants.{Fault}
 use Rattle.eth_frame.specs.Frame.{FrameData}
-use Rattle.eth_frame.specs.Heads.{HasHead}
+use Rattle.eth_frame.specs.Heads.{HasFrameHead}
 use Rattle.eth_frame.specs.FeedRecord.{counter_field, marks_field, length_field, has_crc_error, has_frame_error, head_fault, record_at}
 use Rattle.eth_frame.specs.FeedTaking.{TakesRecord}
 use Rattle.eth_frame.proofs.Records.{record_at-nil, record_at-short, record_at-split, body_after, frame_after, from_parts}
@@ -82,7 +82,7 @@ pub record SaysHead (bytes : List ℕ) (h : FrameHead) : Type 0 where
 
 -- a whole record, whose frame is held
 pub TakesRecord-held : (a b c : Option (List ℕ)) (bytes : List ℕ) (h : FrameHead) (held : Option FrameData) → length bytes ≡ HEAD_LEN → None ≡ head_fault bytes → SaysHead bytes h → Consumes a b bytes
-    → IsSomeAnd held (λ frame. HasHead h frame × Consumes b c frame.bytes) → IfSome a (λ all. TakesRecord all (Ok next.Frame) held c)
+    → IsSomeAnd held (λ frame. HasFrameHead h frame × Consumes b c frame.bytes) → IfSome a (λ all. TakesRecord all (Ok next.Frame) held c)
 TakesRecord-held a b c bytes h None len well says first second = absurd second
 TakesRecord-held a b c bytes h (Some frame) len well says first second =
     let of_head : IsOfHead bytes frame = record {

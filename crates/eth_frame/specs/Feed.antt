@@ -8,7 +8,7 @@ use Rattle.eth_frame.specs.declared.source.SourceFault.TheVariants.{Truncated, L
 use Rattle.eth_frame.specs.declared.source.SourceEnding.{SourceEnding}
 use Rattle.eth_frame.specs.declared.source.SourceEnding.TheVariants.{End, Fault}
 use Rattle.eth_frame.specs.Frame.{FrameData, IsFrame}
-use Rattle.eth_frame.specs.Source.{Left, no_frames, with_first}
+use Rattle.eth_frame.specs.Source.{Left, no_frames, with_first_frame}
 use Rattle.eth_frame.specs.FeedRecord.{feed_record, length_field, marks_field, record_at}
 
 -- ---- what a feed's bytes are
@@ -18,36 +18,36 @@ abbrev pub IsBadLength : ℕ → Type 0
 IsBadLength n = (n < MIN_FRAME_LEN) ⊎ (MAX_FRAME_LEN < n)
 
 -- a part of a head, or a valid head with a part of its frame's bytes
-abbrev pub IsCut : List ℕ → Type 0
-IsCut rest =
+abbrev pub IsCutRecord : List ℕ → Type 0
+IsCutRecord rest =
     ((0 < length rest) × (length rest < HEAD_LEN))
     ⊎ ((HEAD_LEN ≤ length rest)
     × (MIN_FRAME_LEN ≤ length_field rest) × (length_field rest ≤ MAX_FRAME_LEN)
     × (marks_field rest ≤ MAX_MARKS) × (length rest < HEAD_LEN + length_field rest))
 
 -- the bytes begin no record, and this is how a feed ends whose records are followed by them
-abbrev pub Ends : List ℕ → SourceEnding → Type 0
-Ends rest End = rest ≡ []
-Ends rest (Fault Truncated) = IsCut rest
-Ends rest (Fault Length) = (HEAD_LEN ≤ length rest) × IsBadLength (length_field rest)
-Ends rest (Fault Marks) =
+abbrev pub EndsFeed : List ℕ → SourceEnding → Type 0
+EndsFeed rest End = rest ≡ []
+EndsFeed rest (Fault Truncated) = IsCutRecord rest
+EndsFeed rest (Fault Length) = (HEAD_LEN ≤ length rest) × IsBadLength (length_field rest)
+EndsFeed rest (Fault Marks) =
     (HEAD_LEN ≤ length rest)
     × (MIN_FRAME_LEN ≤ length_field rest) × (length_field rest ≤ MAX_FRAME_LEN)
     × (MAX_MARKS < marks_field rest)
-Ends rest (Fault Device) = ⊥
+EndsFeed rest (Fault Device) = ⊥
 
 -- the bytes are the records of these frames, one after the other, and a rest with this ending
 pub record Feed (bytes : List ℕ) (frames : List FrameData) (ending : SourceEnding) : Type 0 where
   pub rest : List ℕ
   pub whole : bytes ≡ flat_map feed_record frames ++ rest
   pub in_range : AllByRecursion IsFrame frames
-  pub ends : Ends rest ending
+  pub ends : EndsFeed rest ending
 
 -- ---- what a feed's bytes say
 
 -- the frame's record is at the front, and what comes after it is left; or only the ending is
 abbrev pub after_record : Result FrameData SourceEnding → (ℕ → Left) → Left
-after_record (Ok frame) from = with_first frame (from (length frame.bytes + HEAD_LEN))
+after_record (Ok frame) from = with_first_frame frame (from (length frame.bytes + HEAD_LEN))
 after_record (Err ending) from = no_frames ending
 
 -- the frames and the ending that the bytes say, once the first ones are passed over

@@ -23,13 +23,13 @@ head_bytes counter crc_error frame_error len =
     bytes_low_first 0 6 counter ++ (marks_byte crc_error frame_error ∷ to_le_bytes w16 len)
 
 -- the 9 bytes before this frame's bytes
-abbrev pub record_head : FrameData → List ℕ
-record_head frame =
+abbrev pub feed_record_head : FrameData → List ℕ
+feed_record_head frame =
     head_bytes frame.counter frame.crc_error frame.frame_error (length frame.bytes)
 
 -- the record of a frame
 abbrev pub feed_record : FrameData → List ℕ
-feed_record frame = record_head frame ++ frame.bytes
+feed_record frame = feed_record_head frame ++ frame.bytes
 
 -- ---- reading
 

@@ -8,7 +8,7 @@ abbrev pub headed_frame : FrameHead → List ℕ → FrameData
 headed_frame h bytes = frame_of h.counter h.crc_error h.frame_error bytes
 
 -- the frame is of this head
-pub record HasHead (h : FrameHead) (frame : FrameData) : Type 0 where
+pub record HasFrameHead (h : FrameHead) (frame : FrameData) : Type 0 where
   pub counter : frame.counter ≡ h.counter
   pub crc_error : frame.crc_error ≡ h.crc_error
   pub frame_error : frame.frame_error ≡ h.frame_error
@@ -29,6 +29,6 @@ held_frame None room = None
 held_frame (Some h) room = Some (headed_frame h (take h.len room))
 
 -- what the buffer holds is a frame, and lies in the room
-abbrev pub IsHeld : Option FrameHead → (room : List ℕ) → Type 0
-IsHeld None room = Unit {0}
-IsHeld (Some h) room = IsFrame (headed_frame h (take h.len room)) × (h.len ≤ length room)
+abbrev pub IsHeldFrame : Option FrameHead → (room : List ℕ) → Type 0
+IsHeldFrame None room = Unit {0}
+IsHeldFrame (Some h) room = IsFrame (headed_frame h (take h.len room)) × (h.len ≤ length room)

@@ -19,24 +19,24 @@ answer End = Ok next.End
 answer (Fault fault) = Err fault
 
 -- the ending of a source that gave this answer: none if it gave a frame
-abbrev pub ending_of : Result Next SourceFault → Option SourceEnding
-ending_of (Ok next.Frame) = None
-ending_of (Ok next.End) = Some End
-ending_of (Err fault) = Some (Fault fault)
+abbrev pub source_ending_of : Result Next SourceFault → Option SourceEnding
+source_ending_of (Ok next.Frame) = None
+source_ending_of (Ok next.End) = Some End
+source_ending_of (Err fault) = Some (Fault fault)
 
 -- no frames, and this ending
 abbrev pub no_frames : SourceEnding → Left
 no_frames ending = record { frames = []; ending = ending }
 
 -- this frame first
-abbrev pub with_first : FrameData → Left → Left
-with_first frame left = record { frames = frame ∷ left.frames; ending = left.ending }
+abbrev pub with_first_frame : FrameData → Left → Left
+with_first_frame frame left = record { frames = frame ∷ left.frames; ending = left.ending }
 
 -- the first frame left is given, and the others are left
 abbrev pub GivesFirst : Option Left → Option FrameData → Option Left → Type 0
 GivesFirst old held new =
     IfSome old (λ left. IsSomeAnd held (λ frame. IsSomeAnd new (λ rest.
-    left ≡ with_first frame rest)))
+    left ≡ with_first_frame frame rest)))
 
 -- no frame was left, and this is the ending
 abbrev pub GivesEnding : Option Left → SourceEnding → Option Left → Type 0

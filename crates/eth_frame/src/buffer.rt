@@ -17,20 +17,20 @@ pub struct FrameBuf {
 impl Model for FrameBuf {
     ghost use Rattle.std.specs.Prelude.{Option};
     ghost use Rattle.eth_frame.specs.Frame.{FrameData};
-    ghost use Rattle.eth_frame.specs.Heads.{held_frame, IsHeld};
+    ghost use Rattle.eth_frame.specs.Heads.{held_frame, IsHeldFrame};
 
     ghost Value = { Option FrameData };
 
     ghost view = { λ b. held_frame b.held b.bytes };
 
-    ghost invariant = { λ b. IsHeld b.held b.bytes };
+    ghost invariant = { λ b. IsHeldFrame b.held b.bytes };
 }
 
 impl FrameBuf {
     ghost use Rattle.std.specs.Prelude.{◌≡◌, ◌<◌, length, None, Some, IfSome, IsSomeAnd, OnErr, Ok, true, false};
     ghost use Rattle.std.specs.Io.KnownBytes.{Consumes};
     ghost use Rattle.std.specs.Option.{option_map};
-    ghost use Rattle.eth_frame.specs.Heads.{HasHead};
+    ghost use Rattle.eth_frame.specs.Heads.{HasFrameHead};
     ghost use Rattle.eth_frame.specs.Views.{frame_data};
 
     /// An empty buffer.
@@ -67,7 +67,7 @@ impl FrameBuf {
         reader: &mut R,
     ) -> io::Result<bool>
         requires { self.old ≡ None }
-        ensures whole { result ≡ Ok true → IsSomeAnd self.new (λ frame. HasHead head frame
+        ensures whole { result ≡ Ok true → IsSomeAnd self.new (λ frame. HasFrameHead head frame
             × Consumes (R.remaining reader.old) (R.remaining reader.new) frame.bytes) }
         ensures cut { result ≡ Ok false → (self.new ≡ None)
             × IfSome (R.remaining reader.old) (λ bytes. length bytes < head.len) }
@@ -108,8 +108,13 @@ impl fmt::Debug for FrameBuf {
     }
 }
 
-/// Reads until all places are filled or the reader is at its end, and returns how many are filled.
-pub(crate) fn fill<R: Read>(reader: &mut R, places: &mut [u8]) -> io::Result<usize>
+/// Reads until all places are filled or the reader is at its end, in whatever pieces it gives its
+/// bytes, and returns how many are filled.
+///
+/// # Errors
+///
+/// The first fault of a read, also if it was interrupted; what was read before it is lost.
+pub fn fill<R: Read>(reader: &mut R, places: &mut [u8]) -> io::Result<usize>
     ensures count { IfOk result (λ n. n ≤ length places.new) }
     ensures taken { IfOk result (λ n.
         Consumes (R.remaining reader.old) (R.remaining reader.new) (take n places.new)) }

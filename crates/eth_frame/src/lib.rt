@@ -10,7 +10,7 @@ mod laws;
 mod owned;
 mod source;
 
-pub use buffer::FrameBuf;
+pub use buffer::{FrameBuf, fill};
 pub use counter::{COUNTER_BITS, COUNTER_LEN, counter_bytes, counter_of};
 pub use feed::{FeedSource, FeedWriteFault, write_feed};
 pub use frame::{CHECK_SEQUENCE_LEN, Frame, MAX_FRAME_LEN, MIN_FRAME_LEN};

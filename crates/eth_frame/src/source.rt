@@ -52,7 +52,7 @@ pub enum SourceEnding {
 
 impl SourceEnding {
     ghost use Rattle.std.specs.Prelude.{◌≡◌};
-    ghost use Rattle.eth_frame.specs.Source.{answer, ending_of};
+    ghost use Rattle.eth_frame.specs.Source.{answer, source_ending_of};
 
     /// What a source with this ending answers.
     pub fn answer(self) -> Result<Next, SourceFault>
@@ -66,7 +66,7 @@ impl SourceEnding {
 
     /// The ending of a source that gave this answer: `None` if it gave a frame.
     pub fn of(answer: Result<Next, SourceFault>) -> Option<SourceEnding>
-        ensures ending { result ≡ ending_of answer }
+        ensures ending { result ≡ source_ending_of answer }
     {
         match answer {
             Ok(Next::Frame) => None,
@@ -82,7 +82,7 @@ pub trait FrameSource {
     ghost use Rattle.eth_frame.specs.declared.source.SourceEnding.{SourceEnding};
     ghost use Rattle.eth_frame.specs.declared.source.SourceEnding.TheVariants.{End, Fault};
     ghost use Rattle.eth_frame.specs.declared.source.SourceFault.TheVariants.{Device};
-    ghost use Rattle.eth_frame.specs.Source.{Left, no_frames, answer, ending_of, GivesFirst, GivesEnding, Fails};
+    ghost use Rattle.eth_frame.specs.Source.{Left, no_frames, answer, source_ending_of, GivesFirst, GivesEnding, Fails};
 
     // The frames that are left and the ending after them: `None` if the source doesn't say.
     ghost left: { Self → Option Left };
@@ -98,7 +98,7 @@ pub trait FrameSource {
     fn next(&mut self, buffer: &mut FrameBuf) -> Result<Next, SourceFault>
         // Of every source.
         ensures repeats { IfSome (ending self.old) (λ last. result ≡ answer last) }
-        ensures ended { ending self.new ≡ ending_of result }
+        ensures ended { ending self.new ≡ source_ending_of result }
         ensures held { IsSome buffer.new ↔ (result ≡ Ok Next.Frame) }
         ensures failures { failures self.old ≤ failures self.new }
         ensures device { result ≡ Err SourceFault.Device → 0 < failures self.new }

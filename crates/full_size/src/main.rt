@@ -46,10 +46,7 @@ fn run<R: Threads + Wait + Sync>(threads: &R, rt: HostRuntime) -> Result<()> {
         index_all(alloc, &recording)?
     )?;
     println!(rt; "audited {} programs", audit_all(alloc, &recording)?)?;
-    println!(rt;
-        "extracted {} frames",
-        extract_all(alloc, made.bytes.as_slice(), &recording)?
-    )?;
+    println!(rt; "extracted {} frames", extract_all(alloc, &recording)?)?;
     println!(rt;
         "recorded {} frames through the longest ring of the greatest packets",
         make_wide(threads, rt)?

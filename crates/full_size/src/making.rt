@@ -47,7 +47,7 @@ pub(crate) fn make<R: Threads + Wait + Sync>(threads: &R, rt: HostRuntime) -> Re
                 out,
             },
         ) => {
-            must_be_answered(control.told.as_slice())?;
+            must_be_answered(control.log.told())?;
             must_be_told(&report)?;
             if report.bytes != out.len() as u64 {
                 bail!("{} bytes were told of {}", report.bytes, out.len());

@@ -4,13 +4,8 @@ use crate::channel::{Channel, bytes_in};
 use anyhow::{Result, bail};
 use ch11_packet::{ReadFrame, What};
 use rec_channel::MAX_CHANNELS;
-use rec_reader::{
-    Entry, Extracted, Index, Recording, audit, extract_channel, extract_packet, frames_of,
-};
+use rec_reader::{Entry, Extracted, Index, Recording, audit, extract_packet, frames_of};
 use std::alloc::Global;
-
-/// How many channels come first that have one of each kind. They are extracted in both ways.
-const KINDS: u16 = 6;
 
 /// Finds the frames of each channel, and how many there are.
 pub(crate) fn find_all(alloc: Global, recording: &Recording<'_>) -> Result<u64> {
@@ -113,7 +108,7 @@ pub(crate) fn audit_all(alloc: Global, recording: &Recording<'_>) -> Result<u64>
 }
 
 /// Extracts each channel, and finds how many frames there are.
-pub(crate) fn extract_all(alloc: Global, bytes: &[u8], recording: &Recording<'_>) -> Result<u64> {
+pub(crate) fn extract_all(alloc: Global, recording: &Recording<'_>) -> Result<u64> {
     let mut found = 0u64;
     for index in 0..MAX_CHANNELS as u16 {
         let channel = Channel::at(index);
@@ -127,11 +122,6 @@ pub(crate) fn extract_all(alloc: Global, bytes: &[u8], recording: &Recording<'_>
             extract_packet(packet, channel.id, &mut feed, &mut extracted)?;
         }
         must_be_extracted(channel, extracted, feed == fed)?;
-        if index < KINDS {
-            feed.clear();
-            let extracted = extract_channel(bytes, channel.id, &mut feed)?;
-            must_be_extracted(channel, extracted, feed == fed)?;
-        }
         found = found.saturating_add(extracted.frames);
     }
     Ok(found)

@@ -1,7 +1,7 @@
 //! Recordings whose packets have data checksums, whole, cut and damaged.
 use crate::audit::told;
 use crate::reader::reading;
-use crate::shared::packets_of;
+use crate::shared::{extract, packets_of};
 use crate::stream::compare;
 use ch11_packet::{HEADER_LEN, Header, What, body_sum};
 use rec_reader::*;
@@ -104,7 +104,7 @@ fn recordings_with_checksums_are_approved_and_extracted(rt: HostRuntime) -> Resu
         let answer = told(alloc, audit(alloc, &recording))?;
         assert_eq!(rt; answer.as_str(), approved, "{chosen}");
         let mut feed = Vec::new(alloc);
-        let extracted = extract_channel(bytes.as_slice(), 1, &mut feed);
+        let extracted = extract(&recording, 1, &mut feed);
         assert_eq!(rt; extracted, Ok(kept), "{chosen}");
         assert_eq!(rt; feed.as_slice(), all_bytes(alloc, want)?.as_slice());
     }

@@ -1,7 +1,7 @@
 //! Recordings that are read, whole, cut and damaged.
-use crate::shared::packets_of;
+use crate::shared::{extract, packets_of};
 use ch11_packet::{ETHERNET_DATA, HEADER_LEN, Header, ReadFrame, What};
-use eth_frame::{FeedSource, FrameBuf, FrameSource, Next, write_feed};
+use eth_frame::{FeedSource, FeedWriteFault, FrameBuf, FrameSource, Next, write_feed};
 use rec_reader::*;
 use samples::{ACCEPTING, CHECKED, END, FRAMES, REJECTING, all_bytes, joined_bytes};
 use std::alloc::Global;
@@ -59,13 +59,6 @@ pub(crate) fn reading(
     let mut held = Vec::new(alloc);
     for packet in recording.packets() {
         held.push((packet.at, packet.what))?;
-    }
-    let found = match check_recording(bytes) {
-        Ok(()) => None,
-        Err(ReadEnd { kind, at }) => Some((kind, at)),
-    };
-    if found != fault {
-        return Err("the same end without the packets")?;
     }
     Ok((held, fault))
 }
@@ -359,9 +352,10 @@ fn with_other_frames(alloc: Global) -> Result<Vec<u8>, Fail> {
 fn a_channel_is_extracted_packet_by_packet(rt: HostRuntime) -> Result<(), Fail> {
     let alloc = rt.alloc();
     let bytes = with_other_frames(alloc)?;
+    let recording = packets_of(alloc, bytes.as_slice());
     let mut feed = Vec::new(alloc);
     for (channel, frames, passed) in [(1, 2, 2), (2, 0, 0)] {
-        let extracted = extract_channel(bytes.as_slice(), channel, &mut feed);
+        let extracted = extract(&recording, channel, &mut feed);
         assert_eq!(rt;
             extracted,
             Ok(Extracted { frames, passed }),
@@ -375,18 +369,13 @@ fn a_channel_is_extracted_packet_by_packet(rt: HostRuntime) -> Result<(), Fail> 
 }
 
 #[test]
-fn an_extraction_ends_at_a_fault(rt: HostRuntime) -> Result<(), Fail> {
-    let bytes = with_other_frames(rt.alloc())?;
-    let end = ReadEnd {
-        kind: ReadFaultKind::Truncated,
-        at: 180,
-    };
-    let cut = bytes.get(..210).unwrap_or(&[]);
-    let extracted = extract_channel(cut, 1, &mut Narrow { room: 27 });
-    assert_eq!(rt; extracted, Err(ExtractFault::Reading(end)));
+fn an_extraction_ends_at_a_failed_output(rt: HostRuntime) -> Result<(), Fail> {
+    let alloc = rt.alloc();
+    let bytes = with_other_frames(alloc)?;
+    let recording = packets_of(alloc, bytes.as_slice());
     for room in [0, 8, 9, 26, 27, 53] {
-        let extracted = extract_channel(bytes.as_slice(), 1, &mut Narrow { room });
-        assert_eq!(rt; extracted, Err(ExtractFault::Device), "{room} bytes");
+        let extracted = extract(&recording, 1, &mut Narrow { room });
+        assert_eq!(rt; extracted, Err(FeedWriteFault::Device), "{room} bytes");
     }
     Ok(())
 }

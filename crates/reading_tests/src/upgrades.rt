@@ -1,6 +1,6 @@
 //! Recordings that are brought up to date.
 use crate::audit::told;
-use crate::shared::packets_of;
+use crate::shared::{extract, packets_of};
 use ch11_packet::{ETHERNET_DATA, HEADER_LEN, Header, What, body_sum};
 use rec_reader::*;
 use samples::{ACCEPTING, CHECKED, END, FRAMES, REJECTING, all_bytes, joined_bytes};
@@ -262,12 +262,9 @@ fn an_upgrade_says_the_same(rt: HostRuntime) -> Result<(), Fail> {
         assert!(rt; pairs.all(|(old, new)| old.what == new.what && old.data() == new.data()));
         for channel in [0, 1, 2] {
             let mut feed = Vec::new(alloc);
-            let extracted = extract_channel(old.as_slice(), channel, &mut feed);
+            let extracted = extract(&before, channel, &mut feed);
             let mut again = Vec::new(alloc);
-            assert_eq!(rt;
-                extract_channel(new.as_slice(), channel, &mut again),
-                extracted
-            );
+            assert_eq!(rt; extract(&after, channel, &mut again), extracted);
             assert_eq!(rt; again.as_slice(), feed.as_slice());
         }
         let (twice, packets, _) = upgraded(alloc, new.as_slice())?;

@@ -9,9 +9,9 @@ use Rattle.rec_channel.specs.History.{Version}
 use Rattle.rec_channel.specs.Slots.{programs_in}
 
 -- the number of the frame that was drawn
-abbrev pub number_of : DrawnSince → ℕ
-number_of (NoVersion number) = number
-number_of (LaterVersion drawn) = drawn.number
+abbrev pub drawn_number : DrawnSince → ℕ
+drawn_number (NoVersion number) = number
+drawn_number (LaterVersion drawn) = drawn.number
 
 -- the version in force at it, for a caller with this front: the last one of the front, if none came
 -- since

@@ -6,7 +6,7 @@ ghost use Rattle.std.specs.Arc.{arc_value};
 ghost use Rattle.rec_channel.specs.Fronts.{IsBelow, StaleOnlyBelow, MemoryOnlyBehind, InstallStaleOnlyBelow, GivesBack, front_of, DrawIsRefused, InstallIsRefused};
 ghost use Rattle.rec_channel.specs.History.{InForce};
 ghost use Rattle.rec_channel.specs.Slots.{programs_in, one_frame_later, with_version};
-ghost use Rattle.rec_channel.specs.Since.{number_of, version_since, HasProgram, IsLater};
+ghost use Rattle.rec_channel.specs.Since.{drawn_number, version_since, HasProgram, IsLater};
 
 use crate::drawn::{Drawn, DrawnSince};
 use crate::fault::{DrawFault, InstallFault};
@@ -72,13 +72,13 @@ impl SharedSlot {
     /// refused with [`DrawFault::Memory`], since it needs no share of a program.
     pub fn draw_since<R: Wait>(&self, rt: &R, known: &mut Front) -> Result<DrawnSince, DrawFault>
         // The frame drawn, beside what the caller knew, and what the slot has after it.
-        ensures newer { IfOk result (λ since. known.old.offered ≤ number_of since) }
+        ensures newer { IfOk result (λ since. known.old.offered ≤ drawn_number since) }
         ensures later { IfOk result (λ since. IsLater known.old since) }
         ensures front { IfOk result (λ since. known.new ≡ record {
           versions = version_since known.old since + 1;
-          offered = number_of since + 1;
+          offered = drawn_number since + 1;
         }) }
-        ensures few { IfOk result (λ since. (number_of since < 2 ^ 64 - 1)
+        ensures few { IfOk result (λ since. (drawn_number since < 2 ^ 64 - 1)
             × (version_since known.old since < MAX_VERSIONS)) }
         // Why none was drawn.
         ensures stale { IfErr result (StaleOnlyBelow known.old) }
@@ -142,15 +142,15 @@ fn draw_from(slot: &mut Slot, known: &Front) -> Result<(Drawn, Front), DrawFault
 /// What [`SharedSlot::draw_since`] does to the slot behind the lock.
 fn draw_since_from(slot: &mut Slot, known: &mut Front) -> Result<DrawnSince, DrawFault>
     // The frame drawn: its number, the version in force at it, and the slot's front after it.
-    ensures number { IfOk result (λ since. number_of since ≡ slot.old.offered) }
+    ensures number { IfOk result (λ since. drawn_number since ≡ slot.old.offered) }
     ensures last { IfOk result (λ since.
         version_since known.old since + 1 ≡ length slot.old.history) }
     ensures program { IfOk result (HasProgram slot.old.history) }
     ensures later { IfOk result (IsLater known.old) }
     ensures in_force { IfOk result (λ since.
-        InForce slot.new.history (number_of since) (version_since known.old since)) }
+        InForce slot.new.history (drawn_number since) (version_since known.old since)) }
     ensures front { IfOk result (λ _. known.new ≡ front_of slot.new) }
-    ensures few { IfOk result (λ since. (number_of since < 2 ^ 64 - 1)
+    ensures few { IfOk result (λ since. (drawn_number since < 2 ^ 64 - 1)
         × (version_since known.old since < MAX_VERSIONS)) }
     // The slot had no less than the caller has seen, and room; the frame is counted.
     ensures fresh { IfOk result (λ _. ¬ IsBelow (front_of slot.old) known.old) }

@@ -2,16 +2,16 @@
 use Rattle.std.proofs.Common.{ℕ, ◌≡◌, ◌≢◌, ◌<◌, true, List, length, Some, Result, Err, get_or, sym, ◌∙◌, ap, subst, All}
 use Rattle.std.specs.Prelude.{slice_get, slice_set}
 use Rattle.std.proofs.lemmas.Option.{same_Some, slice_get-get_or}
-use Rattle.rec_lane.specs.Parts.{Begins}
+use Rattle.rec_lane.specs.Parts.{BeginsList}
 use Rattle.rec_lane.specs.declared.spec.LaneSpec.{LaneSpec}
-use Rattle.rec_writer.specs.Numbers.{channels_in}
+use Rattle.rec_writer.specs.Numbers.{numbered_channels}
 use Rattle.rec_writer.specs.Writers.{WriterState, Knows}
 use Rattle.rec_core.specs.declared.channel.Channel.{Channel}
 use Rattle.rec_core.specs.declared.reply.Reply.{Reply}
 use Rattle.rec_core.specs.declared.fault.CoreFault.{CoreFault}
 use Rattle.rec_core.specs.declared.fault.CoreFault.TheVariants.{NoChannel}
 use Rattle.rec_core.specs.World.{EventData, event_channel}
-use Rattle.rec_core.specs.Worlds.{ChannelParts, IsHeld, StepsCut, channels_of_parts, IsCore}
+use Rattle.rec_core.specs.Worlds.{ChannelParts, AreHeldParts, StepsCut, channels_of_parts, IsCore}
 use Rattle.rec_core.specs.Steps.{Serves}
 use Rattle.rec_core.specs.Views.{channel_parts, all_parts, core_of}
 use Rattle.rec_core.proofs.Lists.{map_set, set_unseen, there_map}
@@ -34,7 +34,7 @@ found_at channels slice at id channel event same within found of is =
       named = same_Some channel.spec.channel id (sym ids ∙ (ap (λ xs. slice_get (channels_of_parts (all_parts xs)) at) (sym same) ∙ found)) ∙ of;
     }
 
-pub found_held : (channels : List Channel) (writer : WriterState) (at : ℕ) (channel : Channel) (event : EventData) → IsCore (core_of channels writer) → Found channels at channel event → IsHeld (channel_parts channel)
+pub found_held : (channels : List Channel) (writer : WriterState) (at : ℕ) (channel : Channel) (event : EventData) → IsCore (core_of channels writer) → Found channels at channel event → AreHeldParts (channel_parts channel)
 found_held channels writer at channel event is found = held_at (core_of channels writer) at (channel_parts channel) is found.there
 
 pub found_known : (channels : List Channel) (writer : WriterState) (at : ℕ) (channel : Channel) (event : EventData) → IsCore (core_of channels writer) → Found channels at channel event → Knows writer channel.spec.channel
@@ -42,7 +42,7 @@ found_known channels writer at channel event is found = known_at (core_of channe
 
 pub core_steps : (channels : List Channel) (old new : WriterState) (at : ℕ) (channel after : Channel) (event : EventData) (answer : Result Reply CoreFault)
     → Found channels at channel event
-    → after.spec ≡ channel.spec → (new.failed ≡ true → Begins channel.ring.pieces after.ring.pieces) → new.version ≡ old.version
+    → after.spec ≡ channel.spec → (new.failed ≡ true → BeginsList channel.ring.pieces after.ring.pieces) → new.version ≡ old.version
     → ((size : ℕ) → Serves size (channel_parts channel) (channel_parts after) old new event answer)
     → StepsCut (core_of channels old) (core_of (slice_set channels at after) new) event answer
 core_steps channels old new at channel after event answer found spec grows version serves =
@@ -50,7 +50,7 @@ core_steps channels old new at channel after event answer found spec grows versi
     (served (all_parts channels) old new at (channel_parts channel) (channel_parts after) event answer found.there found.named (ap (λ (l : LaneSpec). l.channel) spec) grows version serves)
 
 pub core_stays : (channels : List Channel) (old new : WriterState) (at : ℕ) (channel after : Channel) (event : EventData) (answer : Result Reply CoreFault)
-    → Found channels at channel event → after.spec ≡ channel.spec → channels_in new.numbers ≡ channels_in old.numbers
+    → Found channels at channel event → after.spec ≡ channel.spec → numbered_channels new.numbers ≡ numbered_channels old.numbers
     → StepsCut (core_of channels old) (core_of (slice_set channels at after) new) event answer
     → IsCore (core_of channels old) → IsCore (core_of (slice_set channels at after) new)
 core_stays channels old new at channel after event answer found spec numbers steps is =

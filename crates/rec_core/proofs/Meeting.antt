@@ -14,7 +14,7 @@ use Rattle.rec_channel.specs.History.{Version, IsHistory, InForce}
 use Rattle.rec_channel.specs.Slots.{programs_in}
 use Rattle.rec_lane.specs.Offered.{OfferedFrame, MetFrom, AllMet}
 use Rattle.rec_lane.specs.Parts.{last_from}
-use Rattle.rec_lane.specs.Pieces.{has_version, last_group}
+use Rattle.rec_lane.specs.Pieces.{has_group_version, last_group}
 use Rattle.rec_lane.specs.Lanes.{VersionProgram, version_of, running, MarkedFrom}
 use Rattle.rec_core.specs.Openings.{SpecData, IsFilter}
 use Rattle.rec_core.specs.World.{ChannelState, MeetsLast, IsInOrder, frame_taken, program_installed, opening_channel}
@@ -30,9 +30,9 @@ group_more : (history : List Version) (group : List OfferedFrame) (f : OfferedFr
 group_more history [] f m is = is
 group_more history (g ∷ gs) f m is = m
 
-last_of : (history : List Version) (number : ℕ) (group fs : List OfferedFrame) → IsOfHistory history (version_of group) → MetFrom history number fs → IsOfHistory history (version_of (last_from has_version group fs))
+last_of : (history : List Version) (number : ℕ) (group fs : List OfferedFrame) → IsOfHistory history (version_of group) → MetFrom history number fs → IsOfHistory history (version_of (last_from has_group_version group fs))
 last_of history number group [] m met = m
-last_of history number group (f ∷ fs) m met = elim (cases_Bool (has_version group f)) as (λ _. IsOfHistory history (version_of (last_from has_version group (f ∷ fs)))) [
+last_of history number group (f ∷ fs) m met = elim (cases_Bool (has_group_version group f)) as (λ _. IsOfHistory history (version_of (last_from has_group_version group (f ∷ fs)))) [
   | inl on ↦ rw on (last_of history (number + 1) (group ++ f ∷ []) fs (group_more history group f m met.1.program) met.2)
   | inr off ↦ rw off (last_of history (number + 1) (f ∷ []) fs met.1.program met.2)
 ]

@@ -1,4 +1,6 @@
 -- A channel's takes and installs, in the order of the marks, and its close.
+-- idea: marks rise, so takes and installs can be put into one order: before each take come the installs whose mark it has
+-- reached; by recursion over the frames that order leads from the opening channel to the one with all of them.
 use Rattle.std.proofs.Common.{ℕ, suc, zero, ◌+◌, ◌-◌, ◌≡◌, ◌≤◌, ◌<◌, inl, inr, List, [], ◌∷◌, ◌++◌, length, Some, get_or, refl, sym, ◌∙◌, ap, arith, subst, All, take, drop, true, false}
 use Rattle.std.specs.Prelude.{AllPairs, slice_get}
 use Rattle.std.proofs.lemmas.Bool.{cases_lt}

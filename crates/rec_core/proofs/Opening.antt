@@ -4,38 +4,15 @@ use Rattle.std.specs.List.{AllZip}
 use Rattle.std.proofs.lemmas.Bool.{both_ways}
 use Rattle.rec_channel.specs.Slots.{opening_slot}
 use Rattle.rec_lane.specs.Lanes.{HasMet, new_lane}
-use Rattle.rec_writer.specs.Numbers.{channels_in}
+use Rattle.rec_writer.specs.Numbers.{numbered_channels}
 use Rattle.rec_writer.specs.Writers.{WriterState, HasWritten}
 use Rattle.rec_core.specs.Openings.{SpecData, IsFilter, channels_of_specs}
 use Rattle.rec_core.specs.World.{opening_channel, opening_world}
-use Rattle.rec_core.specs.Worlds.{ChannelParts, Holds, StandsForWorld, channels_of_parts, IsCore}
+use Rattle.rec_core.specs.Worlds.{ChannelParts, HoldsChannel, StandsForWorld, channels_of_parts, IsCore}
 use Rattle.rec_core.proofs.Meeting.{in_order_opening}
 
--- the parts of a channel of which nothing was taken
-abbrev pub opening_parts : SpecData → ℕ → ChannelParts
-opening_parts spec size = record {
-  settings = spec.settings;
-  max = spec.max;
-  slot = opening_slot spec.program spec.max;
-  lane = Some (new_lane spec.settings);
-  places = size;
-  ring = [];
-  pending = [];
-}
-
-pub opening_held : (spec : SpecData) (size : ℕ) → IsFilter spec.program → HasMet (new_lane spec.settings) [] → Holds size (opening_parts spec size) (opening_channel spec)
-opening_held spec size filter met = record {
-  settings_are = refl;
-  max_is = refl;
-  slot_is = refl;
-  lane_is = (refl, refl, met);
-  size_is = refl;
-  queued = record { gone = []; produced_is = refl; written_is = refl; sent_is = refl };
-  in_order = in_order_opening spec filter;
-}
-
 pub opening_stands : (size : ℕ) (first : Option (List ℕ)) (specs : List SpecData) (channels : List ChannelParts) (writer : WriterState)
-    → AllZip (Holds size) channels (map opening_channel specs) → HasWritten first [] [] writer → writer.failed ≡ false
+    → AllZip (HoldsChannel size) channels (map opening_channel specs) → HasWritten first [] [] writer → writer.failed ≡ false
     → StandsForWorld size first (record { channels = channels; writer = writer }) (opening_world specs)
 opening_stands size first specs channels writer zip written works = record {
   channels_are = zip;
@@ -46,8 +23,8 @@ opening_stands size first specs channels writer zip written works = record {
 }
 
 pub opening_core : (size : ℕ) (first : Option (List ℕ)) (specs : List SpecData) (channels : List ChannelParts) (writer : WriterState)
-    → AllZip (Holds size) channels (map opening_channel specs) → HasWritten first [] [] writer → writer.failed ≡ false
-    → channels_in writer.numbers ≡ 0 ∷ channels_of_specs specs → channels_of_parts channels ≡ channels_of_specs specs
+    → AllZip (HoldsChannel size) channels (map opening_channel specs) → HasWritten first [] [] writer → writer.failed ≡ false
+    → numbered_channels writer.numbers ≡ 0 ∷ channels_of_specs specs → channels_of_parts channels ≡ channels_of_specs specs
     → All (λ (channel : ℕ). channel ≢ 0) (channels_of_specs specs)
     → IsCore (record { channels = channels; writer = writer })
 opening_core size first specs channels writer zip written works numbers same named = record {

@@ -4,7 +4,7 @@ use Rattle.std.specs.Prelude.{slice_get, slice_set, Ok}
 use Rattle.std.proofs.lemmas.List.{append-nil}
 use Rattle.rec_lane.specs.Pieces.{PieceData}
 use Rattle.rec_core.specs.declared.reply.Reply.{Reply}
-use Rattle.rec_core.specs.World.{ChannelState, WorldState, EventData, event_channel, Does, WorldStep, WorldRun}
+use Rattle.rec_core.specs.World.{ChannelState, WorldState, EventData, event_channel, ChannelDoes, WorldStep, WorldRun}
 use Rattle.rec_core.specs.Ties.{unrefused}
 use Rattle.rec_core.proofs.Lists.{set_same, set_there, set_twice}
 
@@ -36,13 +36,13 @@ world channels out = record { channels = channels; out = out }
 
 -- one event, of the channel that stands at an index
 pub at_place : (ring : ℕ) (channels : List ChannelState) (out : List PieceData) (k : ℕ) (c d : ChannelState) (event : EventData) (reply : Reply) (more : List PieceData)
-    → slice_get channels k ≡ Some c → c.settings.channel ≡ event_channel event → Does ring c event reply d more
+    → slice_get channels k ≡ Some c → c.settings.channel ≡ event_channel event → ChannelDoes ring c event reply d more
     → WorldStep ring (world channels out) event (Ok reply) (world (slice_set channels k d) (out ++ more))
 at_place ring channels out k c d event reply more there named does = (k, c, d, more, record { there = there; named = named }, does, refl)
 
 -- one event at which nothing is written
 pub quiet : (ring : ℕ) (channels : List ChannelState) (out : List PieceData) (k : ℕ) (c d : ChannelState) (event : EventData) (reply : Reply)
-    → slice_get channels k ≡ Some c → c.settings.channel ≡ event_channel event → Does ring c event reply d []
+    → slice_get channels k ≡ Some c → c.settings.channel ≡ event_channel event → ChannelDoes ring c event reply d []
     → WorldStep ring (world channels out) event (Ok reply) (world (slice_set channels k d) out)
 quiet ring channels out k c d event reply there named does =
     subst (λ ps. WorldStep ring (world channels out) event (Ok reply) (world (slice_set channels k d) ps)) (append-nil out)
@@ -56,7 +56,7 @@ Makes ring events c d = (channels : List ChannelState) (out : List PieceData) (k
 pub makes_none : (ring : ℕ) (c : ChannelState) → Makes ring [] c c
 makes_none ring c channels out k there = subst (λ cs. Runs ring (world channels out) [] (world cs out)) (sym (set_same channels k c there)) (nowhere ring (world channels out))
 
-pub makes_one : (ring : ℕ) (c d : ChannelState) (event : EventData) (reply : Reply) → c.settings.channel ≡ event_channel event → Does ring c event reply d [] → Makes ring (event ∷ []) c d
+pub makes_one : (ring : ℕ) (c d : ChannelState) (event : EventData) (reply : Reply) → c.settings.channel ≡ event_channel event → ChannelDoes ring c event reply d [] → Makes ring (event ∷ []) c d
 makes_one ring c d event reply named does channels out k there =
     then_on ring (world channels out) (world (slice_set channels k d) out) (world (slice_set channels k d) out) event [] reply
     (quiet ring channels out k c d event reply there named does) (nowhere ring (world (slice_set channels k d) out))

@@ -14,10 +14,10 @@ use Rattle.rec_core.specs.declared.reply.Which.{Which}
 use Rattle.rec_core.specs.declared.fault.CoreFault.{CoreFault}
 use Rattle.rec_core.specs.declared.fault.CoreFault.TheVariants.{NoChannel, Closed, RingFull, NothingToSend, NothingToWrite, VersionsFull, CountFull, Output, Memory}
 use Rattle.rec_core.specs.Rings.{RingState, with_piece}
-use Rattle.rec_core.specs.World.{ChannelState, EventData, Does, Refuses, which_of}
+use Rattle.rec_core.specs.World.{ChannelState, EventData, ChannelDoes, ChannelRefuses, which_of}
 use Rattle.rec_core.specs.World.EventData.{OfTake, OfInstall, OfSend, OfWrite, OfClose}
-use Rattle.rec_core.specs.Worlds.{ChannelParts, IsHeld, WritesOnlyWhileItWorks}
-use Rattle.rec_core.specs.Steps.{DoesEvent, RefusesEvent, Answers, Writes, FailsAt, LeavesWriter, Serves, Offers, NotOffered}
+use Rattle.rec_core.specs.Worlds.{ChannelParts, AreHeldParts, WritesOnlyWhileItWorks}
+use Rattle.rec_core.specs.Steps.{DoesEvent, RefusesEvent, AnswersEvent, Writes, FailsAtPiece, LeavesWriter, Serves, Offers, NotOffered}
 use Rattle.rec_core.proofs.Serving.{take_done, take_refused, send_done}
 use Rattle.rec_core.proofs.Writing.{ring_of}
 use Rattle.rec_core.proofs.Stepping.{writer_refused}
@@ -44,7 +44,7 @@ pub take_offers : (size channel : ℕ) (old : ChannelParts) (lane met : LaneStat
     → old.lane ≡ Some lane → lane.offered ≢ old.max
     → IfOk result (Offers old.slot drawn lane met old.pending pending frame)
     → IfErr result (NotOffered old.slot drawn lane met old.pending pending)
-    → Answers size old (record old { slot = drawn; lane = Some met; pending = pending }) (OfTake channel frame) result
+    → AnswersEvent size old (record old { slot = drawn; lane = Some met; pending = pending }) (OfTake channel frame) result
 take_offers size channel old lane met drawn pending frame (Ok reply) is room took refused = take_done size channel old lane met drawn pending frame reply is room took
 take_offers size channel old lane met drawn pending frame (Err fault) is room took refused = take_refused size channel old lane met drawn pending frame fault is room refused
 
@@ -52,7 +52,7 @@ take_offers size channel old lane met drawn pending frame (Err fault) is room to
 
 -- the event is never refused for the output
 abbrev pub NeverOutput : EventData → Type 0
-NeverOutput event = (size : ℕ) (c : ChannelState) → Refuses size c event Output → ⊥
+NeverOutput event = (size : ℕ) (c : ChannelState) → ChannelRefuses size c event Output → ⊥
 
 pub no_output_take : (channel : ℕ) (frame : FrameData) → NeverOutput (OfTake channel frame)
 no_output_take channel frame size c r = r
@@ -78,17 +78,17 @@ leaves writer ring Output not = absurd (not refl)
 leaves writer ring Memory not = refl
 
 pub serves_quietly : (old new : ChannelParts) (writer : WriterState) (event : EventData) (answer : Result Reply CoreFault)
-    → IsHeld old → NeverOutput event → ((size : ℕ) → Answers size old new event answer) → (size : ℕ) → Serves size old new writer writer event answer
+    → AreHeldParts old → NeverOutput event → ((size : ℕ) → AnswersEvent size old new event answer) → (size : ℕ) → Serves size old new writer writer event answer
 serves_quietly old new writer event (Ok reply) held never answers size = ([], answers size, refl)
 serves_quietly old new writer event (Err fault) (held_size, c, h) never answers size =
-    (answers size, leaves writer old.ring fault (λ is. never held_size c (subst (λ (f : CoreFault). Refuses held_size c event f) is (answers held_size c h).0)))
+    (answers size, leaves writer old.ring fault (λ is. never held_size c (subst (λ (f : CoreFault). ChannelRefuses held_size c event f) is (answers held_size c h).0)))
 
 -- ---- what a service says of the writer
 
 pub fails_then : (size : ℕ) (old new : ChannelParts) (writer after : WriterState) (event : EventData) (answer : Result Reply CoreFault)
     → Serves size old new writer after event answer → answer ≡ Err Output → after.failed ≡ true
 fails_then size old new writer after event answer serves is =
-    let f : RefusesEvent size old new event Output × FailsAt writer after old.ring = subst (λ a. Serves size old new writer after event a) is serves in
+    let f : RefusesEvent size old new event Output × FailsAtPiece writer after old.ring = subst (λ a. Serves size old new writer after event a) is serves in
     elim f.1.fails as (λ _. after.failed ≡ true) [
       | inl part ↦ part.fails
       | inr before ↦ ap (λ (w : WriterState). w.failed) before.1 ∙ before.0
@@ -111,7 +111,7 @@ stays_failed size old new writer after event (Err fault) serves failed = elim (w
 ]
 
 wrote_one : (size : ℕ) (c : ChannelState) (event : EventData) (bytes : ℕ) (d : ChannelState) (old new : WriterState) (more : List PieceData)
-    → Does size c event (Wrote bytes) d more → Writes old new more → old.failed ≡ false
+    → ChannelDoes size c event (Wrote bytes) d more → Writes old new more → old.failed ≡ false
 wrote_one size c (OfTake channel frame) bytes d old new more does writes = absurd does
 wrote_one size c (OfInstall channel program) bytes d old new more does writes = absurd does
 wrote_one size c (OfSend channel) bytes d old new more does writes = absurd does
@@ -119,7 +119,7 @@ wrote_one size c (OfWrite channel) bytes d old new more does writes = (let puts 
 wrote_one size c (OfClose channel) bytes d old new more does writes = absurd does
 
 writes_while : (old new : ChannelParts) (writer after : WriterState) (event : EventData) (reply : Reply)
-    → IsHeld old → ((n : ℕ) → Serves n old new writer after event (Ok reply)) → WritesOnlyWhileItWorks writer.failed reply
+    → AreHeldParts old → ((n : ℕ) → Serves n old new writer after event (Ok reply)) → WritesOnlyWhileItWorks writer.failed reply
 writes_while old new writer after event (Took number version value) held serves = tt
 writes_while old new writer after event (Installed version mark) held serves = tt
 writes_while old new writer after event (Sent which) held serves = tt
@@ -130,6 +130,6 @@ writes_while old new writer after event (Wrote bytes) (held_size, c, h) serves =
 writes_while old new writer after event (HasClosed offered kept) held serves = tt
 
 pub works_then : (old new : ChannelParts) (writer after : WriterState) (event : EventData) (answer : Result Reply CoreFault)
-    → IsHeld old → ((n : ℕ) → Serves n old new writer after event answer) → IfOk answer (WritesOnlyWhileItWorks writer.failed)
+    → AreHeldParts old → ((n : ℕ) → Serves n old new writer after event answer) → IfOk answer (WritesOnlyWhileItWorks writer.failed)
 works_then old new writer after event (Ok reply) held serves = writes_while old new writer after event reply held serves
 works_then old new writer after event (Err fault) held serves = tt

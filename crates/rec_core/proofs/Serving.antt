@@ -1,4 +1,6 @@
 -- What the calls of a core's channel did to whatever channel it held.
+-- idea: the parts of a channel don't say which frames it has met, so each call is shown for whatever frames and history
+-- they may be of: the channel after it is that one with the frame, the version or the piece of the call.
 use Rattle.std.proofs.Common.{ℕ, suc, zero, ◌+◌, ◌≡◌, ◌≢◌, ◌≤◌, ◌<◌, ◌⊎◌, inl, inr, true, false, if◌then◌else◌, List, [], ◌∷◌, ◌++◌, length, Option, None, Some, refl, sym, ◌∙◌, ap, subst, arith, All}
 use Rattle.std.specs.Prelude.{slice_get}
 use Rattle.std.proofs.lemmas.List.{append_assoc, append-nil, length-append}
@@ -10,7 +12,7 @@ use Rattle.eth_frame.specs.Frame.{FrameData, view}
 use Rattle.rec_channel.specs.declared.limits.TheConstants.{MAX_VERSIONS}
 use Rattle.rec_channel.specs.Slots.{SlotState, with_version, one_frame_later, programs_in}
 use Rattle.rec_lane.specs.Offered.{OfferedFrame}
-use Rattle.rec_lane.specs.Parts.{Begins}
+use Rattle.rec_lane.specs.Parts.{BeginsList}
 use Rattle.rec_lane.specs.Pieces.{LaneSettings, PieceData, channel_of, channel_pieces, pieces_so_far}
 use Rattle.rec_lane.specs.Lanes.{LaneState, HasMet, AreLeft, offered_now, running}
 use Rattle.rec_core.specs.declared.reply.Reply.{Reply}
@@ -18,9 +20,9 @@ use Rattle.rec_core.specs.declared.reply.Reply.TheVariants.{Installed, Sent, Wro
 use Rattle.rec_core.specs.declared.fault.CoreFault.{CoreFault}
 use Rattle.rec_core.specs.declared.fault.CoreFault.TheVariants.{Closed, RingFull, NothingToSend, NothingToWrite, VersionsFull, CountFull, Output, Memory}
 use Rattle.rec_core.specs.Openings.{IsFilter}
-use Rattle.rec_core.specs.World.{ChannelState, MeetsLast, HasPacketLen, Does, Refuses, produced, which_of, frame_taken, program_installed, piece_sent, piece_written, channel_closed}
+use Rattle.rec_core.specs.World.{ChannelState, MeetsLast, HasPacketLen, ChannelDoes, ChannelRefuses, produced, which_of, frame_taken, program_installed, piece_sent, piece_written, channel_closed}
 use Rattle.rec_core.specs.World.EventData.{OfTake, OfInstall, OfSend, OfWrite, OfClose}
-use Rattle.rec_core.specs.Worlds.{ChannelParts, HasLane, AreQueued, Holds, IsHeld}
+use Rattle.rec_core.specs.Worlds.{ChannelParts, HasLane, AreQueued, HoldsChannel, AreHeldParts}
 use Rattle.rec_core.specs.Steps.{DoesEvent, RefusesEvent, Offers, NotOffered, lane_ready}
 use Rattle.rec_core.proofs.Lists.{get_behind, All_there}
 use Rattle.rec_core.proofs.Meeting.{IsOfHistory, LaterLeave, last_is_of_history, running_is, in_order_taken, in_order_installed}
@@ -37,11 +39,8 @@ produced_closed c is = ap (λ b. if b then channel_pieces c.settings c.offered e
 abbrev HasThisLane : LaneState → ChannelState → Type 0
 HasThisLane lane c = (c.closed ≡ false) × (lane.settings ≡ c.settings) × HasMet lane c.offered
 
-its_lane : (parts : ChannelParts) (c : ChannelState) (size : ℕ) (lane : LaneState) → parts.lane ≡ Some lane → Holds size parts c → HasThisLane lane c
+its_lane : (parts : ChannelParts) (c : ChannelState) (size : ℕ) (lane : LaneState) → parts.lane ≡ Some lane → HoldsChannel size parts c → HasThisLane lane c
 its_lane parts c size lane is h = subst (λ l. HasLane l c) is h.lane_is
-
-no_lane : (parts : ChannelParts) (c : ChannelState) (size : ℕ) → parts.lane ≡ None → Holds size parts c → c.closed ≡ true
-no_lane parts c size is h = subst (λ l. HasLane l c) is h.lane_is
 
 same_lane : (l : Option LaneState) (c d : ChannelState) → d.closed ≡ c.closed → d.settings ≡ c.settings → d.offered ≡ c.offered → HasLane l c → HasLane l d
 same_lane None c d closed settings offered h = closed ∙ h
@@ -56,25 +55,8 @@ met_ready lane offered m = record {
   pending_is = m.pending_is;
 }
 
-slot_offered : (parts : ChannelParts) (c : ChannelState) (size : ℕ) → Holds size parts c → parts.slot.offered ≡ length c.offered
+slot_offered : (parts : ChannelParts) (c : ChannelState) (size : ℕ) → HoldsChannel size parts c → parts.slot.offered ≡ length c.offered
 slot_offered parts c size h = ap (λ (s : SlotState). s.offered) h.slot_is
-
-slot_max : (parts : ChannelParts) (c : ChannelState) (size : ℕ) → Holds size parts c → parts.slot.max ≡ c.max
-slot_max parts c size h = ap (λ (s : SlotState). s.max) h.slot_is
-
--- a lane has met as many frames as the slot has counted
-pub lane_counts : (parts : ChannelParts) (lane : LaneState) → IsHeld parts → parts.lane ≡ Some lane → lane.offered ≡ parts.slot.offered
-lane_counts parts lane (size, c, h) is = (its_lane parts c size lane is h).2.offered_is ∙ sym (slot_offered parts c size h)
-
--- and there is room for one more if it has not met as many as may be
-pub slot_room : (parts : ChannelParts) (lane : LaneState) → IsHeld parts → parts.lane ≡ Some lane → lane.offered ≢ parts.max → parts.slot.offered < parts.slot.max
-slot_room parts lane (size, c, h) is room =
-    let a = (its_lane parts c size lane is h).2.offered_is in
-    let b = slot_offered parts c size h in
-    let m = slot_max parts c size h in
-    let n = h.max_is in
-    let within = h.in_order.within in
-    omega (arith, a, b, m, n, within, room)
 
 -- ---- queues
 
@@ -86,14 +68,6 @@ queued_more c d ring pending given more written sent q = record {
   written_is = written ∙ q.written_is;
   sent_is = sent ∙ q.sent_is;
 }
-
-queue_len : (c : ChannelState) (ring pending : List PieceData) → AreQueued c ring pending → length (produced c) ≡ c.sent + length pending
-queue_len c ring pending q =
-    let a = ap (λ (ps : List PieceData). length ps) q.produced_is in
-    let b = length-append q.gone (ring ++ pending) in
-    let d = length-append ring pending in
-    let s = q.sent_is in
-    omega (arith, a, b, d, s)
 
 -- ---- a frame
 
@@ -139,7 +113,7 @@ take_done size channel old lane met drawn pending frame reply is room o c h =
     ∙ ap (λ ps. ps ++ o.given) (sym (produced_open c has.0))))) in (
       frame_taken c f,
       (let r = o.reply_is in let number = slot_offered old c size h in
-          subst (λ (answer : Reply). Does size c (OfTake channel frame) answer (frame_taken c f) []) (sym r)
+          subst (λ (answer : Reply). ChannelDoes size c (OfTake channel frame) answer (frame_taken c f) []) (sym r)
           (f, has.0, below, meets, refl, number, refl, refl, refl, refl)),
       record {
         settings_are = h.settings_are;
@@ -152,19 +126,8 @@ take_done size channel old lane met drawn pending frame reply is room o c h =
       },
     )
 
--- a closed channel takes no frame
-pub take_closed : (size channel : ℕ) (old : ChannelParts) (frame : FrameData) → old.lane ≡ None → RefusesEvent size old old (OfTake channel frame) Closed
-take_closed size channel old frame is c h = (no_lane old c size is h, h)
-
--- nor one that has as many as it may have
-pub take_full : (size channel : ℕ) (old : ChannelParts) (lane : LaneState) (frame : FrameData) → old.lane ≡ Some lane → lane.offered ≡ old.max → RefusesEvent size old old (OfTake channel frame) CountFull
-take_full size channel old lane frame is full c h =
-    let has = its_lane old c size lane is h in
-    let count : lane.offered ≡ length c.offered = has.2.offered_is in
-    ((has.0, (let m = h.max_is in omega (arith, count, m, full))), h)
-
 -- the parts hold the channel also with its lane's next buffer
-still_held : (size : ℕ) (old : ChannelParts) (c : ChannelState) (lane met : LaneState) (drawn : SlotState) (pending : List PieceData) → old.lane ≡ Some lane → drawn ≡ old.slot → (met ≡ lane) ⊎ (met ≡ lane_ready lane) → pending ≡ old.pending → Holds size old c → Holds size (record old { slot = drawn; lane = Some met; pending = pending }) c
+still_held : (size : ℕ) (old : ChannelParts) (c : ChannelState) (lane met : LaneState) (drawn : SlotState) (pending : List PieceData) → old.lane ≡ Some lane → drawn ≡ old.slot → (met ≡ lane) ⊎ (met ≡ lane_ready lane) → pending ≡ old.pending → HoldsChannel size old c → HoldsChannel size (record old { slot = drawn; lane = Some met; pending = pending }) c
 still_held size old c lane met drawn pending is slot either same h =
     let has = its_lane old c size lane is h in
     let now : HasThisLane met c = elim either as (λ _. HasThisLane met c) [
@@ -189,7 +152,7 @@ take_refused size channel old lane met drawn pending frame fault is room n c h =
     let has = its_lane old c size lane is h in
     let count : lane.offered ≡ length c.offered = has.2.offered_is in
     let below : length c.offered < c.max = let m = h.max_is in let within = h.in_order.within in omega (arith, count, m, within, room) in (
-      subst (λ (e : CoreFault). Refuses size c (OfTake channel frame) e) (sym n.fault_is) (has.0, below),
+      subst (λ (e : CoreFault). ChannelRefuses size c (OfTake channel frame) e) (sym n.fault_is) (has.0, below),
       still_held size old c lane met drawn pending is n.slot_stays n.lane_stays n.pending_stays h,
     )
 
@@ -213,12 +176,6 @@ install_done leave size channel old slot program version mark room filter placed
         in_order = in_order_installed leave c program below filter h.in_order;
       },
     )
-
-pub install_full : (size channel : ℕ) (old : ChannelParts) (program : List Insn) → MAX_VERSIONS ≤ length old.slot.history → RefusesEvent size old old (OfInstall channel program) VersionsFull
-install_full size channel old program full c h = ((let count = ap (λ (s : SlotState). length s.history) h.slot_is in omega (arith, count, full)), h)
-
-pub install_refused : (size channel : ℕ) (old : ChannelParts) (program : List Insn) → length old.slot.history < MAX_VERSIONS → RefusesEvent size old old (OfInstall channel program) Memory
-install_refused size channel old program room c h = ((let count = ap (λ (s : SlotState). length s.history) h.slot_is in omega (arith, count, room)), h)
 
 -- ---- a piece sent
 
@@ -249,20 +206,6 @@ send_done size channel old piece rest first room c h =
         in_order = record { history = o.history; met = o.met; within = o.within; few = o.few };
       },
     )
-
-pub send_none : (size channel : ℕ) (old : ChannelParts) → old.pending ≡ [] → RefusesEvent size old old (OfSend channel) NothingToSend
-send_none size channel old none c h =
-    let len = queue_len c old.ring old.pending h.queued in
-    let zero = ap (λ (ps : List PieceData). length ps) none in
-    (omega (arith, len, zero), h)
-
-pub send_full : (size channel : ℕ) (old : ChannelParts) → 0 < length old.pending → old.places ≤ length old.ring → RefusesEvent size old old (OfSend channel) RingFull
-send_full size channel old some full c h =
-    let len = queue_len c old.ring old.pending h.queued in
-    let s = h.queued.sent_is in
-    let w = h.queued.written_is in
-    let e = h.size_is in
-    ((omega (arith, len, some), omega (arith, s, w, e, full)), h)
 
 -- ---- a piece written
 
@@ -296,13 +239,6 @@ write_done size channel old piece bytes rest first long c h =
       },
     )
 
-pub write_none : (size channel : ℕ) (old : ChannelParts) → old.ring ≡ [] → RefusesEvent size old old (OfWrite channel) NothingToWrite
-write_none size channel old none c h =
-    let zero = ap (λ (ps : List PieceData). length ps) none in
-    let s = h.queued.sent_is in
-    let w = h.queued.written_is in
-    (omega (arith, s, w, zero), h)
-
 pub write_failed : (size channel : ℕ) (old : ChannelParts) (piece : PieceData) (rest : List PieceData) → old.ring ≡ piece ∷ rest → RefusesEvent size old old (OfWrite channel) Output
 write_failed size channel old piece rest first c h =
     let len = ap (λ (ps : List PieceData). length ps) first in
@@ -316,10 +252,10 @@ OfTheirChannel = (settings : LaneSettings) (offered : List OfferedFrame) → All
 
 -- and the certain ones begin all
 abbrev pub BeginAll : Type 0
-BeginAll = (settings : LaneSettings) (offered more : List OfferedFrame) → Begins (pieces_so_far settings offered) (channel_pieces settings (offered ++ more))
+BeginAll = (settings : LaneSettings) (offered more : List OfferedFrame) → BeginsList (pieces_so_far settings offered) (channel_pieces settings (offered ++ more))
 
-pub produced_begins : BeginAll → (c : ChannelState) → Begins (produced c) (channel_pieces c.settings c.offered)
-produced_begins begin c = elim (cases_Bool c.closed) as (λ _. Begins (produced c) (channel_pieces c.settings c.offered)) [
+pub produced_begins : BeginAll → (c : ChannelState) → BeginsList (produced c) (channel_pieces c.settings c.offered)
+produced_begins begin c = elim (cases_Bool c.closed) as (λ _. BeginsList (produced c) (channel_pieces c.settings c.offered)) [
   | inl closed ↦ ([], append-nil (produced c) ∙ produced_closed c closed)
   | inr not_closed ↦ (
       let b = begin c.settings c.offered [] in
@@ -332,7 +268,7 @@ get_more (z ∷ zs) ys zero x is = is
 get_more (z ∷ zs) ys (suc k) x is = get_more zs ys k x is
 
 -- what stands in a list that begins another stands there in both
-pub begins_there : {X : Type 0} (xs ys : List X) (k : ℕ) (x : X) → Begins xs ys → slice_get xs k ≡ Some x → slice_get ys k ≡ Some x
+pub begins_there : {X : Type 0} (xs ys : List X) (k : ℕ) (x : X) → BeginsList xs ys → slice_get xs k ≡ Some x → slice_get ys k ≡ Some x
 begins_there xs ys k x b is = subst (λ zs. slice_get zs k ≡ Some x) b.1 (get_more xs b.0 k x is)
 
 pub produced_is_of : OfTheirChannel → BeginAll → (c : ChannelState) (k : ℕ) (piece : PieceData) → slice_get (produced c) k ≡ Some piece → channel_of piece ≡ c.settings.channel
@@ -341,40 +277,9 @@ produced_is_of theirs begin c k piece is =
     (begins_there (produced c) (channel_pieces c.settings c.offered) k piece (produced_begins begin c) is)
 
 -- the first piece in the ring is of the channel
-pub front_is_of : OfTheirChannel → BeginAll → (parts : ChannelParts) (piece : PieceData) (rest : List PieceData) → IsHeld parts → parts.ring ≡ piece ∷ rest → channel_of piece ≡ parts.settings.channel
+pub front_is_of : OfTheirChannel → BeginAll → (parts : ChannelParts) (piece : PieceData) (rest : List PieceData) → AreHeldParts parts → parts.ring ≡ piece ∷ rest → channel_of piece ≡ parts.settings.channel
 front_is_of theirs begin parts piece rest (size, c, h) first =
     let q = h.queued in
     let all : produced c ≡ q.gone ++ piece ∷ (rest ++ parts.pending) = q.produced_is ∙ ap (λ ps. q.gone ++ (ps ++ parts.pending)) first in
     produced_is_of theirs begin c (length q.gone) piece (ap (λ ps. slice_get ps (length q.gone)) all ∙ get_behind q.gone piece (rest ++ parts.pending))
     ∙ ap (λ (s : LaneSettings). s.channel) (sym h.settings_are)
-
--- ---- an end
-
-pub close_done : (size channel : ℕ) (old : ChannelParts) (lane : LaneState) (given : List PieceData) → old.lane ≡ Some lane → AreLeft lane given
-    → DoesEvent size old (record old { lane = None; pending = old.pending ++ given }) (OfClose channel) (HasClosed lane.offered lane.kept) []
-close_done size channel old lane given is left c h =
-    let has = its_lane old c size lane is h in
-    let o = h.in_order in
-    let more : produced (channel_closed c) ≡ produced c ++ given =
-    ap (λ s. channel_pieces s c.offered) (sym has.1)
-    ∙ (left c.offered has.2
-    ∙ (ap (λ s. pieces_so_far s c.offered ++ given) has.1
-    ∙ ap (λ ps. ps ++ given) (sym (produced_open c has.0)))) in (
-      channel_closed c,
-      (has.0, has.2.offered_is, has.2.kept_is, refl, refl),
-      record {
-        settings_are = h.settings_are;
-        max_is = h.max_is;
-        slot_is = h.slot_is;
-        lane_is = refl;
-        size_is = h.size_is;
-        queued = queued_more c (channel_closed c) old.ring old.pending given more refl refl h.queued;
-        in_order = record { history = o.history; met = o.met; within = o.within; few = o.few };
-      },
-    )
-
-pub close_closed : (size channel : ℕ) (old : ChannelParts) → old.lane ≡ None → RefusesEvent size old old (OfClose channel) Closed
-close_closed size channel old is c h = (no_lane old c size is h, h)
-
-pub close_refused : (size channel : ℕ) (old : ChannelParts) (lane : LaneState) → old.lane ≡ Some lane → RefusesEvent size old old (OfClose channel) Memory
-close_refused size channel old lane is c h = ((its_lane old c size lane is h).0, h)

@@ -1,4 +1,6 @@
 -- A recording is a run of the model world.
+-- idea: first all takes, installs and closes of one channel after the other, then a send and a write for each piece in the
+-- order of the recording; what a lane has left is all pieces behind those that are written, so each write is the next one.
 use Rattle.std.proofs.Common.{ℕ, ◌≡◌, ◌<◌, ◌≤◌, List, [], ◌∷◌, ◌++◌, length, Some, refl, sym, ◌∙◌, ap, subst, All, map}
 use Rattle.std.specs.Prelude.{slice_get}
 use Rattle.std.specs.List.{flat_map, Any, AllZip}
@@ -11,11 +13,11 @@ use Rattle.rec_channel.specs.History.{Version, IsHistory}
 use Rattle.rec_lane.specs.Offered.{OfferedFrame, frames_of}
 use Rattle.rec_lane.specs.Pieces.{PieceData, LaneSettings, channel_of, channel_pieces, ArePieces}
 use Rattle.eth_frame.specs.Frame.{FrameData}
-use Rattle.rec_writer.specs.Numbers.{AreDistinct}
+use Rattle.rec_writer.specs.Numbers.{AreDistinctChannels}
 use Rattle.rec_writer.specs.Recording.{RecordedChannel, AreOfChannels}
 use Rattle.rec_core.specs.Openings.{SpecData, AreSpecs, IsFilter, channels_of_specs}
 use Rattle.rec_core.specs.World.{ChannelState, EventData, opening_channel, opening_world}
-use Rattle.rec_core.specs.Written.{IsEnded, recorded_channel}
+use Rattle.rec_core.specs.Written.{IsEndedChannel, recorded_channel}
 use Rattle.rec_core.specs.Ties.{moves_of, close_of, passes_of, events_of, IsOfSpec, IsRunOfWorld}
 use Rattle.rec_core.proofs.Lists.{All_there, All_from_places, map_same, map_there, get_behind, set_between}
 use Rattle.rec_core.proofs.Written.{of}
@@ -98,7 +100,7 @@ each_lane ring f g events P makes (lane ∷ lanes) before out all =
 abbrev AreNamed : List Lane → List PieceData → Type 0
 AreNamed lanes pieces = All (λ (p : PieceData). (k : ℕ) × (lane : Lane) × (slice_get lanes k ≡ Some lane) × (channel_of p ≡ lane_id lane)) pieces
 
-passed : HaveLens → (ring : ℕ) (lanes : List Lane) (all rest done : List PieceData) → 0 < ring → AreDistinct (map lane_id lanes) → AreNamed lanes all → All (IsWhole all) lanes → done ++ rest ≡ all
+passed : HaveLens → (ring : ℕ) (lanes : List Lane) (all rest done : List PieceData) → 0 < ring → AreDistinctChannels (map lane_id lanes) → AreNamed lanes all → All (IsWhole all) lanes → done ++ rest ≡ all
     → Runs ring (world (map (after done) lanes) done) (flat_map passes_of rest) (world (map (after all) lanes) all)
 passed lens ring lanes all [] done some distinct named whole is =
     subst (λ ps. Runs ring (world (map (after done) lanes) done) [] (world (map (after ps) lanes) ps)) (sym (append-nil done) ∙ is) (nowhere ring (world (map (after done) lanes) done))
@@ -140,7 +142,7 @@ most_alike : (lanes : List Lane) → map (λ (c : ChannelState). c.max) (map end
 most_alike [] = refl
 most_alike (lane ∷ lanes) = ap (λ ms. lane.spec.max ∷ ms) (most_alike lanes)
 
-all_run : HaveLens → (ring : ℕ) (lanes : List Lane) (pieces : List PieceData) → 0 < ring → AreDistinct (map lane_id lanes) → AreNamed lanes pieces → All IsLane lanes → All (IsWhole pieces) lanes
+all_run : HaveLens → (ring : ℕ) (lanes : List Lane) (pieces : List PieceData) → 0 < ring → AreDistinctChannels (map lane_id lanes) → AreNamed lanes pieces → All IsLane lanes → All (IsWhole pieces) lanes
     → Runs ring (opening_world (map (λ (l : Lane). l.spec) lanes)) (events_of (map recorded_lane lanes) pieces) (world (map ended_lane lanes) pieces)
 all_run lens ring lanes pieces some distinct named good whole =
     let begun = λ (l : Lane). opening_channel l.spec in
@@ -182,7 +184,7 @@ module _ (lens : HaveLens) (ring : ℕ) (pieces : List PieceData) (some : 0 < ri
   of_lanes : (lanes : List Lane) → All IsLane lanes → All (IsWhole pieces) lanes → AreNamed lanes pieces → AreSpecs (map (λ (l : Lane). l.spec) lanes)
       → IsRunOfWorld ring (map (λ (l : Lane). l.spec) lanes) (map recorded_lane lanes) pieces
   of_lanes lanes good whole named specs =
-      let run = all_run lens ring lanes pieces some (subst AreDistinct (sym (ids_alike lanes)) specs.distinct) named good whole in
+      let run = all_run lens ring lanes pieces some (subst AreDistinctChannels (sym (ids_alike lanes)) specs.distinct) named good whole in
       record {
         are_specs = specs;
         filters = All-map (λ (s : SpecData). IsFilter s.program) (λ (l : Lane). l.spec) lanes (All_from_places (λ (l : Lane). IsFilter l.spec.program) lanes (λ k l is. lane_filter l (All_there IsLane lanes k l good is)));
@@ -191,7 +193,7 @@ module _ (lens : HaveLens) (ring : ℕ) (pieces : List PieceData) (some : 0 < ri
         run = run.1;
         channels_are = ended_alike lanes;
         most_are = most_alike lanes;
-        ended = All-map IsEnded ended_lane lanes (All_from_places (λ (l : Lane). IsEnded (ended_lane l)) lanes (λ k l is. record { closed = refl; whole = refl }));
+        ended = All-map IsEndedChannel ended_lane lanes (All_from_places (λ (l : Lane). IsEndedChannel (ended_lane l)) lanes (λ k l is. record { closed = refl; whole = refl }));
         sent = All-map (λ (c : ChannelState). c.sent ≡ c.written) ended_lane lanes (All_from_places (λ (l : Lane). (ended_lane l).sent ≡ (ended_lane l).written) lanes (λ k l is. refl));
         out_is = refl;
       }

@@ -10,13 +10,13 @@ use Rattle.rec_core.specs.declared.fault.CoreFault.TheVariants.{Output}
 use Rattle.rec_core.specs.Rings.{RingState, without_first}
 use Rattle.rec_core.specs.World.{HasPacketLen}
 use Rattle.rec_core.specs.World.EventData.{OfWrite}
-use Rattle.rec_core.specs.Worlds.{ChannelParts, IsHeld}
-use Rattle.rec_core.specs.Steps.{DoesEvent, RefusesEvent, Writes, FailsAt}
+use Rattle.rec_core.specs.Worlds.{ChannelParts, AreHeldParts}
+use Rattle.rec_core.specs.Steps.{DoesEvent, RefusesEvent, Writes, FailsAtPiece}
 use Rattle.rec_core.proofs.Lists.{first_is}
 use Rattle.rec_core.proofs.Serving.{OfTheirChannel, BeginAll, front_is_of, write_done, write_failed}
 
 -- the writer knows the channel of the first piece
-pub front_known : OfTheirChannel → BeginAll → (parts : ChannelParts) (writer : WriterState) (piece : PieceData) → IsHeld parts → Knows writer parts.settings.channel → slice_get parts.ring 0 ≡ Some piece → Knows writer (channel_of piece)
+pub front_known : OfTheirChannel → BeginAll → (parts : ChannelParts) (writer : WriterState) (piece : PieceData) → AreHeldParts parts → Knows writer parts.settings.channel → slice_get parts.ring 0 ≡ Some piece → Knows writer (channel_of piece)
 front_known theirs begin parts writer piece held known first = subst (λ n. Knows writer n) (sym (front_is_of theirs begin parts piece (drop 1 parts.ring) held (first_is parts.ring piece first))) known
 
 -- why it did not go out
@@ -25,7 +25,7 @@ fails_of old new piece (OutputFailed whole bytes) p = inl p.0
 fails_of old new piece (Failed whole bytes) p = inr (p.0, p.1)
 
 pub write_fails : (size channel : ℕ) (parts : ChannelParts) (old new : WriterState) (piece : PieceData) (fault : WriteFault) → slice_get parts.ring 0 ≡ Some piece → PutFails old new piece fault
-    → RefusesEvent size parts parts (OfWrite channel) Output × FailsAt old new parts.ring
+    → RefusesEvent size parts parts (OfWrite channel) Output × FailsAtPiece old new parts.ring
 write_fails size channel parts old new piece fault first p =
     let front = first_is parts.ring piece first in (
       write_failed size channel parts piece (drop 1 parts.ring) front,

@@ -1,4 +1,6 @@
 -- What a run has written of each channel.
+-- idea: of each channel what was written begins its pieces, and an event keeps that, for its own channel and for the
+-- others; so it holds of every world that events lead to, and where all is written the beginning is the whole.
 use Rattle.std.proofs.Common.{ℕ, suc, ◌≡◌, ◌≢◌, inl, inr, true, false, List, [], ◌∷◌, ◌++◌, length, Option, None, Some, refl, sym, ◌∙◌, ap, subst, arith, map, All, cond, eq-eqb}
 use Rattle.std.specs.Prelude.{slice_get, slice_set, ◌==◌, Result, Ok, Err}
 use Rattle.std.specs.List.{AllZip, filter, Any}
@@ -7,22 +9,22 @@ use Rattle.std.proofs.lemmas.List.{append-nil, append_assoc, length-append}
 use Rattle.std.proofs.lemmas.List.Elements.{filter-append, All-append, All-cons, All-nil, All-map, All-weaker, All-head, All-tail}
 use Rattle.std.proofs.lemmas.Option.{same_Some, none-some}
 use Rattle.rec_lane.specs.Offered.{OfferedFrame, frames_of}
-use Rattle.rec_lane.specs.Parts.{Begins}
+use Rattle.rec_lane.specs.Parts.{BeginsList}
 use Rattle.rec_lane.specs.Pieces.{LaneSettings, PieceData, channel_of, channel_pieces, pieces_so_far, ArePieces}
 use Rattle.std.specs.Io.KnownBytes.{Appends}
 use Rattle.rec_writer.specs.Encoding.{writer_output}
 use Rattle.rec_writer.specs.Recording.{RecordedChannel, AreOfChannels, is_of}
-use Rattle.rec_writer.specs.Numbers.{AreDistinct}
+use Rattle.rec_writer.specs.Numbers.{AreDistinctChannels}
 use Rattle.rec_writer.specs.Writers.{WriterState, HasWritten, HoldsRecording}
 use Rattle.rec_core.specs.declared.reply.Reply.{Reply}
 use Rattle.rec_core.specs.declared.reply.Reply.TheVariants.{Took, Installed, Sent, Wrote, Closed as HasClosed}
 use Rattle.rec_core.specs.declared.fault.CoreFault.{CoreFault}
 use Rattle.rec_core.specs.declared.fault.CoreFault.TheVariants.{NoChannel}
 use Rattle.rec_core.specs.Openings.{SpecData, AreSpecs, HaveFilters, IsFilter, channels_of_specs}
-use Rattle.rec_core.specs.World.{ChannelState, WorldState, EventData, Does, IsInOrder, WorldStep, WorldRun, produced, frame_taken, program_installed, piece_sent, piece_written, channel_closed, opening_channel, opening_world}
+use Rattle.rec_core.specs.World.{ChannelState, WorldState, EventData, ChannelDoes, IsInOrder, WorldStep, WorldRun, produced, frame_taken, program_installed, piece_sent, piece_written, channel_closed, opening_channel, opening_world}
 use Rattle.rec_core.specs.World.EventData.{OfTake, OfInstall, OfSend, OfWrite, OfClose}
-use Rattle.rec_core.specs.Worlds.{CoreState, Holds, IsCutAtFront, StandsForWorld, StandsCutAt}
-use Rattle.rec_core.specs.Written.{RunsFromOpening, WritesInOrder, WritesAll, IsEnded, AreEnded, recorded_channel, recorded_channels, IsCutShort, IsCutShortAt}
+use Rattle.rec_core.specs.Worlds.{CoreState, HoldsChannel, IsCutAtFront, StandsForWorld, StandsCutAt}
+use Rattle.rec_core.specs.Written.{RunsFromOpening, WritesInOrder, WritesAll, IsEndedChannel, AreEnded, recorded_channel, recorded_channels, IsCutShort, IsCutShortAt}
 use Rattle.rec_core.proofs.Lists.{set_cases, set_unseen, map_there, there_map, All_there, All_from_places, Any_there, distinct_at, zip_there, get_behind}
 use Rattle.rec_core.proofs.Meeting.{LaterLeave, in_order_taken, in_order_installed, in_order_opening}
 use Rattle.rec_core.proofs.Serving.{OfTheirChannel, BeginAll, begins_there, produced_begins, produced_is_of, produced_open, produced_closed}
@@ -35,13 +37,13 @@ of channel pieces = filter (is_of channel) pieces
 -- as much as the channel says, and the channel is in order
 pub record Sound (out : List PieceData) (c : ChannelState) : Type 0 where
   pub long : length (of c.settings.channel out) ≡ c.written
-  pub begins : Begins (of c.settings.channel out) (channel_pieces c.settings c.offered)
-  pub certain : c.closed ≡ false → (more : List OfferedFrame) → Begins (of c.settings.channel out) (channel_pieces c.settings (c.offered ++ more))
+  pub begins : BeginsList (of c.settings.channel out) (channel_pieces c.settings c.offered)
+  pub certain : c.closed ≡ false → (more : List OfferedFrame) → BeginsList (of c.settings.channel out) (channel_pieces c.settings (c.offered ++ more))
   pub order : IsInOrder c
 
 -- ---- a piece more
 
-begins_next : {X : Type 0} (xs ys : List X) (x : X) → Begins xs ys → slice_get ys (length xs) ≡ Some x → Begins (xs ++ x ∷ []) ys
+begins_next : {X : Type 0} (xs ys : List X) (x : X) → BeginsList xs ys → slice_get ys (length xs) ≡ Some x → BeginsList (xs ++ x ∷ []) ys
 begins_next [] [] x b is = absurd (none-some x is)
 begins_next [] (y ∷ ys) x b is = (ys, ap (λ z. z ∷ ys) (sym (same_Some y x is)))
 begins_next (z ∷ zs) ys x b is =
@@ -79,7 +81,7 @@ take_sound : (out : List PieceData) (c : ChannelState) (f : OfferedFrame) → c.
 take_sound out c f not_closed order s = record {
   long = s.long;
   begins = s.certain not_closed (f ∷ []);
-  certain = λ is more. subst (λ fs. Begins (of c.settings.channel out) (channel_pieces c.settings fs)) (sym (append_assoc c.offered (f ∷ []) more)) (s.certain not_closed (f ∷ more));
+  certain = λ is more. subst (λ fs. BeginsList (of c.settings.channel out) (channel_pieces c.settings fs)) (sym (append_assoc c.offered (f ∷ []) more)) (s.certain not_closed (f ∷ more));
   order = order s.order;
 }
 
@@ -92,17 +94,17 @@ write_sound begin out c piece own next s =
     let at : slice_get (produced c) (length (of c.settings.channel out)) ≡ Some piece = subst (λ n. slice_get (produced c) n ≡ Some piece) (sym s.long) next in
     record {
       long = omega (arith, count, longer, long);
-      begins = subst (λ ps. Begins ps (channel_pieces c.settings c.offered)) (sym mine)
+      begins = subst (λ ps. BeginsList ps (channel_pieces c.settings c.offered)) (sym mine)
           (begins_next (of c.settings.channel out) (channel_pieces c.settings c.offered) piece s.begins
           (begins_there (produced c) (channel_pieces c.settings c.offered) (length (of c.settings.channel out)) piece (produced_begins begin c) at));
-      certain = λ is more. subst (λ ps. Begins ps (channel_pieces c.settings (c.offered ++ more))) (sym mine)
+      certain = λ is more. subst (λ ps. BeginsList ps (channel_pieces c.settings (c.offered ++ more))) (sym mine)
           (begins_next (of c.settings.channel out) (channel_pieces c.settings (c.offered ++ more)) piece (s.certain is more)
           (begins_there (pieces_so_far c.settings c.offered) (channel_pieces c.settings (c.offered ++ more)) (length (of c.settings.channel out)) piece (begin c.settings c.offered more)
           (subst (λ ps. slice_get ps (length (of c.settings.channel out)) ≡ Some piece) (produced_open c is) at)));
       order = record { history = s.order.history; met = s.order.met; within = s.order.within; few = s.order.few };
     }
 
-effect : LaterLeave → OfTheirChannel → BeginAll → (ring : ℕ) (out : List PieceData) (c : ChannelState) (event : EventData) (reply : Reply) (d : ChannelState) (more : List PieceData) → Does ring c event reply d more → Effect out c d more
+effect : LaterLeave → OfTheirChannel → BeginAll → (ring : ℕ) (out : List PieceData) (c : ChannelState) (event : EventData) (reply : Reply) (d : ChannelState) (more : List PieceData) → ChannelDoes ring c event reply d more → Effect out c d more
 effect leave theirs begin ring out c (OfTake channel frame) (Took number version value) d more does =
     silent out c d (frame_taken c does.0) more does.8 does.9 refl (take_sound out c does.0 does.1 (in_order_taken c does.0 does.2 does.3))
 effect leave theirs begin ring out c (OfInstall channel program) (Installed version mark) d more does =
@@ -137,8 +139,8 @@ other_sound out more b from differs own s =
     let same = none_of_other b.settings.channel from out more differs own in
     record {
       long = ap (λ (ps : List PieceData). length ps) same ∙ s.long;
-      begins = subst (λ ps. Begins ps (channel_pieces b.settings b.offered)) (sym same) s.begins;
-      certain = λ is fs. subst (λ ps. Begins ps (channel_pieces b.settings (b.offered ++ fs))) (sym same) (s.certain is fs);
+      begins = subst (λ ps. BeginsList ps (channel_pieces b.settings b.offered)) (sym same) s.begins;
+      certain = λ is fs. subst (λ ps. BeginsList ps (channel_pieces b.settings (b.offered ++ fs))) (sym same) (s.certain is fs);
       order = s.order;
     }
 
@@ -153,7 +155,7 @@ Named channels piece = (k : ℕ) × (slice_get channels k ≡ Some (channel_of p
 
 -- each channel is sound, no two have one ID, and each piece is of one of them
 pub record SoundWorld (w : WorldState) : Type 0 where
-  pub distinct : AreDistinct (ids w)
+  pub distinct : AreDistinctChannels (ids w)
   pub each : (k : ℕ) (c : ChannelState) → slice_get w.channels k ≡ Some c → Sound w.out c
   pub named : All (Named (ids w)) w.out
 
@@ -163,7 +165,7 @@ changed old k c d more there eff s =
     let unseen : map (λ (x : ChannelState). x.settings.channel) (slice_set old.channels k d) ≡ ids old = set_unseen (λ (x : ChannelState). x.settings.channel) old.channels k c d there (ap (λ (l : LaneSettings). l.channel) eff.settings) in
     let place = there_map (λ (x : ChannelState). x.settings.channel) old.channels k c there in
     record {
-      distinct = subst AreDistinct (sym unseen) s.distinct;
+      distinct = subst AreDistinctChannels (sym unseen) s.distinct;
       each = λ j b is. elim (set_cases old.channels k d j b is) as (λ _. Sound (old.out ++ more) b) [
         | inl same ↦ subst (λ x. Sound (old.out ++ more) x) (sym same.1) (eff.sound (s.each k c there))
         | inr elsewhere ↦ other_sound old.out more b c.settings.channel
@@ -198,7 +200,7 @@ opening_ids (s ∷ specs) = ap (λ cs. s.settings.channel ∷ cs) (opening_ids s
 
 opening_sound : (specs : List SpecData) → AreSpecs specs → HaveFilters specs → SoundWorld (opening_world specs)
 opening_sound specs are filters = record {
-  distinct = subst AreDistinct (sym (opening_ids specs)) are.distinct;
+  distinct = subst AreDistinctChannels (sym (opening_ids specs)) are.distinct;
   each = λ k c is.
       let from = map_there opening_channel specs k c is in
       let filter = All_there (λ (s : SpecData). IsFilter s.program) specs k from.0 filters from.1 in
@@ -227,7 +229,7 @@ written_in_order leave theirs begin ring specs new r =
     All_from_places (WritesInOrder new) new.channels (λ k c is. (s.each k c is).begins)
 
 -- a beginning that is as long as the whole is the whole
-begins_whole : {X : Type 0} (xs ys : List X) → Begins xs ys → length xs ≡ length ys → xs ≡ ys
+begins_whole : {X : Type 0} (xs ys : List X) → BeginsList xs ys → length xs ≡ length ys → xs ≡ ys
 begins_whole [] [] b same = refl
 begins_whole [] (y ∷ ys) b same = absurd (omega (arith, same))
 begins_whole (x ∷ xs) ys b same =
@@ -260,7 +262,7 @@ recorded leave theirs begin ring specs new r ended =
           (All_from_places (λ (c : ChannelState). ArePieces c.settings (frames_of c.offered) c.history (of c.settings.channel new.out)) new.channels
           (λ k c is.
           let sound = s.each k c is in
-          (c.offered, sound.order.met, refl, sym (all_of new c sound (All_there IsEnded new.channels k c ended is)))));
+          (c.offered, sound.order.met, refl, sym (all_of new c sound (All_there IsEndedChannel new.channels k c ended is)))));
     }
 
 -- ---- a core
@@ -270,9 +272,9 @@ works_at_end : (size : ℕ) (before : List ℕ) (core : CoreState) (w : WorldSta
 works_at_end size before core w ended s = elim (cases_Bool core.writer.failed) as (λ _. core.writer.failed ≡ false) [
   | inl fails ↦ (
       let i = (s.cut_at_front fails).1 in
-      let z = zip_there (Holds size) core.channels w.channels i.at i.parts s.channels_are i.there in
+      let z = zip_there (HoldsChannel size) core.channels w.channels i.at i.parts s.channels_are i.there in
       let q = z.2.queued in
-      let whole = (All_there IsEnded w.channels i.at z.0 ended z.1).whole in
+      let whole = (All_there IsEndedChannel w.channels i.at z.0 ended z.1).whole in
       let all = ap (λ (ps : List PieceData). length ps) q.produced_is in
       let a = length-append q.gone (i.parts.ring ++ i.parts.pending) in
       let b = length-append i.parts.ring i.parts.pending in
@@ -299,9 +301,9 @@ held_after before sent (Some held) appends = ap (λ bs. Some bs) appends
 
 -- a cut in the first piece of a channel's ring, as the world has it
 short_at : (size : ℕ) (before : List ℕ) (core : CoreState) (w : WorldState) (channel : ℕ) (cut : List ℕ)
-    → AllZip (Holds size) core.channels w.channels → HasWritten (Some before) w.out cut core.writer → IsCutAtFront core channel w.out cut → IsCutShortAt before core.writer w channel
+    → AllZip (HoldsChannel size) core.channels w.channels → HasWritten (Some before) w.out cut core.writer → IsCutAtFront core channel w.out cut → IsCutShortAt before core.writer w channel
 short_at size before core w channel cut zip wrote i =
-    let z = zip_there (Holds size) core.channels w.channels i.at i.parts zip i.there in
+    let z = zip_there (HoldsChannel size) core.channels w.channels i.at i.parts zip i.there in
     let q = z.2.queued in
     let all : produced z.0 ≡ q.gone ++ i.piece ∷ (i.rest ++ i.parts.pending) = q.produced_is ∙ ap (λ ps. q.gone ++ (ps ++ i.parts.pending)) i.front in
     let first = ap (λ (ps : List PieceData). length ps) i.front in

@@ -5,7 +5,7 @@ use Rattle.bpf_insn.specs.Bytes.{AreInRange}
 use Rattle.bpf_verify.specs.Validity.{Valid}
 use Rattle.rec_channel.specs.declared.limits.TheConstants.{MAX_CHANNELS}
 use Rattle.rec_lane.specs.Pieces.{LaneSettings}
-use Rattle.rec_writer.specs.Numbers.{AreDistinct}
+use Rattle.rec_writer.specs.Numbers.{AreDistinctChannels}
 
 -- a channel's lane, its first program, and how many frames it may have
 pub record SpecData : Type 0 where
@@ -25,7 +25,7 @@ IsNew channels k = (i : ℕ) → i < k → slice_index channels i ≢ slice_inde
 pub record AreSpecs (specs : List SpecData) : Type 0 where
   pub some : 0 < length specs
   pub few : length specs ≤ MAX_CHANNELS
-  pub distinct : AreDistinct (channels_of_specs specs)
+  pub distinct : AreDistinctChannels (channels_of_specs specs)
 
 -- a filter: a valid program, its fields in range
 pub record IsFilter (program : List Insn) : Type 0 where

@@ -11,29 +11,29 @@ use Rattle.rec_core.specs.declared.reply.Reply.{Reply}
 use Rattle.rec_core.specs.declared.fault.CoreFault.{CoreFault}
 use Rattle.rec_core.specs.declared.reply.Reply.TheVariants.{Took}
 use Rattle.rec_core.specs.declared.fault.CoreFault.TheVariants.{Output, Memory}
-use Rattle.rec_core.specs.World.{ChannelState, EventData, Does, Refuses}
-use Rattle.rec_core.specs.Worlds.{ChannelParts, Holds}
+use Rattle.rec_core.specs.World.{ChannelState, EventData, ChannelDoes, ChannelRefuses}
+use Rattle.rec_core.specs.Worlds.{ChannelParts, HoldsChannel}
 
 -- whatever channel the parts held, the channel did what the event asks for, these pieces are
 -- written, and the parts hold what it is now
 abbrev pub DoesEvent :
     (size : ℕ) → ChannelParts → ChannelParts → EventData → Reply → List PieceData → Type 0
 DoesEvent size old new event reply more =
-    (c : ChannelState) → Holds size old c
-    → (d : ChannelState) × Does size c event reply d more × Holds size new d
+    (c : ChannelState) → HoldsChannel size old c
+    → (d : ChannelState) × ChannelDoes size c event reply d more × HoldsChannel size new d
 
 -- whatever channel the parts held, it may refuse the event, and they hold it as it was
 abbrev pub RefusesEvent :
     (size : ℕ) → ChannelParts → ChannelParts → EventData → CoreFault → Type 0
 RefusesEvent size old new event fault =
-    (c : ChannelState) → Holds size old c
-    → Refuses size c event fault × Holds size new c
+    (c : ChannelState) → HoldsChannel size old c
+    → ChannelRefuses size c event fault × HoldsChannel size new c
 
 -- an event at which nothing is written was answered
-abbrev pub Answers :
+abbrev pub AnswersEvent :
     (size : ℕ) → ChannelParts → ChannelParts → EventData → Result Reply CoreFault → Type 0
-Answers size old new event (Ok reply) = DoesEvent size old new event reply []
-Answers size old new event (Err fault) = RefusesEvent size old new event fault
+AnswersEvent size old new event (Ok reply) = DoesEvent size old new event reply []
+AnswersEvent size old new event (Err fault) = RefusesEvent size old new event fault
 
 -- ---- an offer
 
@@ -80,7 +80,7 @@ Writes old new (piece ∷ []) = PutsWhole old new piece
 Writes old new (piece ∷ other ∷ more) = ⊥
 
 -- the output failed at the first piece in the ring, or had failed before
-pub record FailsAt (old new : WriterState) (ring : List PieceData) : Type 0 where
+pub record FailsAtPiece (old new : WriterState) (ring : List PieceData) : Type 0 where
   pub piece : PieceData
   pub rest : List PieceData
   pub front : ring ≡ piece ∷ rest
@@ -88,7 +88,7 @@ pub record FailsAt (old new : WriterState) (ring : List PieceData) : Type 0 wher
 
 -- what a refusal did to the writer: nothing, but for a failed output
 abbrev pub LeavesWriter : WriterState → WriterState → List PieceData → CoreFault → Type 0
-LeavesWriter old new ring Output = FailsAt old new ring
+LeavesWriter old new ring Output = FailsAtPiece old new ring
 LeavesWriter old new ring fault = new ≡ old
 
 -- what an event did to a channel and to the writer

@@ -14,12 +14,12 @@ use Rattle.rec_writer.specs.Writers.{WriterState}
 use Rattle.rec_core.specs.Worlds.{ChannelParts, CoreState}
 
 -- what a channel is set to
-abbrev pub spec_data : ChannelSpec → SpecData
-spec_data spec =
+abbrev pub channel_spec_data : ChannelSpec → SpecData
+channel_spec_data spec =
     record { settings = lane_data spec.lane; program = arc_value spec.program; max = spec.max }
 
 abbrev pub specs_data : List ChannelSpec → List SpecData
-specs_data specs = map spec_data specs
+specs_data specs = map channel_spec_data specs
 
 -- an event
 abbrev pub event_data : Event → EventData

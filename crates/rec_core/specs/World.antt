@@ -10,7 +10,7 @@ use Rattle.rec_channel.specs.Slots.{programs_in}
 use Rattle.rec_lane.specs.Offered.{OfferedFrame, AllMet, accepted}
 use Rattle.rec_lane.specs.Pieces.{LaneSettings, PieceData, channel_pieces, pieces_so_far}
 use Rattle.rec_lane.specs.Pieces.PieceData.{OfProgram, OfFrames, OfEnd}
-use Rattle.rec_writer.specs.Encoding.{packet_of}
+use Rattle.rec_writer.specs.Encoding.{piece_packet}
 use Rattle.rec_core.specs.declared.reply.Reply.{Reply}
 use Rattle.rec_core.specs.declared.reply.Reply.TheVariants.{Took, Installed, Sent, Wrote, Closed as HasClosed}
 use Rattle.rec_core.specs.declared.reply.Which.{Which}
@@ -97,7 +97,7 @@ pub record MeetsLast (c : ChannelState) (f : OfferedFrame) : Type 0 where
 -- the piece's packet has this length, whatever its version and its sequence number
 abbrev pub HasPacketLen : PieceData → ℕ → Type 0
 HasPacketLen piece bytes =
-    (version sequence : ℕ) → length (packet_of piece version sequence) ≡ bytes
+    (version sequence : ℕ) → length (piece_packet piece version sequence) ≡ bytes
 
 -- the channel after one more frame, or one more program
 abbrev pub frame_taken : ChannelState → OfferedFrame → ChannelState
@@ -120,9 +120,9 @@ channel_closed c = record c { closed = true }
 
 -- with rings of this size, a channel may give this answer to the event: it is `new` from then on, and
 -- these pieces are written
-abbrev pub Does :
+abbrev pub ChannelDoes :
     (ring : ℕ) → ChannelState → EventData → Reply → ChannelState → List PieceData → Type 0
-Does ring c (OfTake channel frame) (Took number version value) new more =
+ChannelDoes ring c (OfTake channel frame) (Took number version value) new more =
     (f : OfferedFrame)
     × (c.closed ≡ false)
     × (length c.offered < c.max)
@@ -133,55 +133,55 @@ Does ring c (OfTake channel frame) (Took number version value) new more =
     × (value ≡ f.value)
     × (new ≡ frame_taken c f)
     × (more ≡ [])
-Does ring c (OfInstall channel program) (Installed version mark) new more =
+ChannelDoes ring c (OfInstall channel program) (Installed version mark) new more =
     (length c.history < MAX_VERSIONS)
     × IsFilter program
     × (version ≡ length c.history)
     × (mark ≡ length c.offered)
     × (new ≡ program_installed c program)
     × (more ≡ [])
-Does ring c (OfSend channel) (Sent which) new more =
+ChannelDoes ring c (OfSend channel) (Sent which) new more =
     (piece : PieceData)
     × (slice_get (produced c) c.sent ≡ Some piece)
     × (c.sent < c.written + ring)
     × (which ≡ which_of piece)
     × (new ≡ piece_sent c)
     × (more ≡ [])
-Does ring c (OfWrite channel) (Wrote bytes) new more =
+ChannelDoes ring c (OfWrite channel) (Wrote bytes) new more =
     (piece : PieceData)
     × (slice_get (produced c) c.written ≡ Some piece)
     × (c.written < c.sent)
     × HasPacketLen piece bytes
     × (new ≡ piece_written c)
     × (more ≡ piece ∷ [])
-Does ring c (OfClose channel) (HasClosed offered kept) new more =
+ChannelDoes ring c (OfClose channel) (HasClosed offered kept) new more =
     (c.closed ≡ false)
     × (offered ≡ length c.offered)
     × (kept ≡ length (accepted c.offered))
     × (new ≡ channel_closed c)
     × (more ≡ [])
 -- no other reply comes
-Does ring c _ _ new more = ⊥
+ChannelDoes ring c _ _ new more = ⊥
 
 -- where a channel may refuse an event: each fault where those that go before it don't stand. Out of
 -- memory and a failed output are free there
-abbrev pub Refuses : (ring : ℕ) → ChannelState → EventData → CoreFault → Type 0
-Refuses ring c (OfTake channel frame) Closed = c.closed ≡ true
-Refuses ring c (OfTake channel frame) CountFull =
+abbrev pub ChannelRefuses : (ring : ℕ) → ChannelState → EventData → CoreFault → Type 0
+ChannelRefuses ring c (OfTake channel frame) Closed = c.closed ≡ true
+ChannelRefuses ring c (OfTake channel frame) CountFull =
     (c.closed ≡ false) × (c.max ≤ length c.offered)
-Refuses ring c (OfTake channel frame) Memory =
+ChannelRefuses ring c (OfTake channel frame) Memory =
     (c.closed ≡ false) × (length c.offered < c.max)
-Refuses ring c (OfInstall channel program) VersionsFull = MAX_VERSIONS ≤ length c.history
-Refuses ring c (OfInstall channel program) Memory = length c.history < MAX_VERSIONS
-Refuses ring c (OfSend channel) NothingToSend = length (produced c) ≤ c.sent
-Refuses ring c (OfSend channel) RingFull =
+ChannelRefuses ring c (OfInstall channel program) VersionsFull = MAX_VERSIONS ≤ length c.history
+ChannelRefuses ring c (OfInstall channel program) Memory = length c.history < MAX_VERSIONS
+ChannelRefuses ring c (OfSend channel) NothingToSend = length (produced c) ≤ c.sent
+ChannelRefuses ring c (OfSend channel) RingFull =
     (c.sent < length (produced c)) × (c.written + ring ≤ c.sent)
-Refuses ring c (OfWrite channel) NothingToWrite = c.sent ≤ c.written
-Refuses ring c (OfWrite channel) Output = c.written < c.sent
-Refuses ring c (OfClose channel) Closed = c.closed ≡ true
-Refuses ring c (OfClose channel) Memory = c.closed ≡ false
+ChannelRefuses ring c (OfWrite channel) NothingToWrite = c.sent ≤ c.written
+ChannelRefuses ring c (OfWrite channel) Output = c.written < c.sent
+ChannelRefuses ring c (OfClose channel) Closed = c.closed ≡ true
+ChannelRefuses ring c (OfClose channel) Memory = c.closed ≡ false
 -- no other fault is answered
-Refuses ring c _ _ = ⊥
+ChannelRefuses ring c _ _ = ⊥
 
 -- ---- steps and runs
 
@@ -204,7 +204,7 @@ WorldStep ring old event (Ok reply) new =
     × (c d : ChannelState)
     × (more : List PieceData)
     × StandsAt old.channels (event_channel event) at c
-    × Does ring c event reply d more
+    × ChannelDoes ring c event reply d more
     × (new ≡ world_after old at d more)
 WorldStep ring old event (Err NoChannel) new =
     All (λ (c : ChannelState). c.settings.channel ≢ event_channel event) old.channels
@@ -213,7 +213,7 @@ WorldStep ring old event (Err fault) new =
     (at : ℕ)
     × (c : ChannelState)
     × StandsAt old.channels (event_channel event) at c
-    × Refuses ring c event fault
+    × ChannelRefuses ring c event fault
     × (new ≡ old)
 
 -- the world may give these answers to these events, one after the other

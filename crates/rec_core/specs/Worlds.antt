@@ -4,8 +4,8 @@ use Rattle.std.specs.List.{AllZip}
 use Rattle.rec_channel.specs.Slots.{SlotState}
 use Rattle.rec_lane.specs.Pieces.{LaneSettings, PieceData}
 use Rattle.rec_lane.specs.Lanes.{LaneState, HasMet}
-use Rattle.rec_writer.specs.Numbers.{channels_in}
-use Rattle.rec_writer.specs.Writers.{WriterState, HasWritten, IsCut}
+use Rattle.rec_writer.specs.Numbers.{numbered_channels}
+use Rattle.rec_writer.specs.Writers.{WriterState, HasWritten, IsCutPiece}
 use Rattle.rec_core.specs.declared.reply.Reply.{Reply}
 use Rattle.rec_core.specs.declared.reply.Reply.TheVariants.{Wrote}
 use Rattle.rec_core.specs.declared.fault.CoreFault.{CoreFault}
@@ -46,7 +46,7 @@ pub record AreQueued (c : ChannelState) (ring pending : List PieceData) : Type 0
   pub sent_is : c.sent ≡ length gone + length ring
 
 -- these are the parts of the channel, with a ring of this size
-pub record Holds (size : ℕ) (parts : ChannelParts) (c : ChannelState) : Type 0 where
+pub record HoldsChannel (size : ℕ) (parts : ChannelParts) (c : ChannelState) : Type 0 where
   pub settings_are : parts.settings ≡ c.settings
   pub max_is : parts.max ≡ c.max
   pub slot_is : parts.slot
@@ -57,8 +57,8 @@ pub record Holds (size : ℕ) (parts : ChannelParts) (c : ChannelState) : Type 0
   pub in_order : IsInOrder c
 
 -- they are the parts of some channel
-abbrev pub IsHeld : ChannelParts → Type 0
-IsHeld parts = (size : ℕ) × (c : ChannelState) × Holds size parts c
+abbrev pub AreHeldParts : ChannelParts → Type 0
+AreHeldParts parts = (size : ℕ) × (c : ChannelState) × HoldsChannel size parts c
 
 -- ---- a core
 
@@ -73,14 +73,14 @@ pub record IsCutAtFront
   pub piece : PieceData
   pub rest : List PieceData
   pub front : parts.ring ≡ piece ∷ rest
-  pub is_cut : IsCut core.writer.version out piece cut
+  pub is_cut : IsCutPiece core.writer.version out piece cut
 
 -- the core stands for the world, with rings of this size: its channels hold those of the world, and
 -- since the output held `first` the writer has written the world's pieces, and then, where the output
 -- failed, a part of the first piece in some ring
 pub record StandsForWorld
     (size : ℕ) (first : Option (List ℕ)) (core : CoreState) (world : WorldState) : Type 0 where
-  pub channels_are : AllZip (Holds size) core.channels world.channels
+  pub channels_are : AllZip (HoldsChannel size) core.channels world.channels
   pub cut : List ℕ
   pub written : HasWritten first world.out cut core.writer
   pub none_cut : core.writer.failed ≡ false → cut ≡ []
@@ -130,7 +130,7 @@ abbrev pub failed_then : EventData → Result Reply CoreFault → Option ℕ →
 failed_then event (Err Output) None = Some (event_channel event)
 failed_then event answer failed = failed
 
--- the same after these answers to these events
+-- the channel whose write failed first, after these answers to these events
 abbrev pub failed_after : List EventData → List (Result Reply CoreFault) → Option ℕ → Option ℕ
 failed_after (event ∷ events) (answer ∷ answers) failed =
     failed_after events answers (failed_then event answer failed)
@@ -170,7 +170,7 @@ channels_of_parts channels = map (λ (p : ChannelParts). p.settings.channel) cha
 
 -- the writer is one of these channels, none of which has the ID 0, and the core stands for a world
 pub record IsCore (core : CoreState) : Type 0 where
-  pub known : channels_in core.writer.numbers ≡ 0 ∷ channels_of_parts core.channels
+  pub known : numbered_channels core.writer.numbers ≡ 0 ∷ channels_of_parts core.channels
   pub named : All (λ (channel : ℕ). channel ≢ 0) (channels_of_parts core.channels)
   pub size : ℕ
   pub first : Option (List ℕ)

@@ -2,11 +2,11 @@
 use Rattle.std.specs.Prelude.{ℕ, ◌≡◌, ◌<◌, ◌^◌, ◌-◌, ◌++◌, true, min, List, length, map, All, Some, slice_get, Result}
 use Rattle.std.specs.List.{filter}
 use Rattle.rec_lane.specs.Offered.{frames_of}
-use Rattle.rec_lane.specs.Parts.{Begins}
+use Rattle.rec_lane.specs.Parts.{BeginsList}
 use Rattle.rec_lane.specs.Pieces.{PieceData, channel_pieces}
 use Rattle.rec_writer.specs.Encoding.{writer_output}
 use Rattle.rec_writer.specs.Recording.{RecordedChannel, is_of}
-use Rattle.rec_writer.specs.Writers.{WriterState, IsCut}
+use Rattle.rec_writer.specs.Writers.{WriterState, IsCutPiece}
 use Rattle.rec_core.specs.declared.reply.Reply.{Reply}
 use Rattle.rec_core.specs.declared.fault.CoreFault.{CoreFault}
 use Rattle.rec_core.specs.Openings.{SpecData, AreSpecs, HaveFilters}
@@ -25,20 +25,20 @@ written_of world c = filter (is_of c.settings.channel) world.out
 
 -- what was written of the channel begins its pieces
 abbrev pub WritesInOrder : WorldState → ChannelState → Type 0
-WritesInOrder world c = Begins (written_of world c) (channel_pieces c.settings c.offered)
+WritesInOrder world c = BeginsList (written_of world c) (channel_pieces c.settings c.offered)
 
 -- the channel is closed, and all that it produced is written
-pub record IsEnded (c : ChannelState) : Type 0 where
+pub record IsEndedChannel (c : ChannelState) : Type 0 where
   pub closed : c.closed ≡ true
   pub whole : c.written ≡ length (produced c)
 
 -- if the channel is ended, all its pieces are written, and nothing else of it
 abbrev pub WritesAll : WorldState → ChannelState → Type 0
-WritesAll world c = IsEnded c → written_of world c ≡ channel_pieces c.settings c.offered
+WritesAll world c = IsEndedChannel c → written_of world c ≡ channel_pieces c.settings c.offered
 
 -- each channel is ended
 abbrev pub AreEnded : WorldState → Type 0
-AreEnded world = All IsEnded world.channels
+AreEnded world = All IsEndedChannel world.channels
 
 -- a channel of the world as a recording has it
 abbrev pub recorded_channel : ChannelState → RecordedChannel
@@ -63,9 +63,9 @@ pub record IsCutShort (before : List ℕ) (writer : WriterState) (world : WorldS
   pub sent : channel.written < channel.sent
   pub piece : PieceData
   pub next : slice_get (produced channel) channel.written ≡ Some piece
-  pub is_cut : IsCut writer.version world.out piece cut
+  pub is_cut : IsCutPiece writer.version world.out piece cut
 
--- the same, and the piece is one of the channel with this ID
+-- the output is cut in a piece, which is one of the channel with this ID
 abbrev pub IsCutShortAt : (before : List ℕ) → WriterState → WorldState → (channel : ℕ) → Type 0
 IsCutShortAt before writer world channel =
     (short : IsCutShort before writer world) × (short.channel.settings.channel ≡ channel)

@@ -45,20 +45,20 @@ pub(crate) struct Channel {
 
 impl Channel {
     ghost use Rattle.std.specs.Arc.{arc_value};
-    ghost use Rattle.rec_lane.specs.Parts.{Begins};
-    ghost use Rattle.rec_writer.specs.Numbers.{channels_in};
+    ghost use Rattle.rec_lane.specs.Parts.{BeginsList};
+    ghost use Rattle.rec_writer.specs.Numbers.{numbered_channels};
     ghost use Rattle.rec_writer.specs.Writers.{Knows};
     ghost use Rattle.rec_core.specs.Openings.{IsFilter};
     ghost use Rattle.rec_core.specs.World.{opening_channel};
     ghost use Rattle.rec_core.specs.World.EventData.{OfTake, OfInstall, OfSend, OfWrite, OfClose};
-    ghost use Rattle.rec_core.specs.Worlds.{Holds, IsHeld};
-    ghost use Rattle.rec_core.specs.Steps.{Answers, Serves};
-    ghost use Rattle.rec_core.specs.Views.{spec_data, channel_parts, event_data};
+    ghost use Rattle.rec_core.specs.Worlds.{HoldsChannel, AreHeldParts};
+    ghost use Rattle.rec_core.specs.Steps.{AnswersEvent, Serves};
+    ghost use Rattle.rec_core.specs.Views.{channel_spec_data, channel_parts, event_data};
 
     /// A channel of which nothing was taken. Its ring has room for this many pieces.
     pub(crate) fn new(alloc: Global, spec: &ChannelSpec, ring: usize) -> Result<Channel, AllocError>
         ensures opening { IfOk result (λ c.
-            Holds ring (channel_parts c) (opening_channel (spec_data spec.now))) }
+            HoldsChannel ring (channel_parts c) (opening_channel (channel_spec_data spec.now))) }
         ensures spec { IfOk result (λ c. c.spec ≡ spec.now.lane) }
         ensures filter { IsFilter (arc_value spec.now.program) }
     {
@@ -81,17 +81,17 @@ impl Channel {
         writer: &mut Writer<W>,
         event: &Event,
     ) -> Result<Reply, CoreFault>
-        requires held { IsHeld (channel_parts self.old) }
+        requires held { AreHeldParts (channel_parts self.old) }
         requires known { Knows writer.old self.old.spec.channel }
         ensures serves { (size : ℕ) → Serves size (channel_parts self.old)
             (channel_parts self.new) writer.old writer.new (event_data event.now) result }
         // The channel stays, and so does the ring's first piece where the output failed.
         ensures spec { self.new.spec ≡ self.old.spec }
         ensures front { writer.new.failed ≡ true
-            → Begins self.old.ring.pieces self.new.ring.pieces }
+            → BeginsList self.old.ring.pieces self.new.ring.pieces }
         // The writer stays one of the same channels.
         ensures version { writer.new.version ≡ writer.old.version }
-        ensures channels { channels_in writer.new.numbers ≡ channels_in writer.old.numbers }
+        ensures channels { numbered_channels writer.new.numbers ≡ numbered_channels writer.old.numbers }
     {
         match event {
             Event::Take { frame, .. } => self.take(&frame.frame()),
@@ -104,8 +104,8 @@ impl Channel {
 
     /// Takes a frame.
     fn take(&mut self, frame: &Frame<'_>) -> Result<Reply, CoreFault>
-        requires { IsHeld (channel_parts self.old) }
-        ensures answers { (size channel : ℕ) → Answers size (channel_parts self.old)
+        requires { AreHeldParts (channel_parts self.old) }
+        ensures answers { (size channel : ℕ) → AnswersEvent size (channel_parts self.old)
             (channel_parts self.new) (OfTake channel (frame_data frame.now)) result }
         ensures spec { self.new.spec ≡ self.old.spec }
         ensures ring { self.new.ring ≡ self.old.ring }
@@ -121,7 +121,7 @@ impl Channel {
 
     /// Installs a program.
     fn install(&mut self, program: &Arc<Verified, Global>) -> Result<Reply, CoreFault>
-        ensures answers { (size channel : ℕ) → Answers size (channel_parts self.old)
+        ensures answers { (size channel : ℕ) → AnswersEvent size (channel_parts self.old)
             (channel_parts self.new) (OfInstall channel (arc_value program.now)) result }
         ensures spec { self.new.spec ≡ self.old.spec }
         ensures ring { self.new.ring ≡ self.old.ring }
@@ -141,10 +141,10 @@ impl Channel {
 
     /// Sends the next piece into the ring.
     fn send(&mut self) -> Result<Reply, CoreFault>
-        ensures answers { (size channel : ℕ) → Answers size (channel_parts self.old)
+        ensures answers { (size channel : ℕ) → AnswersEvent size (channel_parts self.old)
             (channel_parts self.new) (OfSend channel) result }
         ensures spec { self.new.spec ≡ self.old.spec }
-        ensures front { Begins self.old.ring.pieces self.new.ring.pieces }
+        ensures front { BeginsList self.old.ring.pieces self.new.ring.pieces }
     {
         if self.pending.is_empty() {
             return Err(CoreFault::NothingToSend);
@@ -162,15 +162,15 @@ impl Channel {
 
     /// Writes the first piece of the ring. It leaves the ring when it is written.
     fn write<W: Write>(&mut self, writer: &mut Writer<W>) -> Result<Reply, CoreFault>
-        requires held { IsHeld (channel_parts self.old) }
+        requires held { AreHeldParts (channel_parts self.old) }
         requires known { Knows writer.old self.old.spec.channel }
         ensures serves { (size channel : ℕ) → Serves size (channel_parts self.old)
             (channel_parts self.new) writer.old writer.new (OfWrite channel) result }
         ensures spec { self.new.spec ≡ self.old.spec }
         ensures front { writer.new.failed ≡ true
-            → Begins self.old.ring.pieces self.new.ring.pieces }
+            → BeginsList self.old.ring.pieces self.new.ring.pieces }
         ensures version { writer.new.version ≡ writer.old.version }
-        ensures channels { channels_in writer.new.numbers ≡ channels_in writer.old.numbers }
+        ensures channels { numbered_channels writer.new.numbers ≡ numbered_channels writer.old.numbers }
     {
         pieces_are_of_their_channel();
         pieces_so_far_begin_all_pieces();
@@ -188,7 +188,7 @@ impl Channel {
 
     /// Closes the channel: its last pieces are certain.
     fn close(&mut self) -> Result<Reply, CoreFault>
-        ensures answers { (size channel : ℕ) → Answers size (channel_parts self.old)
+        ensures answers { (size channel : ℕ) → AnswersEvent size (channel_parts self.old)
             (channel_parts self.new) (OfClose channel) result }
         ensures spec { self.new.spec ≡ self.old.spec }
         ensures ring { self.new.ring ≡ self.old.ring }

@@ -2,7 +2,7 @@
 
 ghost use Rattle.std.specs.Prelude.{ℕ, ◌≡◌, ◌≢◌, ◌<◌, ◌≤◌, ◌↔◌, length, All, IsTrue};
 ghost use Rattle.arrayvec.specs.ArrayVec.{array_vec_len};
-ghost use Rattle.rec_writer.specs.Numbers.{AreDistinct};
+ghost use Rattle.rec_writer.specs.Numbers.{AreDistinctChannels};
 ghost use Rattle.rec_core.specs.Openings.{AreSpecs, channels_of_specs, IsNew};
 ghost use Rattle.rec_core.specs.Views.{specs_data};
 
@@ -37,7 +37,7 @@ pub fn specs_ok(specs: &[ChannelSpec]) -> bool
 
 /// Whether no two of these channel IDs are the same.
 pub fn are_distinct(channels: &[u16]) -> bool
-    ensures { IsTrue result ↔ AreDistinct channels.now }
+    ensures { IsTrue result ↔ AreDistinctChannels channels.now }
 {
     'channels: for k in 0..channels.len() {
         if !is_new(channels, k) {

@@ -4,7 +4,7 @@ ghost use Rattle.std.specs.Prelude.{ℕ, ◌≡◌, ◌≢◌, ◌<◌, ◌≤�
 ghost use Rattle.std.specs.List.{AllZip};
 ghost use Rattle.rec_core.specs.Openings.{HaveFilters, channels_of_specs};
 ghost use Rattle.rec_core.specs.World.{opening_channel};
-ghost use Rattle.rec_core.specs.Worlds.{Holds, channels_of_parts};
+ghost use Rattle.rec_core.specs.Worlds.{HoldsChannel, channels_of_parts};
 ghost use Rattle.rec_core.specs.Views.{specs_data, all_parts};
 
 use crate::channel::Channel;
@@ -111,7 +111,7 @@ fn open_channels(
     specs: &[ChannelSpec],
     ring: usize,
 ) -> Result<Vec<Channel>, AllocError>
-    ensures opening { IfOk result (λ v. AllZip (Holds ring) (all_parts v.items)
+    ensures opening { IfOk result (λ v. AllZip (HoldsChannel ring) (all_parts v.items)
         (map opening_channel (specs_data specs.now))) }
     ensures channels { IfOk result (λ v. channels_of_parts (all_parts v.items)
         ≡ channels_of_specs (specs_data specs.now)) }

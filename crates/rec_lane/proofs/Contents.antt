@@ -9,7 +9,7 @@ use Rattle.eth_frame.specs.Frame.{FrameData}
 use Rattle.rec_lane.specs.Offered.{OfferedFrame, accepted}
 use Rattle.rec_lane.specs.Parts.{ended_parts, last_part, as_part, parts}
 use Rattle.rec_lane.specs.Packets.{has_room, packets}
-use Rattle.rec_lane.specs.Pieces.{LaneSettings, PieceData, channel_of, has_version, groups, program_piece, data_piece, end_piece, group_pieces, channel_pieces, frames_in}
+use Rattle.rec_lane.specs.Pieces.{LaneSettings, PieceData, channel_of, has_group_version, groups, program_piece, data_piece, end_piece, group_pieces, channel_pieces, piece_frames}
 use Rattle.rec_lane.proofs.Parted.{whole_from}
 use Rattle.rec_lane.proofs.Offering.{accepted_more}
 
@@ -24,33 +24,33 @@ parts_whole {X} goes_on xs =
     ∙ (ap (λ ys. flat_map (λ (p : List X). p) (ended_parts goes_on xs) ++ ys) (one_part (last_part goes_on xs))
     ∙ whole_from goes_on [] xs)
 
-packed_frames : (s : LaneSettings) (ps : List (List FrameData)) → flat_map frames_in (map (data_piece s) ps) ≡ flat_map (λ (p : List FrameData). p) ps
+packed_frames : (s : LaneSettings) (ps : List (List FrameData)) → flat_map piece_frames (map (data_piece s) ps) ≡ flat_map (λ (p : List FrameData). p) ps
 packed_frames s [] = refl
 packed_frames s (p ∷ ps) = ap (λ fs. p ++ fs) (packed_frames s ps)
 
-no_frames : (s : LaneSettings) (group : List OfferedFrame) → flat_map frames_in (program_piece s group) ≡ []
+no_frames : (s : LaneSettings) (group : List OfferedFrame) → flat_map piece_frames (program_piece s group) ≡ []
 no_frames s [] = refl
 no_frames s (g ∷ gs) = refl
 
-group_frames : (s : LaneSettings) (group : List OfferedFrame) → flat_map frames_in (group_pieces s group) ≡ accepted group
+group_frames : (s : LaneSettings) (group : List OfferedFrame) → flat_map piece_frames (group_pieces s group) ≡ accepted group
 group_frames s group =
-    flat_map-append frames_in (program_piece s group) (map (data_piece s) (packets s.limit (accepted group)))
-    ∙ (ap (λ fs. fs ++ flat_map frames_in (map (data_piece s) (packets s.limit (accepted group)))) (no_frames s group)
+    flat_map-append piece_frames (program_piece s group) (map (data_piece s) (packets s.limit (accepted group)))
+    ∙ (ap (λ fs. fs ++ flat_map piece_frames (map (data_piece s) (packets s.limit (accepted group)))) (no_frames s group)
     ∙ (packed_frames s (packets s.limit (accepted group)) ∙ parts_whole (has_room s.limit) (accepted group)))
 
-groups_frames : (s : LaneSettings) (gs : List (List OfferedFrame)) → flat_map frames_in (flat_map (group_pieces s) gs) ≡ accepted (flat_map (λ (g : List OfferedFrame). g) gs)
+groups_frames : (s : LaneSettings) (gs : List (List OfferedFrame)) → flat_map piece_frames (flat_map (group_pieces s) gs) ≡ accepted (flat_map (λ (g : List OfferedFrame). g) gs)
 groups_frames s [] = refl
 groups_frames s (g ∷ gs) =
-    flat_map-append frames_in (group_pieces s g) (flat_map (group_pieces s) gs)
-    ∙ (ap (λ fs. fs ++ flat_map frames_in (flat_map (group_pieces s) gs)) (group_frames s g)
+    flat_map-append piece_frames (group_pieces s g) (flat_map (group_pieces s) gs)
+    ∙ (ap (λ fs. fs ++ flat_map piece_frames (flat_map (group_pieces s) gs)) (group_frames s g)
     ∙ (ap (λ fs. accepted g ++ fs) (groups_frames s gs)
     ∙ sym (accepted_more g (flat_map (λ (h : List OfferedFrame). h) gs))))
 
-pub pieces_frames : (s : LaneSettings) (offered : List OfferedFrame) → flat_map frames_in (channel_pieces s offered) ≡ accepted offered
+pub pieces_frames : (s : LaneSettings) (offered : List OfferedFrame) → flat_map piece_frames (channel_pieces s offered) ≡ accepted offered
 pieces_frames s offered =
-    flat_map-append frames_in (flat_map (group_pieces s) (groups offered)) (end_piece s offered ∷ [])
-    ∙ (append-nil (flat_map frames_in (flat_map (group_pieces s) (groups offered)))
-    ∙ (groups_frames s (groups offered) ∙ ap accepted (parts_whole has_version offered)))
+    flat_map-append piece_frames (flat_map (group_pieces s) (groups offered)) (end_piece s offered ∷ [])
+    ∙ (append-nil (flat_map piece_frames (flat_map (group_pieces s) (groups offered)))
+    ∙ (groups_frames s (groups offered) ∙ ap accepted (parts_whole has_group_version offered)))
 
 -- ---- the channel that they are of
 

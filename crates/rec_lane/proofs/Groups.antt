@@ -7,7 +7,7 @@ use Rattle.std.proofs.lemmas.List.{append_assoc}
 use Rattle.std.proofs.lemmas.List.Elements.{All-nil, All-head, All-tail, All-cons, All-push}
 use Rattle.rec_lane.specs.Offered.{OfferedFrame}
 use Rattle.rec_lane.specs.Parts.{ended_from, last_from, as_part}
-use Rattle.rec_lane.specs.Pieces.{has_version, groups, IsFirstGroup, AreGroups}
+use Rattle.rec_lane.specs.Pieces.{has_group_version, groups, IsFirstGroup, AreGroups}
 use Rattle.rec_lane.proofs.Meeting.{heads, tails, some_is}
 use Rattle.rec_lane.proofs.Fronts.{not_empty, none_left}
 
@@ -17,7 +17,7 @@ HasVersion version f = f.version ≡ version
 
 -- the groups from an open one on
 groups_from : (g : OfferedFrame) (gs xs : List OfferedFrame) → All (HasVersion g.version) (g ∷ gs)
-    → AreGroups ((g ∷ gs) ++ xs) (ended_from has_version (g ∷ gs) xs ++ as_part (last_from has_version (g ∷ gs) xs))
+    → AreGroups ((g ∷ gs) ++ xs) (ended_from has_group_version (g ∷ gs) xs ++ as_part (last_from has_group_version (g ∷ gs) xs))
 groups_from g gs [] same = (
   [],
   record {
@@ -30,9 +30,9 @@ groups_from g gs [] same = (
   refl,
 )
 groups_from g gs (x ∷ xs) same =
-    elim (cases_Bool (has_version (g ∷ gs) x)) as (λ _. AreGroups ((g ∷ gs) ++ x ∷ xs) (ended_from has_version (g ∷ gs) (x ∷ xs) ++ as_part (last_from has_version (g ∷ gs) (x ∷ xs)))) [
+    elim (cases_Bool (has_group_version (g ∷ gs) x)) as (λ _. AreGroups ((g ∷ gs) ++ x ∷ xs) (ended_from has_group_version (g ∷ gs) (x ∷ xs) ++ as_part (last_from has_group_version (g ∷ gs) (x ∷ xs)))) [
       | inl on ↦ rw on (
-          subst (λ fs. AreGroups fs (ended_from has_version ((g ∷ gs) ++ x ∷ []) xs ++ as_part (last_from has_version ((g ∷ gs) ++ x ∷ []) xs)))
+          subst (λ fs. AreGroups fs (ended_from has_group_version ((g ∷ gs) ++ x ∷ []) xs ++ as_part (last_from has_group_version ((g ∷ gs) ++ x ∷ []) xs)))
           (append_assoc (g ∷ gs) (x ∷ []) xs)
           (groups_from g (gs ++ x ∷ []) xs (All-push (HasVersion g.version) (g ∷ gs) x same (sym (eqb-true g.version x.version on)))))
       | inr off ↦ rw off ((

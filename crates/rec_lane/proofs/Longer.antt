@@ -1,10 +1,10 @@
--- The same of frames and a history.
+-- What a lane does with a frame, said of frames and a history.
 use Rattle.std.proofs.Common.{◌≡◌, List, [], ◌∷◌, ◌++◌, length, drop, refl, sym, ◌∙◌, ap, subst, arith}
 use Rattle.std.proofs.lemmas.List.{length-map}
 use Rattle.eth_frame.specs.Frame.{FrameData}
 use Rattle.rec_channel.specs.History.{Version}
 use Rattle.rec_lane.specs.Offered.{OfferedFrame, AllMet, frames_of}
-use Rattle.rec_lane.specs.Parts.{Begins}
+use Rattle.rec_lane.specs.Parts.{BeginsList}
 use Rattle.rec_lane.specs.Pieces.{LaneSettings, PieceData, pieces_so_far, channel_pieces, ArePieces, ArePiecesSoFar}
 use Rattle.rec_lane.specs.Lanes.{MarkedFrom}
 use Rattle.rec_lane.proofs.Meeting.{OneInForce, OneRun, LeavesPast, one_list, later_list, from_front, heads}
@@ -21,7 +21,7 @@ front_of (f ∷ fs) more (o ∷ os) same =
 pub begin_in_history : OneInForce → OneRun → LeavesPast
     → (settings : LaneSettings) (frames more : List FrameData) (history later : List Version) (so_far all : List PieceData)
     → MarkedFrom (length frames) later → ArePiecesSoFar settings frames history so_far
-    → ArePieces settings (frames ++ more) (history ++ later) all → Begins so_far all
+    → ArePieces settings (frames ++ more) (history ++ later) all → BeginsList so_far all
 begin_in_history one run leaves settings frames more history later so_far all marked a b =
     let count : length frames ≡ length a.0 = ap (λ (fs : List FrameData). length fs) (sym a.2) ∙ length-map a.0 (λ (o : OfferedFrame). o.frame) in
     let parts = front_of frames more b.0 b.2 in

@@ -1,4 +1,6 @@
 -- What frames meet in a history: it is one list, and later versions leave it.
+-- idea: frames are numbered, so each fact goes by recursion over the list from a number on; at one number one version
+-- is in force and its program has one value, and versions that begin later are in force at none of the numbers before.
 use Rattle.std.proofs.Common.{ℕ, suc, zero, ◌+◌, ◌≡◌, ◌≤◌, ◌<◌, inl, inr, List, [], ◌∷◌, ◌++◌, length, drop, Option, Some, refl, sym, ◌∙◌, ap, subst, arith, All}
 use Rattle.std.specs.List.{AllByRecursion}
 use Rattle.std.specs.Prelude.{if◌then◌else◌, ◌==◌, slice_get, option_map, unwrap_or}
@@ -14,8 +16,8 @@ use Rattle.rec_channel.specs.History.{Version, IsHistory, InForce, version_at}
 use Rattle.rec_channel.specs.Slots.{programs_in}
 use Rattle.rec_lane.specs.Offered.{OfferedFrame, Met, MetFrom, AllMet, frames_of, accepted, AreAccepted}
 use Rattle.rec_lane.specs.Parts.{last_from}
-use Rattle.rec_lane.specs.Pieces.{PieceData, has_version, last_group, pieces_so_far, channel_pieces}
-use Rattle.rec_lane.specs.Lanes.{LaneState, HasMet, VersionProgram, version_of, running, offered_now, MarkedFrom, TakesFrame, Ends}
+use Rattle.rec_lane.specs.Pieces.{PieceData, has_group_version, last_group, pieces_so_far, channel_pieces}
+use Rattle.rec_lane.specs.Lanes.{LaneState, HasMet, VersionProgram, version_of, running, offered_now, MarkedFrom, TakesFrame, EndsLane}
 
 -- ---- one list
 
@@ -183,11 +185,11 @@ each_more history [] x m n = (n, tt)
 each_more history (f ∷ fs) x m n = (m.0, each_more history fs x m.1 n)
 
 -- and so did those of the last group
-each_last : (history : List Version) (group fs : List OfferedFrame) → Each history group → Each history fs → Each history (last_from has_version group fs)
+each_last : (history : List Version) (group fs : List OfferedFrame) → Each history group → Each history fs → Each history (last_from has_group_version group fs)
 each_last history group [] m n = m
-each_last history group (f ∷ fs) m n = elim (cases_Bool (has_version group f)) as (λ _. Each history (last_from has_version group (f ∷ fs))) [
-  | inl on ↦ subst (λ b. Each history (if b then last_from has_version (group ++ f ∷ []) fs else last_from has_version (f ∷ []) fs)) (sym on) (each_last history (group ++ f ∷ []) fs (each_more history group f m n.0) n.1)
-  | inr off ↦ subst (λ b. Each history (if b then last_from has_version (group ++ f ∷ []) fs else last_from has_version (f ∷ []) fs)) (sym off) (each_last history (f ∷ []) fs (n.0, tt) n.1)
+each_last history group (f ∷ fs) m n = elim (cases_Bool (has_group_version group f)) as (λ _. Each history (last_from has_group_version group (f ∷ fs))) [
+  | inl on ↦ subst (λ b. Each history (if b then last_from has_group_version (group ++ f ∷ []) fs else last_from has_group_version (f ∷ []) fs)) (sym on) (each_last history (group ++ f ∷ []) fs (each_more history group f m n.0) n.1)
+  | inr off ↦ subst (λ b. Each history (if b then last_from has_group_version (group ++ f ∷ []) fs else last_from has_group_version (f ∷ []) fs)) (sym off) (each_last history (f ∷ []) fs (n.0, tt) n.1)
 ]
 
 -- within a version the program in force is the one that runs
@@ -226,7 +228,7 @@ takes_frame one run leaves old new f version program value given ran met pieces 
 
 pub ends : OneInForce → OneRun → (lane : LaneState) (given : List PieceData)
     → ((offered : List OfferedFrame) → HasMet lane offered → channel_pieces lane.settings offered ≡ pieces_so_far lane.settings offered ++ given)
-    → Ends lane given
+    → EndsLane lane given
 ends one run lane given pieces frames history before stands so_far =
     let offered = stands.0 in
     let same : so_far.0 ≡ offered = one_list one run history so_far.0 offered so_far.1 stands.1 (so_far.2 ∙ sym stands.2) in

@@ -1,4 +1,6 @@
 -- What a lane stands for after a frame more, and the pieces that became certain.
+-- idea: a lane keeps the last group and its last packet, so a frame more changes these alone: first what it does to a
+-- list of packets, then to the groups, by the version that goes on or begins, and last to what the lane stands for.
 use Rattle.std.proofs.Common.{ℕ, ◌+◌, ◌≤◌, ◌≡◌, ◌⊎◌, inl, inr, true, false, List, [], ◌∷◌, ◌++◌, length, Option, None, Some, IsSome, IfSome, refl, sym, ◌∙◌, ap, subst, arith, map}
 use Rattle.std.specs.Prelude.{if◌then◌else◌, ◌==◌}
 use Rattle.std.specs.List.{flat_map, filter}
@@ -11,7 +13,7 @@ use Rattle.eth_frame.specs.Frame.{FrameData}
 use Rattle.rec_lane.specs.Offered.{OfferedFrame, accepted, frames_of, is_accepted}
 use Rattle.rec_lane.specs.Parts.{as_part}
 use Rattle.rec_lane.specs.Packets.{has_room, full_packets, last_packet}
-use Rattle.rec_lane.specs.Pieces.{LaneSettings, PieceData, has_version, ended_groups, last_group, program_piece, data_piece, open_group_pieces, group_pieces, pieces_so_far, last_counter_from, has_no_packet}
+use Rattle.rec_lane.specs.Pieces.{LaneSettings, PieceData, has_group_version, ended_groups, last_group, program_piece, data_piece, open_group_pieces, group_pieces, pieces_so_far, last_counter_from, has_no_packet}
 use Rattle.rec_lane.specs.Pieces.PieceData.{OfProgram}
 use Rattle.rec_lane.specs.Lanes.{LaneState, HasMet, VersionProgram, version_of, is_current, running, offered_now}
 use Rattle.rec_lane.specs.Steps.{packet_closed, closed_pieces, frame_added, frame_kept, kept_pieces, frame_judged, judged_pieces, frame_counted, frame_of_new_version, begun_pieces, begun_piece, RunsAs, is_none, program_met}
@@ -72,11 +74,11 @@ last_more limit frames f = elim (cases_Bool (has_room limit (last_packet limit f
 -- ---- groups
 
 -- a lane that met a version has a group of it
-pub same_version : (group : List OfferedFrame) (current : Option VersionProgram) (x : OfferedFrame) → current ≡ version_of group → is_current current x.version ≡ true → has_version group x ≡ true
+pub same_version : (group : List OfferedFrame) (current : Option VersionProgram) (x : OfferedFrame) → current ≡ version_of group → is_current current x.version ≡ true → has_group_version group x ≡ true
 same_version [] current x met so = refl
 same_version (g ∷ gs) current x met so = rw met at so
 
-pub other_version : (group : List OfferedFrame) (current : Option VersionProgram) (x : OfferedFrame) (g : OfferedFrame) (gs : List OfferedFrame) → group ≡ g ∷ gs → current ≡ version_of group → is_current current x.version ≡ false → has_version group x ≡ false
+pub other_version : (group : List OfferedFrame) (current : Option VersionProgram) (x : OfferedFrame) (g : OfferedFrame) (gs : List OfferedFrame) → group ≡ g ∷ gs → current ≡ version_of group → is_current current x.version ≡ false → has_group_version group x ≡ false
 other_version group current x g gs shape met so = rw shape (rw (met, shape) at so)
 
 pub version_stays : (group : List OfferedFrame) (current : Option VersionProgram) (x : OfferedFrame) → current ≡ version_of group → is_current current x.version ≡ true → version_of (group ++ x ∷ []) ≡ version_of group
@@ -111,8 +113,8 @@ met_more old new before x h offered kept counter current pending = record {
 -- ---- the next frame of a version
 
 -- the accepted frames of a group that goes on
-accepted_on : (before : List OfferedFrame) (x : OfferedFrame) → has_version (last_group before) x ≡ true → accepted (last_group (before ++ x ∷ [])) ≡ accepted (last_group before) ++ accepted (x ∷ [])
-accepted_on before x on = ap accepted (last_on has_version [] before x on) ∙ accepted_more (last_group before) (x ∷ [])
+accepted_on : (before : List OfferedFrame) (x : OfferedFrame) → has_group_version (last_group before) x ≡ true → accepted (last_group (before ++ x ∷ [])) ≡ accepted (last_group before) ++ accepted (x ∷ [])
+accepted_on before x on = ap accepted (last_on has_group_version [] before x on) ∙ accepted_more (last_group before) (x ∷ [])
 
 pub next_met : (old : LaneState) (before : List OfferedFrame) (version : ℕ) (program : List Insn) (f : FrameData) (value : ℕ)
     → is_current old.current version ≡ true → HasMet old before
@@ -120,7 +122,7 @@ pub next_met : (old : LaneState) (before : List OfferedFrame) (version : ℕ) (p
 next_met old before version program f value so h =
     let x : OfferedFrame = offered_now old version program f value in
     let on = same_version (last_group before) old.current x h.current_is so in
-    let stays = ap version_of (last_on has_version [] before x on) ∙ version_stays (last_group before) old.current x h.current_is so in
+    let stays = ap version_of (last_on has_group_version [] before x on) ∙ version_stays (last_group before) old.current x h.current_is so in
     elim (cases_Bool (value == 0)) as (λ _. HasMet (frame_judged (frame_counted old f) f value) (before ++ x ∷ [])) [
       | inl zero_value ↦ rw zero_value (met_more old (frame_counted old f) before x h refl
           (sym (ap (λ (fs : List FrameData). old.kept + length fs) (dropped x zero_value) ∙ omega arith))
@@ -182,8 +184,8 @@ next_pieces old before version program f value so roomy h =
     let x : OfferedFrame = offered_now old version program f value in
     let group = last_group before in
     let on = same_version group old.current x h.current_is so in
-    ap (λ gs. flat_map (group_pieces old.settings) gs ++ open_group_pieces old.settings (last_group (before ++ x ∷ []))) (ended_on has_version [] before x on)
-    ∙ (ap (λ g. flat_map (group_pieces old.settings) (ended_groups before) ++ open_group_pieces old.settings g) (last_on has_version [] before x on)
+    ap (λ gs. flat_map (group_pieces old.settings) gs ++ open_group_pieces old.settings (last_group (before ++ x ∷ []))) (ended_on has_group_version [] before x on)
+    ∙ (ap (λ g. flat_map (group_pieces old.settings) (ended_groups before) ++ open_group_pieces old.settings g) (last_on has_group_version [] before x on)
     ∙ (ap (λ ps. flat_map (group_pieces old.settings) (ended_groups before) ++ (ps ++ map (data_piece old.settings) (full_packets old.settings.limit (accepted (group ++ x ∷ []))))) (program_stays old.settings group old.current x h.current_is so)
     ∙ (ap (λ ps. flat_map (group_pieces old.settings) (ended_groups before) ++ (program_piece old.settings group ++ ps)) (group_more old group x f value refl refl roomy h.pending_is)
     ∙ joined (flat_map (group_pieces old.settings) (ended_groups before)) (program_piece old.settings group) (map (data_piece old.settings) (full_packets old.settings.limit (accepted group))) (judged_pieces old f value))))
@@ -201,13 +203,6 @@ one_alone : (limit : ℕ) (f : FrameData) → last_packet limit (f ∷ []) ≡ f
 one_alone limit f = elim (cases_Bool (has_room limit [] f)) as (λ _. last_packet limit (f ∷ []) ≡ f ∷ []) [
   | inl on ↦ rw on refl
   | inr off ↦ rw off refl
-]
-
--- and it is the last one
-one_last : (limit : ℕ) (x : OfferedFrame) → last_packet limit (accepted (x ∷ [])) ≡ (if x.value == 0 then [] else x.frame ∷ [])
-one_last limit x = elim (cases_Bool (x.value == 0)) as (λ _. last_packet limit (accepted (x ∷ [])) ≡ (if x.value == 0 then [] else x.frame ∷ [])) [
-  | inl zero_value ↦ ap (last_packet limit) (dropped x zero_value) ∙ sym (rw zero_value refl)
-  | inr some_value ↦ ap (last_packet limit) (taken x some_value) ∙ (one_alone limit x.frame ∙ sym (rw some_value refl))
 ]
 
 -- ---- a group that is ended
@@ -241,11 +236,11 @@ first_of_all old before x begun h empty =
     let pending : old.pending ≡ [] = h.pending_is ∙ ap (λ g. last_packet s.limit (accepted g)) empty in
     let closed : closed_pieces old ≡ [] = ap (λ fs. map (data_piece s) (as_part fs)) pending in
     let before_it : pieces_so_far s before ≡ ended = ap (λ g. ended ++ open_group_pieces s g) empty ∙ append-nil ended in
-    ap (λ gs. flat_map (group_pieces s) gs ++ begun ∷ []) (ended_on has_version [] before x (rw empty refl))
+    ap (λ gs. flat_map (group_pieces s) gs ++ begun ∷ []) (ended_on has_group_version [] before x (rw empty refl))
     ∙ sym (ap (λ ps. ps ++ (closed_pieces old ++ begun ∷ [])) before_it ∙ ap (λ ps. ended ++ (ps ++ begun ∷ [])) closed)
 
 -- a group before it is ended
-first_of_more : (old : LaneState) (before : List OfferedFrame) (x : OfferedFrame) (begun : PieceData) → HasMet old before → has_version (last_group before) x ≡ false
+first_of_more : (old : LaneState) (before : List OfferedFrame) (x : OfferedFrame) (begun : PieceData) → HasMet old before → has_group_version (last_group before) x ≡ false
     → flat_map (group_pieces old.settings) (ended_groups (before ++ x ∷ [])) ++ begun ∷ [] ≡ pieces_so_far old.settings before ++ (closed_pieces old ++ begun ∷ [])
 first_of_more old before x begun h off =
     let s = old.settings in
@@ -253,7 +248,7 @@ first_of_more old before x begun h off =
     let ended = flat_map (group_pieces s) (ended_groups before) in
     let all : group_pieces s group ≡ open_group_pieces s group ++ closed_pieces old =
     group_closed s group ∙ ap (λ fs. open_group_pieces s group ++ map (data_piece s) (as_part fs)) (sym h.pending_is) in
-    ap (λ gs. flat_map (group_pieces s) gs ++ begun ∷ []) (ended_off has_version [] before x off)
+    ap (λ gs. flat_map (group_pieces s) gs ++ begun ∷ []) (ended_off has_group_version [] before x off)
     ∙ (ap (λ ps. ps ++ begun ∷ []) (flat_map-append (group_pieces s) (ended_groups before) (group ∷ []) ∙ ap (λ ps. ended ++ ps) (append-nil (group_pieces s group) ∙ all))
     ∙ (ap (λ ps. ps ++ begun ∷ []) (sym (append_assoc ended (open_group_pieces s group) (closed_pieces old)))
     ∙ append_assoc (ended ++ open_group_pieces s group) (closed_pieces old) (begun ∷ [])))
@@ -261,8 +256,8 @@ first_of_more old before x begun h off =
 -- the groups and the pieces after the first frame of another version, or of the first one
 pub first_last : (old : LaneState) (before : List OfferedFrame) (x : OfferedFrame) → old.current ≡ version_of (last_group before) → is_current old.current x.version ≡ false → last_group (before ++ x ∷ []) ≡ x ∷ []
 first_last old before x met so = elim (cases_shape (last_group before)) as (λ _. last_group (before ++ x ∷ []) ≡ x ∷ []) [
-  | inl empty ↦ last_on has_version [] before x (rw empty refl) ∙ ap (λ g. g ++ x ∷ []) empty
-  | inr some ↦ last_off has_version [] before x (other_version (last_group before) old.current x some.0 some.1 some.2 met so)
+  | inl empty ↦ last_on has_group_version [] before x (rw empty refl) ∙ ap (λ g. g ++ x ∷ []) empty
+  | inr some ↦ last_off has_group_version [] before x (other_version (last_group before) old.current x some.0 some.1 some.2 met so)
 ]
 
 pub first_met : (old : LaneState) (before : List OfferedFrame) (version : ℕ) (program : List Insn) (f : FrameData) (value : ℕ)

@@ -6,7 +6,7 @@ use Rattle.eth_frame.specs.Frame.{FrameData, view}
 use Rattle.rec_channel.specs.History.{Version, InForce}
 use Rattle.rec_channel.specs.Slots.{programs_in}
 use Rattle.rec_lane.specs.Offered.{OfferedFrame, accepted, frames_of, AllMet}
-use Rattle.rec_lane.specs.Parts.{Begins}
+use Rattle.rec_lane.specs.Parts.{BeginsList}
 use Rattle.rec_lane.specs.Packets.{last_packet}
 use Rattle.rec_lane.specs.Pieces.{LaneSettings, PieceData, last_group, last_counter, pieces_so_far, channel_pieces, ArePieces, ArePiecesSoFar}
 
@@ -56,8 +56,8 @@ pub record HasMet (lane : LaneState) (offered : List OfferedFrame) : Type 0 wher
   pub pending_is : lane.pending ≡ last_packet lane.settings.limit (accepted (last_group offered))
 
 -- the lane stands for these frames, offered to a channel with this history
-abbrev pub StandsFor : LaneState → List FrameData → List Version → Type 0
-StandsFor lane frames history =
+abbrev pub LaneStandsFor : LaneState → List FrameData → List Version → Type 0
+LaneStandsFor lane frames history =
     (offered : List OfferedFrame)
     × AllMet history offered × (frames_of offered ≡ frames) × HasMet lane offered
 
@@ -116,17 +116,17 @@ abbrev pub TakesFrame :
     LaneState → LaneState → FrameData → (version : ℕ) → List Insn → List PieceData → Type 0
 TakesFrame old new frame version program given =
     (frames : List FrameData) (history more : List Version) (before : List PieceData)
-    → StandsFor old frames history → MarkedFrom (length frames) more
+    → LaneStandsFor old frames history → MarkedFrom (length frames) more
     → IsDrawn (history ++ more) (length frames) version program
     → ArePiecesSoFar old.settings frames history before
-    → StandsFor new (frames ++ frame ∷ []) (history ++ more)
+    → LaneStandsFor new (frames ++ frame ∷ []) (history ++ more)
     × ArePiecesSoFar old.settings (frames ++ frame ∷ []) (history ++ more) (before ++ given)
 
 -- these are the last pieces: whatever frames and history the lane stands for
-abbrev pub Ends : LaneState → List PieceData → Type 0
-Ends lane given =
+abbrev pub EndsLane : LaneState → List PieceData → Type 0
+EndsLane lane given =
     (frames : List FrameData) (history : List Version) (before : List PieceData)
-    → StandsFor lane frames history → ArePiecesSoFar lane.settings frames history before
+    → LaneStandsFor lane frames history → ArePiecesSoFar lane.settings frames history before
     → ArePieces lane.settings frames history (before ++ given)
 
 -- the pieces begin all pieces, whatever frames follow and whatever versions are installed later
@@ -135,7 +135,7 @@ abbrev pub AreCertain :
 AreCertain settings frames history so_far =
     (more : List FrameData) (later : List Version) (all : List PieceData)
     → MarkedFrom (length frames) later
-    → ArePieces settings (frames ++ more) (history ++ later) all → Begins so_far all
+    → ArePieces settings (frames ++ more) (history ++ later) all → BeginsList so_far all
 
 -- what an offer does to offered frames it does to frames and a history
 abbrev pub OffersTakeFrames : Type 0
@@ -149,4 +149,4 @@ OffersTakeFrames =
 
 -- and so does an end
 abbrev pub EndsAreEnds : Type 0
-EndsAreEnds = (lane : LaneState) (given : List PieceData) → AreLeft lane given → Ends lane given
+EndsAreEnds = (lane : LaneState) (given : List PieceData) → AreLeft lane given → EndsLane lane given

@@ -31,5 +31,5 @@ abbrev pub parts : {X : Type 0} → (List X → X → Bool) → List X → List 
 parts goes_on xs = ended_parts goes_on xs ++ as_part (last_part goes_on xs)
 
 -- the second list begins with the first
-abbrev pub Begins : {X : Type 0} → List X → List X → Type 0
-Begins {X} xs ys = (rest : List X) × (xs ++ rest ≡ ys)
+abbrev pub BeginsList : {X : Type 0} → List X → List X → Type 0
+BeginsList {X} xs ys = (rest : List X) × (xs ++ rest ≡ ys)

@@ -28,18 +28,18 @@ pub data PieceData : Type 0 where
 -- ---- groups: frames one after the other that met the same version
 
 -- a frame is of a group if its version is that of the group's first frame
-abbrev pub has_version : List OfferedFrame → OfferedFrame → Bool
-has_version [] f = true
-has_version (g ∷ gs) f = g.version == f.version
+abbrev pub has_group_version : List OfferedFrame → OfferedFrame → Bool
+has_group_version [] f = true
+has_group_version (g ∷ gs) f = g.version == f.version
 
 abbrev pub groups : List OfferedFrame → List (List OfferedFrame)
-groups offered = parts has_version offered
+groups offered = parts has_group_version offered
 
 abbrev pub ended_groups : List OfferedFrame → List (List OfferedFrame)
-ended_groups offered = ended_parts has_version offered
+ended_groups offered = ended_parts has_group_version offered
 
 abbrev pub last_group : List OfferedFrame → List OfferedFrame
-last_group offered = last_part has_version offered
+last_group offered = last_part has_group_version offered
 
 -- the group is the frames of one version from the first frame on, as far as they go, and these are
 -- left
@@ -125,9 +125,9 @@ ArePiecesSoFar settings frames history pieces =
     × (pieces_so_far settings offered ≡ pieces)
 
 -- the frames in a piece
-abbrev pub frames_in : PieceData → List FrameData
-frames_in (OfFrames channel body) = body.frames
-frames_in other = []
+abbrev pub piece_frames : PieceData → List FrameData
+piece_frames (OfFrames channel body) = body.frames
+piece_frames other = []
 
 -- none of the pieces is a packet of frames
 abbrev pub has_no_packet : List PieceData → Bool

@@ -18,6 +18,6 @@ abbrev pub pieces_data : List Piece → List PieceData
 pieces_data pieces = map piece_data pieces
 
 -- a packet, if there is one
-abbrev pub packet_data : Option DataPiece → List PieceData
-packet_data None = []
-packet_data (Some p) = OfFrames p.channel p.body ∷ []
+abbrev pub packet_pieces : Option DataPiece → List PieceData
+packet_pieces None = []
+packet_pieces (Some p) = OfFrames p.channel p.body ∷ []

@@ -8,9 +8,9 @@ ghost use Rattle.ch11_packet.specs.declared.limit.TheConstants.{MIN_LIMIT};
 ghost use Rattle.eth_frame.specs.Frame.{FrameData, IsFrame};
 ghost use Rattle.rec_channel.specs.History.{Version, IsHistory};
 ghost use Rattle.rec_lane.specs.Offered.{OfferedFrame, AllMet, AreAccepted, frames_of, accepted};
-ghost use Rattle.rec_lane.specs.Parts.{Begins};
+ghost use Rattle.rec_lane.specs.Parts.{BeginsList};
 ghost use Rattle.rec_lane.specs.Packets.{packets, AreLongestFronts};
-ghost use Rattle.rec_lane.specs.Pieces.{LaneSettings, PieceData, channel_of, groups, AreGroups, frames_in, pieces_so_far, channel_pieces, ArePiecesSoFar};
+ghost use Rattle.rec_lane.specs.Pieces.{LaneSettings, PieceData, channel_of, groups, AreGroups, piece_frames, pieces_so_far, channel_pieces, ArePiecesSoFar};
 ghost use Rattle.rec_lane.specs.Lanes.{MarkedFrom, AreCertain, OffersTakeFrames, EndsAreEnds};
 
 use bpf_machine::{a_valid_program_returns, runs_once};
@@ -72,7 +72,7 @@ pub fn later_versions_leave_the_frames()
 /// whatever versions are installed later.
 pub fn pieces_so_far_begin_all_pieces()
     ensures frames { (settings : LaneSettings) (offered more : List OfferedFrame)
-        → Begins (pieces_so_far settings offered) (channel_pieces settings (offered ++ more)) }
+        → BeginsList (pieces_so_far settings offered) (channel_pieces settings (offered ++ more)) }
     ensures history { (settings : LaneSettings) (frames : List FrameData)
         (history : List Version) (so_far : List PieceData) → ArePiecesSoFar settings frames
         history so_far → AreCertain settings frames history so_far }
@@ -85,7 +85,7 @@ pub fn pieces_so_far_begin_all_pieces()
 /// Law: the frames in the pieces of a channel, in order, are the accepted frames.
 pub fn pieces_hold_the_accepted_frames()
     ensures { (settings : LaneSettings) (offered : List OfferedFrame)
-        → flat_map frames_in (channel_pieces settings offered) ≡ accepted offered }
+        → flat_map piece_frames (channel_pieces settings offered) ≡ accepted offered }
 {}
 
 /// Law: each piece of a channel is of this channel.

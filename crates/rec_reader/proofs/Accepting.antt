@@ -40,15 +40,3 @@ one_more_accepted program frames before left rest frame number whole first many 
 pub all_accepted : (program : List Insn) (frames before left : List ReadFrameData) → frames ≡ before ++ left → left ≡ [] → All (Accepts program) before → All (Accepts program) frames
 all_accepted program frames before left whole none accepted =
     All-same (Accepts program) frames before (whole ∙ ap (λ l. before ++ l) none ∙ append-nil before) accepted
-
-pub refuses_first : (program : List Insn) (frames before : List ReadFrameData) (frame : ReadFrameData) (after : List ReadFrameData) (number : ℕ)
-    → frames ≡ before ++ frame ∷ after → number ≡ length before → All (Accepts program) before → (Accepts program frame → ⊥) → RefusesFirst program frames number
-refuses_first program frames before frame after number whole many accepted refused = record {
-  before = before;
-  frame = frame;
-  after = after;
-  whole = whole;
-  number_is = many;
-  accepted = accepted;
-  refused = refused;
-}

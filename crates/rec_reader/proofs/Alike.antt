@@ -1,4 +1,6 @@
 -- What packets say decides their audit and the frames of their channels.
+-- idea: the audit reads of a packet its channel and what it says, so lists whose packets are alike place by place have
+-- the same saying at each place, and each definition of the audit is taken over from one to the other.
 use Rattle.std.proofs.Common.{◌≡◌, ℕ, ◌+◌, inl, inr, List, [], ◌∷◌, ◌++◌, length, map, cond, Option, None, Some, Result, Ok, Err, refl, sym, ap, subst, ◌∙◌}
 use Rattle.std.specs.Prelude.{◌==◌, if◌then◌else◌}
 use Rattle.std.specs.List.{AllZip, flat_map, last_or}

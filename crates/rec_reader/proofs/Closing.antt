@@ -64,9 +64,6 @@ Right channel state line =
     (frames : ℕ) → state.frames ≡ counted frames
     → IsClosing channel state.end state.last frames None × (line ≡ line_with channel state.programs frames state.end)
 
-pub none_closed : (channels : BTreeMap ℕ ChannelState) → ClosesThese channels [] []
-none_closed channels = λ packets keeps. (refl, All-nil _)
-
 pub one_more_closed : (channels : BTreeMap ℕ ChannelState) (done : List (ℕ × ChannelState)) (lines : List AuditLine) (channel : ℕ) (state : ChannelState) (line : AuditLine)
     → get nat_cmp channels channel ≡ Some state → Right channel state line → ClosesThese channels done lines → ClosesThese channels (done ++ (channel, state) ∷ []) (lines ++ line ∷ [])
 one_more_closed channels done lines channel state line there right closes = λ packets keeps.

@@ -9,8 +9,8 @@ use Rattle.ch11_packet.specs.Classes.{IsJudgedAs, IsSummed, Holds, data_in}
 use Rattle.ch11_packet.specs.declared.class.What.{What}
 use Rattle.ch11_packet.specs.declared.class.What.TheVariants.{Other}
 use Rattle.rec_reader.specs.declared.fault.ReadFaultKind.TheVariants.{Truncated}
-use Rattle.rec_reader.specs.Packets.{PacketData, packet_of, SpellsPacket, StandsFirst, Begins}
-use Rattle.rec_reader.specs.Reading.{IsCut, Reads, ReadsAsFront}
+use Rattle.rec_reader.specs.Packets.{PacketData, packet_of, SpellsPacket, PacketStandsFirst, BeginsPackets}
+use Rattle.rec_reader.specs.Reading.{IsTruncated, Reads, ReadsAsFront}
 use Rattle.rec_reader.proofs.Splitting.{length-header}
 
 -- the packets that are whole in the front, and what is left of it
@@ -19,12 +19,12 @@ record Front (at : ℕ) (packets : List PacketData) (front : List ℕ) : Type 0 
   more : List PacketData
   whole : packets ≡ some ++ more
   left : List ℕ
-  held : Begins at some front left
-  ends : (left ≡ []) ⊎ IsCut left
+  held : BeginsPackets at some front left
+  ends : (left ≡ []) ⊎ IsTruncated left
 
 -- a part of a packet is cut
-part_cut : (at : ℕ) (packet : PacketData) (front rest more : List ℕ) → StandsFirst at packet (front ++ rest) more → 0 < length front → length front < packet.header.packet_len
-    → (length front < HEADER_LEN) ⊎ (HEADER_LEN ≤ length front) → IsCut front
+part_cut : (at : ℕ) (packet : PacketData) (front rest more : List ℕ) → PacketStandsFirst at packet (front ++ rest) more → 0 < length front → length front < packet.header.packet_len
+    → (length front < HEADER_LEN) ⊎ (HEADER_LEN ≤ length front) → IsTruncated front
 part_cut at packet front rest more first some few (inl short) = inl (some, short)
 part_cut at packet front rest more first some few (inr long) =
     let header = packet.header in
@@ -51,7 +51,7 @@ past spelling front rest more e long = (
   sym (drop-append-le (length spelling) front rest long) ∙ ap (drop (length spelling)) e ∙ drop_at spelling more (length spelling) refl,
 )
 
-front_of : (at : ℕ) (packets : List PacketData) (front rest : List ℕ) → Begins at packets (front ++ rest) [] → Front at packets front
+front_of : (at : ℕ) (packets : List PacketData) (front rest : List ℕ) → BeginsPackets at packets (front ++ rest) [] → Front at packets front
 front_of at [] front rest begins =
     record { some = []; more = []; whole = refl; left = front; held = refl; ends = inl (let e = ap length begins in let l = length-append front rest in nil_from_length front (omega (arith, e, l))) }
 front_of at (p ∷ ps) front rest begins =
@@ -66,7 +66,7 @@ front_of at (p ∷ ps) front rest begins =
           let spelled_len = first.spelled.long in
           let split = past first.spelling front rest begins.0 first.whole (omega (arith, spelled_len)) in
           let left = drop (length first.spelling) front in
-          let next = front_of (at + p.header.packet_len) ps left rest (subst (λ l. Begins (at + p.header.packet_len) ps l []) (sym split.1) begins.2) in
+          let next = front_of (at + p.header.packet_len) ps left rest (subst (λ l. BeginsPackets (at + p.header.packet_len) ps l []) (sym split.1) begins.2) in
           record {
             some = p ∷ next.some;
             more = next.more;
@@ -77,13 +77,13 @@ front_of at (p ∷ ps) front rest begins =
           })
     ]
 
-reads_front : (packets : List PacketData) (front : List ℕ) (cut : Front 0 packets front) → (cut.left ≡ []) ⊎ IsCut cut.left → Reads front cut.some None ⊎ Reads front cut.some (Some Truncated)
+reads_front : (packets : List PacketData) (front : List ℕ) (cut : Front 0 packets front) → (cut.left ≡ []) ⊎ IsTruncated cut.left → Reads front cut.some None ⊎ Reads front cut.some (Some Truncated)
 reads_front packets front cut (inl none) = inl (record { rest = cut.left; held = cut.held; ends = none })
 reads_front packets front cut (inr part) = inr (record { rest = cut.left; held = cut.held; ends = part })
 
 pub reads_as_front : (front rest : List ℕ) (packets : List PacketData) → Reads (front ++ rest) packets None → ReadsAsFront front packets
 reads_as_front front rest packets reads =
-    let cut = front_of 0 packets front rest (subst (λ l. Begins 0 packets (front ++ rest) l) reads.ends reads.held) in
+    let cut = front_of 0 packets front rest (subst (λ l. BeginsPackets 0 packets (front ++ rest) l) reads.ends reads.held) in
     record { some = cut.some; more = cut.more; whole = cut.whole; reads = reads_front packets front cut cut.ends }
 
 -- ---- what isn't judged

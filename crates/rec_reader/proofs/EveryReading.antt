@@ -7,27 +7,27 @@ use Rattle.eth_frame.proofs.Bytes.{AreBytes-drop}
 use Rattle.ch11_packet.specs.declared.header.TheConstants.{HEADER_LEN}
 use Rattle.ch11_packet.specs.declared.header.HeaderFault.{HeaderFault}
 use Rattle.ch11_packet.specs.declared.class.What.{What}
-use Rattle.ch11_packet.specs.Header.{HeaderData, IsHeader, HasFault, header_at, header_bytes}
+use Rattle.ch11_packet.specs.Header.{HeaderData, IsHeader, HeaderHasFault, header_at, header_bytes}
 use Rattle.ch11_packet.specs.declared.class.ClassFault.{ClassFault}
 use Rattle.ch11_packet.specs.Classes.{Holds, HasClassFault}
 use Rattle.ch11_packet.proofs.Outcomes.{AreBytes-take}
 use Rattle.rec_reader.specs.declared.fault.ReadFaultKind.{ReadFaultKind}
 use Rattle.rec_reader.specs.declared.fault.ReadFaultKind.TheVariants.{Truncated}
-use Rattle.rec_reader.specs.Packets.{PacketData, packet_of, StandsFirst, Begins}
-use Rattle.rec_reader.specs.Reading.{HasHeader, HasReadFault, class_kind, header_kind, Ends, Reads}
+use Rattle.rec_reader.specs.Packets.{PacketData, packet_of, PacketStandsFirst, BeginsPackets}
+use Rattle.rec_reader.specs.Reading.{HasHeader, HasReadFault, class_kind, header_kind, EndsReading, Reads}
 use Rattle.rec_reader.proofs.Splitting.{bad_header, bad_packet, first_header, first_packet, length-headed}
 use Rattle.rec_reader.proofs.Chains.{shorter}
 
 -- what is known of headers and of what packets hold
 pub record Known : Type 0 where
-  pub header : (bytes : List ℕ) → AreBytes bytes → length bytes ≡ HEADER_LEN → (IsHeader (header_at bytes) × (bytes ≡ header_bytes (header_at bytes))) ⊎ ((fault : HeaderFault) × HasFault bytes fault)
+  pub header : (bytes : List ℕ) → AreBytes bytes → length bytes ≡ HEADER_LEN → (IsHeader (header_at bytes) × (bytes ≡ header_bytes (header_at bytes))) ⊎ ((fault : HeaderFault) × HeaderHasFault bytes fault)
   pub thing : (header : HeaderData) (body : List ℕ) → AreBytes body → ((what : What) × Holds header body what) ⊎ ((fault : ClassFault) × HasClassFault header body fault)
 
 -- ---- a packet or a fault
 
 -- a packet stands first, or the bytes have a fault
 abbrev Outcome : (at : ℕ) → List ℕ → Type 0
-Outcome at bytes = ((packet : PacketData) × (more : List ℕ) × StandsFirst at packet bytes more) ⊎ ((kind : ReadFaultKind) × HasReadFault bytes kind)
+Outcome at bytes = ((packet : PacketData) × (more : List ℕ) × PacketStandsFirst at packet bytes more) ⊎ ((kind : ReadFaultKind) × HasReadFault bytes kind)
 
 with_body : Known → (at : ℕ) (header : HeaderData) (bytes behind : List ℕ) → AreBytes behind → HasHeader header bytes behind → header.packet_len ≤ length bytes → Outcome at bytes
 with_body known at header bytes behind fit headed whole =
@@ -69,15 +69,15 @@ record ReadFrom (at : ℕ) (bytes : List ℕ) : Type 0 where
   packets : List PacketData
   fault : Option ReadFaultKind
   rest : List ℕ
-  held : Begins at packets bytes rest
-  ends : Ends rest fault
+  held : BeginsPackets at packets bytes rest
+  ends : EndsReading rest fault
 
-behind_fit : (at : ℕ) (packet : PacketData) (bytes more : List ℕ) → StandsFirst at packet bytes more → AreBytes bytes → AreBytes more
+behind_fit : (at : ℕ) (packet : PacketData) (bytes more : List ℕ) → PacketStandsFirst at packet bytes more → AreBytes bytes → AreBytes more
 behind_fit at packet bytes more first fit =
     let n = length first.spelling in
     subst AreBytes (ap (drop n) first.whole ∙ drop_at first.spelling more n refl) (AreBytes-drop n bytes fit)
 
-read_on : (at : ℕ) (packet : PacketData) (bytes more : List ℕ) → StandsFirst at packet bytes more → ReadFrom (at + packet.header.packet_len) more → ReadFrom at bytes
+read_on : (at : ℕ) (packet : PacketData) (bytes more : List ℕ) → PacketStandsFirst at packet bytes more → ReadFrom (at + packet.header.packet_len) more → ReadFrom at bytes
 read_on at packet bytes more first later = record {
   packets = packet ∷ later.packets;
   fault = later.fault;

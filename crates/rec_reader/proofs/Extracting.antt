@@ -102,9 +102,6 @@ counts_next old held new frame left rest all before is one = record {
 pub counts_begun : (old : Extracted) (all : List ReadFrameData) → Counted old old all all
 counts_begun old all = record { met = []; counts = counts_none old; whole = refl }
 
-pub counts_all : (old new : Extracted) (left all : List ReadFrameData) → Counted old new left all → left ≡ [] → Counts old new all
-counts_all old new left all before none = subst (Counts old new) (sym (append-nil before.met) ∙ ap (λ l. before.met ++ l) (sym none) ∙ before.whole) before.counts
-
 -- what was counted of the packets of a channel, and of a further one
 pub counts_packet : (old held new : Extracted) (channel : ℕ) (packets : List PacketData) (packet : PacketData) → Counts old held (channel_frames channel packets) → Counts held new (channel_frames channel (packet ∷ []))
     → Counts old new (channel_frames channel (packets ++ packet ∷ []))

@@ -1,4 +1,6 @@
 -- Packets have one audit.
+-- idea: the first packet that doesn't pass is one packet, since those before it pass; what is wrong with it is one fault,
+-- since the faults are looked for in an order; and lines in ascending order of the same channels are one list.
 use Rattle.std.proofs.Common.{◌≡◌, ◌≢◌, ℕ, ◌<◌, inl, inr, List, [], ◌∷◌, ◌++◌, length, map, All, Contains, Option, None, Some, Result, Ok, Err, refl, sym, ap, subst, ◌∙◌, arith}
 use Rattle.std.specs.List.Sorted.{IsStrictlySortedBy, IsStrictlyIncreasing}
 use Rattle.std.specs.Ordering.{nat_cmp}

@@ -1,4 +1,6 @@
 -- Bytes have one reading.
+-- idea: a header says how long its packet is, so the packet that stands first is one, and so is what follows it; by
+-- recursion over the bytes so are all packets, and bytes with a packet in front have no fault there.
 use Rattle.std.proofs.Common.{◌≡◌, ℕ, ◌+◌, ◌<◌, inl, inr, List, [], ◌∷◌, ◌++◌, length, take, drop, Option, None, Some, refl, sym, ap, subst, ◌∙◌, arith}
 use Rattle.std.proofs.lemmas.List.{append_assoc, append-nil, length-append, take_at, drop_at}
 use Rattle.ch11_packet.specs.declared.header.TheConstants.{HEADER_LEN}
@@ -11,8 +13,8 @@ use Rattle.ch11_packet.specs.declared.class.ClassFault.TheVariants.{DataChecksum
 use Rattle.ch11_packet.specs.Classes.{Holds, HasClassFault}
 use Rattle.rec_reader.specs.declared.fault.ReadFaultKind.{ReadFaultKind}
 use Rattle.rec_reader.specs.declared.fault.ReadFaultKind.TheVariants.{Truncated, Sync, Checksum, Length, DataChecksum, Body, Device, Memory}
-use Rattle.rec_reader.specs.Packets.{PacketData, packet_of, SpellsPacket, StandsFirst, Begins}
-use Rattle.rec_reader.specs.Reading.{HasHeader, IsCut, HasHeaderFault, HasBadPacket, HasReadFault, Ends, Reads}
+use Rattle.rec_reader.specs.Packets.{PacketData, packet_of, SpellsPacket, PacketStandsFirst, BeginsPackets}
+use Rattle.rec_reader.specs.Reading.{HasHeader, IsTruncated, HasHeaderFault, HasBadPacket, HasReadFault, EndsReading, Reads}
 use Rattle.rec_reader.proofs.Splitting.{length-header, length-headed}
 use Rattle.rec_reader.proofs.Chains.{length-first}
 
@@ -39,7 +41,7 @@ pub record IsHeaded (header : HeaderData) (body bytes more : List ℕ) : Type 0 
   pub whole : bytes ≡ header_bytes header ++ (body ++ more)
   pub long : HEADER_LEN + length body ≡ header.packet_len
 
-pub headed_first : (at : ℕ) (packet : PacketData) (bytes more : List ℕ) → StandsFirst at packet bytes more → IsHeaded packet.header packet.body bytes more
+pub headed_first : (at : ℕ) (packet : PacketData) (bytes more : List ℕ) → PacketStandsFirst at packet bytes more → IsHeaded packet.header packet.body bytes more
 headed_first at packet bytes more first =
     let spelled = first.spelled in
     let joined = length-append (header_bytes packet.header) packet.body in
@@ -67,7 +69,7 @@ same_packet : (at at' : ℕ) (header header' : HeaderData) (body body' : List �
     → packet_of at header body what ≡ packet_of at' header' body' what'
 same_packet at at' header header' body body' what what' a h b w = cc
 
-pub one_first : Known → (at : ℕ) (packet other : PacketData) (bytes more rest : List ℕ) → StandsFirst at packet bytes more → StandsFirst at other bytes rest → (packet ≡ other) × (more ≡ rest)
+pub one_first : Known → (at : ℕ) (packet other : PacketData) (bytes more rest : List ℕ) → PacketStandsFirst at packet bytes more → PacketStandsFirst at other bytes rest → (packet ≡ other) × (more ≡ rest)
 one_first known at packet other bytes more rest a b =
     let one = one_headed known _ _ _ _ bytes more rest (headed_first at packet bytes more a) (headed_first at other bytes rest b) in
     let also : Holds packet.header packet.body other.what =
@@ -109,7 +111,7 @@ length-IsHeaded header body bytes more headed =
     omega (arith, length-headed header bytes (body ++ more) (with_header header body bytes more headed), length-append body more, long)
 
 -- a whole packet's bytes aren't cut
-pub not_cut : Known → (header : HeaderData) (body bytes more : List ℕ) → IsHeaded header body bytes more → IsCut bytes → ⊥
+pub not_cut : Known → (header : HeaderData) (body bytes more : List ℕ) → IsHeaded header body bytes more → IsTruncated bytes → ⊥
 not_cut known header body bytes more headed (inl few) =
     let holds = headed.is_header.lengths.holds in
     omega (arith, length-IsHeaded header body bytes more headed, few.1, holds)
@@ -121,14 +123,14 @@ not_cut known header body bytes more headed (inr cut) =
 bad_headed : (bytes : List ℕ) (fault : ClassFault) (bad : HasBadPacket bytes fault) → IsHeaded bad.header bad.body bytes bad.more
 bad_headed bytes fault bad = record { is_header = bad.headed.is_header; whole = bad.headed.whole; long = bad.long }
 
-first_or_bad : Known → (at : ℕ) (packet : PacketData) (bytes more : List ℕ) (fault : ClassFault) → StandsFirst at packet bytes more → HasBadPacket bytes fault → ⊥
+first_or_bad : Known → (at : ℕ) (packet : PacketData) (bytes more : List ℕ) (fault : ClassFault) → PacketStandsFirst at packet bytes more → HasBadPacket bytes fault → ⊥
 first_or_bad known at packet bytes more fault first bad =
     let one = one_headed known _ _ _ _ bytes _ _ (headed_first at packet bytes more first) (bad_headed bytes fault bad) in
     known.no_fault bad.header bad.body packet.what fault
     (subst (λ h. Holds h bad.body packet.what) one.0 (subst (λ l. Holds packet.header l packet.what) one.1 first.spelled.holds)) bad.wrong
 
 -- where a packet stands first there is no fault
-pub none_first : Known → (at : ℕ) (packet : PacketData) (bytes more : List ℕ) (kind : ReadFaultKind) → StandsFirst at packet bytes more → HasReadFault bytes kind → ⊥
+pub none_first : Known → (at : ℕ) (packet : PacketData) (bytes more : List ℕ) (kind : ReadFaultKind) → PacketStandsFirst at packet bytes more → HasReadFault bytes kind → ⊥
 none_first known at packet bytes more Truncated first fault = not_cut known _ _ bytes more (headed_first at packet bytes more first) fault
 none_first known at packet bytes more Sync first fault =
     no_header_fault known _ bytes _ BadSync (with_header _ _ bytes more (headed_first at packet bytes more first)) fault
@@ -143,11 +145,11 @@ none_first known at packet bytes more Body first fault = first_or_bad known at p
 
 -- ---- one fault
 
-cut_or_wrong : Known → (bytes : List ℕ) (fault : HeaderFault) → IsCut bytes → HasHeaderFault bytes fault → ⊥
+cut_or_wrong : Known → (bytes : List ℕ) (fault : HeaderFault) → IsTruncated bytes → HasHeaderFault bytes fault → ⊥
 cut_or_wrong known bytes fault (inl few) wrong = omega (arith, few.1, wrong.0)
 cut_or_wrong known bytes fault (inr cut) wrong = no_header_fault known cut.0 bytes cut.1 fault cut.2 wrong
 
-cut_or_bad : Known → (bytes : List ℕ) (fault : ClassFault) → IsCut bytes → HasBadPacket bytes fault → ⊥
+cut_or_bad : Known → (bytes : List ℕ) (fault : ClassFault) → IsTruncated bytes → HasBadPacket bytes fault → ⊥
 cut_or_bad known bytes fault cut bad = not_cut known bad.header bad.body bytes bad.more (bad_headed bytes fault bad) cut
 
 wrong_or_bad : Known → (bytes : List ℕ) (fault : HeaderFault) (other : ClassFault) → HasHeaderFault bytes fault → HasBadPacket bytes other → ⊥
@@ -220,14 +222,14 @@ one_fault known bytes Body Memory a b = absurd b
 no_bytes : (bytes : List ℕ) → bytes ≡ [] → 0 < length bytes → ⊥
 no_bytes bytes none some = let e = ap length none in omega arith
 
-one_end : Known → (rest : List ℕ) (fault other : Option ReadFaultKind) → Ends rest fault → Ends rest other → fault ≡ other
+one_end : Known → (rest : List ℕ) (fault other : Option ReadFaultKind) → EndsReading rest fault → EndsReading rest other → fault ≡ other
 one_end known rest None None a b = refl
 one_end known rest None (Some kind) a b = absurd (no_bytes rest a (some_fault rest kind b))
 one_end known rest (Some kind) None a b = absurd (no_bytes rest b (some_fault rest kind a))
 one_end known rest (Some kind) (Some other) a b = ap (λ k. Some k) (one_fault known rest kind other a b)
 
 -- where a packet stands first the bytes don't end
-goes_on_first : Known → (at : ℕ) (packet : PacketData) (bytes more : List ℕ) (fault : Option ReadFaultKind) → StandsFirst at packet bytes more → Ends bytes fault → ⊥
+goes_on_first : Known → (at : ℕ) (packet : PacketData) (bytes more : List ℕ) (fault : Option ReadFaultKind) → PacketStandsFirst at packet bytes more → EndsReading bytes fault → ⊥
 goes_on_first known at packet bytes more None first none =
     let holds = first.spelled.is_header.lengths.holds in
     no_bytes bytes none (omega (arith, length-first at packet bytes more first))
@@ -238,16 +240,16 @@ pub record Follow (at : ℕ) (packets all : List PacketData) (rest end : List �
   pub more : List PacketData
   pub whole : all ≡ packets ++ more
   pub place : ℕ
-  pub begins : Begins place more rest end
+  pub begins : BeginsPackets place more rest end
 
-pub they_follow : Known → (at : ℕ) (packets all : List PacketData) (bytes rest end : List ℕ) (fault : Option ReadFaultKind) → Begins at packets bytes rest → Begins at all bytes end → Ends end fault
+pub they_follow : Known → (at : ℕ) (packets all : List PacketData) (bytes rest end : List ℕ) (fault : Option ReadFaultKind) → BeginsPackets at packets bytes rest → BeginsPackets at all bytes end → EndsReading end fault
     → Follow at packets all rest end
-they_follow known at [] all bytes rest end fault a b ends = record { more = all; whole = refl; place = at; begins = subst (λ l. Begins at all l end) a b }
-they_follow known at (p ∷ ps) [] bytes rest end fault a b ends = absurd (goes_on_first known at p bytes a.0 fault a.1 (subst (λ l. Ends l fault) (sym b) ends))
+they_follow known at [] all bytes rest end fault a b ends = record { more = all; whole = refl; place = at; begins = subst (λ l. BeginsPackets at all l end) a b }
+they_follow known at (p ∷ ps) [] bytes rest end fault a b ends = absurd (goes_on_first known at p bytes a.0 fault a.1 (subst (λ l. EndsReading l fault) (sym b) ends))
 they_follow known at (p ∷ ps) (q ∷ qs) bytes rest end fault a b ends =
     let one = one_first known at p q bytes a.0 b.0 a.1 b.1 in
-    let next : Begins (at + p.header.packet_len) qs a.0 end =
-    subst (λ (r : PacketData). Begins (at + r.header.packet_len) qs a.0 end) (sym one.0) (subst (λ l. Begins (at + q.header.packet_len) qs l end) (sym one.1) b.2) in
+    let next : BeginsPackets (at + p.header.packet_len) qs a.0 end =
+    subst (λ (r : PacketData). BeginsPackets (at + r.header.packet_len) qs a.0 end) (sym one.0) (subst (λ l. BeginsPackets (at + q.header.packet_len) qs l end) (sym one.1) b.2) in
     let later = they_follow known (at + p.header.packet_len) ps qs a.0 rest end fault a.2 next ends in
     record {
       more = later.more;
@@ -256,7 +258,7 @@ they_follow known at (p ∷ ps) (q ∷ qs) bytes rest end fault a b ends =
       begins = later.begins;
     }
 
-none_later : Known → (place : ℕ) (more : List PacketData) (rest end : List ℕ) (fault : Option ReadFaultKind) → Begins place more rest end → Ends rest fault → (more ≡ []) × (rest ≡ end)
+none_later : Known → (place : ℕ) (more : List PacketData) (rest end : List ℕ) (fault : Option ReadFaultKind) → BeginsPackets place more rest end → EndsReading rest fault → (more ≡ []) × (rest ≡ end)
 none_later known place [] rest end fault begins ends = (refl, begins)
 none_later known place (p ∷ ps) rest end fault begins ends = absurd (goes_on_first known place p rest begins.0 fault begins.1 ends)
 
@@ -266,21 +268,21 @@ one_reading known bytes packets others fault other a b =
     let follow = they_follow known 0 packets others bytes a.rest b.rest other a.held b.held b.ends in
     let none = none_later known follow.place follow.more a.rest b.rest fault follow.begins a.ends in (
       sym (follow.whole ∙ ap (λ l. packets ++ l) none.0 ∙ append-nil packets),
-      one_end known a.rest fault other a.ends (subst (λ l. Ends l other) (sym none.1) b.ends),
+      one_end known a.rest fault other a.ends (subst (λ l. EndsReading l other) (sym none.1) b.ends),
     )
 
 -- ---- spellings
 
-at_once : (packet : PacketData) (spelling rest : List ℕ) → SpellsPacket packet spelling → StandsFirst packet.at packet (spelling ++ rest) rest
+at_once : (packet : PacketData) (spelling rest : List ℕ) → SpellsPacket packet spelling → PacketStandsFirst packet.at packet (spelling ++ rest) rest
 at_once packet spelling rest spells = record { place = refl; spelling = spelling; spelled = spells; whole = refl }
 
 pub no_longer : Known → (packet other : PacketData) (spelling rest : List ℕ) → SpellsPacket packet spelling → SpellsPacket other (spelling ++ rest) → rest ≡ []
 no_longer known packet other spelling rest a b =
-    let longer : StandsFirst other.at other (spelling ++ rest) [] = record { place = refl; spelling = spelling ++ rest; spelled = b; whole = sym (append-nil (spelling ++ rest)) } in
+    let longer : PacketStandsFirst other.at other (spelling ++ rest) [] = record { place = refl; spelling = spelling ++ rest; spelled = b; whole = sym (append-nil (spelling ++ rest)) } in
     let one = one_headed known _ _ _ _ (spelling ++ rest) rest [] (headed_first packet.at packet (spelling ++ rest) rest (at_once packet spelling rest a)) (headed_first other.at other (spelling ++ rest) [] longer) in
     one.2
 
 pub one_packet : Known → (packet other : PacketData) (spelling : List ℕ) → SpellsPacket packet spelling → SpellsPacket other spelling → packet.at ≡ other.at → packet ≡ other
 one_packet known packet other spelling a b place =
-    let also : StandsFirst packet.at other (spelling ++ []) [] = record { place = sym place; spelling = spelling; spelled = b; whole = refl } in
+    let also : PacketStandsFirst packet.at other (spelling ++ []) [] = record { place = sym place; spelling = spelling; spelled = b; whole = refl } in
     (one_first known packet.at packet other (spelling ++ []) [] [] (at_once packet spelling [] a) also).0

@@ -7,12 +7,12 @@ use Rattle.ch11_packet.specs.declared.header.TheConstants.{HEADER_LEN}
 use Rattle.ch11_packet.specs.declared.header.HeaderFault.{HeaderFault}
 use Rattle.ch11_packet.specs.declared.header.HeaderFault.TheVariants.{Sync as BadSync, Checksum as BadChecksum, Length as BadLength}
 use Rattle.ch11_packet.specs.declared.class.What.{What}
-use Rattle.ch11_packet.specs.Header.{HeaderData, IsHeader, HasFault, header_bytes}
+use Rattle.ch11_packet.specs.Header.{HeaderData, IsHeader, HeaderHasFault, header_bytes}
 use Rattle.ch11_packet.specs.declared.class.ClassFault.{ClassFault}
 use Rattle.ch11_packet.specs.declared.class.ClassFault.TheVariants.{DataChecksum as BadSum, Body as BadBody}
 use Rattle.ch11_packet.specs.Classes.{Holds, HasClassFault}
-use Rattle.rec_reader.specs.Packets.{packet_of, StandsFirst}
-use Rattle.rec_reader.specs.Reading.{HasHeader, IsCut, HasBadPacket, HasReadFault, class_kind, header_kind}
+use Rattle.rec_reader.specs.Packets.{packet_of, PacketStandsFirst}
+use Rattle.rec_reader.specs.Reading.{HasHeader, IsTruncated, HasBadPacket, HasReadFault, class_kind, header_kind}
 
 pub length-header : (header : HeaderData) → length (header_bytes header) ≡ HEADER_LEN
 unfolding header_bytes
@@ -20,13 +20,10 @@ length-header header = refl
 
 -- ---- the header
 
-pub cut_header : (bytes : List ℕ) → 0 < length bytes → length bytes < HEADER_LEN → IsCut bytes
-cut_header bytes some few = inl (some, few)
-
-pub bad_header : (bytes head : List ℕ) (fault : HeaderFault) → head ≡ take HEADER_LEN bytes → HEADER_LEN ≤ length bytes → HasFault head fault → HasReadFault bytes (header_kind fault)
-bad_header bytes head BadSync is long wrong = (long, subst (λ l. HasFault l BadSync) is wrong)
-bad_header bytes head BadChecksum is long wrong = (long, subst (λ l. HasFault l BadChecksum) is wrong)
-bad_header bytes head BadLength is long wrong = (long, subst (λ l. HasFault l BadLength) is wrong)
+pub bad_header : (bytes head : List ℕ) (fault : HeaderFault) → head ≡ take HEADER_LEN bytes → HEADER_LEN ≤ length bytes → HeaderHasFault head fault → HasReadFault bytes (header_kind fault)
+bad_header bytes head BadSync is long wrong = (long, subst (λ l. HeaderHasFault l BadSync) is wrong)
+bad_header bytes head BadChecksum is long wrong = (long, subst (λ l. HeaderHasFault l BadChecksum) is wrong)
+bad_header bytes head BadLength is long wrong = (long, subst (λ l. HeaderHasFault l BadLength) is wrong)
 
 pub first_header : (bytes head behind : List ℕ) (header : HeaderData) → head ≡ take HEADER_LEN bytes → behind ≡ drop HEADER_LEN bytes → IsHeader header → head ≡ header_bytes header
     → HasHeader header bytes behind
@@ -41,7 +38,7 @@ pub length-headed : (header : HeaderData) (bytes behind : List ℕ) → HasHeade
 length-headed header bytes behind headed =
     ap length headed.whole ∙ length-append (header_bytes header) behind ∙ ap (λ n. n + length behind) (length-header header)
 
-pub cut_packet : (header : HeaderData) (bytes behind : List ℕ) → HasHeader header bytes behind → length behind < header.packet_len - HEADER_LEN → IsCut bytes
+pub cut_packet : (header : HeaderData) (bytes behind : List ℕ) → HasHeader header bytes behind → length behind < header.packet_len - HEADER_LEN → IsTruncated bytes
 cut_packet header bytes behind headed few =
     inr (header, behind, headed, omega (arith, length-headed header bytes behind headed, few))
 
@@ -61,14 +58,14 @@ pub bad_packet : (header : HeaderData) (bytes behind body more : List ℕ) (faul
 bad_packet header bytes behind body more BadSum headed split long wrong = has_bad_packet header bytes behind body more BadSum headed split long wrong
 bad_packet header bytes behind body more BadBody headed split long wrong = has_bad_packet header bytes behind body more BadBody headed split long wrong
 
--- the same of bytes that are put together
+-- and of bytes that are put together
 pub bad_bytes : (header : HeaderData) (body more : List ℕ) (fault : ClassFault) → IsHeader header → HEADER_LEN + length body ≡ header.packet_len → HasClassFault header body fault
     → HasReadFault (header_bytes header ++ (body ++ more)) (class_kind fault)
 bad_bytes header body more fault is long wrong =
     bad_packet header (header_bytes header ++ (body ++ more)) (body ++ more) body more fault (record { is_header = is; whole = refl }) refl long wrong
 
 pub first_packet : (at : ℕ) (header : HeaderData) (bytes behind body more : List ℕ) (what : What) → HasHeader header bytes behind → behind ≡ body ++ more → HEADER_LEN + length body ≡ header.packet_len
-    → Holds header body what → StandsFirst at (packet_of at header body what) bytes more
+    → Holds header body what → PacketStandsFirst at (packet_of at header body what) bytes more
 first_packet at header bytes behind body more what headed split long holds = record {
   place = refl;
   spelling = header_bytes header ++ body;

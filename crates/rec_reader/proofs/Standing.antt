@@ -15,7 +15,7 @@ use Rattle.rec_reader.specs.declared.audits.auditor.Auditor.{Auditor}
 use Rattle.rec_reader.specs.Packets.{PacketData}
 use Rattle.rec_reader.specs.Channels.{Saying, saying_in, saying_of, last_program, last_end, capped}
 use Rattle.rec_reader.specs.Audits.{IsJudgement, JudgesSaying, Judges, EachPasses, StopsAt, is_other, other_count}
-use Rattle.rec_reader.specs.Auditors.{unnamed_state, state_after, IsStateOf, state_of, SetsState, KeepsChannels, Keeps, StandsFor, TakesPacket, Walks, JudgesState}
+use Rattle.rec_reader.specs.Auditors.{unnamed_state, state_after, IsStateOf, state_of, SetsState, KeepsChannels, Keeps, AuditorStandsFor, TakesPacket, Walks, JudgesState}
 use Rattle.rec_reader.proofs.Walking.{none_named, passes_one_more, stops_now, stops_then}
 use Rattle.rec_reader.proofs.Tables.{channels_stay, channels_on}
 
@@ -106,7 +106,7 @@ still (Some fault) auditor packets more some e (inl memory) = inl memory
 still (Some fault) auditor packets more some e (inr stops) = inr (stops_then packets more fault stops)
 
 -- an auditor that has answered a fault
-pub still_stands : (auditor : Auditor) (packets more : List PacketData) (fault : AuditFault) → auditor.fault ≡ Some fault → StandsFor auditor packets → StandsFor auditor (packets ++ more)
+pub still_stands : (auditor : Auditor) (packets more : List PacketData) (fault : AuditFault) → auditor.fault ≡ Some fault → AuditorStandsFor auditor packets → AuditorStandsFor auditor (packets ++ more)
 still_stands auditor packets more fault e stands = still auditor.fault auditor packets more fault e stands
 
 stopped : (fault : Option AuditFault) (auditor : Auditor) (packets more : List PacketData) (some : AuditFault) → fault ≡ Some some
@@ -115,7 +115,7 @@ stopped None auditor packets more some e stands = cc
 stopped (Some fault) auditor packets more some e (inl memory) = inl (let same : fault ≡ some = cc in sym same ∙ memory)
 stopped (Some fault) auditor packets more some e (inr stops) = inr (stops_then packets more some (let same : fault ≡ some = cc in subst (StopsAt packets) same stops))
 
-pub stopped_before : (auditor : Auditor) (packets more : List PacketData) (fault : AuditFault) → auditor.fault ≡ Some fault → StandsFor auditor packets → Walks (packets ++ more) (Err fault)
+pub stopped_before : (auditor : Auditor) (packets more : List PacketData) (fault : AuditFault) → auditor.fault ≡ Some fault → AuditorStandsFor auditor packets → Walks (packets ++ more) (Err fault)
 stopped_before auditor packets more fault e stands = stopped auditor.fault auditor packets more fault e stands
 
 kept : (fault : Option AuditFault) (auditor : Auditor) (packets : List PacketData) → fault ≡ None → MatchOption fault (Keeps auditor packets) (λ f. (f ≡ Memory) ⊎ StopsAt packets f) → Keeps auditor packets
@@ -123,7 +123,7 @@ kept None auditor packets e stands = stands
 kept (Some fault) auditor packets e stands = cc
 
 -- an auditor that has answered none
-pub keeps_these : (auditor : Auditor) (packets : List PacketData) → auditor.fault ≡ None → StandsFor auditor packets → Keeps auditor packets
+pub keeps_these : (auditor : Auditor) (packets : List PacketData) → auditor.fault ≡ None → AuditorStandsFor auditor packets → Keeps auditor packets
 keeps_these auditor packets e stands = kept auditor.fault auditor packets e stands
 
 walks : (packets : List PacketData) (packet : PacketData) (other : ℕ) (channels : BTreeMap ℕ ChannelState) (result : Result (Unit {0}) AuditFault) → EachPasses packets
@@ -133,13 +133,13 @@ walks packets packet other channels (Err fault) passed (inl memory) = inl memory
 walks packets packet other channels (Err fault) passed (inr judged) = inr (stops_now packets packet fault passed judged)
 
 pub walks_on : (old new : Auditor) (packet : PacketData) (result : Result (Unit {0}) AuditFault) → old.fault ≡ None → TakesPacket old new packet result
-    → (packets : List PacketData) → StandsFor old packets → Walks (packets ++ packet ∷ []) result
+    → (packets : List PacketData) → AuditorStandsFor old packets → Walks (packets ++ packet ∷ []) result
 walks_on old new packet result none takes packets stands =
     let keeps = keeps_these old packets none stands in
     walks packets packet new.other new.channels result keeps.passed (takes packets keeps)
 
 pub stands_ok : (auditor : Auditor) (packets : List PacketData) (packet : PacketData) (place : ℕ) → auditor.fault ≡ None → EachPasses packets → place ≡ capped (length packets)
-    → auditor.taken ≡ min (place + 1) (2 ^ 64 - 1) → Taken packets packet auditor.other auditor.channels → StandsFor auditor (packets ++ packet ∷ [])
+    → auditor.taken ≡ min (place + 1) (2 ^ 64 - 1) → Taken packets packet auditor.other auditor.channels → AuditorStandsFor auditor (packets ++ packet ∷ [])
 stands_ok auditor packets packet place none passed was now taken =
     let long = length-append packets (packet ∷ []) in
     subst (λ fault. MatchOption fault (Keeps auditor (packets ++ packet ∷ [])) (λ f. (f ≡ Memory) ⊎ StopsAt (packets ++ packet ∷ []) f)) (sym none)
@@ -155,6 +155,6 @@ refused_stops packets packet fault passed (inl memory) = inl memory
 refused_stops packets packet fault passed (inr judged) = inr (stops_now packets packet fault passed judged)
 
 pub stands_err : (auditor : Auditor) (packets : List PacketData) (packet : PacketData) (fault : AuditFault) → auditor.fault ≡ Some fault → EachPasses packets → Refused packets packet fault
-    → StandsFor auditor (packets ++ packet ∷ [])
+    → AuditorStandsFor auditor (packets ++ packet ∷ [])
 stands_err auditor packets packet fault some passed refused =
     subst (λ f. MatchOption f (Keeps auditor (packets ++ packet ∷ [])) (λ g. (g ≡ Memory) ⊎ StopsAt (packets ++ packet ∷ []) g)) (sym some) (refused_stops packets packet fault passed refused)

@@ -5,7 +5,7 @@ use Rattle.std.specs.Io.KnownBytes.{Consumes}
 use Rattle.ch11_packet.specs.declared.header.TheConstants.{HEADER_LEN}
 use Rattle.ch11_packet.specs.declared.header.HeaderFault.{HeaderFault}
 use Rattle.ch11_packet.specs.declared.class.What.{What}
-use Rattle.ch11_packet.specs.Header.{HeaderData, HasFault}
+use Rattle.ch11_packet.specs.Header.{HeaderData, HeaderHasFault}
 use Rattle.ch11_packet.specs.declared.class.ClassFault.{ClassFault}
 use Rattle.ch11_packet.specs.Classes.{Holds, HasClassFault}
 use Rattle.rec_reader.specs.declared.fault.ReadEnd.{ReadEnd}
@@ -13,7 +13,7 @@ use Rattle.rec_reader.specs.declared.fault.ReadFaultKind.{ReadFaultKind}
 use Rattle.rec_reader.specs.declared.fault.ReadFaultKind.TheVariants.{Truncated, Device, Memory}
 use Rattle.rec_reader.specs.Reading.{HasHeader, HasReadFault, class_kind, header_kind}
 use Rattle.rec_reader.proofs.Splitting.{bad_header, bad_packet, cut_packet, first_packet}
-use Rattle.rec_reader.specs.Packets.{PacketData, packet_of, StandsFirst, packets_len}
+use Rattle.rec_reader.specs.Packets.{PacketData, packet_of, PacketStandsFirst, packets_len}
 use Rattle.rec_reader.specs.Readers.{ReaderState, StopsOn, TakesFirst, TakesHeader, TakesRest, IsBefore, HasRead}
 use Rattle.rec_reader.proofs.Chains.{length-first, length-Begins, Begins-snoc}
 
@@ -21,7 +21,7 @@ use Rattle.rec_reader.proofs.Chains.{length-first, length-Begins, Begins-snoc}
 
 -- a header with a fault
 pub told_header : {X : Type 0} (known left : Option (List ℕ)) (head : List ℕ) (answer : Result X ReadFaultKind) (fault : HeaderFault) → IsErrAnd answer (λ kind. kind ≡ header_kind fault) → length head ≡ HEADER_LEN
-    → Consumes known left head → HasFault head fault → IfErr answer (λ kind. IfSome known (λ bytes. HasReadFault bytes kind ⊎ (kind ≡ Device)))
+    → Consumes known left head → HeaderHasFault head fault → IfErr answer (λ kind. IfSome known (λ bytes. HasReadFault bytes kind ⊎ (kind ≡ Device)))
 told_header known left head (Ok x) fault told len took wrong = tt
 told_header None left head (Err kind) fault told len took wrong = tt
 told_header (Some xs) None head (Err kind) fault told len took wrong = absurd took
@@ -36,10 +36,6 @@ pub stops_on : (header : HeaderData) (kind : ReadFaultKind) (bytes behind : List
 stops_on header kind bytes behind headed (inl device) = inr (inl device)
 stops_on header kind bytes behind headed (inr (inl memory)) = inr (inr (memory, header, behind, headed))
 stops_on header kind bytes behind headed (inr (inr cut)) = inl (subst (HasReadFault bytes) (sym cut.0) (cut_packet header bytes behind headed cut.1))
-
-known_cut : (kind : ReadFaultKind) (behind : List ℕ) (n : ℕ) → (kind ≡ Device) ⊎ (kind ≡ Memory) ⊎ ((kind ≡ Truncated) × IfSome (Some behind) (λ bytes. length bytes < n))
-    → (kind ≡ Device) ⊎ (kind ≡ Memory) ⊎ ((kind ≡ Truncated) × (length behind < n))
-known_cut kind behind n why = why
 
 pub told_body : {X : Type 0} (header : HeaderData) (known : Option (List ℕ)) (answer : Result X ReadFaultKind) (kind : ReadFaultKind) → IsErrAnd answer (λ told. told ≡ kind)
     → (kind ≡ Device) ⊎ (kind ≡ Memory) ⊎ ((kind ≡ Truncated) × IfSome known (λ bytes. length bytes < header.packet_len - HEADER_LEN))
@@ -65,7 +61,7 @@ rest_taken at header body what packet (Some behind) None is took long holds = ab
 rest_taken at header body what packet (Some behind) (Some more) is took long holds = (
   more,
   refl,
-  λ bytes headed. subst (λ p. StandsFirst at p bytes more) (sym is) (first_packet at header bytes behind body more what headed took long holds),
+  λ bytes headed. subst (λ p. PacketStandsFirst at p bytes more) (sym is) (first_packet at header bytes behind body more what headed took long holds),
 )
 
 -- both parts of a packet
@@ -98,8 +94,8 @@ stands_on old new packet works goes place took bytes packets read =
     let left = left_is read.rest old old.ended works read.before in
     let taken : TakesFirst old.at read.rest (Some packet) new.left = subst (λ (known : Option (List ℕ)). IfSome known (λ bytes. TakesFirst old.at bytes (Some packet) new.left)) left took in
     let more = taken.0 in
-    let first : StandsFirst (0 + packets_len packets) packet read.rest more =
-    subst (λ n. StandsFirst n packet read.rest more) (let e : old.at ≡ 0 + packets_len packets = omega (arith, read.place) in e) taken.2 in
+    let first : PacketStandsFirst (0 + packets_len packets) packet read.rest more =
+    subst (λ n. PacketStandsFirst n packet read.rest more) (let e : old.at ≡ 0 + packets_len packets = omega (arith, read.place) in e) taken.2 in
     let held = Begins-snoc 0 packets packet bytes read.rest more read.held first in
     let one = length-first (0 + packets_len packets) packet read.rest more first in
     let before = length-Begins 0 packets bytes read.rest read.held in

@@ -13,25 +13,11 @@ use Rattle.rec_reader.specs.declared.upgrades.UpgradeFault.{UpgradeFault}
 use Rattle.rec_reader.specs.declared.upgrades.UpgradeFault.TheVariants.{Output}
 use Rattle.rec_reader.specs.Packets.{PacketData}
 use Rattle.rec_reader.specs.Channels.{capped}
-use Rattle.rec_reader.specs.Upgrades.{is_old, is_copied, upgraded, spelling_of, spellings, upgrade_bytes, CountsUpgraded, counted_with, FailsAt, FailsIn}
+use Rattle.rec_reader.specs.Upgrades.{is_old, is_copied, upgraded, spelling_of, spellings, upgrade_bytes, CountsUpgraded, counted_with, FailsAtPacket, FailsIn}
 use Rattle.rec_reader.specs.Views.{packet_data, packets_data}
 use Rattle.rec_reader.proofs.Recordings.{one_more_packet, first_and_rest}
 
 -- ---- one packet more
-
-bytes_push : (before : List PacketData) (packet : PacketData) → upgrade_bytes (before ++ packet ∷ []) ≡ upgrade_bytes before ++ spelling_of (upgraded packet)
-bytes_push before packet =
-    ap spellings (map-append upgraded before (packet ∷ []))
-    ∙ flat_map-append spelling_of (map upgraded before) (upgraded packet ∷ [])
-    ∙ ap (λ l. upgrade_bytes before ++ l) (append-nil (spelling_of (upgraded packet)))
-
-pub takes_more : (old held new : Option (List ℕ)) (items : List Packet) (n : ℕ) (item : Packet) → n < length items → item ≡ get_or items n item
-    → Appends old held (upgrade_bytes (packets_data (take n items))) → Appends held new (spelling_of (upgraded (packet_data item)))
-    → Appends old new (upgrade_bytes (packets_data (take (n + 1) items)))
-takes_more old held new items n item within is before one =
-    subst (λ l. Appends old new l)
-    (sym (bytes_push (packets_data (take n items)) (packet_data item)) ∙ ap upgrade_bytes (one_more_packet items n item within is))
-    (Appends-trans old held new (upgrade_bytes (packets_data (take n items))) (spelling_of (upgraded (packet_data item))) before one)
 
 -- a count below 2^64 - 1 grows
 grows : (n m : ℕ) → n < m → m < 2 ^ 64 → capped (n + 1) ≡ n + 1
@@ -103,7 +89,7 @@ whole_are packets counts m less few are =
 
 pub fails_in : (packets : List PacketData) (old held new : Option (List ℕ)) (items : List Packet) (n : ℕ) (item : Packet) (counts : Upgraded) (fault : UpgradeFault)
     → packets_data items ≡ packets → n < length items → length items < 2 ^ 64 → item ≡ get_or items n item
-    → Appends old held (upgrade_bytes (packets_data (take n items))) → CountsUpgraded (packets_data (take n items)) counts → FailsAt (packet_data item) counts held new fault
+    → Appends old held (upgrade_bytes (packets_data (take n items))) → CountsUpgraded (packets_data (take n items)) counts → FailsAtPacket (packet_data item) counts held new fault
     → FailsIn packets old new fault
 fails_in packets old held new items n item counts (Output whole bytes) all within few is before are at =
     let front = packets_data (take n items) in
@@ -124,7 +110,3 @@ pub fault_passed : (packets : List PacketData) (old new : Option (List ℕ)) (an
     → FailsIn packets old new fault → IfErr answer (FailsIn packets old new)
 fault_passed packets old new (Ok counts) fault same fails = tt
 fault_passed packets old new (Err e) fault same fails = subst (FailsIn packets old new) (sym same) fails
-
--- after the last packet
-pub all_packets : (items : List Packet) (packets : List PacketData) (n : ℕ) → packets_data items ≡ packets → length items ≤ n → packets_data (take n items) ≡ packets
-all_packets items packets n all end = ap packets_data (take_all n items end) ∙ all

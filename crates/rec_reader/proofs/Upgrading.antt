@@ -1,4 +1,6 @@
 -- Packets that are given a data checksum, and the upgrade of packets.
+-- idea: an upgrade goes packet by packet, and a packet with a data checksum has the same data behind the same fields, so
+-- what isn't judged of a packet makes no difference; its flags say that it has one, so it isn't old any more.
 use Rattle.std.proofs.Common.{◌≡◌, ℕ, ◌+◌, ◌-◌, ◌/◌, ◌%◌, ◌^◌, ◌<◌, ◌≤◌, ◌⊎◌, ◌↔◌, inl, inr, true, false, List, [], ◌∷◌, ◌++◌, length, map, None, All, refl, sym, ap, subst, ◌∙◌, arith}
 use Rattle.std.specs.Prelude.{◌≢◌, ◌==◌, ◌&&◌, not, nat_le, bit_and, bit_or}
 use Rattle.std.proofs.lemmas.Bool.{cases_Bool, and_parts, and_left, and_right, not-true, eq-eqb, eqb-false, leb-true, cond-true, cond-false}
@@ -13,7 +15,7 @@ use Rattle.ch11_packet.specs.PacketLen.{written_len}
 use Rattle.ch11_packet.specs.Packet.{packet_trailer}
 use Rattle.ch11_packet.specs.Classes.{IsJudgedAs, IsSummed, data_in}
 use Rattle.ch11_packet.specs.Profiles.Profile.{WithSum}
-use Rattle.rec_reader.specs.Packets.{PacketData, packet_of, SpellsPacket, Begins, BeginSomeBytes}
+use Rattle.rec_reader.specs.Packets.{PacketData, packet_of, SpellsPacket, BeginsPackets, BeginSomeBytes}
 use Rattle.rec_reader.specs.Reading.{Reads}
 use Rattle.rec_reader.specs.Audits.{is_other}
 use Rattle.rec_reader.specs.Upgrades.{is_old, checked_header, with_checksum, upgraded, placed_from, upgrade, spelling_of, spellings, upgrade_bytes}
@@ -186,7 +188,7 @@ abbrev AreSpelled : List PacketData → Type 0
 AreSpelled [] = Unit {0}
 AreSpelled (p ∷ ps) = ((spelling : List ℕ) × SpellsPacket p spelling) × AreSpelled ps
 
-spelled_from : (at : ℕ) (ps : List PacketData) (bytes rest : List ℕ) → Begins at ps bytes rest → AreSpelled ps
+spelled_from : (at : ℕ) (ps : List PacketData) (bytes rest : List ℕ) → BeginsPackets at ps bytes rest → AreSpelled ps
 spelled_from at [] bytes rest begins = tt
 spelled_from at (p ∷ ps) bytes rest begins =
     ((begins.1.spelling, begins.1.spelled), spelled_from (at + p.header.packet_len) ps begins.0 rest begins.2)
@@ -211,7 +213,7 @@ alike_from at (p ∷ ps) spelled = (
 pub alike_upgrade : (ps : List PacketData) → BeginSomeBytes ps → AreAlike ps (upgrade ps)
 alike_upgrade ps begin = alike_from 0 ps (are_spelled ps begin)
 
-begins_from : Respells → (at : ℕ) (ps : List PacketData) → AreSpelled ps → Begins at (placed_from at (map upgraded ps)) (upgrade_bytes ps) []
+begins_from : Respells → (at : ℕ) (ps : List PacketData) → AreSpelled ps → BeginsPackets at (placed_from at (map upgraded ps)) (upgrade_bytes ps) []
 begins_from again at [] spelled = refl
 begins_from again at (p ∷ ps) spelled =
     let new = upgraded p in (
@@ -229,7 +231,7 @@ pub reads_upgrade : Respells → (ps : List PacketData) → BeginSomeBytes ps �
 reads_upgrade again ps begin = record { rest = []; held = begins_from again 0 ps (are_spelled ps begin); ends = refl }
 
 -- the bytes of a recording are those of its packets
-spelled_by : (at : ℕ) (ps : List PacketData) (bytes rest : List ℕ) → Begins at ps bytes rest → bytes ≡ spellings ps ++ rest
+spelled_by : (at : ℕ) (ps : List PacketData) (bytes rest : List ℕ) → BeginsPackets at ps bytes rest → bytes ≡ spellings ps ++ rest
 spelled_by at [] bytes rest begins = begins
 spelled_by at (p ∷ ps) bytes rest begins =
     let first = begins.1 in

@@ -20,10 +20,6 @@ passes_one_more packets packet passed judged = λ before other after e.
       | inr (inr later) ↦ passed before other later.0 later.1
     ]
 
-pub passed_before : (packets more : List PacketData) → EachPasses (packets ++ more) → EachPasses packets
-passed_before packets more passed = λ before packet after e.
-    passed before packet (after ++ more) (ap (λ ps. ps ++ more) e ∙ append_assoc before (packet ∷ after) more)
-
 -- ---- packets that don't
 
 pub stops_now : (packets : List PacketData) (packet : PacketData) (fault : AuditFault) → EachPasses packets → Judges packets packet (Some fault) → StopsAt (packets ++ packet ∷ []) fault

@@ -76,8 +76,8 @@ pub record Keeps (auditor : Auditor) (packets : List PacketData) : Type 0 where
 
 -- the auditor stands for these packets, in order: it keeps what they say, or has the fault of the
 -- first one that has one. Out of memory, it stands for any packets
-abbrev pub StandsFor : Auditor → List PacketData → Type 0
-StandsFor auditor packets =
+abbrev pub AuditorStandsFor : Auditor → List PacketData → Type 0
+AuditorStandsFor auditor packets =
     MatchOption (fault_in auditor) (Keeps auditor packets)
     (λ fault. (fault ≡ Memory) ⊎ StopsAt packets fault)
 

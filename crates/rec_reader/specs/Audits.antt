@@ -61,9 +61,9 @@ AreApproved packets =
 
 -- a program may come after the last one of its channel: it has a greater version, and it came into
 -- force at a later frame; the first one did at frame 0
-abbrev pub Follows : Option ChannelProgram → ChannelProgram → Type 0
-Follows None program = program.first ≡ 0
-Follows (Some last) program = (last.version < program.version) × (last.first < program.first)
+abbrev pub FollowsProgram : Option ChannelProgram → ChannelProgram → Type 0
+FollowsProgram None program = program.first ≡ 0
+FollowsProgram (Some last) program = (last.version < program.version) × (last.first < program.first)
 
 -- what is answered of a packet that says this of its channel, by the packet's number and the
 -- channel's end and last program before it: a fault, or none.
@@ -77,10 +77,10 @@ IsJudgement number None (OfFrames frames) None answer = answer ≡ Some (NoProgr
 IsJudgement number None (OfFrames frames) (Some program) None = All (Accepts program.insns) frames
 IsJudgement number None (OfFrames frames) (Some program) (Some fault) =
     (frame : ℕ) × (fault ≡ NotAccepted number frame) × RefusesFirst program.insns frames frame
-IsJudgement number None (OfProgram program) last None = Follows last program × Valid program.insns
+IsJudgement number None (OfProgram program) last None = FollowsProgram last program × Valid program.insns
 IsJudgement number None (OfProgram program) last (Some fault) =
-    ((fault ≡ Order number) × ¬ Follows last program)
-    ⊎ ((fault ≡ BadProgram number) × Follows last program × ¬ Valid program.insns)
+    ((fault ≡ Order number) × ¬ FollowsProgram last program)
+    ⊎ ((fault ≡ BadProgram number) × FollowsProgram last program × ¬ Valid program.insns)
 IsJudgement number None (OfEnd end) last answer = answer ≡ None
 
 -- what is answered of a packet after these, by the channel that it names and what it says of it; a

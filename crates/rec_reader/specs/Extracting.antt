@@ -9,10 +9,6 @@ use Rattle.rec_reader.specs.ChannelFrames.{has_record}
 abbrev pub is_passed : ReadFrameData → Bool
 is_passed frame = not (has_record frame)
 
--- before any frame
-abbrev pub none_yet : Extracted
-none_yet = record { frames = 0; passed = 0 }
-
 -- a count that grew by this much; at 2^64 - 1 it stays
 abbrev pub grown : ℕ → ℕ → ℕ
 grown count more = max count (capped (count + more))

@@ -25,7 +25,7 @@ pub record SpellsPacket (packet : PacketData) (spelling : List ℕ) : Type 0 whe
   pub holds : Holds packet.header packet.body packet.what
 
 -- the bytes, of which the first stands at this place, are the packet and more
-pub record StandsFirst (at : ℕ) (packet : PacketData) (bytes more : List ℕ) : Type 0 where
+pub record PacketStandsFirst (at : ℕ) (packet : PacketData) (bytes more : List ℕ) : Type 0 where
   pub place : packet.at ≡ at
   pub spelling : List ℕ
   pub spelled : SpellsPacket packet spelling
@@ -33,23 +33,23 @@ pub record StandsFirst (at : ℕ) (packet : PacketData) (bytes more : List ℕ) 
 
 -- a packet stands first
 abbrev pub HasPacket : (at : ℕ) → List ℕ → Type 0
-HasPacket at bytes = (packet : PacketData) × (more : List ℕ) × StandsFirst at packet bytes more
+HasPacket at bytes = (packet : PacketData) × (more : List ℕ) × PacketStandsFirst at packet bytes more
 
 -- the packet that stands first was added to those before it, and these bytes are left
 abbrev pub Takes : (at : ℕ) → (bytes more : List ℕ) → (before after : List PacketData) → Type 0
 Takes at bytes more before after =
-    (packet : PacketData) × StandsFirst at packet bytes more × (after ≡ before ++ packet ∷ [])
+    (packet : PacketData) × PacketStandsFirst at packet bytes more × (after ≡ before ++ packet ∷ [])
 
 -- the bytes from this place on are these packets one after the other, and a rest
-abbrev pub Begins : (at : ℕ) → List PacketData → (bytes rest : List ℕ) → Type 0
-Begins at [] bytes rest = bytes ≡ rest
-Begins at (packet ∷ packets) bytes rest =
-    (more : List ℕ) × StandsFirst at packet bytes more
-    × Begins (at + packet.header.packet_len) packets more rest
+abbrev pub BeginsPackets : (at : ℕ) → List PacketData → (bytes rest : List ℕ) → Type 0
+BeginsPackets at [] bytes rest = bytes ≡ rest
+BeginsPackets at (packet ∷ packets) bytes rest =
+    (more : List ℕ) × PacketStandsFirst at packet bytes more
+    × BeginsPackets (at + packet.header.packet_len) packets more rest
 
 -- some bytes begin with these packets
 abbrev pub BeginSomeBytes : List PacketData → Type 0
-BeginSomeBytes packets = (bytes : List ℕ) × (rest : List ℕ) × Begins 0 packets bytes rest
+BeginSomeBytes packets = (bytes : List ℕ) × (rest : List ℕ) × BeginsPackets 0 packets bytes rest
 
 -- the number of bytes of these packets, which is the place of what follows them
 abbrev pub packets_len : List PacketData → ℕ

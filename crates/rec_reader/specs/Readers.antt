@@ -4,7 +4,7 @@ use Rattle.ch11_packet.specs.Header.{HeaderData}
 use Rattle.rec_reader.specs.declared.fault.ReadEnd.{ReadEnd}
 use Rattle.rec_reader.specs.declared.fault.ReadFaultKind.{ReadFaultKind}
 use Rattle.rec_reader.specs.declared.fault.ReadFaultKind.TheVariants.{Device, Memory}
-use Rattle.rec_reader.specs.Packets.{PacketData, StandsFirst, Begins, packets_len}
+use Rattle.rec_reader.specs.Packets.{PacketData, PacketStandsFirst, BeginsPackets, packets_len}
 use Rattle.rec_reader.specs.Reading.{HasHeader, HasReadFault, Reads}
 use Rattle.rec_reader.specs.Channels.{capped}
 
@@ -56,10 +56,10 @@ StopsOn bytes kind =
 abbrev pub TakesFirst :
     (at : ℕ) → (bytes : List ℕ) → Option PacketData → (left : Option (List ℕ)) → Type 0
 TakesFirst at bytes (Some packet) left =
-    (more : List ℕ) × (left ≡ Some more) × StandsFirst at packet bytes more
+    (more : List ℕ) × (left ≡ Some more) × PacketStandsFirst at packet bytes more
 TakesFirst at bytes None left = (bytes ≡ []) × (left ≡ Some [])
 
--- the same of a header
+-- a header was taken from the front of these bytes, or nothing was left
 abbrev pub TakesHeader : (bytes : List ℕ) → Option HeaderData → (left : Option (List ℕ)) → Type 0
 TakesHeader bytes (Some header) left =
     (behind : List ℕ) × (left ≡ Some behind) × HasHeader header bytes behind
@@ -71,15 +71,15 @@ abbrev pub TakesRest :
 TakesRest at header packet old new =
     IfSome old (λ behind.
     (more : List ℕ) × (new ≡ Some more)
-    × ((bytes : List ℕ) → HasHeader header bytes behind → StandsFirst at packet bytes more))
+    × ((bytes : List ℕ) → HasHeader header bytes behind → PacketStandsFirst at packet bytes more))
 
 -- the answer of these bytes, of which the first stands at this place, and what is left: what was
 -- taken from their front, or why nothing was
-abbrev pub Answers :
+abbrev pub AnswersBytes :
     (at : ℕ) → (bytes : List ℕ) → Result (Option PacketData) ReadEnd → (left : Option (List ℕ))
     → Type 0
-Answers at bytes (Ok taken) left = TakesFirst at bytes taken left
-Answers at bytes (Err end) left = (end.at ≡ at) × StopsOn bytes end.kind
+AnswersBytes at bytes (Ok taken) left = TakesFirst at bytes taken left
+AnswersBytes at bytes (Err end) left = (end.at ≡ at) × StopsOn bytes end.kind
 
 -- ---- all answers
 
@@ -95,7 +95,7 @@ IsBefore rest reader (Some (Err end)) = (end.at ≡ reader.at) × StopsOn rest e
 pub record HasRead (bytes : List ℕ) (packets : List PacketData) (reader : ReaderState) : Type 0 where
   pub few : length bytes < 2 ^ 64
   pub rest : List ℕ
-  pub held : Begins 0 packets bytes rest
+  pub held : BeginsPackets 0 packets bytes rest
   pub place : reader.at ≡ packets_len packets
   pub before : IsBefore rest reader reader.ended
 
@@ -104,11 +104,11 @@ pub record HasRead (bytes : List ℕ) (packets : List PacketData) (reader : Read
 -- input failed or there was no memory
 abbrev pub Tells : (bytes : List ℕ) → List PacketData → Result (Option PacketData) ReadEnd → Type 0
 Tells bytes packets (Ok (Some packet)) =
-    (rest more : List ℕ) × Begins 0 packets bytes rest
-    × StandsFirst (packets_len packets) packet rest more
+    (rest more : List ℕ) × BeginsPackets 0 packets bytes rest
+    × PacketStandsFirst (packets_len packets) packet rest more
 Tells bytes packets (Ok None) = Reads bytes packets None
 Tells bytes packets (Err end) =
     (end.at ≡ packets_len packets)
     × (Reads bytes packets (Some end.kind)
     ⊎ (((end.kind ≡ Device) ⊎ (end.kind ≡ Memory))
-    × (rest : List ℕ) × Begins 0 packets bytes rest))
+    × (rest : List ℕ) × BeginsPackets 0 packets bytes rest))

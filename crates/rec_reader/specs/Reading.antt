@@ -3,13 +3,13 @@ use Rattle.std.specs.Prelude.{ℕ, ◌≡◌, ◌+◌, ◌<◌, ◌≤◌, ◌�
 use Rattle.ch11_packet.specs.declared.header.TheConstants.{HEADER_LEN}
 use Rattle.ch11_packet.specs.declared.header.HeaderFault.{HeaderFault}
 use Rattle.ch11_packet.specs.declared.header.HeaderFault.TheVariants.{Sync as BadSync, Checksum as BadChecksum, Length as BadLength}
-use Rattle.ch11_packet.specs.Header.{HeaderData, IsHeader, HasFault, header_bytes}
+use Rattle.ch11_packet.specs.Header.{HeaderData, IsHeader, HeaderHasFault, header_bytes}
 use Rattle.ch11_packet.specs.declared.class.ClassFault.{ClassFault}
 use Rattle.ch11_packet.specs.declared.class.ClassFault.TheVariants.{DataChecksum as BadSum, Body as BadBody}
 use Rattle.ch11_packet.specs.Classes.{HasClassFault}
 use Rattle.rec_reader.specs.declared.fault.ReadFaultKind.{ReadFaultKind}
 use Rattle.rec_reader.specs.declared.fault.ReadFaultKind.TheVariants.{Truncated, Sync, Checksum, Length, DataChecksum, Body, Device, Memory}
-use Rattle.rec_reader.specs.Packets.{PacketData, Begins}
+use Rattle.rec_reader.specs.Packets.{PacketData, BeginsPackets}
 
 -- ---- bytes that begin no packet
 
@@ -19,15 +19,15 @@ pub record HasHeader (header : HeaderData) (bytes behind : List ℕ) : Type 0 wh
   pub whole : bytes ≡ header_bytes header ++ behind
 
 -- some bytes, but fewer than a header has; or a header, and fewer bytes than its packet has
-abbrev pub IsCut : List ℕ → Type 0
-IsCut bytes =
+abbrev pub IsTruncated : List ℕ → Type 0
+IsTruncated bytes =
     ((0 < length bytes) × (length bytes < HEADER_LEN))
     ⊎ ((header : HeaderData) × (behind : List ℕ) × HasHeader header bytes behind
     × (length bytes < header.packet_len))
 
 -- as many bytes as a header has, with this wrong about them
 abbrev pub HasHeaderFault : List ℕ → HeaderFault → Type 0
-HasHeaderFault bytes fault = (HEADER_LEN ≤ length bytes) × HasFault (take HEADER_LEN bytes) fault
+HasHeaderFault bytes fault = (HEADER_LEN ≤ length bytes) × HeaderHasFault (take HEADER_LEN bytes) fault
 
 -- a header and its packet's body, with this wrong about them
 pub record HasBadPacket (bytes : List ℕ) (fault : ClassFault) : Type 0 where
@@ -42,7 +42,7 @@ pub record HasBadPacket (bytes : List ℕ) (fault : ClassFault) : Type 0 where
 -- checksum, else its lengths are wrong; else there are fewer bytes than its packet has; else its
 -- data checksum is wrong; else its body has a fault. No bytes have a fault of a device or of memory.
 abbrev pub HasReadFault : List ℕ → ReadFaultKind → Type 0
-HasReadFault bytes Truncated = IsCut bytes
+HasReadFault bytes Truncated = IsTruncated bytes
 HasReadFault bytes Sync = HasHeaderFault bytes BadSync
 HasReadFault bytes Checksum = HasHeaderFault bytes BadChecksum
 HasReadFault bytes Length = HasHeaderFault bytes BadLength
@@ -54,16 +54,16 @@ HasReadFault bytes Memory = ⊥
 -- ---- the reading of bytes
 
 -- how a recording ends after whose packets these bytes are left: at its end, or at a fault
-abbrev pub Ends : (rest : List ℕ) → Option ReadFaultKind → Type 0
-Ends rest None = rest ≡ []
-Ends rest (Some kind) = HasReadFault rest kind
+abbrev pub EndsReading : (rest : List ℕ) → Option ReadFaultKind → Type 0
+EndsReading rest None = rest ≡ []
+EndsReading rest (Some kind) = HasReadFault rest kind
 
 -- the bytes are these packets one after the other, and a rest that is empty or has this fault
 pub record Reads (bytes : List ℕ) (packets : List PacketData) (fault : Option ReadFaultKind)
     : Type 0 where
   pub rest : List ℕ
-  pub held : Begins 0 packets bytes rest
-  pub ends : Ends rest fault
+  pub held : BeginsPackets 0 packets bytes rest
+  pub ends : EndsReading rest fault
 
 -- why a recording isn't read to its end, the place of the packet that isn't read, and the packets
 -- before it
@@ -75,7 +75,7 @@ pub record ReadFaultData : Type 0 where
 -- the bytes begin with these packets and a further one
 abbrev pub GoesOn : (bytes : List ℕ) → List PacketData → Type 0
 GoesOn bytes packets =
-    (next : PacketData) × (rest : List ℕ) × Begins 0 (packets ++ next ∷ []) bytes rest
+    (next : PacketData) × (rest : List ℕ) × BeginsPackets 0 (packets ++ next ∷ []) bytes rest
 
 -- the bytes read as the first of these packets, and then end or are cut
 pub record ReadsAsFront (bytes : List ℕ) (packets : List PacketData) : Type 0 where

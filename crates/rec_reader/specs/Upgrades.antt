@@ -96,9 +96,9 @@ counted_with counts packet =
 
 -- the output failed at this packet, after those that are counted: it took the first bytes of what the
 -- packet is in an upgrade, and not all
-abbrev pub FailsAt :
+abbrev pub FailsAtPacket :
     PacketData → Upgraded → Option (List ℕ) → Option (List ℕ) → UpgradeFault → Type 0
-FailsAt packet counts old new (Output whole bytes) =
+FailsAtPacket packet counts old new (Output whole bytes) =
     (whole ≡ capped (counts.packets + counts.copied))
     × AppendsPart old new (spelling_of (upgraded packet)) bytes
 

@@ -1,23 +1,16 @@
 //! A channel's frames, written out of a recording into a feed.
 
-ghost use Rattle.std.specs.Prelude.{◌≡◌, ◌∷◌, [], List, None, Some, Err, OnOk, IfOk};
+ghost use Rattle.std.specs.Prelude.{◌∷◌, [], OnOk};
 ghost use Rattle.std.specs.Io.KnownBytes.{Appends};
 ghost use Rattle.ch11_packet.specs.Views.{read_frame_data};
-ghost use Rattle.rec_reader.specs.declared.extract.ExtractFault.TheVariants.{Device};
-ghost use Rattle.rec_reader.specs.declared.fault.ReadEnd.{ReadEnd};
-ghost use Rattle.rec_reader.specs.Packets.{PacketData, packets_len};
-ghost use Rattle.rec_reader.specs.Reading.{Reads};
 ghost use Rattle.rec_reader.specs.ChannelFrames.{packet_frames, channel_frames, feed_part, feed_of};
-ghost use Rattle.rec_reader.specs.Extracting.{none_yet, Counts};
+ghost use Rattle.rec_reader.specs.Extracting.{Counts};
 ghost use Rattle.rec_reader.specs.Views.{packet_data};
 
-use crate::fault::ReadEnd;
 use crate::packet::Packet;
-use crate::read::read_packet;
 use ch11_packet::ReadFrame;
 use eth_frame::{FeedWriteFault, write_feed};
 use std::io::Write;
-use thiserror::Error;
 
 /// How many of a channel's frames were written into a feed, and how many were passed over.
 #[derive(Clone, Copy, Debug, PartialEq, Eq)]
@@ -27,61 +20,6 @@ pub struct Extracted {
     /// The frames without their check sequence: those whose content isn't 0, or that have fewer
     /// than 18 bytes.
     pub passed: u64,
-}
-
-/// Why a channel's frames aren't written to their end.
-#[derive(Clone, Copy, Debug, PartialEq, Eq, Error)]
-pub enum ExtractFault {
-    /// The recording isn't read to its end.
-    #[error("{0}")]
-    Reading(ReadEnd),
-    /// The feed's output failed, or took no more bytes.
-    #[error("Device")]
-    Device,
-}
-
-impl From<FeedWriteFault> for ExtractFault {
-    ghost from_gives = { λ _ fault. fault ≡ Device };
-
-    fn from(_fault: FeedWriteFault) -> ExtractFault {
-        ExtractFault::Device
-    }
-}
-
-/// Writes the frames of a channel that have their check sequence into a feed, in order, and passes
-/// over the others. It takes no memory, and doesn't flush the feed. The packets before a fault are
-/// written: where a feed is to be made only of a whole recording, ask
-/// [`check_recording`](crate::check_recording) first.
-pub fn extract_channel<W: Write>(
-    bytes: &[u8],
-    channel: u16,
-    feed: &mut W,
-) -> Result<Extracted, ExtractFault>
-    ensures feed { OnOk result ((packets : List PacketData) × Reads bytes.now packets None
-        × Appends (W.contents feed.old) (W.contents feed.new)
-        (feed_of (channel_frames channel packets))) }
-    ensures counts { IfOk result (λ extracted. (packets : List PacketData)
-        × Reads bytes.now packets None
-        × Counts none_yet extracted (channel_frames channel packets)) }
-    ensures fault { (end : ReadEnd) → result ≡ Err (ExtractFault.Reading end)
-        → (packets : List PacketData) × Reads bytes.now packets (Some end.kind)
-        × (end.at ≡ packets_len packets) }
-{
-    let mut extracted = Extracted {
-        frames: 0,
-        passed: 0,
-    };
-    let mut rest = bytes;
-    'packets: while !rest.is_empty() {
-        let at = (bytes.len() - rest.len()) as u64;
-        let (packet, after) = match read_packet(at, rest) {
-            Ok(split) => split,
-            Err(kind) => return Err(ExtractFault::Reading(ReadEnd { kind, at })),
-        };
-        extract_packet(&packet, channel, feed, &mut extracted)?;
-        rest = after;
-    }
-    Ok(extracted)
 }
 
 /// Writes a packet's frames that have their check sequence into a feed, if it is of the channel, and

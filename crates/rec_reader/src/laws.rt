@@ -1,15 +1,17 @@
 //! Laws of recordings, which run nothing.
 
-ghost use Rattle.std.specs.Prelude.{ℕ, ◌≡◌, ◌≢◌, ◌+◌, ◌++◌, ◌↔◌, false, List, [], All, length, map, Option, None, Some, Result, Ok, Err};
+ghost use Rattle.std.specs.Prelude.{ℕ, ◌≡◌, ◌≢◌, ◌+◌, ◌++◌, ◌∷◌, ◌↔◌, false, List, [], All, length, map, Option, None, Some, Result, Ok, Err};
 ghost use Rattle.eth_frame.specs.Bytes.{AreBytes};
 ghost use Rattle.ch11_packet.specs.declared.header.TheConstants.{HEADER_LEN};
 ghost use Rattle.ch11_packet.specs.Header.{HeaderData, IsHeader, header_bytes};
 ghost use Rattle.ch11_packet.specs.Flags.{HasChecksum};
 ghost use Rattle.ch11_packet.specs.Classes.{IsOther, HasSum, IsSummed, HasClassFault, IsJudgedAs, data_in};
 ghost use Rattle.rec_reader.specs.declared.fault.ReadFaultKind.{ReadFaultKind};
-ghost use Rattle.rec_reader.specs.Packets.{PacketData, SpellsPacket, Begins, BeginSomeBytes, packet_of};
+ghost use Rattle.rec_reader.specs.Packets.{PacketData, SpellsPacket, BeginsPackets, BeginSomeBytes, packet_of};
 ghost use Rattle.rec_reader.specs.Reading.{HasReadFault, Reads, ReadsAsFront};
-ghost use Rattle.rec_reader.specs.ChannelFrames.{packet_frames, channel_frames};
+ghost use Rattle.rec_reader.specs.ChannelFrames.{packet_frames, channel_frames, feed_of};
+ghost use Rattle.rec_reader.specs.declared.extract.Extracted.{Extracted};
+ghost use Rattle.rec_reader.specs.Extracting.{Counts};
 ghost use Rattle.rec_reader.specs.declared.audits.answer.Audit.{Audit};
 ghost use Rattle.rec_reader.specs.declared.audits.answer.AuditFault.{AuditFault};
 ghost use Rattle.bpf_insn.specs.declared.insn.Insn.{Insn};
@@ -36,7 +38,7 @@ pub fn bytes_have_one_reading()
         (fault other : Option ReadFaultKind) → Reads bytes packets fault
         → Reads bytes others other → (packets ≡ others) × (fault ≡ other) }
     ensures front { (bytes rest : List ℕ) (packets all : List PacketData)
-        (fault : Option ReadFaultKind) → Begins 0 packets bytes rest → Reads bytes all fault
+        (fault : Option ReadFaultKind) → BeginsPackets 0 packets bytes rest → Reads bytes all fault
         → (more : List PacketData) × (all ≡ packets ++ more) }
 {
     header_has_one_spelling();
@@ -62,6 +64,22 @@ pub fn a_cut_recording_reads_as_its_front()
     ensures frames { (channel : ℕ) (packets more : List PacketData)
         → channel_frames channel (packets ++ more)
         ≡ channel_frames channel packets ++ channel_frames channel more }
+{}
+
+/// Law: a channel's feed is made packet by packet, and so are the counts of its frames: those of
+/// packets and one more are those of the packets and then those of the one. So where
+/// [`extract_packet`](crate::extract_packet) took each packet of a recording in order, the feed has
+/// the records of the channel's frames that have their check sequence, in order, and nothing else.
+pub fn a_feed_is_made_packet_by_packet()
+    ensures none { (channel : ℕ) → feed_of (channel_frames channel []) ≡ [] }
+    ensures feed { (channel : ℕ) (packets : List PacketData) (packet : PacketData)
+        → feed_of (channel_frames channel (packets ++ packet ∷ []))
+        ≡ feed_of (channel_frames channel packets)
+        ++ feed_of (channel_frames channel (packet ∷ [])) }
+    ensures counts { (channel : ℕ) (old held new : Extracted) (packets : List PacketData)
+        (packet : PacketData) → Counts old held (channel_frames channel packets)
+        → Counts held new (channel_frames channel (packet ∷ []))
+        → Counts old new (channel_frames channel (packets ++ packet ∷ [])) }
 {}
 
 /// Law: a packet with anything else in what isn't judged of its header, and after its data, is a

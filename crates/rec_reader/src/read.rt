@@ -1,13 +1,13 @@
 //! How a recording is read.
 
-ghost use Rattle.std.specs.Prelude.{◌≡◌, ◌≢◌, ◌<◌, ◌++◌, ◌∷◌, [], List, length, None, Some, IfOk, IfErr, OnOk, OnErr};
+ghost use Rattle.std.specs.Prelude.{◌≡◌, ◌≢◌, ◌<◌, length, None, Some, IfOk, IfErr, OnErr};
 ghost use Rattle.ch11_packet.specs.Views.{header_data};
 ghost use Rattle.rec_reader.specs.declared.fault.ReadFaultKind.{ReadFaultKind};
-ghost use Rattle.rec_reader.specs.Packets.{PacketData, StandsFirst, HasPacket, Takes, packets_len};
+ghost use Rattle.rec_reader.specs.Packets.{PacketData, PacketStandsFirst, HasPacket, Takes, packets_len};
 ghost use Rattle.rec_reader.specs.Reading.{HasHeader, HasReadFault, Reads, GoesOn};
 ghost use Rattle.rec_reader.specs.Views.{packet_data, packets_data};
 
-use crate::fault::{ReadEnd, ReadFault, ReadFaultKind};
+use crate::fault::{ReadFault, ReadFaultKind};
 use crate::packet::Packet;
 use crate::recording::Recording;
 use ch11_packet::{HEADER_LEN, Header, classify};
@@ -48,24 +48,6 @@ pub fn read_recording(alloc: Global, bytes: &[u8]) -> Result<Recording<'_>, Read
     Ok(Recording { packets })
 }
 
-/// Whether a recording is read to its end, and if not, where and why: as [`read_recording`] says, but
-/// without the packets. It takes no memory.
-pub fn check_recording(bytes: &[u8]) -> Result<(), ReadEnd>
-    ensures read { OnOk result ((packets : List PacketData) × Reads bytes.now packets None) }
-    ensures fault { IfErr result (λ end. (packets : List PacketData)
-        × Reads bytes.now packets (Some end.kind) × (end.at ≡ packets_len packets)) }
-{
-    let mut rest = bytes;
-    'packets: while !rest.is_empty() {
-        let at = (bytes.len() - rest.len()) as u64;
-        match read_packet(at, rest) {
-            Ok((_, after)) => rest = after,
-            Err(kind) => return Err(ReadEnd { kind, at }),
-        }
-    }
-    Ok(())
-}
-
 /// Takes the packet that stands first, and gives what follows it.
 fn take_packet<'a>(
     at: u64,
@@ -91,7 +73,7 @@ fn take_packet<'a>(
 pub(crate) fn read_packet(at: u64, bytes: &[u8]) -> Result<(Packet<'_>, &[u8]), ReadFaultKind>
     requires { 0 < length bytes.now }
     ensures packet { IfOk result (λ split.
-        StandsFirst at (packet_data split.0) bytes.now split.1.now) }
+        PacketStandsFirst at (packet_data split.0) bytes.now split.1.now) }
     ensures shorter { IfOk result (λ split. length split.1.now < length bytes.now) }
     ensures fault { IfErr result (HasReadFault bytes.now) }
 {

@@ -11,8 +11,8 @@ ghost use Rattle.rec_reader.specs.Readers.{StopsOn, TakesFirst, TakesHeader, Tak
 use crate::fault::{ReadEnd, ReadFaultKind};
 use crate::owned::OwnedPacket;
 use ch11_packet::{HEADER_LEN, Header, classify};
+use eth_frame::fill;
 use std::alloc::Global;
-use std::io;
 use std::io::Read;
 use std::marker::Model;
 
@@ -44,7 +44,7 @@ impl<R: Read> Model for Reader<R> {
 impl<R: Read> Reader<R> {
     ghost use Rattle.rec_reader.specs.declared.fault.ReadEnd.{ReadEnd};
     ghost use Rattle.rec_reader.specs.Packets.{PacketData};
-    ghost use Rattle.rec_reader.specs.Readers.{HasRead, Answers, Tells, last_answer, ended_by, given_by, place_after};
+    ghost use Rattle.rec_reader.specs.Readers.{HasRead, AnswersBytes, Tells, last_answer, ended_by, given_by, place_after};
 
     /// A reader of the packets of the bytes that the input has left. It takes no memory yet.
     pub fn new(alloc: Global, input: R) -> Reader<R>
@@ -73,7 +73,7 @@ impl<R: Read> Reader<R> {
     pub fn next(&mut self) -> Result<Option<OwnedPacket>, ReadEnd>
         // Before it has ended; of the bytes only where the input says them.
         ensures answer { self.old.ended ≡ None → IfSome self.old.left (λ bytes.
-            Answers self.old.at bytes result self.new.left) }
+            AnswersBytes self.old.at bytes result self.new.left) }
         ensures place { self.old.ended ≡ None → self.new.at ≡ place_after self.old.at result }
         ensures fault_at { self.old.ended ≡ None → IfErr result (λ end. end.at ≡ self.old.at) }
         ensures ended { self.new.ended ≡ ended_by result }
@@ -207,22 +207,4 @@ fn read_step<R: Read>(step: usize, input: &mut R, body: &mut Vec<u8>) -> Result<
         return Err(ReadFaultKind::Truncated);
     }
     Ok(())
-}
-
-/// Reads until all places are filled or the input is at its end, and returns how many are filled.
-fn fill<R: Read>(input: &mut R, places: &mut [u8]) -> io::Result<usize>
-    ensures count { IfOk result (λ n. n ≤ length places.new) }
-    ensures taken { IfOk result (λ n.
-        Consumes (R.remaining input.old) (R.remaining input.new) (take n places.new)) }
-    ensures end { IfOk result (λ n. n < length places.new → IsAtEnd (R.remaining input.new)) }
-{
-    let mut filled = 0;
-    'pieces: while filled < places.len() {
-        match input.read(&mut places[filled..]) {
-            Ok(0) => return Ok(filled),
-            Ok(n) => filled += n,
-            Err(error) => return Err(error),
-        }
-    }
-    Ok(filled)
 }

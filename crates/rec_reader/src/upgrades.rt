@@ -7,7 +7,7 @@ ghost use Rattle.ch11_packet.specs.Profiles.Profile.{WithSum};
 ghost use Rattle.ch11_packet.specs.PacketLen.{written_len};
 ghost use Rattle.ch11_packet.specs.Outputs.{AppendsPart};
 ghost use Rattle.ch11_packet.specs.Views.{header_data};
-ghost use Rattle.rec_reader.specs.Upgrades.{CountsUpgraded, FailsAt, FailsIn, checked_header, counted_with, is_old, spelling_of, upgrade_bytes, upgraded, with_checksum};
+ghost use Rattle.rec_reader.specs.Upgrades.{CountsUpgraded, FailsAtPacket, FailsIn, checked_header, counted_with, is_old, spelling_of, upgrade_bytes, upgraded, with_checksum};
 ghost use Rattle.rec_reader.specs.Views.{packet_data};
 
 use crate::packet::Packet;
@@ -89,7 +89,7 @@ pub fn upgrade_packet<W: Write>(
         (counts.new ≡ counted_with counts.old (packet_data packet.now)) }
 
     // At a fault.
-    ensures part { IfErr result (FailsAt (packet_data packet.now) counts.old
+    ensures part { IfErr result (FailsAtPacket (packet_data packet.now) counts.old
         (W.contents out.old) (W.contents out.new)) }
     ensures kept { OnErr result (counts.new ≡ counts.old) }
 {

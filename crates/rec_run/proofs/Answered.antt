@@ -11,21 +11,21 @@ use Rattle.rec_channel.specs.History.{Version}
 use Rattle.rec_channel.specs.Slots.{programs_in}
 use Rattle.rec_channel.specs.declared.limits.TheConstants.{MAX_VERSIONS}
 use Rattle.rec_lane.specs.Pieces.{PieceData}
-use Rattle.rec_run.specs.Answering.{given_for, answered_for, programs_given, answers_in, answers_to, IsChanged}
-use Rattle.rec_run.specs.Changes.{Given, Answered, logged_change, logged_answer}
-use Rattle.rec_run.specs.Controlling.{EndsControl}
+use Rattle.rec_run.specs.Control.{given_for, answered_for, programs_given, answers_in, answers_to, IsChanged}
+use Rattle.rec_run.specs.Control.{Given, Answered, logged_change, logged_answer}
+use Rattle.rec_run.specs.Control.{EndsControl}
 use Rattle.rec_run.specs.Jobs.{channels_of_jobs}
-use Rattle.rec_run.specs.Joins.{JoinedOf}
-use Rattle.rec_run.specs.Logs.{IsNext, Follows, AreAnswered, IsOfSome}
+use Rattle.rec_run.specs.Threads.{JoinedOf}
+use Rattle.rec_run.specs.Control.{IsNext, FollowsVersions, AreAnswered, IsOfSome}
 use Rattle.rec_run.specs.Recorded.{IsControlled}
 use Rattle.rec_run.specs.Reports.{history_of}
 use Rattle.rec_run.specs.Verdicts.{TellsOf}
-use Rattle.rec_run.specs.declared.change.Answer.{Answer}
-use Rattle.rec_run.specs.declared.change.Answer.TheVariants.{Installed, VersionsFull, NoChannel}
-use Rattle.rec_run.specs.declared.change.Logged.{Logged}
-use Rattle.rec_run.specs.declared.controller.Controlled.{Controlled}
+use Rattle.rec_run.specs.declared.control.change.Answer.{Answer}
+use Rattle.rec_run.specs.declared.control.change.Answer.TheVariants.{Installed, VersionsFull, NoChannel}
+use Rattle.rec_run.specs.declared.control.change.Logged.{Logged}
+use Rattle.rec_run.specs.declared.control.thread.Controlled.{Controlled}
 use Rattle.rec_run.specs.declared.job.Job.{Job}
-use Rattle.rec_run.specs.declared.joined.Joined.{Joined}
+use Rattle.rec_run.specs.declared.threads.joins.Joined.{Joined}
 use Rattle.rec_run.specs.declared.report.ChannelReport.{ChannelReport}
 
 -- the programs given for a channel, and the answers to it, in a log
@@ -45,8 +45,8 @@ programs_here c e es on = ap (λ b. programs_given (if b then logged_change e �
 programs_there : (c : ℕ) (e : Logged) (es : List Logged) → (e.told.channel == c) ≡ false → programs_for c (e ∷ es) ≡ programs_for c es
 programs_there c e es off = ap (λ b. programs_given (if b then logged_change e ∷ given_for c (map logged_change es) else given_for c (map logged_change es))) off
 
-next_program : (c version : ℕ) (e : Logged) (es : List Logged) → ((ws : List Version) → Follows c (version + 1) ws es → version + 1 + length ws ≤ MAX_VERSIONS → programs_in ws ≡ take (MAX_VERSIONS - (version + 1)) (programs_for c es))
-    → (ws : List Version) → IsNext version ws e → Follows c (version + 1) (drop 1 ws) es → version + length ws ≤ MAX_VERSIONS
+next_program : (c version : ℕ) (e : Logged) (es : List Logged) → ((ws : List Version) → FollowsVersions c (version + 1) ws es → version + 1 + length ws ≤ MAX_VERSIONS → programs_in ws ≡ take (MAX_VERSIONS - (version + 1)) (programs_for c es))
+    → (ws : List Version) → IsNext version ws e → FollowsVersions c (version + 1) (drop 1 ws) es → version + length ws ≤ MAX_VERSIONS
     → programs_in ws ≡ take (MAX_VERSIONS - version) (arc_value e.program ∷ programs_for c es)
 next_program c version e es later [] next rest low =
     let n : MAX_VERSIONS - version ≡ 0 = (let m : MAX_VERSIONS ≤ version = next.1 in omega (arith, m)) in
@@ -56,38 +56,38 @@ next_program c version e es later (w ∷ ws) next rest low =
     let more : programs_in ws ≡ take (MAX_VERSIONS - (version + 1)) (programs_for c es) = later ws rest (omega (arith, low)) in
     ap (λ p. p ∷ programs_in ws) next.1 ∙ ap (λ ps. arc_value e.program ∷ ps) more ∙ sym (ap (λ k. take k (arc_value e.program ∷ programs_for c es)) n)
 
-follows_programs : (c version : ℕ) (vs : List Version) (log : List Logged) → Follows c version vs log → version + length vs ≤ MAX_VERSIONS
+follows_programs : (c version : ℕ) (vs : List Version) (log : List Logged) → FollowsVersions c version vs log → version + length vs ≤ MAX_VERSIONS
     → programs_in vs ≡ take (MAX_VERSIONS - version) (programs_for c log)
 follows_programs c version vs [] follows few = ap (λ x. programs_in x) follows ∙ sym (take_none (MAX_VERSIONS - version))
 follows_programs c version vs (e ∷ es) follows few = elim (cases_Bool (e.told.channel == c)) as (λ _. programs_in vs ≡ take (MAX_VERSIONS - version) (programs_for c (e ∷ es))) [
   | inl on ↦ (
-      let here = subst (λ b. MatchBool b (IsNext version vs e × Follows c (version + 1) (drop 1 vs) es) (Follows c version vs es)) on follows in
+      let here = subst (λ b. MatchBool b (IsNext version vs e × FollowsVersions c (version + 1) (drop 1 vs) es) (FollowsVersions c version vs es)) on follows in
       next_program c version e es (λ ws f low. follows_programs c (version + 1) ws es f low) vs here.0 here.1 few ∙ ap (λ ps. take (MAX_VERSIONS - version) ps) (sym (programs_here c e es on))
       )
   | inr off ↦ (
-      let there = subst (λ b. MatchBool b (IsNext version vs e × Follows c (version + 1) (drop 1 vs) es) (Follows c version vs es)) off follows in
+      let there = subst (λ b. MatchBool b (IsNext version vs e × FollowsVersions c (version + 1) (drop 1 vs) es) (FollowsVersions c version vs es)) off follows in
       follows_programs c version vs es there few ∙ ap (λ ps. take (MAX_VERSIONS - version) ps) (sym (programs_there c e es off))
       )
 ]
 
-next_answer : (c version : ℕ) (e : Logged) (es : List Logged) → ((ws : List Version) → Follows c (version + 1) ws es → answers_for c es ≡ answers_to (version + 1) ws (given_for c (map logged_change es)))
-    → (ws : List Version) → IsNext version ws e → Follows c (version + 1) (drop 1 ws) es
+next_answer : (c version : ℕ) (e : Logged) (es : List Logged) → ((ws : List Version) → FollowsVersions c (version + 1) ws es → answers_for c es ≡ answers_to (version + 1) ws (given_for c (map logged_change es)))
+    → (ws : List Version) → IsNext version ws e → FollowsVersions c (version + 1) (drop 1 ws) es
     → e.told.answer ∷ answers_for c es ≡ answers_to version ws (logged_change e ∷ given_for c (map logged_change es))
 next_answer c version e es later [] next rest = ap (λ a. a ∷ answers_for c es) next.0 ∙ ap (λ xs. VersionsFull ∷ xs) (later [] rest)
 next_answer c version e es later (w ∷ ws) next rest = ap (λ a. a ∷ answers_for c es) next.0 ∙ ap (λ xs. Installed version w.mark ∷ xs) (later ws rest)
 
-follows_answers : (c version : ℕ) (vs : List Version) (log : List Logged) → Follows c version vs log
+follows_answers : (c version : ℕ) (vs : List Version) (log : List Logged) → FollowsVersions c version vs log
     → answers_for c log ≡ answers_to version vs (given_for c (map logged_change log))
 follows_answers c version vs [] follows = refl
 follows_answers c version vs (e ∷ es) follows = elim (cases_Bool (e.told.channel == c)) as (λ _. answers_for c (e ∷ es) ≡ answers_to version vs (given_for c (map logged_change (e ∷ es)))) [
   | inl on ↦ (
-      let here = subst (λ b. MatchBool b (IsNext version vs e × Follows c (version + 1) (drop 1 vs) es) (Follows c version vs es)) on follows in
+      let here = subst (λ b. MatchBool b (IsNext version vs e × FollowsVersions c (version + 1) (drop 1 vs) es) (FollowsVersions c version vs es)) on follows in
       ap (λ b. answers_in (if b then logged_answer e ∷ answered_for c (map logged_answer es) else answered_for c (map logged_answer es))) on
       ∙ next_answer c version e es (λ ws f. follows_answers c (version + 1) ws es f) vs here.0 here.1
       ∙ ap (λ b. answers_to version vs (if b then logged_change e ∷ given_for c (map logged_change es) else given_for c (map logged_change es))) (sym on)
       )
   | inr off ↦ (
-      let there = subst (λ b. MatchBool b (IsNext version vs e × Follows c (version + 1) (drop 1 vs) es) (Follows c version vs es)) off follows in
+      let there = subst (λ b. MatchBool b (IsNext version vs e × FollowsVersions c (version + 1) (drop 1 vs) es) (FollowsVersions c version vs es)) off follows in
       ap (λ b. answers_in (if b then logged_answer e ∷ answered_for c (map logged_answer es) else answered_for c (map logged_answer es))) off
       ∙ follows_answers c version vs es there
       ∙ ap (λ b. answers_to version vs (if b then logged_change e ∷ given_for c (map logged_change es) else given_for c (map logged_change es))) (sym off)

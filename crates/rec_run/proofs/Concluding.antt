@@ -1,4 +1,6 @@
 -- From what the threads have left to what was recorded.
+-- idea: channel by channel what the worker did, what the writer took of it and the slot's history are put together: the
+-- comparisons after the joins say that the history served the versions met, so the frames met what it has in force.
 use Rattle.std.proofs.Common.{◌≡◌, ℕ, zero, suc, ◌<◌, ◌≤◌, ◌^◌, List, [], ◌∷◌, ◌++◌, length, map, get_or, Option, None, Some, All, arith, refl, ◌∙◌, ap, sym, subst}
 use Rattle.std.specs.Prelude.{Contains}
 use Rattle.std.specs.List.{filter, AllZip, Any}
@@ -16,41 +18,41 @@ use Rattle.rec_writer.specs.Recording.{RecordedChannel, is_of}
 use Rattle.rec_writer.specs.Writers.{WriterState, FinishFails}
 use Rattle.rec_writer.specs.declared.fault.WriteFault.{WriteFault}
 use Rattle.rec_writer.specs.declared.fault.WriteFault.TheVariants.{Output, Failed as FailedBefore}
-use Rattle.rec_run.specs.Counting.{shown}
+use Rattle.rec_run.specs.Writer.{shown}
 use Rattle.rec_run.specs.Endings.{EndsAs, IsOver}
-use Rattle.rec_run.specs.Ends.{IsOverThen, IsEnded, ending_of}
+use Rattle.rec_run.specs.Endings.{IsOverThen, HasEnding, worker_ending_of}
 use Rattle.rec_run.specs.Jobs.{channels_of_jobs}
-use Rattle.rec_run.specs.Joins.{JoinedOf, AreOver, AreEnded}
-use Rattle.rec_run.specs.Outcomes.{WroteAll, WrotePart}
-use Rattle.rec_run.specs.Ranges.{IsJob, AreInRange}
+use Rattle.rec_run.specs.Threads.{JoinedOf, AreOver, AreEnded}
+use Rattle.rec_run.specs.Threads.{WroteAll, WrotePart}
+use Rattle.rec_run.specs.Jobs.{IsJob, AreInRange}
 use Rattle.rec_run.specs.Recorded.{IsRecorded, IsCutShort, BeginsChannel}
 use Rattle.rec_run.specs.Reports.{history_of, Tells, IsReport, AreReports}
-use Rattle.rec_run.specs.Served.{AreServed}
+use Rattle.rec_run.specs.VersionsMet.{AreServed}
 use Rattle.rec_run.specs.Verdicts.{TellsOf}
-use Rattle.rec_run.specs.Working.{versions_met, Ran, RanAs}
-use Rattle.rec_run.specs.declared.change.Logged.{Logged}
+use Rattle.rec_run.specs.WorkerRuns.{versions_met, Ran, RanAs}
+use Rattle.rec_run.specs.declared.control.change.Logged.{Logged}
 use Rattle.rec_run.specs.declared.ending.Ending.{Ending}
 use Rattle.rec_run.specs.declared.ending.WorkerEnd.{WorkerEnd}
 use Rattle.rec_run.specs.declared.ending.WorkerEnd.TheVariants.{Ended, Link, History}
 use Rattle.rec_run.specs.declared.job.Job.{Job}
-use Rattle.rec_run.specs.declared.joined.Joined.{Joined}
+use Rattle.rec_run.specs.declared.threads.joins.Joined.{Joined}
 use Rattle.rec_run.specs.declared.report.ChannelReport.{ChannelReport}
 use Rattle.rec_run.specs.declared.report.Report.{Report}
 use Rattle.rec_run.proofs.Finishes.{begins_trans}
 
 -- ---- endings
 
-with_ending : (end : WorkerEnd) → IsEnded end → (ending : Ending) × (end ≡ Ended ending)
+with_ending : (end : WorkerEnd) → HasEnding end → (ending : Ending) × (end ≡ Ended ending)
 with_ending (Ended ending) is = (ending, refl)
 with_ending Link is = absurd is
 with_ending History is = absurd is
 
-pub over_is_ended : (end : WorkerEnd) → IsOverThen end → IsEnded end
+pub over_is_ended : (end : WorkerEnd) → IsOverThen end → HasEnding end
 over_is_ended (Ended ending) over = tt
 over_is_ended Link over = absurd over
 over_is_ended History over = absurd over
 
-over_ending : (end : WorkerEnd) → IsOverThen end → IsOver (ending_of end)
+over_ending : (end : WorkerEnd) → IsOverThen end → IsOver (worker_ending_of end)
 over_ending (Ended ending) over = over
 over_ending Link over = absurd over
 over_ending History over = absurd over
@@ -63,19 +65,19 @@ module _ {S : Type 0} (left : S → Option Left) (failures : S → ℕ) (ended_a
     pub report : IsReport left failures ended_as job r channel
     pub id_is : channel.settings.channel ≡ job.spec.channel
     pub begins : BeginsChannel pieces channel
-    pub whole : j.remaining ≡ 0 → IsOverThen j.end → ArePieces channel.settings channel.frames channel.history (filter (is_of channel.settings.channel) pieces)
-    pub over : IsOverThen j.end → IsOver r.ending
+    pub whole : j.remaining ≡ 0 → IsOverThen j.done.end → ArePieces channel.settings channel.frames channel.history (filter (is_of channel.settings.channel) pieces)
+    pub over : IsOverThen j.done.end → IsOver r.ending
 
-  one_channel : (job : Job S) (j : Joined S) (r : ChannelReport S) → IsJob job → JoinedOf left failures ended_as pieces job j → Tells j log r → IsEnded j.end → OneChannel job j r
+  one_channel : (job : Job S) (j : Joined S) (r : ChannelReport S) → IsJob job → JoinedOf left failures ended_as pieces job j → Tells j log r → HasEnding j.done.end → OneChannel job j r
   one_channel job j r is of tells ended =
-      let e = with_ending j.end ended in
-      let ran : Ran left failures ended_as (spec_data job.spec) job.max e.0 job.source j.source (versions_met j.met.items) of.sent j.offered j.kept =
-      subst (λ x. RanAs left failures ended_as (spec_data job.spec) job.max x job.source j.source (versions_met j.met.items) of.sent j.offered j.kept) e.1 of.ran
+      let e = with_ending j.done.end ended in
+      let ran : Ran left failures ended_as (spec_data job.spec) job.max e.0 job.source j.done.source (versions_met j.done.met.items) of.sent j.done.offered j.done.kept =
+      subst (λ x. RanAs left failures ended_as (spec_data job.spec) job.max x job.source j.done.source (versions_met j.done.met.items) of.sent j.done.offered j.done.kept) e.1 of.ran
       in
       let h = history_of r in
       let count : r.offered ≡ length ran.offered = tells.offered_is ∙ ran.count_is in
-      let met : AllMet h ran.offered = ran.known h (subst (λ n. AreServed h n (versions_met j.met.items)) count tells.served) in
-      let ending : r.ending ≡ e.0 = tells.ending_is ∙ ap (λ x. ending_of x) e.1 in
+      let met : AllMet h ran.offered = ran.known h (subst (λ n. AreServed h n (versions_met j.done.met.items)) count tells.served) in
+      let ending : r.ending ≡ e.0 = tells.ending_is ∙ ap (λ x. worker_ending_of x) e.1 in
       let all = channel_pieces (spec_data job.spec) ran.offered in
       let long : length (frames_of ran.offered) ≡ length ran.offered = length-map ran.offered (λ (f : OfferedFrame). f.frame) in
       let within : length ran.offered ≤ job.max = ran.within in
@@ -98,12 +100,12 @@ module _ {S : Type 0} (left : S → Option Left) (failures : S → ℕ) (ended_a
           kept = accepted ran.offered;
           accepted = (ran.offered, met, refl, refl);
           kept_is = tells.kept_is ∙ ran.kept_is;
-          ends = subst (λ s. EndsAs left failures ended_as r.ending job.source s (frames_of ran.offered) job.max) (sym tells.source_is) (subst (λ x. EndsAs left failures ended_as x job.source j.source (frames_of ran.offered) job.max) (sym ending) ran.ends);
+          ends = subst (λ s. EndsAs left failures ended_as r.ending job.source s (frames_of ran.offered) job.max) (sym tells.source_is) (subst (λ x. EndsAs left failures ended_as x job.source j.done.source (frames_of ran.offered) job.max) (sym ending) ran.ends);
         };
         id_is = refl;
         begins = (all, (ran.offered, met, refl, refl), begins_trans (filter (is_of job.spec.channel) pieces) of.sent all of.begins ran.begins);
         whole = λ none over. (ran.offered, met, refl, sym (of.whole none ∙ ran.whole (subst (λ x. IsOverThen x) e.1 over)));
-        over = λ over. subst (λ x. IsOver x) (sym tells.ending_is) (over_ending j.end over);
+        over = λ over. subst (λ x. IsOver x) (sym tells.ending_is) (over_ending j.done.end over);
       }
 
   -- ---- all channels
@@ -132,9 +134,9 @@ module _ {S : Type 0} (left : S → Option Left) (failures : S → ℕ) (ended_a
   all_channels (job ∷ jobs) [] rs are of tells ended = absurd of
   all_channels (job ∷ jobs) (j ∷ js) [] are of tells ended = absurd tells
   all_channels (job ∷ jobs) (j ∷ js) (r ∷ rs) are of tells ended =
-      let one = one_channel job j r (head_of IsJob job jobs are) of.0 tells.0 (head_of (λ (x : Joined S). IsEnded x.end) j js ended) in
-      let more = all_channels jobs js rs (rest_of IsJob job jobs are) of.1 tells.1 (rest_of (λ (x : Joined S). IsEnded x.end) j js ended) in
-      let Over : Joined S → Type 0 = λ x. (x.remaining ≡ 0) × IsOverThen x.end in
+      let one = one_channel job j r (head_of IsJob job jobs are) of.0 tells.0 (head_of (λ (x : Joined S). HasEnding x.done.end) j js ended) in
+      let more = all_channels jobs js rs (rest_of IsJob job jobs are) of.1 tells.1 (rest_of (λ (x : Joined S). HasEnding x.done.end) j js ended) in
+      let Over : Joined S → Type 0 = λ x. (x.remaining ≡ 0) × IsOverThen x.done.end in
       record {
         channels = one.channel ∷ more.channels;
         reports = (one.report, more.reports);
@@ -172,7 +174,7 @@ appends_same : (first held : Option (List ℕ)) (bytes other : List ℕ) → byt
 appends_same first held bytes other is a = subst (λ bs. Appends first held bs) is a
 
 are_ended : {S : Type 0} (js : List (Joined S)) → AreOver js → AreEnded js
-are_ended js over = λ k d low. over_is_ended (get_or js k d).end (over k d low).1
+are_ended js over = λ k d low. over_is_ended (get_or js k d).done.end (over k d low).1
 
 module _ {S : Type 0} (left : S → Option Left) (failures : S → ℕ) (ended_as : S → Option SourceEnding) (log : List Logged) (jobs : List (Job S)) (js : List (Joined S)) (report : Report S)
     (first out : Option (List ℕ)) (writer : WriterState) (fit : AreInRange jobs writer.version) (keeps : Keeps writer.held out) (whole_is : report.pieces ≡ writer.whole) where

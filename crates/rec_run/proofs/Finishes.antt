@@ -9,17 +9,17 @@ use Rattle.eth_frame.specs.declared.source.SourceFault.{SourceFault as FaultOfSo
 use Rattle.eth_frame.specs.declared.source.SourceFault.TheVariants.{Device}
 use Rattle.std.specs.Prelude.{◌⊎◌}
 use Rattle.rec_lane.specs.Offered.{OfferedFrame, frames_of}
-use Rattle.rec_lane.specs.Parts.{Begins}
+use Rattle.rec_lane.specs.Parts.{BeginsList}
 use Rattle.rec_lane.specs.Pieces.{LaneSettings, PieceData, pieces_so_far, channel_pieces}
 use Rattle.rec_lane.specs.Lanes.{LaneState, HasMet, AreLeft, new_lane}
 use Rattle.rec_lane.specs.Views.{piece_data, pieces_data}
 use Rattle.rec_lane.specs.declared.piece.Piece.{Piece}
 use Rattle.rec_lane.proofs.Beginnings.{begin_all}
-use Rattle.rec_run.specs.Served.{VersionMet}
+use Rattle.rec_run.specs.VersionsMet.{VersionMet}
 use Rattle.rec_run.specs.Endings.{AreFirst, AreAll, AreTaken, HasFailed, EndsAs, IsOver}
-use Rattle.rec_run.specs.Working.{Going, Stopping, Ran, StopsAs, RanAs}
-use Rattle.rec_run.specs.Ends.{IsOverThen}
-use Rattle.rec_run.specs.Finishing.{SendsLast}
+use Rattle.rec_run.specs.WorkerRuns.{Going, Stopping, Ran, StopsAs, RanAs}
+use Rattle.rec_run.specs.Endings.{IsOverThen}
+use Rattle.rec_run.specs.WorkerThread.{SendsLast}
 use Rattle.rec_run.specs.declared.ending.Ending.{Ending}
 use Rattle.rec_run.specs.declared.ending.Ending.TheVariants.{SourceEnd, SourceFault, Memory, CountFull, Stopped}
 use Rattle.rec_run.specs.declared.ending.WorkerEnd.{WorkerEnd}
@@ -31,7 +31,7 @@ all_first : (before : Option Left) (frames : List FrameData) (ending : SourceEnd
 all_first None frames ending all = tt
 all_first (Some l) frames ending all = ([], append-nil frames ∙ sym all.0)
 
-pub begins_trans : {X : Type 0} (xs ys zs : List X) → Begins xs ys → Begins ys zs → Begins xs zs
+pub begins_trans : {X : Type 0} (xs ys zs : List X) → BeginsList xs ys → BeginsList ys zs → BeginsList xs zs
 begins_trans xs ys zs b c = (b.0 ++ c.0, sym (append_assoc xs b.0 c.0) ∙ ap (λ l. l ++ c.0) b.1 ∙ c.1)
 
 module _ {S : Type 0} (left : S → Option Left) (failures : S → ℕ) (ended_as : S → Option SourceEnding) (before after : S) (max : ℕ) where
@@ -48,8 +48,8 @@ module _ {S : Type 0} (left : S → Option Left) (failures : S → ℕ) (ended_a
   ends_first Stopped frames ends = ends
 
   module _ (lane : LaneState) (met : List VersionMet) (sent sent_then : List PieceData) where
-    so_far_begin : (offered : List OfferedFrame) → Begins (pieces_so_far lane.settings offered) (channel_pieces lane.settings offered)
-    so_far_begin offered = subst (λ os. Begins (pieces_so_far lane.settings offered) (channel_pieces lane.settings os)) (append-nil offered) (begin_all lane.settings offered [])
+    so_far_begin : (offered : List OfferedFrame) → BeginsList (pieces_so_far lane.settings offered) (channel_pieces lane.settings offered)
+    so_far_begin offered = subst (λ os. BeginsList (pieces_so_far lane.settings offered) (channel_pieces lane.settings os)) (append-nil offered) (begin_all lane.settings offered [])
 
     sent_all : (ending : Ending) → IsOver ending → Stopping left failures ended_as ending max before after lane met sent → (given : List PieceData)
         → ((offered : List OfferedFrame) → HasMet lane offered → channel_pieces lane.settings offered ≡ pieces_so_far lane.settings offered ++ given)
@@ -70,7 +70,7 @@ module _ {S : Type 0} (left : S → Option Left) (failures : S → ℕ) (ended_a
 
     sent_some : (ending : Ending) → IsOver ending → Stopping left failures ended_as ending max before after lane met sent → (given : List PieceData)
         → ((offered : List OfferedFrame) → HasMet lane offered → channel_pieces lane.settings offered ≡ pieces_so_far lane.settings offered ++ given)
-        → Begins sent_then (sent ++ given) → Ran left failures ended_as lane.settings max Stopped before after met sent_then lane.offered lane.kept
+        → BeginsList sent_then (sent ++ given) → Ran left failures ended_as lane.settings max Stopped before after met sent_then lane.offered lane.kept
     sent_some ending over s given all part =
         let is : sent ++ given ≡ channel_pieces lane.settings s.offered = ap (λ ps. ps ++ given) (s.whole over) ∙ sym (all s.offered s.stands.has_met) in
         record {
@@ -81,7 +81,7 @@ module _ {S : Type 0} (left : S → Option Left) (failures : S → ℕ) (ended_a
           known = s.stands.known;
           count_is = s.stands.has_met.offered_is;
           kept_is = s.stands.has_met.kept_is;
-          begins = subst (λ ps. Begins sent_then ps) is part;
+          begins = subst (λ ps. BeginsList sent_then ps) is part;
           whole = λ never. absurd never;
         }
 
@@ -96,7 +96,7 @@ module _ {S : Type 0} (left : S → Option Left) (failures : S → ℕ) (ended_a
           known = s.stands.known;
           count_is = s.stands.has_met.offered_is;
           kept_is = s.stands.has_met.kept_is;
-          begins = subst (λ ps. Begins ps (channel_pieces lane.settings s.offered)) (sym same) (begins_trans sent _ _ s.begins (so_far_begin s.offered));
+          begins = subst (λ ps. BeginsList ps (channel_pieces lane.settings s.offered)) (sym same) (begins_trans sent _ _ s.begins (so_far_begin s.offered));
           whole = λ over. absurd (not_over over);
         }
 
@@ -118,7 +118,7 @@ module _ {S : Type 0} (left : S → Option Left) (failures : S → ℕ) (ended_a
     finished History end (inr (inl part)) stops = absurd part.0
     finished History end (inr (inr none)) stops = subst (λ e. RanAs left failures ended_as lane.settings max e before after met sent_then lane.offered lane.kept) (sym none.1) tt
 
--- the same with the lane's counts and the rows named
+-- what a worker ran as, with the lane's counts and the rows named
 pub finished_as : {S : Type 0} (left : S → Option Left) (failures : S → ℕ) (ended_as : S → Option SourceEnding) (before after : S) (max : ℕ) (lane : LaneState) (met : List VersionMet) (sent sent_then : List PieceData) (stop end : WorkerEnd) (count kept : ℕ)
     → count ≡ lane.offered → kept ≡ lane.kept → SendsLast lane stop end sent sent_then → StopsAs left failures ended_as stop max before after lane met sent
     → RanAs left failures ended_as lane.settings max end before after met sent_then count kept
@@ -134,7 +134,7 @@ pub last_whole : (lane : LaneState) (stop : WorkerEnd) (ending : Ending) (sent s
 last_whole lane stop ending sent sent_then given is over left went =
     inl (subst (λ e. IsOverThen e) (sym is) over, sym is, record { given = pieces_data given; left = left; sent_is = ap (λ ps. pieces_data ps) went ∙ map-append piece_data sent given })
 
-pub last_part : (lane : LaneState) (stop end : WorkerEnd) (ending : Ending) (sent sent_then given : List Piece) → stop ≡ Ended ending → IsOver ending → AreLeft lane (pieces_data given) → Begins sent_then (sent ++ given)
+pub last_part : (lane : LaneState) (stop end : WorkerEnd) (ending : Ending) (sent sent_then given : List Piece) → stop ≡ Ended ending → IsOver ending → AreLeft lane (pieces_data given) → BeginsList sent_then (sent ++ given)
     → end ≡ Ended Stopped → SendsLast lane stop end (pieces_data sent) (pieces_data sent_then)
 last_part lane stop end ending sent sent_then given is over left part stopped =
     inr (inl (

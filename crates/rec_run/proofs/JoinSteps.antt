@@ -6,12 +6,12 @@ use Rattle.std.proofs.lemmas.List.Elements.{All-rest, All-head}
 use Rattle.eth_frame.specs.Source.{Left}
 use Rattle.eth_frame.specs.declared.source.SourceEnding.{SourceEnding}
 use Rattle.rec_lane.specs.Pieces.{PieceData}
-use Rattle.rec_run.specs.Setup.{jobs_of, job_at}
-use Rattle.rec_run.specs.Writing.{CameFrom, AllCame}
-use Rattle.rec_run.specs.Joins.{JoinedOf}
-use Rattle.rec_run.specs.declared.line.Line.{Line}
+use Rattle.rec_run.specs.Threads.{jobs_of, job_at}
+use Rattle.rec_run.specs.Writer.{CameFrom, AllCame}
+use Rattle.rec_run.specs.Threads.{JoinedOf}
+use Rattle.rec_run.specs.declared.writer.line.Line.{Line}
 use Rattle.rec_run.specs.declared.job.Job.{Job}
-use Rattle.rec_run.specs.declared.joined.Joined.{Joined}
+use Rattle.rec_run.specs.declared.threads.joins.Joined.{Joined}
 
 module _ {S : Type 0} (l : Line S) (rest now : List (Line S)) (is : now ≡ l ∷ rest) where
   pub came_rest : (pieces : List PieceData) → AllCame pieces now → AllCame pieces rest

@@ -8,29 +8,29 @@ use Rattle.eth_frame.specs.Source.{Left}
 use Rattle.eth_frame.specs.declared.source.SourceEnding.{SourceEnding}
 use Rattle.rec_writer.specs.Writers.{WriterState, HasWritten}
 use Rattle.rec_writer.specs.declared.fault.WriteFault.{WriteFault}
-use Rattle.rec_run.specs.Changes.{Given, Answered}
-use Rattle.rec_run.specs.Controlling.{EndsControl}
+use Rattle.rec_run.specs.Control.{Given, Answered}
+use Rattle.rec_run.specs.Control.{EndsControl}
 use Rattle.rec_run.specs.Jobs.{channels_of_jobs}
-use Rattle.rec_run.specs.Joins.{AreOver, AreEnded}
-use Rattle.rec_run.specs.Logs.{IsOfSome}
-use Rattle.rec_run.specs.Outcomes.{IsOutcome, WroteIn, WroteAll, WrotePart}
-use Rattle.rec_run.specs.Ranges.{IsJob, AreInRange}
+use Rattle.rec_run.specs.Threads.{AreOver, AreEnded}
+use Rattle.rec_run.specs.Control.{IsOfSome}
+use Rattle.rec_run.specs.Threads.{IsOutcome, WroteIn, WroteAll, WrotePart}
+use Rattle.rec_run.specs.Jobs.{IsJob, AreInRange}
 use Rattle.rec_run.specs.Recorded.{IsRecorded, IsCutShort, IsControlled}
-use Rattle.rec_run.specs.Setup.{jobs_in}
+use Rattle.rec_run.specs.Threads.{jobs_in}
 use Rattle.rec_run.specs.Verdicts.{TellsOf, Concludes, ConcludesControl, ConcludesCut, CutsShort, EndsWell, EndsAtFlush}
-use Rattle.rec_run.specs.Writing.{IsGood}
-use Rattle.rec_run.specs.declared.change.Logged.{Logged}
+use Rattle.rec_run.specs.Writer.{IsGood}
+use Rattle.rec_run.specs.declared.control.change.Logged.{Logged}
 use Rattle.rec_run.specs.declared.job.Job.{Job}
-use Rattle.rec_run.specs.declared.joined.Joined.{Joined}
-use Rattle.rec_run.specs.declared.outcome.Outcome.{Outcome}
+use Rattle.rec_run.specs.declared.threads.joins.Joined.{Joined}
+use Rattle.rec_run.specs.declared.threads.Outcome.{Outcome}
 use Rattle.rec_run.specs.declared.report.Done.{Done}
 use Rattle.rec_run.specs.declared.report.Report.{Report}
 use Rattle.rec_run.specs.declared.report.RunFault.{RunFault}
-use Rattle.rec_run.specs.declared.prepared.Prepared.{Prepared}
-use Rattle.rec_run.specs.declared.tape.Tape.{Tape}
+use Rattle.rec_run.specs.declared.threads.prepared.Prepared.{Prepared}
+use Rattle.rec_run.specs.declared.writer.tape.Tape.{Tape}
 use Rattle.rec_run.specs.declared.report.RunFault.TheVariants.{Memory, Write, Link, History}
-use Rattle.rec_run.specs.declared.writing.Wrote.{Wrote}
-use Rattle.rec_run.specs.declared.writing.Wrote.TheVariants.{Nothing, Piece, Failed, Link as LinkWrote}
+use Rattle.rec_run.specs.declared.writer.Wrote.{Wrote}
+use Rattle.rec_run.specs.declared.writer.Wrote.TheVariants.{Nothing, Piece, Failed, Link as LinkWrote}
 use Rattle.rec_run.proofs.Concluding.{recorded, cut_at_flush, cut_at_piece}
 use Rattle.rec_run.proofs.Answered.{controlled}
 

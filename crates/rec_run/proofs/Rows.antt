@@ -11,10 +11,10 @@ use Rattle.std.proofs.lemmas.Option.{slice_get_within, get_or_from_slice_get, sl
 use Rattle.bpf_insn.specs.declared.insn.Insn.{Insn}
 use Rattle.rec_channel.specs.History.{Version, IsHistory}
 use Rattle.rec_channel.specs.Slots.{versions_of}
-use Rattle.rec_run.specs.Histories.{programs_at, history_in}
-use Rattle.rec_run.specs.Served.{VersionMet, IsServed, AreServed, first_met}
-use Rattle.rec_run.specs.Working.{met_data, versions_met}
-use Rattle.rec_run.specs.declared.met.MetVersion.{MetVersion}
+use Rattle.rec_run.specs.Reports.{programs_at, history_in}
+use Rattle.rec_run.specs.VersionsMet.{VersionMet, IsServed, AreServed, first_met}
+use Rattle.rec_run.specs.WorkerRuns.{met_data, versions_met}
+use Rattle.rec_run.specs.declared.worker.versions.MetVersion.{MetVersion}
 
 abbrev entry : List Insn → ℕ → Version
 entry program mark = record { program = program; mark = mark }

@@ -7,18 +7,18 @@ use Rattle.eth_frame.specs.Source.{Left}
 use Rattle.eth_frame.specs.declared.source.SourceEnding.{SourceEnding}
 use Rattle.rec_lane.specs.Pieces.{PieceData, channel_of}
 use Rattle.rec_lane.specs.Views.{pieces_data}
-use Rattle.rec_writer.specs.Numbers.{channels_in, AreDistinct}
+use Rattle.rec_writer.specs.Numbers.{numbered_channels, AreDistinctChannels}
 use Rattle.rec_writer.specs.Writers.{WriterState, HasWritten}
 use Rattle.rec_run.specs.Jobs.{channels_of_jobs}
-use Rattle.rec_run.specs.Joins.{JoinedOf}
-use Rattle.rec_run.specs.Outcomes.{WroteIn}
-use Rattle.rec_run.specs.Setup.{jobs_of, job_at, AreUnread}
-use Rattle.rec_run.specs.Writing.{channels, handles, has_buffer, IsReady, AllCame, Writes, WroteSo}
+use Rattle.rec_run.specs.Threads.{JoinedOf}
+use Rattle.rec_run.specs.Threads.{WroteIn}
+use Rattle.rec_run.specs.Threads.{jobs_of, job_at, AreUnread}
+use Rattle.rec_run.specs.Writer.{channels, handles, has_buffer, IsReady, AllCame, Writes, WroteSo}
 use Rattle.rec_run.specs.declared.job.Job.{Job}
-use Rattle.rec_run.specs.declared.joined.Joined.{Joined}
-use Rattle.rec_run.specs.declared.line.Line.{Line}
-use Rattle.rec_run.specs.declared.writing.Wrote.{Wrote}
-use Rattle.rec_run.specs.declared.writing.Wrote.TheVariants.{Nothing, Piece, Failed, Link}
+use Rattle.rec_run.specs.declared.threads.joins.Joined.{Joined}
+use Rattle.rec_run.specs.declared.writer.line.Line.{Line}
+use Rattle.rec_run.specs.declared.writer.Wrote.{Wrote}
+use Rattle.rec_run.specs.declared.writer.Wrote.TheVariants.{Nothing, Piece, Failed, Link}
 
 module _ {S : Type 0} where
   -- a line's channel is its job's
@@ -33,10 +33,10 @@ module _ {S : Type 0} where
   pub same_jobs : (ls ls' : List (Line S)) → handles ls' ≡ handles ls → jobs_of ls' ≡ jobs_of ls
   same_jobs ls ls' e = jobs_by_handles ls' ∙ ap (λ hs. map (λ h. h.promise.job.value) hs) e ∙ sym (jobs_by_handles ls)
 
-  pub lines_ready : (ls : List (Line S)) (js : List (Job S)) (writer : WriterState) → jobs_of ls ≡ js → AreDistinct (channels_of_jobs js) → channels_in writer.numbers ≡ 0 ∷ channels_of_jobs js → IsReady ls writer
+  pub lines_ready : (ls : List (Line S)) (js : List (Job S)) (writer : WriterState) → jobs_of ls ≡ js → AreDistinctChannels (channels_of_jobs js) → numbered_channels writer.numbers ≡ 0 ∷ channels_of_jobs js → IsReady ls writer
   lines_ready ls js writer e distinct known =
       let same : channels ls ≡ channels_of_jobs js = channels_are ls ∙ ap (λ x. channels_of_jobs x) e in
-      record { distinct = subst (λ cs. AreDistinct cs) (sym same) distinct; known = known ∙ ap (λ cs. 0 ∷ cs) (sym same) }
+      record { distinct = subst (λ cs. AreDistinctChannels cs) (sym same) distinct; known = known ∙ ap (λ cs. 0 ∷ cs) (sym same) }
 
   -- nothing is written yet
   pub writes_none : (first : Option (List ℕ)) (writer : WriterState) (bytes : ℕ) (ls : List (Line S)) → writer.failed ≡ false → HasWritten first [] [] writer → bytes ≡ 0 → AreUnread ls → Writes first writer bytes ls

@@ -12,9 +12,9 @@ use Rattle.rec_channel.specs.History.{Version, InForce}
 use Rattle.rec_channel.specs.Slots.{programs_in}
 use Rattle.rec_lane.specs.Offered.{OfferedFrame, Met, MetFrom}
 use Rattle.rec_lane.specs.Lanes.{VersionProgram, is_current, running}
-use Rattle.rec_run.specs.Served.{VersionMet, IsServed, AreServed}
-use Rattle.rec_run.specs.Growing.{is_last_met, has_version, met_after}
-use Rattle.rec_run.specs.Working.{IsLast, AreKnown}
+use Rattle.rec_run.specs.VersionsMet.{VersionMet, IsServed, AreServed}
+use Rattle.rec_run.specs.VersionsMet.{is_last_met, was_met, met_after}
+use Rattle.rec_run.specs.WorkerRuns.{IsLast, AreKnown}
 
 -- ---- served up to a number, served up to each below
 
@@ -79,7 +79,7 @@ last_is_current (Some c) number met version last =
     let n : length (last.0 ++ m ∷ []) - 1 ≡ length last.0 = (let l : length (last.0 ++ m ∷ []) ≡ length last.0 + 1 = length-append last.0 (m ∷ []) in omega (arith, l)) in
     ap (λ i. slice_get (last.0 ++ m ∷ []) i) n ∙ get_push last.0 m
     in
-    ap (λ ms. is_last_met ms version) last.2 ∙ ap (λ o. has_version o version) at ∙ ap (λ v. v == version) last.3
+    ap (λ ms. is_last_met ms version) last.2 ∙ ap (λ o. was_met o version) at ∙ ap (λ v. v == version) last.3
 
 -- the frame meets what it says in each history that serves the versions met after it
 one_more : (current : Option VersionProgram) (met : List VersionMet) (offered : List OfferedFrame) (frame : FrameData) (version value number : ℕ) (program : List Insn)

@@ -7,13 +7,13 @@ use Rattle.eth_frame.specs.Frame.{FrameData, IsFrame}
 use Rattle.eth_frame.specs.Source.{Left, GivesFirst}
 use Rattle.eth_frame.specs.declared.source.SourceEnding.{SourceEnding}
 use Rattle.rec_lane.specs.Offered.{OfferedFrame, frames_of}
-use Rattle.rec_lane.specs.Parts.{Begins}
+use Rattle.rec_lane.specs.Parts.{BeginsList}
 use Rattle.rec_lane.specs.Pieces.{pieces_so_far}
 use Rattle.rec_lane.specs.Lanes.{LaneState}
-use Rattle.rec_run.specs.Served.{VersionMet}
+use Rattle.rec_run.specs.VersionsMet.{VersionMet}
 use Rattle.rec_run.specs.Endings.{AreTaken}
-use Rattle.rec_run.specs.Working.{Stands, Stopping, TakesOne}
-use Rattle.rec_run.specs.Workers.{met_by, sent_by, RecordsFrame, GoesOn, ComesTo}
+use Rattle.rec_run.specs.WorkerRuns.{Stands, Stopping, TakesOne}
+use Rattle.rec_run.specs.WorkerSteps.{met_by, sent_by, RecordsFrame, GoesOn, ComesTo}
 use Rattle.rec_run.specs.declared.ending.Ending.TheVariants.{SourceEnd, SourceFault, Memory, CountFull, Stopped}
 use Rattle.rec_run.specs.declared.ending.WorkerEnd.{WorkerEnd}
 use Rattle.rec_run.specs.declared.ending.WorkerEnd.TheVariants.{Ended, Link, History}
@@ -35,7 +35,7 @@ stands_ready lane new met offered is stands =
       last = stands.last;
     })
 
-pub begins_same : {X : Type 0} (xs ys : List X) → xs ≡ ys → Begins xs ys
+pub begins_same : {X : Type 0} (xs ys : List X) → xs ≡ ys → BeginsList xs ys
 begins_same xs ys is = ([], append-nil xs ∙ is)
 
 frames_more : (offered : List OfferedFrame) (f : OfferedFrame) (frame : FrameData) → f.frame ≡ frame → frames_of (offered ++ f ∷ []) ≡ frames_of offered ++ frame ∷ []
@@ -82,7 +82,7 @@ module _ {S : Type 0} (left : S → Option Left) (failures : S → ℕ) (ended_a
         sent_is = t.3;
       }
 
-  gave_up : (TakesOne mid.lane new.lane (met_by mid) (met_by new) (sent_by mid) (sent_by new) frame Begins
+  gave_up : (TakesOne mid.lane new.lane (met_by mid) (met_by new) (sent_by mid) (sent_by new) frame BeginsList
       ⊎ ((new.lane ≡ mid.lane) × (met_by new ≡ met_by mid) × (sent_by new ≡ sent_by mid)))
       → Stopping left failures ended_as Stopped new.max before new.source new.lane (met_by new) (sent_by new)
   gave_up (inl takes) =

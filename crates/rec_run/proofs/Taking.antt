@@ -9,16 +9,16 @@ use Rattle.eth_frame.specs.Frame.{FrameData, view}
 use Rattle.rec_lane.specs.declared.piece.DataPiece.{DataPiece}
 use Rattle.rec_lane.specs.declared.piece.Piece.{Piece}
 use Rattle.rec_lane.specs.Offered.{OfferedFrame}
-use Rattle.rec_lane.specs.Parts.{Begins}
-use Rattle.rec_lane.specs.Pieces.{PieceData, has_version as same_version_as, last_group, pieces_so_far}
+use Rattle.rec_lane.specs.Parts.{BeginsList}
+use Rattle.rec_lane.specs.Pieces.{PieceData, has_group_version as same_version_as, last_group, pieces_so_far}
 use Rattle.rec_lane.specs.Lanes.{LaneState, VersionProgram, HasMet, version_of, is_current, running, offered_now, Meets, MakesCertain}
-use Rattle.rec_lane.specs.Views.{piece_data, pieces_data, packet_data}
+use Rattle.rec_lane.specs.Views.{piece_data, pieces_data, packet_pieces}
 use Rattle.rec_lane.proofs.Parted.{last_on}
 use Rattle.rec_lane.proofs.Offering.{same_version, version_stays, first_last}
-use Rattle.rec_run.specs.Served.{VersionMet}
-use Rattle.rec_run.specs.Growing.{is_last_met, met_after}
-use Rattle.rec_run.specs.Offers.{Offers}
-use Rattle.rec_run.specs.Working.{IsLast, Stands, TakesOne}
+use Rattle.rec_run.specs.VersionsMet.{VersionMet}
+use Rattle.rec_run.specs.VersionsMet.{is_last_met, met_after}
+use Rattle.rec_run.specs.WorkerSteps.{Offers}
+use Rattle.rec_run.specs.WorkerRuns.{IsLast, Stands, TakesOne}
 use Rattle.rec_run.proofs.Serving.{known_more, last_more}
 
 -- ---- the version that the lane met last
@@ -87,7 +87,7 @@ module _ (old new : LaneState) (met met_then : List VersionMet) (frame : FrameDa
     ap (λ ps. pieces_data ps) went ∙ map-append piece_data sent given ∙ pieces_then old new before then_is (pieces_data sent) (pieces_data given) stands.has_met o.settings is o.makes,
   )
 
-  pub takes_part : Begins sent_then (sent ++ given) → TakesOne old new met met_then (pieces_data sent) (pieces_data sent_then) frame Begins
+  pub takes_part : BeginsList sent_then (sent ++ given) → TakesOne old new met met_then (pieces_data sent) (pieces_data sent_then) frame BeginsList
   takes_part part = λ before stands is. (
     then_is,
     refl,
@@ -101,10 +101,10 @@ module _ (old new : LaneState) (met met_then : List VersionMet) (frame : FrameDa
 
 -- a frame of the version that was met last, with what became certain as pieces
 pub known_offers : (old new : LaneState) (met : List VersionMet) (frame : FrameData) (version value : ℕ) (packet : Option DataPiece) (given : List Piece)
-    → is_last_met met version ≡ true → packet_data packet ≡ pieces_data given
+    → is_last_met met version ≡ true → packet_pieces packet ≡ pieces_data given
     → ((steps : ℕ) × Runs (running old.current version []) (view frame) steps value)
     → Meets old new (offered_now old version [] frame value)
-    → MakesCertain old (offered_now old version [] frame value) (packet_data packet)
+    → MakesCertain old (offered_now old version [] frame value) (packet_pieces packet)
     → new.settings ≡ old.settings
     → Offers old new met met frame (pieces_data given)
 known_offers old new met frame version value packet given last same ran meets makes settings = record {

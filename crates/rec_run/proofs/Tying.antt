@@ -12,10 +12,10 @@ use Rattle.rec_channel.specs.Slots.{programs_in}
 use Rattle.rec_core.specs.Openings.{SpecData, AreSpecs, channels_of_specs}
 use Rattle.rec_core.specs.Ties.{IsOfSpec, IsRunOfWorld}
 use Rattle.rec_lane.specs.Pieces.{PieceData}
-use Rattle.rec_writer.specs.Numbers.{AreDistinct}
+use Rattle.rec_writer.specs.Numbers.{AreDistinctChannels}
 use Rattle.rec_writer.specs.Recording.{RecordedChannel, AreOfChannels}
-use Rattle.rec_run.specs.Answering.{given_for, programs_given, IsChanged}
-use Rattle.rec_run.specs.Changes.{Given, Answered}
+use Rattle.rec_run.specs.Control.{given_for, programs_given, IsChanged}
+use Rattle.rec_run.specs.Control.{Given, Answered}
 use Rattle.rec_run.specs.Jobs.{AreJobs, channels_of_jobs, core_spec, core_specs}
 use Rattle.rec_run.specs.Recorded.{IsRecorded, IsRecordedRun, IsControlled}
 use Rattle.rec_run.specs.Reports.{history_of, IsReport, AreReports}
@@ -48,7 +48,7 @@ specs_of_jobs {S} jobs are =
     record {
       some = omega (arith, count, least);
       few = omega (arith, count, most);
-      distinct = subst (λ cs. AreDistinct cs) (sym (same_channels jobs)) are.distinct;
+      distinct = subst (λ cs. AreDistinctChannels cs) (sym (same_channels jobs)) are.distinct;
     }
 
 -- ---- reports

@@ -11,27 +11,27 @@ use Rattle.rtrb.specs.Ring.{received, sent}
 use Rattle.rec_lane.specs.declared.piece.Piece.{Piece}
 use Rattle.rec_lane.specs.Pieces.{PieceData, channel_of}
 use Rattle.rec_lane.specs.Views.{piece_data, pieces_data}
-use Rattle.rec_writer.specs.Encoding.{packet_of, packet_channel, next_sequence, writer_output}
-use Rattle.rec_writer.specs.Numbers.{AreDistinct}
+use Rattle.rec_writer.specs.Encoding.{piece_packet, packet_channel, next_sequence, writer_output}
+use Rattle.rec_writer.specs.Numbers.{AreDistinctChannels}
 use Rattle.rec_writer.specs.Recording.{is_of}
-use Rattle.rec_writer.specs.Writers.{WriterState, IsCut}
+use Rattle.rec_writer.specs.Writers.{WriterState, IsCutPiece}
 use Rattle.rec_writer.proofs.Putting.{output_more}
 use Rattle.rec_writer.specs.declared.fault.WriteFault.TheVariants.{Output, Failed as FailedBefore}
-use Rattle.rec_run.specs.Counting.{bytes_of, CountsPacket}
-use Rattle.rec_run.specs.declared.line.Line.{Line}
-use Rattle.rec_run.specs.declared.writing.Wrote.{Wrote}
-use Rattle.rec_run.specs.declared.writing.Wrote.TheVariants.{Nothing, Piece as PieceWent, Failed, Link}
-use Rattle.rec_run.specs.Writing.{has_buffer, buffers_in, channel_at, channels, IsGood, CameFrom, GaveBack, IsOfLines, Writes, WroteSo, TakesPiece, WroteOne}
+use Rattle.rec_run.specs.Writer.{bytes_of, CountsPacket}
+use Rattle.rec_run.specs.declared.writer.line.Line.{Line}
+use Rattle.rec_run.specs.declared.writer.Wrote.{Wrote}
+use Rattle.rec_run.specs.declared.writer.Wrote.TheVariants.{Nothing, Piece as PieceWent, Failed, Link}
+use Rattle.rec_run.specs.Writer.{has_buffer, buffers_in, channel_at, channels, IsGood, CameFrom, GaveBack, IsOfLines, Writes, WroteSo, TakesPiece, WroteOne}
 
 -- ---- the count of bytes
 
 pub bytes_more : (version bytes bytes_after : ℕ) (pieces : List PieceData) (p : PieceData) → bytes ≡ bytes_of version pieces → CountsPacket bytes bytes_after p → bytes_after ≡ bytes_of version (pieces ++ p ∷ [])
 bytes_more version bytes bytes_after pieces p is counts =
     let n = next_sequence ([] ++ pieces) (packet_channel p) in
-    let l : length (writer_output version (pieces ++ p ∷ [])) ≡ length (writer_output version pieces) + length (packet_of p version n) =
-    ap (λ bs. length bs) (output_more version [] pieces p) ∙ length-append (writer_output version pieces) (packet_of p version n)
+    let l : length (writer_output version (pieces ++ p ∷ [])) ≡ length (writer_output version pieces) + length (piece_packet p version n) =
+    ap (λ bs. length bs) (output_more version [] pieces p) ∙ length-append (writer_output version pieces) (piece_packet p version n)
     in
-    let c : bytes_after ≡ min (bytes + length (packet_of p version n)) (2 ^ 64 - 1) = counts version n in
+    let c : bytes_after ≡ min (bytes + length (piece_packet p version n)) (2 ^ 64 - 1) = counts version n in
     let b : bytes ≡ min (length (writer_output version pieces)) (2 ^ 64 - 1) = is in
     omega (arith, l, c, b)
 
@@ -54,7 +54,7 @@ module _ {S : Type 0} (ls : List (Line S)) (k : ℕ) (e l' : Line S) (low : k < 
   at_k : (d : Line S) → get_or (set ls k l') k d ≡ l'
   at_k d = get_or-set_same ls k l' d low
 
-  others_apart : AreDistinct (channels ls) → (j : ℕ) (d : Line S) → j < length ls → j ≢ k → (get_or ls k e).channel ≢ (get_or ls j d).channel
+  others_apart : AreDistinctChannels (channels ls) → (j : ℕ) (d : Line S) → j < length ls → j ≢ k → (get_or ls k e).channel ≢ (get_or ls j d).channel
   others_apart distinct j d lj ne same =
       let n = length-map ls channel_at in
       let at_j = get_or-map channel_at ls j d 0 lj in
@@ -74,7 +74,7 @@ module _ {S : Type 0} (ls : List (Line S)) (k : ℕ) (e l' : Line S) (low : k < 
         | inr ne ↦ subst Q (sym (get_or-set_other ls k j l' d ne)) (there j d lj' ne (all j d lj'))
       ]
 
-  module _ (distinct : AreDistinct (channels ls)) (same : l'.channel ≡ (get_or ls k e).channel) (p : Piece) (takes : TakesPiece (get_or ls k e) l' p) (pieces : List PieceData) where
+  module _ (distinct : AreDistinctChannels (channels ls)) (same : l'.channel ≡ (get_or ls k e).channel) (p : Piece) (takes : TakesPiece (get_or ls k e) l' p) (pieces : List PieceData) where
     came_more : All (CameFrom pieces) ls → All (CameFrom (pieces ++ piece_data p ∷ [])) (set ls k l')
     came_more came =
         all_set (CameFrom pieces) (CameFrom (pieces ++ piece_data p ∷ [])) came
@@ -107,7 +107,7 @@ module _ {S : Type 0} (ls : List (Line S)) (k : ℕ) (e l' : Line S) (low : k < 
 
   -- ---- what was done
 
-  pub wrote_so : AreDistinct (channels ls) → l'.channel ≡ (get_or ls k e).channel → channels (set ls k l') ≡ channels ls
+  pub wrote_so : AreDistinctChannels (channels ls) → l'.channel ≡ (get_or ls k e).channel → channels (set ls k l') ≡ channels ls
       → (result : Wrote) (first : Option (List ℕ)) (writer after : WriterState) (bytes bytes_after : ℕ) → after.version ≡ writer.version
       → WroteOne result (get_or ls k e) l' writer after bytes bytes_after → Writes first writer bytes ls → WroteSo result first after bytes_after (set ls k l')
   wrote_so distinct same channels_same Nothing first writer after bytes bytes_after version none w =
@@ -142,7 +142,7 @@ module _ {S : Type 0} (ls : List (Line S)) (k : ℕ) (e l' : Line S) (low : k < 
         pieces = w.pieces;
         piece = piece_data f.p;
         cut = part.0;
-        cut_is = subst (λ v. IsCut v w.pieces (piece_data f.p) part.0) (sym version) part.1;
+        cut_is = subst (λ v. IsCutPiece v w.pieces (piece_data f.p) part.0) (sym version) part.1;
         written = part.2;
         fault_is = ap (λ x. Output x bytes_out) f.fails.1 ∙ ap (λ x. Output after.whole x) f.fails.2;
         counted = fails.1 ∙ w.counted ∙ ap (λ v. bytes_of v w.pieces) (sym version);

@@ -1,13 +1,15 @@
--- What the ending of a channel says of its source, and of the frames that were taken from it.
+-- How a channel ends, and what its ending says of its source and of the frames that were taken from it.
 use Rattle.std.specs.Prelude.{ℕ, ◌≡◌, ◌<◌, ◌⊎◌, List, ◌++◌, length, Option, Some, IfSome, IsSomeAnd}
 use Rattle.eth_frame.specs.Frame.{FrameData}
 use Rattle.eth_frame.specs.Source.{Left}
 use Rattle.eth_frame.specs.declared.source.SourceEnding.{SourceEnding}
 use Rattle.eth_frame.specs.declared.source.SourceEnding.TheVariants.{End, Fault}
 use Rattle.eth_frame.specs.declared.source.SourceFault.TheVariants.{Device}
-use Rattle.rec_lane.specs.Parts.{Begins}
+use Rattle.rec_lane.specs.Parts.{BeginsList}
 use Rattle.rec_run.specs.declared.ending.Ending.{Ending}
 use Rattle.rec_run.specs.declared.ending.Ending.TheVariants.{SourceEnd, SourceFault, Memory, CountFull, Stopped}
+use Rattle.rec_run.specs.declared.ending.WorkerEnd.{WorkerEnd}
+use Rattle.rec_run.specs.declared.ending.WorkerEnd.TheVariants.{Ended, Link, History}
 
 -- nothing is left to record
 abbrev pub IsOver : Ending → Type 0
@@ -21,7 +23,7 @@ IsOver Stopped = ⊥
 
 -- .. it said these frames first
 abbrev pub AreFirst : Option Left → List FrameData → Type 0
-AreFirst before frames = IfSome before (λ l. Begins frames l.frames)
+AreFirst before frames = IfSome before (λ l. BeginsList frames l.frames)
 
 -- .. it said these frames, and then what it says now
 abbrev pub AreTaken : Option Left → List FrameData → Option Left → Type 0
@@ -55,3 +57,22 @@ module _ {S : Type 0}
   EndsAs CountFull before after frames max =
       (length frames ≡ max) × AreTaken (left before) frames (left after)
   EndsAs Stopped before after frames max = AreFirst (left before) frames
+
+-- ---- how a worker ends
+
+-- nothing is left to record
+abbrev pub IsOverThen : WorkerEnd → Type 0
+IsOverThen (Ended ending) = IsOver ending
+IsOverThen Link = ⊥
+IsOverThen History = ⊥
+
+-- the channel has an ending
+abbrev pub HasEnding : WorkerEnd → Type 0
+HasEnding (Ended ending) = Unit {0}
+HasEnding Link = ⊥
+HasEnding History = ⊥
+
+abbrev pub worker_ending_of : WorkerEnd → Ending
+worker_ending_of (Ended ending) = ending
+worker_ending_of Link = Stopped
+worker_ending_of History = Stopped

@@ -1,11 +1,14 @@
--- What jobs a recording may have.
-use Rattle.std.specs.Prelude.{ℕ, ◌<◌, ◌≤◌, List, length, map}
+-- What jobs a recording may have, and the ranges of their numbers, which are those of their types.
+use Rattle.std.specs.Prelude.{ℕ, ◌<◌, ◌≤◌, List, length, map, ◌^◌, All}
 use Rattle.std.specs.Arc.{arc_value}
 use Rattle.rec_channel.specs.declared.limits.TheConstants.{MAX_CHANNELS}
 use Rattle.rec_core.specs.Openings.{SpecData}
 use Rattle.rec_lane.specs.Settings.{spec_data}
-use Rattle.rec_writer.specs.Numbers.{AreDistinct}
+use Rattle.rec_writer.specs.Numbers.{AreDistinctChannels}
 use Rattle.rec_run.specs.declared.job.Job.{Job}
+use Rattle.ch11_packet.specs.declared.frames.word.TheConstants.{MAX_SPEED}
+use Rattle.ch11_packet.specs.declared.limit.TheConstants.{MIN_LIMIT, MAX_LIMIT}
+use Rattle.rec_lane.specs.Pieces.{LaneSettings}
 
 module _ {S : Type 0} where
   abbrev pub channel_of_job : Job S → ℕ
@@ -18,7 +21,7 @@ module _ {S : Type 0} where
   pub record AreJobs (jobs : List (Job S)) : Type 0 where
     pub some : 0 < length jobs
     pub few : length jobs ≤ MAX_CHANNELS
-    pub distinct : AreDistinct (channels_of_jobs jobs)
+    pub distinct : AreDistinctChannels (channels_of_jobs jobs)
 
   -- what the core's channel of a job would be set to
   abbrev pub core_spec : Job S → SpecData
@@ -27,3 +30,27 @@ module _ {S : Type 0} where
 
   abbrev pub core_specs : List (Job S) → List SpecData
   core_specs jobs = map core_spec jobs
+
+-- ---- ranges
+
+-- the settings are in the ranges of a `LaneSpec`: a channel ID of 16 bits that is not 0, a network
+-- identifier of 8 bits, a speed of 4, and a packet limit between the least and the greatest
+pub record AreLaneSettings (settings : LaneSettings) : Type 0 where
+  pub named : 0 < settings.channel
+  pub channel_fits : settings.channel < 2 ^ 16
+  pub net_fits : settings.net < 2 ^ 8
+  pub speed_fits : settings.speed ≤ MAX_SPEED
+  pub least : MIN_LIMIT ≤ settings.limit
+  pub most : settings.limit ≤ MAX_LIMIT
+
+module _ {S : Type 0} where
+  -- the job's numbers are those of its types: its settings are in range, and fewer than 2^64 frames
+  -- may be taken
+  pub record IsJob (job : Job S) : Type 0 where
+    pub settings : AreLaneSettings (spec_data job.spec)
+    pub most : job.max < 2 ^ 64
+
+  -- so are those of all jobs, and the data type version is a byte
+  pub record AreInRange (jobs : List (Job S)) (version : ℕ) : Type 0 where
+    pub jobs_fit : All IsJob jobs
+    pub version_fits : version < 2 ^ 8

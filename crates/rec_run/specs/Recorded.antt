@@ -6,20 +6,19 @@ use Rattle.std.specs.Io.KnownBytes.{Appends}
 use Rattle.eth_frame.specs.Source.{Left}
 use Rattle.eth_frame.specs.declared.source.SourceEnding.{SourceEnding}
 use Rattle.rec_core.specs.Ties.{IsRunOfWorld}
-use Rattle.rec_lane.specs.Parts.{Begins}
+use Rattle.rec_lane.specs.Parts.{BeginsList}
 use Rattle.rec_lane.specs.Pieces.{PieceData, channel_of, ArePieces}
 use Rattle.rec_writer.specs.Encoding.{writer_output}
 use Rattle.rec_writer.specs.Recording.{RecordedChannel, is_of, IsRecording}
-use Rattle.rec_writer.specs.Writers.{IsCut}
+use Rattle.rec_writer.specs.Writers.{IsCutPiece}
 use Rattle.rec_writer.specs.declared.fault.WriteFault.{WriteFault}
 use Rattle.rec_writer.specs.declared.fault.WriteFault.TheVariants.{Output}
-use Rattle.rec_run.specs.Answering.{IsChanged}
-use Rattle.rec_run.specs.Changes.{Given, Answered}
-use Rattle.rec_run.specs.Counting.{shown, bytes_of}
+use Rattle.rec_run.specs.Control.{IsChanged, Given, Answered}
+use Rattle.rec_run.specs.Writer.{shown, bytes_of}
 use Rattle.rec_run.specs.Endings.{IsOver}
 use Rattle.rec_run.specs.Jobs.{channels_of_jobs, core_specs}
 use Rattle.rec_run.specs.Reports.{history_of, AreReports}
-use Rattle.rec_run.specs.declared.change.Answer.TheVariants.{NoChannel}
+use Rattle.rec_run.specs.declared.control.change.Answer.TheVariants.{NoChannel}
 use Rattle.rec_run.specs.declared.job.Job.{Job}
 use Rattle.rec_run.specs.declared.report.ChannelReport.{ChannelReport}
 use Rattle.rec_run.specs.declared.report.Report.{Report}
@@ -27,7 +26,7 @@ use Rattle.rec_run.specs.declared.report.Report.{Report}
 -- the bytes are the beginning of the packet of the piece that was begun, if any
 abbrev pub IsCutOf : (version : ℕ) → (pieces begun : List PieceData) → List ℕ → Type 0
 IsCutOf version pieces [] cut = cut ≡ []
-IsCutOf version pieces (p ∷ []) cut = IsCut version pieces p cut
+IsCutOf version pieces (p ∷ []) cut = IsCutPiece version pieces p cut
 IsCutOf version pieces (p ∷ q ∷ ps) cut = ⊥
 
 -- those of the pieces that are of the channel begin the pieces of the channel
@@ -35,7 +34,7 @@ abbrev pub BeginsChannel : List PieceData → RecordedChannel → Type 0
 BeginsChannel taken c =
     (all : List PieceData)
     × ArePieces c.settings c.frames c.history all
-    × Begins (filter (is_of c.settings.channel) taken) all
+    × BeginsList (filter (is_of c.settings.channel) taken) all
 
 module _ {S : Type 0}
     (left : S → Option Left) (failures : S → ℕ) (ended_as : S → Option SourceEnding) where

@@ -1,26 +1,36 @@
 -- What the report of a channel says of its job.
-use Rattle.std.specs.Prelude.{ℕ, ◌≡◌, ◌<◌, ◌≤◌, ◌^◌, List, [], ◌∷◌, length, All, Option}
+use Rattle.std.specs.Prelude.{ℕ, List, map, ◌≡◌, ◌<◌, ◌≤◌, ◌^◌, [], ◌∷◌, length, All, Option}
 use Rattle.std.specs.Arc.{arc_value}
+use Rattle.std.specs.declared.sync.Arc.{Arc}
+use Rattle.std.specs.declared.alloc.Global.{Global}
+use Rattle.bpf_insn.specs.declared.insn.Insn.{Insn}
+use Rattle.rec_channel.specs.History.{Version, IsHistory}
+use Rattle.rec_channel.specs.Slots.{versions_of, programs_in, marks_in}
 use Rattle.eth_frame.specs.Frame.{FrameData, IsFrame}
 use Rattle.eth_frame.specs.Source.{Left}
 use Rattle.eth_frame.specs.declared.source.SourceEnding.{SourceEnding}
-use Rattle.rec_channel.specs.History.{Version, IsHistory}
 use Rattle.rec_channel.specs.declared.limits.TheConstants.{MAX_VERSIONS}
 use Rattle.rec_lane.specs.Offered.{AreAccepted}
 use Rattle.rec_lane.specs.Settings.{spec_data}
 use Rattle.rec_writer.specs.Recording.{RecordedChannel}
-use Rattle.rec_channel.specs.Slots.{programs_in, marks_in}
-use Rattle.rec_run.specs.Histories.{programs_at, history_in}
-use Rattle.rec_run.specs.Endings.{EndsAs}
-use Rattle.rec_run.specs.Ends.{ending_of}
-use Rattle.rec_run.specs.Logs.{AreAnswered}
-use Rattle.rec_run.specs.Ranges.{AreSettings}
-use Rattle.rec_run.specs.Served.{AreServed}
-use Rattle.rec_run.specs.Working.{versions_met}
-use Rattle.rec_run.specs.declared.change.Logged.{Logged}
+use Rattle.rec_run.specs.Endings.{EndsAs, worker_ending_of}
+use Rattle.rec_run.specs.Control.{AreAnswered}
+use Rattle.rec_run.specs.Jobs.{AreLaneSettings}
+use Rattle.rec_run.specs.VersionsMet.{AreServed}
+use Rattle.rec_run.specs.WorkerRuns.{versions_met}
+use Rattle.rec_run.specs.declared.control.change.Logged.{Logged}
 use Rattle.rec_run.specs.declared.job.Job.{Job}
-use Rattle.rec_run.specs.declared.joined.Joined.{Joined}
+use Rattle.rec_run.specs.declared.threads.joins.Joined.{Joined}
 use Rattle.rec_run.specs.declared.report.ChannelReport.{ChannelReport}
+
+-- programs that are shared
+abbrev pub programs_at : List (Arc (List Insn) Global) → List (List Insn)
+programs_at programs = map arc_value programs
+
+abbrev pub history_in : List (Arc (List Insn) Global) → List ℕ → List Version
+history_in programs marks = versions_of (programs_at programs) marks
+
+-- ---- reports
 
 module _ {S : Type 0} where
   -- the history that a report gives
@@ -31,16 +41,16 @@ module _ {S : Type 0} where
   -- worker met and that agrees with the log
   pub record Tells (joined : Joined S) (log : List Logged) (r : ChannelReport S) : Type 0 where
     pub channel_is : r.channel ≡ joined.channel
-    pub offered_is : r.offered ≡ joined.offered
-    pub kept_is : r.kept ≡ joined.kept
-    pub ending_is : r.ending ≡ ending_of joined.end
-    pub source_is : r.source ≡ joined.source
+    pub offered_is : r.offered ≡ joined.done.offered
+    pub kept_is : r.kept ≡ joined.done.kept
+    pub ending_is : r.ending ≡ worker_ending_of joined.done.end
+    pub source_is : r.source ≡ joined.done.source
     pub history : IsHistory r.offered (history_of r)
     pub few : length (history_of r) ≤ MAX_VERSIONS
     pub programs_are : programs_at r.versions.items ≡ programs_in (history_of r)
     pub marks_are : r.marks.items ≡ marks_in (history_of r)
-    pub served : AreServed (history_of r) r.offered (versions_met joined.met.items)
-    pub answered : AreAnswered r.channel (arc_value joined.program) (history_of r) log
+    pub served : AreServed (history_of r) r.offered (versions_met joined.done.met.items)
+    pub answered : AreAnswered r.channel (arc_value joined.done.program) (history_of r) log
 
 module _ {S : Type 0}
     (left : S → Option Left) (failures : S → ℕ) (ended_as : S → Option SourceEnding) where
@@ -49,7 +59,7 @@ module _ {S : Type 0}
   -- report gives
   pub record IsReport (job : Job S) (r : ChannelReport S) (channel : RecordedChannel) : Type 0 where
     pub settings_are : channel.settings ≡ spec_data job.spec
-    pub settings_fit : AreSettings channel.settings
+    pub settings_fit : AreLaneSettings channel.settings
     pub history_is : channel.history ≡ history_of r
     pub history : IsHistory r.offered channel.history
     pub few : length channel.history ≤ MAX_VERSIONS

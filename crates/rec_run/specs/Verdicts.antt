@@ -4,17 +4,15 @@ use Rattle.std.specs.Io.KnownBytes.{Keeps}
 use Rattle.eth_frame.specs.Source.{Left}
 use Rattle.eth_frame.specs.declared.source.SourceEnding.{SourceEnding}
 use Rattle.rec_writer.specs.Writers.{WriterState, FinishFails}
-use Rattle.rec_run.specs.Changes.{Given, Answered}
-use Rattle.rec_run.specs.Controlling.{EndsControl}
-use Rattle.rec_run.specs.Jobs.{channels_of_jobs}
-use Rattle.rec_run.specs.Outcomes.{WroteIn}
-use Rattle.rec_run.specs.Ranges.{AreInRange}
+use Rattle.rec_run.specs.Control.{Given, Answered, EndsControl}
+use Rattle.rec_run.specs.Jobs.{channels_of_jobs, AreInRange}
+use Rattle.rec_run.specs.Threads.{WroteIn}
 use Rattle.rec_run.specs.Recorded.{IsRecorded, IsCutShort, IsControlled}
 use Rattle.rec_run.specs.Reports.{Tells}
-use Rattle.rec_run.specs.declared.change.Logged.{Logged}
+use Rattle.rec_run.specs.declared.control.change.Logged.{Logged}
 use Rattle.rec_run.specs.declared.job.Job.{Job}
-use Rattle.rec_run.specs.declared.joined.Joined.{Joined}
-use Rattle.rec_run.specs.declared.outcome.Outcome.{Outcome}
+use Rattle.rec_run.specs.declared.threads.joins.Joined.{Joined}
+use Rattle.rec_run.specs.declared.threads.Outcome.{Outcome}
 use Rattle.rec_run.specs.declared.report.ChannelReport.{ChannelReport}
 use Rattle.rec_run.specs.declared.report.Done.{Done}
 use Rattle.rec_run.specs.declared.report.Report.{Report}

@@ -1,11 +1,16 @@
 //! Who gives changes and is told the answers.
+pub(crate) mod agreement;
+pub(crate) mod change;
+pub(crate) mod log;
+pub(crate) mod promise;
+pub(crate) mod thread;
 
-use crate::change::{Change, Told};
+use crate::control::change::{Change, Told};
 
 /// Gives the changes of the filters while a recording goes on, and is told what became of each.
 pub trait Control {
     ghost use Rattle.std.specs.Prelude.{ℕ, ◌≡◌, ◌+◌, List, [], ◌∷◌, ◌++◌, length, Bool, true, false, IfSome, IfNone};
-    ghost use Rattle.rec_run.specs.Changes.{Given, Answered, given_of, answered_of, IsOfLast, MayBeAsked};
+    ghost use Rattle.rec_run.specs.Control.{Given, Answered, given_of, answered_of, IsOfLast, MayBeAsked};
 
     // The changes that it gave, in order.
     ghost given: { Self → List Given };

@@ -46,7 +46,7 @@ pub(crate) enum WorkerEnd {
 
 impl WorkerEnd {
     ghost use Rattle.std.specs.Prelude.{◌≡◌, ◌↔◌, IsTrue};
-    ghost use Rattle.rec_run.specs.Ends.{IsOverThen, IsEnded, ending_of};
+    ghost use Rattle.rec_run.specs.Endings.{IsOverThen, HasEnding, worker_ending_of};
 
     /// Whether the channel is over.
     pub(crate) fn is_over(self) -> bool
@@ -60,7 +60,7 @@ impl WorkerEnd {
 
     /// Whether the channel has an ending.
     pub(crate) fn is_ended(self) -> bool
-        ensures { IsTrue result ↔ IsEnded self }
+        ensures { IsTrue result ↔ HasEnding self }
     {
         match self {
             WorkerEnd::Ended(_) => true,
@@ -70,7 +70,7 @@ impl WorkerEnd {
 
     /// The channel's ending; [`Ending::Stopped`] where it has none.
     pub(crate) fn ending(self) -> Ending
-        ensures { result ≡ ending_of self }
+        ensures { result ≡ worker_ending_of self }
     {
         match self {
             WorkerEnd::Ended(ending) => ending,

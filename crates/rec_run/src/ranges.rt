@@ -2,14 +2,14 @@
 
 ghost use Rattle.std.specs.Prelude.{◌<◌, ◌^◌};
 ghost use Rattle.rec_lane.specs.Settings.{spec_data};
-ghost use Rattle.rec_run.specs.Ranges.{AreSettings, IsJob};
+ghost use Rattle.rec_run.specs.Jobs.{AreLaneSettings, IsJob};
 
 use crate::job::Job;
 use rec_lane::LaneSpec;
 
 /// Law: what a lane is set to is in range by its type.
 pub fn a_lane_is_in_range(spec: LaneSpec)
-    ensures { AreSettings (spec_data spec) }
+    ensures { AreLaneSettings (spec_data spec) }
 {
     let _limit = spec.limit.get();
 }

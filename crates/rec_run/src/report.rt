@@ -1,12 +1,21 @@
-//! What is told of a recording.
+//! What is known of a recording once it has ended.
 
-use crate::ending::Ending;
+ghost use Rattle.std.specs.Prelude.{IfSome};
+ghost use Rattle.rec_run.specs.Reports.{Tells};
+
+use crate::control::agreement::are_answered;
+use crate::control::change::Logged;
+use crate::ending::{Ending, WorkerEnd};
+use crate::threads::joins::Joined;
+use crate::worker::served::are_served;
+use crate::worker::thread::WorkerDone;
 use bpf_verify::Verified;
+use rec_channel::{Parts, Slot};
 use rec_writer::WriteFault;
 use std::alloc::{AllocError, Global};
 use std::sync::Arc;
 
-/// What is told of a channel.
+/// A channel, as it was recorded.
 #[derive(Drop)]
 pub struct ChannelReport<S: Drop> {
     /// The channel ID.
@@ -25,7 +34,7 @@ pub struct ChannelReport<S: Drop> {
     pub source: S,
 }
 
-/// What is told of a recording.
+/// A recording, channel by channel.
 #[derive(Drop)]
 pub struct Report<S: Drop> {
     /// Its channels, in the order of the jobs.
@@ -39,7 +48,7 @@ pub struct Report<S: Drop> {
 /// A recording that ended.
 #[derive(Drop)]
 pub struct Done<S: Drop, C: Drop, W: Drop> {
-    /// What is told of it.
+    /// Its channels and its numbers.
     pub report: Report<S>,
     /// The control, which has ended.
     pub control: C,
@@ -58,7 +67,7 @@ pub enum RunFault<S: Drop, C: Drop, W: Drop> {
     Write {
         /// What failed, and how much went out.
         fault: WriteFault,
-        /// What is told of the recording.
+        /// The channels as far as they were recorded, and the numbers of what went out.
         report: Report<S>,
         /// The control.
         control: C,
@@ -81,4 +90,45 @@ impl<S: Drop, C: Drop, W: Drop> From<AllocError> for RunFault<S, C, W> {
     fn from(_: AllocError) -> RunFault<S, C, W> {
         RunFault::Memory
     }
+}
+
+/// The report of a channel; `None` where the worker, the slot and the log don't agree.
+pub(crate) fn report_of<S: Drop>(
+    joined: Joined<S>,
+    slot: Slot,
+    log: &[Logged],
+) -> Option<ChannelReport<S>>
+    ensures { IfSome result (Tells joined log.now) }
+{
+    let Parts {
+        versions,
+        marks,
+        offered,
+    } = slot.into_parts();
+    let (programs, numbers) = (versions.as_slice(), marks.as_slice());
+    let Joined { channel, done, .. } = joined;
+    if done.end == WorkerEnd::History || done.offered != offered {
+        return None;
+    }
+    if !are_served(done.met.as_slice(), programs, numbers, offered) {
+        return None;
+    }
+    if !are_answered(channel, &done.program, programs, numbers, log) {
+        return None;
+    }
+    let WorkerDone {
+        source,
+        kept,
+        end,
+        ..
+    } = done;
+    Some(ChannelReport {
+        channel,
+        versions,
+        marks,
+        offered,
+        kept,
+        ending: end.ending(),
+        source,
+    })
 }

@@ -1,23 +1,23 @@
 //! The threads of a recording: their start, the writing, and their end.
+pub(crate) mod joins;
+pub(crate) mod prepared;
+pub(crate) mod setup;
 
 ghost use Rattle.std.specs.Prelude.{◌≡◌, List, Option, ℕ, IfOk};
-ghost use Rattle.rec_run.specs.Setup.{jobs_in};
-ghost use Rattle.rec_run.specs.Changes.{MayBeAsked};
-ghost use Rattle.rec_run.specs.Controlling.{EndsControl};
-ghost use Rattle.rec_run.specs.Outcomes.{IsPrepared, MayStart, IsOutcome};
+ghost use Rattle.rec_run.specs.Threads.{jobs_in, IsPrepared, MayStart, IsOutcome};
+ghost use Rattle.rec_run.specs.Control.{MayBeAsked, EndsControl};
 
-use crate::change::Logged;
 use crate::control::Control;
-use crate::control_promise::start_control;
-use crate::joined::Joined;
-use crate::joining::join_all;
-use crate::line::Line;
-use crate::outcome::Outcome;
-use crate::prepared::Prepared;
-use crate::setup::start_all;
-use crate::tape::Tape;
-use crate::waiting::set_stop;
-use crate::writing::write_all;
+use crate::control::change::Logged;
+use crate::control::promise::start_control;
+use crate::control::thread::Controlled;
+use crate::stop::set_stop;
+use crate::threads::joins::{Joined, join_all};
+use crate::threads::prepared::Prepared;
+use crate::threads::setup::start_all;
+use crate::writer::line::Line;
+use crate::writer::tape::Tape;
+use crate::writer::{Wrote, write_all};
 use eth_frame::FrameSource;
 use rec_channel::SharedSlot;
 use std::alloc::AllocError;
@@ -25,6 +25,15 @@ use std::io::Write;
 use std::sync::Wait;
 use std::sync::atomic::AtomicU64;
 use std::thread::{self, Scope, Threads};
+
+/// What the threads have left.
+#[derive(Drop)]
+pub(crate) struct Outcome<S: Drop, C: Drop, W: Write + Drop> {
+    pub(crate) joined: Vec<Joined<S>>,
+    pub(crate) controlled: Controlled<C>,
+    pub(crate) tape: Tape<W>,
+    pub(crate) wrote: Wrote,
+}
 
 /// Runs the threads of a recording until all have ended. `Err` tells that one did not start.
 pub(crate) fn run_threads<

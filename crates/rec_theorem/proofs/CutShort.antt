@@ -9,11 +9,11 @@ use Rattle.ch11_packet.proofs.Lengths.{length-packet}
 use Rattle.rec_lane.specs.Offered.{accepted}
 use Rattle.rec_lane.specs.Pieces.{PieceData, channel_of}
 use Rattle.rec_lane.proofs.Meeting.{heads}
-use Rattle.rec_writer.specs.Encoding.{packet_of, packet_channel, next_sequence, piece_bytes, piece_header, writer_output}
+use Rattle.rec_writer.specs.Encoding.{piece_packet, packet_channel, next_sequence, piece_bytes, piece_header, writer_output}
 use Rattle.rec_writer.specs.Recording.{RecordedChannel, is_of}
 use Rattle.rec_reader.specs.declared.fault.ReadFaultKind.TheVariants.{Truncated}
-use Rattle.rec_reader.specs.Packets.{PacketData, StandsFirst}
-use Rattle.rec_reader.specs.Reading.{IsCut as IsCutPacket, Reads}
+use Rattle.rec_reader.specs.Packets.{PacketData, PacketStandsFirst}
+use Rattle.rec_reader.specs.Reading.{IsTruncated as IsCutPacket, Reads}
 use Rattle.rec_reader.specs.ChannelFrames.{channel_frames}
 use Rattle.rec_reader.proofs.Cuts.{reads_as_front}
 use Rattle.rec_theorem.specs.Recordable.{IsRecordable, AreRecordable}
@@ -63,7 +63,7 @@ front_read_back one channels front rest back =
 -- ---- a part of a packet
 
 -- whole packets are not shorter than themselves
-too_long : (packet x : PacketData) (cut more_bytes : List ℕ) (xs more : List PacketData) → packet ∷ [] ≡ (x ∷ xs) ++ more → length cut < packet.header.packet_len → StandsFirst 0 x cut more_bytes → ⊥
+too_long : (packet x : PacketData) (cut more_bytes : List ℕ) (xs more : List PacketData) → packet ∷ [] ≡ (x ∷ xs) ++ more → length cut < packet.header.packet_len → PacketStandsFirst 0 x cut more_bytes → ⊥
 too_long packet x cut more_bytes xs more whole short first =
     let same : packet ≡ x = heads packet x [] (xs ++ more) whole in
     let long = first.spelled.long in
@@ -80,10 +80,10 @@ part_of packet cut (x ∷ xs) more whole short (inl reads) = absurd (too_long pa
 part_of packet cut (x ∷ xs) more whole short (inr reads) = absurd (too_long packet x cut reads.held.0 xs more whole short reads.held.1)
 
 -- a proper beginning of a piece's packet is empty, or a packet that is cut
-part_read : (version sequence : ℕ) (piece : PieceData) (cut rest : List ℕ) → IsWritable piece → version < 2 ^ 8 → sequence < 2 ^ 8 → cut ++ rest ≡ packet_of piece version sequence → rest ≢ [] → (cut ≡ []) ⊎ IsCutPacket cut
+part_read : (version sequence : ℕ) (piece : PieceData) (cut rest : List ℕ) → IsWritable piece → version < 2 ^ 8 → sequence < 2 ^ 8 → cut ++ rest ≡ piece_packet piece version sequence → rest ≢ [] → (cut ≡ []) ⊎ IsCutPacket cut
 part_read version sequence piece cut rest is small fits whole some =
     let packet = read_packet WithSum piece version sequence 0 in
-    let bytes = packet_of piece version sequence in
+    let bytes = piece_packet piece version sequence in
     let reads : Reads (cut ++ rest) (packet ∷ []) None = record {
       rest = [];
       held = ([], record { place = refl; spelling = bytes; spelled = spells_piece WithSum piece version sequence 0 is small fits; whole = whole ∙ sym (append-nil bytes) }, refl);

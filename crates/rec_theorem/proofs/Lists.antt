@@ -9,7 +9,7 @@ pub All_front : {X : Type 0} (P : X → Type 0) (xs ys : List X) → All P (xs +
 All_front P [] ys all = All-nil P
 All_front P (x ∷ xs) ys all = All-cons P x xs (All-head P x (xs ++ ys) all) (All_front P xs ys (All-tail P x (xs ++ ys) all))
 
--- the same of the second list
+-- and of the second list
 pub All_back : {X : Type 0} (P : X → Type 0) (xs ys : List X) → All P (xs ++ ys) → All P ys
 All_back P [] ys all = all
 All_back P (x ∷ xs) ys all = All_back P xs ys (All-tail P x (xs ++ ys) all)

@@ -1,5 +1,7 @@
 -- The pieces of a channel, one after the other, pass the audit: versions and first frames rise, the
 -- last program accepts each frame, and the end comes last, with counts that are right.
+-- idea: by recursion over the groups of a channel, with what the audit keeps after those before: the last program, the
+-- counts, and that no end was seen; packets of other channels change none of these.
 use Rattle.std.proofs.Common.{ℕ, ◌+◌, ◌≡◌, ◌≢◌, ◌≤◌, ◌<◌, ◌==◌, true, false, inl, inr, List, [], ◌∷◌, ◌++◌, length, map, Option, Some, None, All, refl, sym, ap, subst, ◌∙◌, arith}
 use Rattle.std.specs.Prelude.{slice_get, not}
 use Rattle.std.specs.List.{flat_map, filter, last_or}
@@ -17,14 +19,14 @@ use Rattle.rec_channel.specs.History.{Version}
 use Rattle.rec_channel.specs.Slots.{programs_in}
 use Rattle.rec_lane.specs.Offered.{OfferedFrame, MetFrom, AllMet, accepted, is_accepted}
 use Rattle.rec_lane.specs.Packets.{packets}
-use Rattle.rec_lane.specs.Pieces.{LaneSettings, PieceData, groups, has_version, AreGroups, data_piece, group_pieces, end_piece, channel_pieces}
+use Rattle.rec_lane.specs.Pieces.{LaneSettings, PieceData, groups, has_group_version, AreGroups, data_piece, group_pieces, end_piece, channel_pieces}
 use Rattle.rec_lane.specs.Pieces.PieceData.{OfProgram, OfFrames, OfEnd}
 use Rattle.rec_lane.proofs.Contents.{parts_whole}
 use Rattle.rec_lane.proofs.Groups.{groups_are}
 use Rattle.rec_lane.proofs.Meeting.{some_is}
 use Rattle.rec_reader.specs.declared.audits.channel.ChannelProgram.{ChannelProgram}
 use Rattle.rec_reader.specs.declared.audits.channel.ChannelEnd.{ChannelEnd}
-use Rattle.rec_reader.specs.Audits.{Accepts, Follows, IsJudgement, WereOffered, HasCounts}
+use Rattle.rec_reader.specs.Audits.{Accepts, FollowsProgram, IsJudgement, WereOffered, HasCounts}
 use Rattle.rec_theorem.proofs.Lists.{All_back, All_front, All_parts, All_flat, All_with}
 use Rattle.rec_theorem.proofs.Spelled.{said_by}
 use Rattle.rec_theorem.proofs.Writable.{IsKnown, kept_of}
@@ -33,7 +35,7 @@ use Rattle.rec_theorem.proofs.Writable.{IsKnown, kept_of}
 abbrev pub PassFrom : Option ChannelProgram → List PieceData → Type 0
 PassFrom last [] = Unit {0}
 PassFrom last (OfProgram channel counter version first program ∷ pieces) =
-    Follows last (record { version = version; first = first; insns = program }) × Valid program
+    FollowsProgram last (record { version = version; first = first; insns = program }) × Valid program
     × PassFrom (Some (record { version = version; first = first; insns = program })) pieces
 PassFrom last (OfFrames channel body ∷ pieces) =
     (program : ChannelProgram) × (last ≡ Some program)
@@ -129,7 +131,7 @@ met_back history number (f ∷ fs) gs met = subst (λ n. MetFrom history n gs) (
 -- the program of the first frame may come next
 abbrev Goes : Option ChannelProgram → List OfferedFrame → Type 0
 Goes last [] = Unit {0}
-Goes last (f ∷ fs) = Follows last (program_in f)
+Goes last (f ∷ fs) = FollowsProgram last (program_in f)
 
 -- versions never fall from one frame to a later one
 versions_rise : (history : List Version) (count : ℕ) (f x : OfferedFrame) → IsKnown history count f → IsKnown history count x → f.number ≤ x.number → f.version ≤ x.version
@@ -280,5 +282,5 @@ channel_counts s history offered known = record {
   kept_of = kept_of offered;
   offered = subst (λ ps. WereOffered (last_or None ps) (length offered)) (sym (channel_programs s offered))
       (were_offered history offered (groups offered) (groups_are offered)
-      (All_parts (IsKnown history (length offered)) (groups offered) (subst (All (IsKnown history (length offered))) (sym (parts_whole has_version offered)) known)));
+      (All_parts (IsKnown history (length offered)) (groups offered) (subst (All (IsKnown history (length offered))) (sym (parts_whole has_group_version offered)) known)));
 }

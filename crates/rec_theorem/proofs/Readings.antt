@@ -11,7 +11,7 @@ use Rattle.ch11_packet.specs.PacketLen.{written_len}
 use Rattle.rec_lane.specs.Pieces.{PieceData}
 use Rattle.rec_writer.specs.Encoding.{packet_channel, next_sequence, piece_bytes, packet_in, output_in, writer_output}
 use Rattle.rec_writer.specs.Recording.{is_of}
-use Rattle.rec_reader.specs.Packets.{PacketData, Begins}
+use Rattle.rec_reader.specs.Packets.{PacketData, BeginsPackets}
 use Rattle.rec_reader.specs.Reading.{Reads}
 use Rattle.rec_reader.specs.ChannelFrames.{channel_frames}
 use Rattle.rec_theorem.proofs.Spelled.{IsWritable, read_packet, spells_piece, frames_read, Reflects, reflects}
@@ -32,7 +32,7 @@ pub sequence_fits : (earlier : List PieceData) (channel : ℕ) → next_sequence
 sequence_fits earlier channel = omega arith
 
 -- the bytes of pieces, and then any others, begin with the packets of the pieces
-pub they_begin : (profile : Profile) (version at : ℕ) (earlier pieces : List PieceData) (tail : List ℕ) → version < 2 ^ 8 → All IsWritable pieces → Begins at (packets_after profile version at earlier pieces) (output_in profile version earlier pieces ++ tail) tail
+pub they_begin : (profile : Profile) (version at : ℕ) (earlier pieces : List PieceData) (tail : List ℕ) → version < 2 ^ 8 → All IsWritable pieces → BeginsPackets at (packets_after profile version at earlier pieces) (output_in profile version earlier pieces ++ tail) tail
 they_begin profile version at earlier [] tail small all = refl
 they_begin profile version at earlier (p ∷ ps) tail small all =
     let sequence = next_sequence earlier (packet_channel p) in

@@ -8,7 +8,7 @@ use Rattle.eth_frame.specs.Frame.{FrameData}
 use Rattle.ch11_packet.specs.FramesRead.{body_frame}
 use Rattle.rec_lane.specs.Offered.{OfferedFrame, accepted}
 use Rattle.rec_lane.specs.Packets.{packets}
-use Rattle.rec_lane.specs.Pieces.{LaneSettings, PieceData, channel_of, frames_in, groups, program_piece, data_piece, group_pieces, end_piece, channel_pieces, ArePieces}
+use Rattle.rec_lane.specs.Pieces.{LaneSettings, PieceData, channel_of, piece_frames, groups, program_piece, data_piece, group_pieces, end_piece, channel_pieces, ArePieces}
 use Rattle.rec_lane.proofs.Contents.{pieces_frames}
 use Rattle.rec_writer.specs.Recording.{RecordedChannel, AreOfChannels, is_of}
 use Rattle.rec_reader.specs.Packets.{PacketData}
@@ -62,7 +62,7 @@ writable_pieces channels pieces are of =
 
 -- a piece's frames are read with the channel's network identifier and speed
 abbrev ReadsAs : LaneSettings → PieceData → Type 0
-ReadsAs s piece = frames_read piece ≡ read_frames s (frames_in piece)
+ReadsAs s piece = frames_read piece ≡ read_frames s (piece_frames piece)
 
 -- a program has no frames
 program_reads : (s : LaneSettings) (group : List OfferedFrame) → All (ReadsAs s) (program_piece s group)
@@ -90,12 +90,12 @@ pieces_read s offered =
     (All-cons (ReadsAs s) (end_piece s offered) [] refl (All-nil (ReadsAs s)))
 
 -- so their frames are read as the channel's
-pub read_as : (s : LaneSettings) (pieces : List PieceData) → All (ReadsAs s) pieces → flat_map frames_read pieces ≡ read_frames s (flat_map frames_in pieces)
+pub read_as : (s : LaneSettings) (pieces : List PieceData) → All (ReadsAs s) pieces → flat_map frames_read pieces ≡ read_frames s (flat_map piece_frames pieces)
 read_as s [] all = refl
 read_as s (p ∷ ps) all =
     ap (λ fs. fs ++ flat_map frames_read ps) (All-head (ReadsAs s) p ps all)
-    ∙ (ap (λ fs. read_frames s (frames_in p) ++ fs) (read_as s ps (All-tail (ReadsAs s) p ps all))
-    ∙ sym (map-append (body_frame s.net s.speed) (frames_in p) (flat_map frames_in ps)))
+    ∙ (ap (λ fs. read_frames s (piece_frames p) ++ fs) (read_as s ps (All-tail (ReadsAs s) p ps all))
+    ∙ sym (map-append (body_frame s.net s.speed) (piece_frames p) (flat_map piece_frames ps)))
 
 -- the frames that are read of all pieces of a channel are its accepted ones
 pub channel_read : (s : LaneSettings) (offered : List OfferedFrame) → flat_map frames_read (channel_pieces s offered) ≡ read_frames s (accepted offered)

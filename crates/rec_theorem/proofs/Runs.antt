@@ -1,4 +1,6 @@
 -- From what a run says of its jobs to what is found of them.
+-- idea: what a run says of each job is what the law of readings asks of a channel; its frames are then found, and the
+-- endings and the changes of the control say which they are.
 use Rattle.std.proofs.Common.{◌≢◌, ℕ, suc, ◌^◌, ◌≡◌, ◌<◌, inl, inr, Bool, List, [], ◌∷◌, ◌++◌, length, take, drop, Option, None, Some, All, Contains, refl, sym, ap, subst, ◌∙◌, arith}
 use Rattle.std.specs.Prelude.{IfSome}
 use Rattle.std.specs.Arc.{arc_value}
@@ -11,7 +13,7 @@ use Rattle.eth_frame.specs.Source.{Left}
 use Rattle.eth_frame.specs.declared.source.SourceEnding.{SourceEnding}
 use Rattle.rec_channel.specs.History.{Version, IsHistory}
 use Rattle.rec_lane.specs.Offered.{AreAccepted}
-use Rattle.rec_lane.specs.Parts.{Begins}
+use Rattle.rec_lane.specs.Parts.{BeginsList}
 use Rattle.rec_lane.specs.Pieces.{LaneSettings, PieceData, channel_of}
 use Rattle.rec_writer.specs.Encoding.{writer_output}
 use Rattle.rec_writer.specs.Recording.{RecordedChannel, IsRecording}
@@ -19,8 +21,8 @@ use Rattle.rec_writer.specs.declared.fault.WriteFault.{WriteFault}
 use Rattle.rec_reader.specs.Packets.{PacketData}
 use Rattle.rec_reader.specs.ChannelFrames.{channel_frames}
 use Rattle.rec_reader.proofs.ListSplits.{first_of, later_of, first_or_later, none_in}
-use Rattle.rec_run.specs.Answering.{IsChanged}
-use Rattle.rec_run.specs.Changes.{Given, Answered}
+use Rattle.rec_run.specs.Control.{IsChanged}
+use Rattle.rec_run.specs.Control.{Given, Answered}
 use Rattle.rec_run.specs.Endings.{AreFirst, AreTaken, AreAll, EndsAs}
 use Rattle.rec_run.specs.Jobs.{channels_of_jobs}
 use Rattle.rec_run.specs.Recorded.{IsCutShort}
@@ -39,7 +41,7 @@ use Rattle.rec_theorem.specs.Theorem.{HasRecorded, HasBeenCut, HasTaken, FindsJo
 -- ---- the frames that were taken
 
 -- a beginning of a list is as many of its elements as it has
-begins_taken : {X : Type 0} (taken told : List X) (n : ℕ) → n ≡ length taken → Begins taken told → taken ≡ take n told
+begins_taken : {X : Type 0} (taken told : List X) (n : ℕ) → n ≡ length taken → BeginsList taken told → taken ≡ take n told
 begins_taken taken told n count begins = sym (ap (λ l. take n l) (sym begins.1) ∙ take_at taken begins.0 n (sym count))
 
 -- frames that the source said first are as many of its first ones
@@ -171,7 +173,7 @@ module _ {S : Type 0} (left : S → Option Left) (failures : S → ℕ) (ended_a
     unfolding taken_of
     begins_job packets job r c has report = record {
       frames = taken_of job r c has.kept has.accepted report;
-      begins = subst (λ (s : LaneSettings). Begins (channel_frames s.channel packets) (read_frames s has.kept)) report.settings_are has.begins;
+      begins = subst (λ (s : LaneSettings). BeginsList (channel_frames s.channel packets) (read_frames s has.kept)) report.settings_are has.begins;
     }
 
     pub begins_each : (packets : List PacketData) (jobs : List (Job S)) (reports : List (ChannelReport S)) (channels : List RecordedChannel) → All (BeginsAccepted packets) channels → AreReports left failures ended_as jobs reports channels → AllZip (BeginsJob left packets) jobs reports

@@ -9,7 +9,7 @@ use Rattle.eth_frame.specs.Frame.{FrameData}
 use Rattle.rec_channel.specs.History.{Version, IsHistory}
 use Rattle.rec_lane.specs.Offered.{OfferedFrame, AllMet, frames_of}
 use Rattle.rec_lane.specs.Pieces.{PieceData, channel_of, channel_pieces, ArePieces}
-use Rattle.rec_writer.specs.Numbers.{AreDistinct}
+use Rattle.rec_writer.specs.Numbers.{AreDistinctChannels}
 use Rattle.rec_writer.specs.Recording.{RecordedChannel, is_of, AreOfChannels}
 use Rattle.rec_core.proofs.Serving.{OfTheirChannel}
 use Rattle.rec_theorem.specs.Existence.{channel_ids}
@@ -89,13 +89,13 @@ module _ (c : RecordedChannel) (cs : List RecordedChannel) (own : Own c) (rest :
 -- ---- all channels
 
 -- the first ID is none of the others
-first_apart : (c : RecordedChannel) (cs : List RecordedChannel) → AreDistinct (channel_ids (c ∷ cs)) → All (λ (d : RecordedChannel). d.settings.channel ≢ c.settings.channel) cs
+first_apart : (c : RecordedChannel) (cs : List RecordedChannel) → AreDistinctChannels (channel_ids (c ∷ cs)) → All (λ (d : RecordedChannel). d.settings.channel ≢ c.settings.channel) cs
 first_apart c cs distinct = λ k d within same.
     let id : RecordedChannel → ℕ = λ x. x.settings.channel in
     let long = length-map cs id in
     distinct 0 (suc k) (id d) (omega arith) (omega (arith, within, long)) (sym same ∙ sym (get_or-map id cs k d (id d) within))
 
-pub some_pieces : SomeOffered → OfTheirChannel → (channels : List RecordedChannel) → AreRecordable channels → AreDistinct (channel_ids channels) → (pieces : List PieceData) × AreOfChannels channels pieces
+pub some_pieces : SomeOffered → OfTheirChannel → (channels : List RecordedChannel) → AreRecordable channels → AreDistinctChannels (channel_ids channels) → (pieces : List PieceData) × AreOfChannels channels pieces
 some_pieces some theirs [] are distinct = ([], record { named = All-nil (λ (p : PieceData). Any (λ (d : RecordedChannel). d.settings.channel ≡ channel_of p) []); each = All-nil (λ (d : RecordedChannel). ArePieces d.settings d.frames d.history []) })
 some_pieces some theirs (c ∷ cs) are distinct =
     let own = own_pieces some theirs c (All-head IsRecordable c cs are) in

@@ -9,7 +9,7 @@ use Rattle.eth_frame.specs.Frame.{FrameData, IsFrame}
 use Rattle.rec_channel.specs.History.{Version}
 use Rattle.rec_channel.specs.Slots.{programs_in}
 use Rattle.rec_lane.specs.Pieces.{PieceData, channel_of}
-use Rattle.rec_writer.specs.Numbers.{AreDistinct}
+use Rattle.rec_writer.specs.Numbers.{AreDistinctChannels}
 use Rattle.rec_writer.specs.Recording.{RecordedChannel, AreOfChannels}
 use Rattle.rec_core.specs.Openings.{SpecData, AreSpecs, channels_of_specs}
 use Rattle.rec_core.specs.Ties.{takes_of, moves_from, moves_of, close_of, passes_of, events_of, unrefused, IsOfSpec, IsRunOfWorld}
@@ -82,6 +82,6 @@ are_events channels pieces are =
 pub some_world : RecordingIsRun → SomeOffered → OfTheirChannel → (ring : ℕ) (channels : List RecordedChannel) → 0 < ring → AreRecordable channels → AreSpecs (specs_of channels)
     → (new : WorldState) × (run : RunsFromOpening ring (specs_of channels) new) × All IsEvent run.0 × AreEnded new × (recorded_channels new ≡ channels)
 some_world law some theirs ring channels room are specs =
-    let pieces = some_pieces some theirs channels are (subst (λ ids. AreDistinct ids) (same_ids channels) specs.distinct) in
+    let pieces = some_pieces some theirs channels are (subst (λ ids. AreDistinctChannels ids) (same_ids channels) specs.distinct) in
     let run = law ring (specs_of channels) channels pieces.0 room specs (of_specs channels are) pieces.1 in
     (run.new, (events_of channels pieces.0, unrefused run.replies, run.are_specs, run.filters, run.run), are_events channels pieces.0 are, run.ended, run.channels_are)

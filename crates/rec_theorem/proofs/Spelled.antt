@@ -1,5 +1,7 @@
 -- The packet of one piece as a reader has it, in either profile: its bytes spell a packet, whose
 -- frames and whose saying are those of the piece.
+-- idea: the writer's packet and the reader's are the same bytes by definition; what is left is that the fields which the
+-- reader takes out of them are those which the writer put in, kind by kind of a piece.
 use Rattle.std.proofs.Common.{ℕ, ◌+◌, ◌%◌, ◌^◌, ◌≡◌, ◌≤◌, ◌<◌, ◌==◌, List, [], ◌++◌, length, map, Some, true, false, refl, sym, ap, subst, ◌∙◌, arith}
 use Rattle.std.specs.Prelude.{if◌then◌else◌}
 use Rattle.std.proofs.lemmas.List.{take_at, length-map}

@@ -1,5 +1,7 @@
 -- The channels of a world to which events led can be recorded, and an output that failed has the
 -- beginning of their recording.
+-- idea: numbers in range stay so with each event, since each count grows by one and is bounded by what it counts; so the
+-- channels of every world that events lead to are those of a recording.
 use Rattle.std.proofs.Common.{Some, true, ℕ, ◌^◌, ◌≡◌, ◌<◌, inl, inr, List, [], ◌∷◌, ◌++◌, length, map, All, refl, sym, subst, arith}
 use Rattle.std.specs.Prelude.{slice_set, Result, Ok, Err}
 use Rattle.std.specs.List.{Any}
@@ -21,7 +23,7 @@ use Rattle.rec_core.specs.declared.reply.Reply.TheVariants.{Took, Installed, Sen
 use Rattle.rec_core.specs.declared.fault.CoreFault.{CoreFault}
 use Rattle.rec_core.specs.declared.fault.CoreFault.TheVariants.{NoChannel}
 use Rattle.rec_core.specs.Openings.{SpecData}
-use Rattle.rec_core.specs.World.{ChannelState, WorldState, EventData, Does, IsInOrder, WorldStep, WorldRun, opening_channel, opening_world, piece_written, world_after}
+use Rattle.rec_core.specs.World.{ChannelState, WorldState, EventData, ChannelDoes, IsInOrder, WorldStep, WorldRun, opening_channel, opening_world, piece_written, world_after}
 use Rattle.rec_core.specs.World.EventData.{OfTake, OfInstall, OfSend, OfWrite, OfClose}
 use Rattle.rec_core.specs.Worlds.{CoreState, StandsForWorld}
 use Rattle.rec_core.specs.Written.{RunsFromOpening, recorded_channel, recorded_channels, IsCutShort}
@@ -30,7 +32,7 @@ use Rattle.rec_core.proofs.Meeting.{LaterLeave}
 use Rattle.rec_core.proofs.Serving.{OfTheirChannel, BeginAll}
 use Rattle.rec_core.proofs.Written.{Named, SoundWorld, ids, reached, held_after}
 use Rattle.rec_run.specs.Recorded.{IsCutOf, BeginsChannel}
-use Rattle.rec_run.specs.Ranges.{AreSettings}
+use Rattle.rec_run.specs.Jobs.{AreLaneSettings}
 use Rattle.rec_theorem.specs.Recordable.{IsRecordable, AreRecordable}
 use Rattle.rec_theorem.specs.Cut.{IsCutRecording}
 use Rattle.rec_theorem.specs.Events.{IsSpec, IsEvent}
@@ -39,7 +41,7 @@ use Rattle.rec_theorem.specs.Events.{IsSpec, IsEvent}
 
 -- the channel's settings, its greatest number of frames and its frames are in range
 record IsFit (c : ChannelState) : Type 0 where
-  settings : AreSettings c.settings
+  settings : AreLaneSettings c.settings
   most : c.max < 2 ^ 64
   framed : All IsFrame (frames_of c.offered)
 
@@ -50,7 +52,7 @@ framed_more fs f all is =
     (All-append IsFrame (frames_of fs) (f.frame ∷ []) all (All-cons IsFrame f.frame [] is (All-nil IsFrame)))
 
 -- what a channel does keeps it in range, by cases on the event
-fit_after : (ring : ℕ) (c : ChannelState) (event : EventData) (reply : Reply) (d : ChannelState) (more : List PieceData) → Does ring c event reply d more → IsEvent event → IsFit c → IsFit d
+fit_after : (ring : ℕ) (c : ChannelState) (event : EventData) (reply : Reply) (d : ChannelState) (more : List PieceData) → ChannelDoes ring c event reply d more → IsEvent event → IsFit c → IsFit d
 fit_after ring c (OfTake channel frame) (Took number version value) d more does is fit =
     subst IsFit (sym does.8) (record { settings = fit.settings; most = fit.most; framed = framed_more c.offered does.0 fit.framed (subst IsFrame (sym does.4) is) })
 fit_after ring c (OfInstall channel program) (Installed version mark) d more does is fit = subst IsFit (sym does.4) (record { settings = fit.settings; most = fit.most; framed = fit.framed })

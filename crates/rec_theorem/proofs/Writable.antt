@@ -1,4 +1,6 @@
 -- Each piece of a channel that can be recorded has numbers that fit its packet.
+-- idea: each number of a packet is a count of frames, versions or bytes, which the channel's ranges bound, or comes from a
+-- frame, which has its own.
 use Rattle.std.proofs.Common.{ℕ, ◌+◌, ◌^◌, ◌≡◌, ◌≤◌, ◌<◌, Bool, true, false, List, [], ◌∷◌, length, map, Some, All, refl, sym, ap, subst, ◌∙◌, arith}
 use Rattle.std.specs.Prelude.{slice_get, if◌then◌else◌}
 use Rattle.std.specs.List.{flat_map, filter}
@@ -12,12 +14,12 @@ use Rattle.ch11_packet.proofs.Bodies.{few_frames}
 use Rattle.rec_channel.specs.History.{Version, IsHistory}
 use Rattle.rec_lane.specs.Offered.{OfferedFrame, Met, MetFrom, AllMet, frames_of, accepted, is_accepted}
 use Rattle.rec_lane.specs.Packets.{FitsLimit, AreLongestFronts, packets}
-use Rattle.rec_lane.specs.Pieces.{LaneSettings, has_version, groups, program_piece, data_piece, group_pieces, last_counter_from, end_piece, channel_pieces}
+use Rattle.rec_lane.specs.Pieces.{LaneSettings, has_group_version, groups, program_piece, data_piece, group_pieces, last_counter_from, end_piece, channel_pieces}
 use Rattle.rec_lane.proofs.Contents.{parts_whole}
 use Rattle.rec_lane.proofs.Fronts.{packets_longest}
 use Rattle.rec_core.proofs.Lists.{map_there, All_there}
 use Rattle.rec_writer.specs.Recording.{RecordedChannel}
-use Rattle.rec_run.specs.Ranges.{AreSettings}
+use Rattle.rec_run.specs.Jobs.{AreLaneSettings}
 use Rattle.rec_theorem.specs.Recordable.{IsRecordable}
 use Rattle.rec_theorem.proofs.Spelled.{IsWritable}
 use Rattle.rec_theorem.proofs.Lists.{All_parts, All_flat}
@@ -85,7 +87,7 @@ all_pack limit frames [] are = All-nil (Packs limit)
 all_pack limit frames (p ∷ ps) are = All-cons (Packs limit) p ps (are.1.fits, some_long p are.1.some) (all_pack limit are.0 ps are.2)
 
 -- a packet of such frames is writable: at 30 bytes and more for each frame they are few
-writable_packet : (s : LaneSettings) (frames : List FrameData) → AreSettings s → Packs s.limit frames → All IsFrame frames → IsWritable (data_piece s frames)
+writable_packet : (s : LaneSettings) (frames : List FrameData) → AreLaneSettings s → Packs s.limit frames → All IsFrame frames → IsWritable (data_piece s frames)
 writable_packet s frames is packs framed =
     let fits = packs.0 in
     let most = is.most in
@@ -101,7 +103,7 @@ writable_packet s frames is packs framed =
       is.channel_fits,
     )
 
-writable_packets : (s : LaneSettings) (ps : List (List FrameData)) → AreSettings s → All (Packs s.limit) ps → All (λ (p : List FrameData). All IsFrame p) ps → All IsWritable (map (data_piece s) ps)
+writable_packets : (s : LaneSettings) (ps : List (List FrameData)) → AreLaneSettings s → All (Packs s.limit) ps → All (λ (p : List FrameData). All IsFrame p) ps → All IsWritable (map (data_piece s) ps)
 writable_packets s [] is packs framed = All-nil IsWritable
 writable_packets s (p ∷ ps) is packs framed =
     All-cons IsWritable (data_piece s p) (map (data_piece s) ps)
@@ -116,7 +118,7 @@ accepted_framed history count group known =
 
 -- ---- the pieces of a group, and of a channel
 
-module _ (s : LaneSettings) (history : List Version) (count : ℕ) (is : AreSettings s) (few : count < 2 ^ 64) (versions : length history ≤ 1024) where
+module _ (s : LaneSettings) (history : List Version) (count : ℕ) (is : AreLaneSettings s) (few : count < 2 ^ 64) (versions : length history ≤ 1024) where
   -- a group's program is writable: it has at most 4,096 instructions
   writable_program : (group : List OfferedFrame) → All (IsKnown history count) group → All IsWritable (program_piece s group)
   writable_program [] known = All-nil IsWritable
@@ -172,7 +174,7 @@ module _ (s : LaneSettings) (history : List Version) (count : ℕ) (is : AreSett
       All-append IsWritable (flat_map (group_pieces s) (groups offered)) (end_piece s offered ∷ [])
       (All_flat IsWritable (group_pieces s) (groups offered)
       (All-weaker (λ (g : List OfferedFrame). All (IsKnown history count) g) (λ (g : List OfferedFrame). All IsWritable (group_pieces s g)) writable_group (groups offered)
-      (All_parts (IsKnown history count) (groups offered) (subst (All (IsKnown history count)) (sym (parts_whole has_version offered)) known))))
+      (All_parts (IsKnown history count) (groups offered) (subst (All (IsKnown history count)) (sym (parts_whole has_group_version offered)) known))))
       (All-cons IsWritable (end_piece s offered) [] (writable_end offered long kept known) (All-nil IsWritable))
 
 -- no more frames are accepted than are offered

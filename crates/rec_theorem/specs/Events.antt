@@ -6,12 +6,12 @@ use Rattle.rec_writer.specs.Writers.{WriterState}
 use Rattle.rec_core.specs.Openings.{SpecData}
 use Rattle.rec_core.specs.World.{EventData}
 use Rattle.rec_core.specs.World.EventData.{OfTake}
-use Rattle.rec_run.specs.Ranges.{AreSettings}
+use Rattle.rec_run.specs.Jobs.{AreLaneSettings}
 use Rattle.rec_theorem.specs.Found.{ReadsBack, ReadsBackCut}
 
 -- the settings are in range, and fewer than 2^64 frames may be taken
 pub record IsSpec (spec : SpecData) : Type 0 where
-  pub settings : AreSettings spec.settings
+  pub settings : AreLaneSettings spec.settings
   pub most : spec.max < 2 ^ 64
 
 -- if the event takes a frame, that is a frame

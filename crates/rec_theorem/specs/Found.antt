@@ -3,7 +3,7 @@ use Rattle.std.specs.Prelude.{ℕ, ◌≡◌, ◌⊎◌, List, map, All, None, S
 use Rattle.eth_frame.specs.Frame.{FrameData}
 use Rattle.ch11_packet.specs.FramesRead.{ReadFrameData, body_frame}
 use Rattle.rec_lane.specs.Offered.{AreAccepted}
-use Rattle.rec_lane.specs.Parts.{Begins}
+use Rattle.rec_lane.specs.Parts.{BeginsList}
 use Rattle.rec_lane.specs.Pieces.{LaneSettings}
 use Rattle.rec_writer.specs.Recording.{RecordedChannel}
 use Rattle.rec_reader.specs.declared.audits.answer.AuditFault.{AuditFault}
@@ -33,7 +33,7 @@ pub record HasAccepted (packets : List PacketData) (c : RecordedChannel) : Type 
 pub record BeginsAccepted (packets : List PacketData) (c : RecordedChannel) : Type 0 where
   pub kept : List FrameData
   pub accepted : AreAccepted c.history c.frames kept
-  pub begins : Begins (channel_frames c.settings.channel packets) (read_frames c.settings kept)
+  pub begins : BeginsList (channel_frames c.settings.channel packets) (read_frames c.settings kept)
 
 -- ---- the whole
 

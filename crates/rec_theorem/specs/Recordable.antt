@@ -5,12 +5,12 @@ use Rattle.eth_frame.specs.Frame.{IsFrame}
 use Rattle.rec_channel.specs.declared.limits.TheConstants.{MAX_VERSIONS}
 use Rattle.rec_channel.specs.History.{IsHistory}
 use Rattle.rec_writer.specs.Recording.{RecordedChannel}
-use Rattle.rec_run.specs.Ranges.{AreSettings}
+use Rattle.rec_run.specs.Jobs.{AreLaneSettings}
 
 -- the channel can be recorded: its settings are in range, its frames are frames, fewer than 2^64 of
 -- them, and its history is one of at most 1,024 versions
 pub record IsRecordable (c : RecordedChannel) : Type 0 where
-  pub settings : AreSettings c.settings
+  pub settings : AreLaneSettings c.settings
   pub framed : All IsFrame c.frames
   pub few_frames : length c.frames < 2 ^ 64
   pub history : IsHistory (length c.frames) c.history

@@ -8,7 +8,7 @@ use Rattle.eth_frame.specs.declared.source.SourceEnding.{SourceEnding}
 use Rattle.rec_channel.specs.Slots.{programs_in}
 use Rattle.rec_channel.specs.declared.limits.TheConstants.{MAX_VERSIONS}
 use Rattle.rec_lane.specs.Offered.{AreAccepted}
-use Rattle.rec_lane.specs.Parts.{Begins}
+use Rattle.rec_lane.specs.Parts.{BeginsList}
 use Rattle.rec_lane.specs.Settings.{spec_data}
 use Rattle.rec_writer.specs.declared.fault.WriteFault.{WriteFault}
 use Rattle.rec_reader.specs.declared.fault.ReadFaultKind.{ReadFaultKind}
@@ -16,8 +16,8 @@ use Rattle.rec_reader.specs.declared.fault.ReadFaultKind.TheVariants.{Truncated}
 use Rattle.rec_reader.specs.Packets.{PacketData}
 use Rattle.rec_reader.specs.Reading.{Reads}
 use Rattle.rec_reader.specs.ChannelFrames.{channel_frames}
-use Rattle.rec_run.specs.Answering.{given_for, programs_given}
-use Rattle.rec_run.specs.Changes.{Given, Answered}
+use Rattle.rec_run.specs.Control.{given_for, programs_given}
+use Rattle.rec_run.specs.Control.{Given, Answered}
 use Rattle.rec_run.specs.Jobs.{channels_of_jobs}
 use Rattle.rec_run.specs.Recorded.{IsRecorded, IsControlled, IsCutShort}
 use Rattle.rec_run.specs.Reports.{history_of}
@@ -108,7 +108,7 @@ module _ {S : Type 0} (left : S → Option Left) where
     pub no_others : FindsNoOthers jobs packets
     pub approved : IsApproved packets
 
-  -- the same by what the reader's calls say: `read_recording` answers no fault of the bytes; at `Ok`
+  -- what the reader's calls answer of the recording: `read_recording` answers no fault of the bytes; at `Ok`
   -- the recording that it gives has the accepted frames of each job, which `frames_of` gives; and
   -- `audit` of it answers no fault, unless memory ran out
   pub record IsAnswered
@@ -127,7 +127,7 @@ module _ {S : Type 0} (left : S → Option Left) where
   pub record BeginsJob (packets : List PacketData) (job : Job S) (report : ChannelReport S)
       : Type 0 where
     pub frames : HasTaken job report
-    pub begins : Begins (channel_frames job.spec.channel packets)
+    pub begins : BeginsList (channel_frames job.spec.channel packets)
         (read_frames (spec_data job.spec) frames.kept)
 
   -- the bytes are read as whole packets, and then end or are truncated, in no other way; and what is

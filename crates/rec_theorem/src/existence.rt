@@ -6,12 +6,12 @@ ghost use Rattle.eth_frame.specs.Frame.{FrameData, IsFrame};
 ghost use Rattle.rec_channel.specs.History.{Version};
 ghost use Rattle.rec_channel.specs.declared.limits.TheConstants.{MAX_VERSIONS};
 ghost use Rattle.rec_lane.specs.Pieces.{LaneSettings};
-ghost use Rattle.rec_writer.specs.Numbers.{AreDistinct};
+ghost use Rattle.rec_writer.specs.Numbers.{AreDistinctChannels};
 ghost use Rattle.rec_writer.specs.Recording.{RecordedChannel, IsRecording};
 ghost use Rattle.rec_core.specs.Openings.{AreSpecs, IsFilter};
 ghost use Rattle.rec_core.specs.World.{WorldState};
 ghost use Rattle.rec_core.specs.Written.{RunsFromOpening, AreEnded, recorded_channels};
-ghost use Rattle.rec_run.specs.Ranges.{AreSettings};
+ghost use Rattle.rec_run.specs.Jobs.{AreLaneSettings};
 ghost use Rattle.rec_theorem.specs.Events.{IsEvent};
 ghost use Rattle.rec_theorem.specs.Existence.{channel_ids, specs_of};
 ghost use Rattle.rec_theorem.specs.Recordable.{IsRecordable, AreRecordable};
@@ -27,10 +27,10 @@ use rec_lane::{accepted_frames_are_one_list, pieces_are_of_their_channel};
 /// accepts every frame, or none for 0.
 pub fn there_are_recordings()
     ensures recording { (version : ℕ) (channels : List RecordedChannel) → AreRecordable channels
-        → AreDistinct (channel_ids channels)
+        → AreDistinctChannels (channel_ids channels)
         → (bytes : List ℕ) × IsRecording version channels bytes }
     ensures channel { (settings : LaneSettings) (frames : List FrameData) (first : List Insn)
-        (later : List Version) → AreSettings settings → All IsFrame frames
+        (later : List Version) → AreLaneSettings settings → All IsFrame frames
         → length frames < 2 ^ 64 → IsFilter first
         → All (λ (v : Version). IsFilter v.program) later
         → AllPairs (λ (v w : Version). v.mark ≤ w.mark) later

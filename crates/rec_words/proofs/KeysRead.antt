@@ -1,4 +1,6 @@
 -- What is read of the keys of a table, and what is wrong with the first that is.
+-- idea: a key is looked up in a table, and what is found is a number in range, a text, or neither; each case of the lookup
+-- is one case of what the format says of a key.
 use Rattle.std.proofs.Common.{ℕ, ◌≡◌, ◌≤◌, inl, inr, Bool, true, false, true≢false, List, [], ◌∷◌, All, Option, None, Some, Result, Ok, Err, MatchResult, refl, sym, ap, ◌∙◌, arith}
 use Rattle.std.specs.Prelude.{pos, negsuc, nat_le, ◌&&◌, if◌then◌else◌, option_map, unwrap_or, bytes_eq}
 use Rattle.std.proofs.lemmas.Slice.Eq.{bytes_eq-Decides}
@@ -7,7 +9,7 @@ use Rattle.std.proofs.lemmas.List.Elements.{All-nil, All-cons, All-head, All-tai
 use Rattle.std.proofs.lemmas.List.Folds.{Any-from_list_any, list_any-from_Any}
 use Rattle.toml.specs.Data.{Data, string, integer, float, boolean, datetime, array, table as table_data, Members, get_member}
 use Rattle.rec_words.specs.Settings.{Fault, unknown, missing, value, ◌>>=◌, keys_of, is_among, other_key, only, number_in, text_in, required, number_or}
-use Rattle.rec_words.specs.Format.{Kind, of_number, of_text, IsOfKind, IsWell, IsWrong, IsOneOf, HasOnly, IsFirstOther, IsNumber}
+use Rattle.rec_words.specs.Format.{Kind, of_number, of_text, IsOfKind, IsWell, IsWrong, IsOneOfNames, HasOnly, IsFirstOther, IsNumber}
 
 -- ---- results
 
@@ -27,38 +29,38 @@ then_ok r a next out is rest = ap (λ x. x >>= next) is ∙ rest
 
 -- ---- names
 
-among : (known : List (List ℕ)) (name : List ℕ) → is_among known name ≡ true → IsOneOf known name
+among : (known : List (List ℕ)) (name : List ℕ) → is_among known name ≡ true → IsOneOfNames known name
 among known name e =
     let any = Any-from_list_any (λ one. bytes_eq one name) known e in
     (any.0, any.1, any.2, any.3, (bytes_eq-Decides any.1 name).0 any.4)
 
-is_one : (known : List (List ℕ)) (name : List ℕ) → IsOneOf known name → is_among known name ≡ true
+is_one : (known : List (List ℕ)) (name : List ℕ) → IsOneOfNames known name → is_among known name ≡ true
 is_one known name any = list_any-from_Any (λ one. bytes_eq one name) known (any.0, any.1, any.2, any.3, (bytes_eq-Decides any.1 name).1 any.4)
 
-not_one : (known : List (List ℕ)) (name : List ℕ) → is_among known name ≡ false → ¬ IsOneOf known name
+not_one : (known : List (List ℕ)) (name : List ℕ) → is_among known name ≡ false → ¬ IsOneOfNames known name
 not_one known name e any = true≢false (sym (is_one known name any) ∙ e)
 
 -- the first other name of a list, if it has one
 abbrev NamesSay : (known names : List (List ℕ)) → Option (List ℕ) → Type 0
-NamesSay known names None = All (IsOneOf known) names
+NamesSay known names None = All (IsOneOfNames known) names
 NamesSay known names (Some name) = IsFirstOther known names name
 
-names_more : (known : List (List ℕ)) (first : List ℕ) (names : List (List ℕ)) (found : Option (List ℕ)) → IsOneOf known first → NamesSay known names found → NamesSay known (first ∷ names) found
-names_more known first names None is says = All-cons (IsOneOf known) first names is says
+names_more : (known : List (List ℕ)) (first : List ℕ) (names : List (List ℕ)) (found : Option (List ℕ)) → IsOneOfNames known first → NamesSay known names found → NamesSay known (first ∷ names) found
+names_more known first names None is says = All-cons (IsOneOfNames known) first names is says
 names_more known first names (Some name) is says = record {
   before = first ∷ says.before;
   after = says.after;
   names_are = ap (λ ns. first ∷ ns) says.names_are;
-  known_before = All-cons (IsOneOf known) first says.before is says.known_before;
+  known_before = All-cons (IsOneOfNames known) first says.before is says.known_before;
   other = says.other;
 }
 
 names_here : (known : List (List ℕ)) (first : List ℕ) (names : List (List ℕ)) (is : Bool) → is_among known first ≡ is → NamesSay known names (other_key known names) → NamesSay known (first ∷ names) (if is then other_key known names else Some first)
 names_here known first names true e says = names_more known first names (other_key known names) (among known first e) says
-names_here known first names false e says = record { before = []; after = names; names_are = refl; known_before = All-nil (IsOneOf known); other = not_one known first e }
+names_here known first names false e says = record { before = []; after = names; names_are = refl; known_before = All-nil (IsOneOfNames known); other = not_one known first e }
 
 names_say : (known names : List (List ℕ)) → NamesSay known names (other_key known names)
-names_say known [] = All-nil (IsOneOf known)
+names_say known [] = All-nil (IsOneOfNames known)
 names_say known (name ∷ names) = names_here known name names (is_among known name) refl (names_say known names)
 
 only_by : (known : List (List ℕ)) (members : Members) (found : Option (List ℕ)) → NamesSay known (keys_of members) found
@@ -70,10 +72,10 @@ only_by known members (Some name) says = (name, says, refl)
 pub only_says : (known : List (List ℕ)) (members : Members) → MatchResult (only known members) (λ m. HasOnly known members) (λ f. (name : List ℕ) × IsFirstOther known (keys_of members) name × (f ≡ unknown name))
 only_says known members = only_by known members (other_key known (keys_of members)) (names_say known (keys_of members))
 
-no_other : (known names : List (List ℕ)) → All (IsOneOf known) names → other_key known names ≡ None
+no_other : (known names : List (List ℕ)) → All (IsOneOfNames known) names → other_key known names ≡ None
 no_other known [] all = refl
 no_other known (name ∷ names) all =
-    ap (λ b. if b then other_key known names else Some name) (is_one known name (All-head (IsOneOf known) name names all)) ∙ no_other known names (All-tail (IsOneOf known) name names all)
+    ap (λ b. if b then other_key known names else Some name) (is_one known name (All-head (IsOneOfNames known) name names all)) ∙ no_other known names (All-tail (IsOneOfNames known) name names all)
 
 pub only_ok : (known : List (List ℕ)) (members : Members) → HasOnly known members → only known members ≡ Ok members
 only_ok known members has = ap (λ found. unwrap_or (option_map (λ key. Err (unknown key)) found) (Ok members)) (no_other known (keys_of members) has)

@@ -8,6 +8,7 @@ use Rattle.toml.specs.Data.{Data, string, integer, float, boolean, datetime, arr
 use Rattle.toml.specs.View.{view, members_view, items_view}
 use Rattle.toml.specs.declared.value.Value.{Value}
 use Rattle.toml.proofs.Views.{items_view-drop}
+use Rattle.rec_channel.specs.declared.limits.TheConstants.{MAX_CHANNELS}
 use Rattle.rec_words.specs.declared.settings.fault.SettingsFault.{SettingsFault}
 use Rattle.rec_words.specs.declared.settings.fault.SettingsFault.TheVariants.{Syntax, Unknown, Missing, Value as BadValue, Channels, SameChannel, Memory}
 use Rattle.rec_words.specs.declared.settings.ChannelSettings.{ChannelSettings}
@@ -24,11 +25,6 @@ pub any_of_map : {A B : Type 0} (p : B → Bool) (f : A → B) (xs : List A) →
 any_of_map p f [] = refl
 any_of_map p f (x ∷ xs) = rw (any_of_map p f xs)
 
--- the element at an index, ahead of those after it
-pub any_here : {A B : Type 0} (p : B → Bool) (f : A → B) (xs : List A) (i : ℕ) (d : A) → i < length xs
-    → list_any p (map f (drop i xs)) ≡ (p (f (get_or xs i d)) || list_any p (map f (drop (i + 1) xs)))
-any_here p f xs i d h = rw (drop_more xs i d h)
-
 -- a fault of one reading is that of another, which goes on from it
 pub reports_like : {A B : Type 0} (r : Result A Fault) (s : Result B Fault) → ((f : Fault) → r ≡ Err f → s ≡ Err f) → (fault : SettingsFault) → Reports r fault → Reports s fault
 reports_like r s same Syntax e = same syntax e
@@ -38,9 +34,6 @@ reports_like r s same (BadValue key) e = same (value key.now) e
 reports_like r s same Channels e = same channels e
 reports_like r s same (SameChannel id) e = same (same_channel id) e
 reports_like r s same Memory e = tt
-
-pub reports_bind : {A B : Type 0} (r : Result A Fault) (f : A → Result B Fault) (fault : SettingsFault) → Reports r fault → Reports (r >>= f) fault
-reports_bind r f fault = reports_like r (r >>= f) (λ f e. rw e) fault
 
 -- the IDs of channels
 abbrev pub ids : List ChannelSettings → List ℕ
@@ -152,15 +145,15 @@ pub some_tables : (found : Option (List Members)) → IsSome found → (tables :
 some_tables (Some tables) h = (tables, refl)
 some_tables None h = absurd (true≢false (sym h))
 
--- 1 to 64 tables
-pub enough_tables : (tables : List Members) (n : ℕ) → length tables ≡ n → 0 < n → n ≤ 64 → enough tables ≡ Ok tables
+-- as many tables as a recording may have channels
+pub enough_tables : (tables : List Members) (n : ℕ) → length tables ≡ n → 0 < n → n ≤ MAX_CHANNELS → enough tables ≡ Ok tables
 enough_tables tables n e least most = rw e (search rules)
 
--- none, or more than 64
+-- none, or more
 pub no_tables : (tables : List Members) (n : ℕ) → length tables ≡ n → n ≡ 0 → enough tables ≡ Err channels
 no_tables tables n e none = rw (e, none)
 
-pub too_many_tables : (tables : List Members) (n : ℕ) → length tables ≡ n → 64 < n → enough tables ≡ Err channels
+pub too_many_tables : (tables : List Members) (n : ℕ) → length tables ≡ n → MAX_CHANNELS < n → enough tables ≡ Err channels
 too_many_tables tables n e many = rw e (search rules)
 
 -- the IDs of channels, as data

@@ -6,13 +6,13 @@ use Rattle.rec_words.specs.declared.words.Words.{Words}
 use Rattle.rec_words.specs.declared.words.Words.TheVariants.{NoCommand, Asm, Dis, Verify, Run, List as ListOf, Audit, Extract, Upgrade, Record, Simulate, Version}
 
 -- a word that must be given
-abbrev pub operand : Text → Rule
-operand name = record (new_rule name) { required = true; action = Some Set }
+abbrev pub operand_rule : Text → Rule
+operand_rule name = record (new_rule name) { required = true; action = Some Set }
 
 -- a command that takes these words, in order
 abbrev pub with_words : App → List Text → App
 with_words app [] = app
-with_words app (word ∷ rest) = with_words (with_rule app (operand word)) rest
+with_words app (word ∷ rest) = with_words (with_rule app (operand_rule word)) rest
 
 -- a command by its name and its words
 abbrev pub command_app : Text × List Text → App

@@ -4,7 +4,10 @@ use Rattle.std.specs.Prelude.{ℕ, pos, Bool, true, false, ◌≡◌, ◌≢◌,
 use Rattle.std.specs.List.{Any, AllZip}
 use Rattle.toml.specs.Data.{Data, integer, string, array, Items, Members, get_member}
 use Rattle.toml.specs.Parse.{parse_document}
-use Rattle.rec_words.specs.Settings.{Fault, syntax, unknown, missing, value, channels, same_channel, ChannelData, SettingsData, top_keys, channel_keys, keys_of, tables_in}
+use Rattle.ch11_packet.specs.declared.limit.TheConstants.{MIN_LIMIT, MAX_LIMIT}
+use Rattle.ch11_packet.specs.declared.frames.word.TheConstants.{MAX_SPEED}
+use Rattle.rec_channel.specs.declared.limits.TheConstants.{MAX_CHANNELS, MAX_RING}
+use Rattle.rec_words.specs.Settings.{Fault, syntax, unknown, missing, value, channels, same_channel, ChannelData, SettingsData, top_keys, channel_keys, keys_of, tables_in, most_of_8_bits, most_of_16_bits, most_of_63_bits}
 
 -- ---- keys
 
@@ -22,20 +25,20 @@ pub record Key : Type 0 where
 -- the keys of the document beside its channels, in the order in which they are judged
 abbrev pub document_format : List Key
 document_format =
-    record { name = codes "limit"; kind = of_number 16424 524284; needed = false }
-    ∷ record { name = codes "ring"; kind = of_number 1 4096; needed = false }
-    ∷ record { name = codes "version"; kind = of_number 0 255; needed = false }
+    record { name = codes "limit"; kind = of_number MIN_LIMIT MAX_LIMIT; needed = false }
+    ∷ record { name = codes "ring"; kind = of_number 1 MAX_RING; needed = false }
+    ∷ record { name = codes "version"; kind = of_number 0 most_of_8_bits; needed = false }
     ∷ []
 
 -- those of a channel's table
 abbrev pub channel_format : List Key
 channel_format =
-    record { name = codes "id"; kind = of_number 1 65535; needed = true }
+    record { name = codes "id"; kind = of_number 1 most_of_16_bits; needed = true }
     ∷ record { name = codes "feed"; kind = of_text; needed = true }
     ∷ record { name = codes "filter"; kind = of_text; needed = true }
-    ∷ record { name = codes "net"; kind = of_number 0 255; needed = false }
-    ∷ record { name = codes "speed"; kind = of_number 0 15; needed = false }
-    ∷ record { name = codes "max"; kind = of_number 0 9223372036854775807; needed = false }
+    ∷ record { name = codes "net"; kind = of_number 0 most_of_8_bits; needed = false }
+    ∷ record { name = codes "speed"; kind = of_number 0 MAX_SPEED; needed = false }
+    ∷ record { name = codes "max"; kind = of_number 0 most_of_63_bits; needed = false }
     ∷ []
 
 -- what was found is of this kind
@@ -58,20 +61,20 @@ IsWrong members key fault =
     × (¬ IsOfKind key.kind found) × (fault ≡ value key.name))
 
 -- the name is one of these
-abbrev pub IsOneOf : List (List ℕ) → List ℕ → Type 0
-IsOneOf known name = Any (λ one. one ≡ name) known
+abbrev pub IsOneOfNames : List (List ℕ) → List ℕ → Type 0
+IsOneOfNames known name = Any (λ one. one ≡ name) known
 
 -- the table has no key but these
 abbrev pub HasOnly : List (List ℕ) → Members → Type 0
-HasOnly known members = All (IsOneOf known) (keys_of members)
+HasOnly known members = All (IsOneOfNames known) (keys_of members)
 
 -- the first of these names that is none of the known ones
 pub record IsFirstOther (known names : List (List ℕ)) (name : List ℕ) : Type 0 where
   pub before : List (List ℕ)
   pub after : List (List ℕ)
   pub names_are : names ≡ before ++ name ∷ after
-  pub known_before : All (IsOneOf known) before
-  pub other : ¬ IsOneOf known name
+  pub known_before : All (IsOneOfNames known) before
+  pub other : ¬ IsOneOfNames known name
 
 -- the fault of the first of these keys that is wrong: those before it are well
 pub record IsFirstWrong (members : Members) (keys : List Key) (fault : Fault) : Type 0 where
@@ -84,8 +87,8 @@ pub record IsFirstWrong (members : Members) (keys : List Key) (fault : Fault) : 
 
 -- the fault of a table: its first key that means nothing; if there is none, that of the first key
 -- that is wrong
-abbrev pub HasFault : List (List ℕ) → List Key → Members → Fault → Type 0
-HasFault known keys members fault =
+abbrev pub HasTableFault : List (List ℕ) → List Key → Members → Fault → Type 0
+HasTableFault known keys members fault =
     ((name : List ℕ) × IsFirstOther known (keys_of members) name × (fault ≡ unknown name))
     ⊎ (HasOnly known members × IsFirstWrong members keys fault)
 
@@ -102,13 +105,13 @@ pub record IsChannel (members : Members) (channel : ChannelData) : Type 0 where
   pub only : HasOnly channel_keys members
   pub id_is : get_member (codes "id") members ≡ Some (integer (pos channel.id))
   pub named : 1 ≤ channel.id
-  pub id_fits : channel.id ≤ 65535
+  pub id_fits : channel.id ≤ most_of_16_bits
   pub feed_is : get_member (codes "feed") members ≡ Some (string channel.feed)
   pub filter_is : get_member (codes "filter") members ≡ Some (string channel.filter)
-  pub net_is : IsNumber members (codes "net") 0 255 0 channel.net
-  pub speed_is : IsNumber members (codes "speed") 0 15 0 channel.speed
+  pub net_is : IsNumber members (codes "net") 0 most_of_8_bits 0 channel.net
+  pub speed_is : IsNumber members (codes "speed") 0 MAX_SPEED 0 channel.speed
   pub max_is :
-      IsNumber members (codes "max") 0 9223372036854775807 9223372036854775807 channel.max
+      IsNumber members (codes "max") 0 most_of_63_bits most_of_63_bits channel.max
 
 -- the key `channel` is set to these tables
 abbrev pub AreTables : Members → List Members → Type 0
@@ -121,32 +124,33 @@ abbrev pub ids_of : List ChannelData → List ℕ
 ids_of all = map (λ (c : ChannelData). c.id) all
 
 -- no two numbers are the same
-abbrev pub AreDistinct : List ℕ → Type 0
-AreDistinct ids = AllPairs (λ (one other : ℕ). one ≢ other) ids
+abbrev pub AreDistinctIds : List ℕ → Type 0
+AreDistinctIds ids = AllPairs (λ (one other : ℕ). one ≢ other) ids
 
 -- this is set of a recording in the table of its document
-pub record AreSettings (members : Members) (settings : SettingsData) : Type 0 where
+pub record AreDocumentSettings (members : Members) (settings : SettingsData) : Type 0 where
   pub only : HasOnly top_keys members
-  pub limit_is : IsNumber members (codes "limit") 16424 524284 65536 settings.limit
-  pub ring_is : IsNumber members (codes "ring") 1 4096 64 settings.ring
-  pub version_is : IsNumber members (codes "version") 0 255 8 settings.version
+  pub limit_is : IsNumber members (codes "limit") MIN_LIMIT MAX_LIMIT 65536 settings.limit
+  pub ring_is : IsNumber members (codes "ring") 1 MAX_RING 64 settings.ring
+  pub version_is : IsNumber members (codes "version") 0 most_of_8_bits 8 settings.version
   pub tables : List Members
   pub tables_are : AreTables members tables
   pub some : 1 ≤ length tables
-  pub few : length tables ≤ 64
+  pub few : length tables ≤ MAX_CHANNELS
   pub channels_are : AllZip IsChannel tables settings.channels
-  pub distinct : AreDistinct (ids_of settings.channels)
+  pub distinct : AreDistinctIds (ids_of settings.channels)
 
 -- ---- faults
 
--- what is wrong with the key `channel`: it isn't set; or not to tables; or to none or more than 64
+-- what is wrong with the key `channel`: it isn't set; or not to tables; or to none, or to more than a
+-- recording may have
 abbrev pub AreNoTables : Members → Fault → Type 0
 AreNoTables members fault =
     ((get_member (codes "channel") members ≡ None) × (fault ≡ channels))
     ⊎ (((found : Data) × (get_member (codes "channel") members ≡ Some found)
     × ((tables : List Members) → ¬ AreTables members tables) × (fault ≡ value (codes "channel")))
     ⊎ ((tables : List Members) × AreTables members tables
-    × (¬ ((1 ≤ length tables) × (length tables ≤ 64))) × (fault ≡ channels)))
+    × (¬ ((1 ≤ length tables) × (length tables ≤ MAX_CHANNELS))) × (fault ≡ channels)))
 
 -- the fault of the first table that has one: those before it are channels
 pub record IsOfFirstTable (tables : List Members) (fault : Fault) : Type 0 where
@@ -155,14 +159,14 @@ pub record IsOfFirstTable (tables : List Members) (fault : Fault) : Type 0 where
   pub after : List Members
   pub tables_are : tables ≡ before ++ members ∷ after
   pub well : All (λ (m : Members). (c : ChannelData) × IsChannel m c) before
-  pub wrong : HasFault channel_keys channel_format members fault
+  pub wrong : HasTableFault channel_keys channel_format members fault
 
 -- the first of these IDs that repeats an earlier one
 pub record IsFirstRepeated (ids : List ℕ) (id : ℕ) : Type 0 where
   pub before : List ℕ
   pub after : List ℕ
   pub ids_are : ids ≡ before ++ id ∷ after
-  pub distinct : AreDistinct before
+  pub distinct : AreDistinctIds before
   pub repeats : Any (λ earlier. earlier ≡ id) before
 
 -- all tables are channels, of which one repeats an ID
@@ -173,22 +177,22 @@ RepeatsId tables fault =
 
 -- the fault of a document's table: of its own keys; or, where these are well, of `channel`; or,
 -- where these are tables, of the first that is no channel; or else an ID that is repeated
-abbrev pub IsFaultOf : Members → Fault → Type 0
-IsFaultOf members fault =
-    HasFault top_keys document_format members fault
+abbrev pub IsDocumentFault : Members → Fault → Type 0
+IsDocumentFault members fault =
+    HasTableFault top_keys document_format members fault
     ⊎ (HasOnly top_keys members × All (IsWell members) document_format
     × (AreNoTables members fault
     ⊎ ((tables : List Members) × AreTables members tables
-    × (1 ≤ length tables) × (length tables ≤ 64)
+    × (1 ≤ length tables) × (length tables ≤ MAX_CHANNELS)
     × (IsOfFirstTable tables fault ⊎ RepeatsId tables fault))))
 
 -- the text is a document, with this fault in its table; or it is none
 abbrev pub IsFaultOfText : List ℕ → Fault → Type 0
 IsFaultOfText text fault =
     ((parse_document text ≡ None) × (fault ≡ syntax))
-    ⊎ ((members : Members) × (parse_document text ≡ Some members) × IsFaultOf members fault)
+    ⊎ ((members : Members) × (parse_document text ≡ Some members) × IsDocumentFault members fault)
 
 -- the text is a document that sets this
 abbrev pub AreSettingsOf : List ℕ → SettingsData → Type 0
 AreSettingsOf text settings =
-    (members : Members) × (parse_document text ≡ Some members) × AreSettings members settings
+    (members : Members) × (parse_document text ≡ Some members) × AreDocumentSettings members settings

@@ -3,6 +3,9 @@ use Rattle.std.specs.Prelude.{ℕ, pos, Bool, ◌&&◌, ◌==◌, nat_le, if◌t
 use Rattle.std.specs.List.{list_any}
 use Rattle.toml.specs.Data.{Data, integer, string, array, Items, no_items, item, Members, no_members, member, as_table, get_member}
 use Rattle.toml.specs.Parse.{parse_document}
+use Rattle.ch11_packet.specs.declared.limit.TheConstants.{MIN_LIMIT, MAX_LIMIT}
+use Rattle.ch11_packet.specs.declared.frames.word.TheConstants.{MAX_SPEED}
+use Rattle.rec_channel.specs.declared.limits.TheConstants.{MAX_CHANNELS, MAX_RING}
 
 -- why settings are refused
 pub data Fault : Type 0 where
@@ -63,6 +66,16 @@ only known members =
     unwrap_or (option_map (λ key. Err (unknown key)) (other_key known (keys_of members)))
     (Ok members)
 
+-- the greatest numbers of 8, of 16 and of 63 bits
+abbrev pub most_of_8_bits : ℕ
+most_of_8_bits = 255
+
+abbrev pub most_of_16_bits : ℕ
+most_of_16_bits = 65535
+
+abbrev pub most_of_63_bits : ℕ
+most_of_63_bits = 9223372036854775807
+
 -- a whole number in a range
 abbrev pub number_in : ℕ → ℕ → List ℕ → Data → Result ℕ Fault
 number_in least most key (integer (pos n)) =
@@ -88,12 +101,12 @@ number_or default least most key members =
 abbrev pub channel_in : Members → Result ChannelData Fault
 channel_in members = do
   _ ← only channel_keys members
-  id ← required (number_in 1 65535 (codes "id")) (codes "id") members
+  id ← required (number_in 1 most_of_16_bits (codes "id")) (codes "id") members
   feed ← required (text_in (codes "feed")) (codes "feed") members
   filter ← required (text_in (codes "filter")) (codes "filter") members
-  net ← number_or 0 0 255 (codes "net") members
-  speed ← number_or 0 0 15 (codes "speed") members
-  max ← number_or 9223372036854775807 0 9223372036854775807 (codes "max") members
+  net ← number_or 0 0 most_of_8_bits (codes "net") members
+  speed ← number_or 0 0 MAX_SPEED (codes "speed") members
+  max ← number_or most_of_63_bits 0 most_of_63_bits (codes "max") members
   Ok (record { id = id; feed = feed; filter = filter; net = net; speed = speed; max = max })
 
 -- items that are tables
@@ -103,10 +116,10 @@ tables_in (item found rest) =
     option_and_then (λ members. option_map (λ tables. members ∷ tables) (tables_in rest))
     (as_table found)
 
--- 1 to 64 tables
+-- as many tables as a recording may have channels, and at least one
 abbrev pub enough : List Members → Result (List Members) Fault
 enough tables =
-    if nat_le 1 (length tables) && nat_le (length tables) 64 then Ok tables else Err channels
+    if nat_le 1 (length tables) && nat_le (length tables) MAX_CHANNELS then Ok tables else Err channels
 
 -- the tables of the channels
 abbrev pub tables_of : Data → Result (List Members) Fault
@@ -143,9 +156,9 @@ distinct all =
 abbrev pub settings_in : Members → Result SettingsData Fault
 settings_in members = do
   _ ← only top_keys members
-  limit ← number_or 65536 16424 524284 (codes "limit") members
-  ring ← number_or 64 1 4096 (codes "ring") members
-  version ← number_or 8 0 255 (codes "version") members
+  limit ← number_or 65536 MIN_LIMIT MAX_LIMIT (codes "limit") members
+  ring ← number_or 64 1 MAX_RING (codes "ring") members
+  version ← number_or 8 0 most_of_8_bits (codes "version") members
   tables ← channel_tables members
   all ← channels_in tables
   all ← distinct all

@@ -1,244 +1,18 @@
-//! The command line as `clap` reads it: a table of the commands, with their help.
+//! The command line as `clap` reads it: a table of the commands.
+mod help;
 
 ghost use Rattle.std.specs.Prelude.{◌≡◌, IfOk, false, map};
 ghost use Rattle.clap.specs.Words.{app_of, rule_of};
 ghost use Rattle.clap.specs.declared.builder.Command.TheViews.{out-Command as fields_of};
-ghost use Rattle.rec_words.specs.Commands.{bpfrec_app, command_app, operand, top_app, with_commands};
+ghost use Rattle.rec_words.specs.Commands.{bpfrec_app, command_app, operand_rule, top_app, with_commands};
 ghost use Rattle.rec_words.specs.CommandTexts.{command_data};
 
+use crate::command_line::help::{ABOUT, HelpText, STATUSES, text_of};
 use clap::{Arg, ArgAction, Command};
 use std::alloc::{AllocError, Global};
 
 /// The version of the program.
 pub const VERSION: &str = "0.1.0";
-
-const ABOUT: &str =
-    "Records Ethernet channels through filters, reads the recordings, and assembles and checks filters.";
-
-const STATUSES: &str = "\
-As FILE, - is standard input, so commands can be joined by pipes:
-  bpfrec asm arp.bpf | bpfrec verify -
-Without words, bpfrec reads a listing and a view in hexadecimal, a line each, from standard
-input, and prints what run prints.
-
-Exit status: 0 answered; 1 a text, listing, program, view, script or recording was refused; 2 the
-words are no command, or settings were refused; 3 a file could not be read or written, or standard
-output not; 4 no memory.";
-
-const ASM: &str = "\
-Reads a filter in the text of the Linux kernel's bpf_asm, and prints its listing on standard
-output, on one line, for verify, run and dis. The first fault of the text is told on standard
-error, with its line, counted from 1:
-  asm <number> <Name> line <n>     Syntax, Number, UnknownMnemonic, OperandNotAllowed,
-                                   LabelMissing, LabelTwice, Backward or TooFar
-  asm 9 TooLong                    more than 4,096 instructions
-
-Exit status: 0 answered; 1 no program; 2 words; 3 the file; 4 no memory.
-
-Example:
-  bpfrec asm arp.bpf";
-
-const DIS: &str = "\
-Reads a program's listing, and prints the program in the text of the Linux kernel's bpf_asm on
-standard output, a line for each instruction, with labels where jumps lead. asm reads a text of
-at most 4,096 instructions as the same program. What has no text is told on standard error:
-  dis 1 NoForm <i>                 instruction i has no legal code, or a number in a field that
-                                   it doesn't use, as tcpdump leaves them (7 0 0 5); verify and
-                                   run pass over such a number, the text could not say it
-  dis 2 JumpOut <i>                a jump of instruction i leads past the last instruction
-
-Exit status: 0 answered; 1 no listing, or no text; 2 words; 3 the file; 4 no memory.
-
-Example:
-  bpfrec dis arp.txt";
-
-const VERIFY: &str = "\
-Reads a program's listing, as bpf_asm and tcpdump -ddd print it. Prints on standard output
-  valid <n>                        a program of n instructions, which may be installed
-  refused <number> <Name> [<i>]    the first condition that it breaks, at instruction i
-A fault of the listing (listing ..) or of the file (file <path>) is told on standard error.
-
-Exit status: 0 valid; 1 refused, or no listing; 2 words; 3 the file; 4 no memory.
-
-Example:
-  bpfrec verify arp.txt";
-
-const RUN: &str = "\
-Reads a program's listing, and runs the program on a view: the bytes of a frame without its
-check sequence, in hexadecimal (the empty word is the empty view). Prints on standard output
-  <value> <steps>                  what the program returns, and how many instructions ran
-A value of 0 means that the frame is dropped. A program that verify refuses is refused here
-too; a view that is odd, not hexadecimal or over 16,379 bytes is told as view.
-
-Exit status: 0 answered; 1 refused; 2 words; 3 the file; 4 no memory.
-
-Example:
-  bpfrec run arp.txt ffffffffffff0200000000010806";
-
-const LIST: &str = "\
-Reads a recording, and prints on standard output a line for each of its packets, and how many
-there are and how many of them hold something else than frames and records:
-  <at> <channel> <type> <sequence> <length> <data length> <counter> <what>
-  packets <n> other <m>
-with these columns:
-  <at>                             the place of the packet's first byte
-  <channel>                        its channel ID; 0 of a record, which tells a program or an end
-  <type>                           its data type, in hexadecimal: 68 frames, 00 a record
-  <sequence>                       its number among its channel's packets, modulo 256
-  <length> <data length>           its bytes, and those of its body without filler and checksum
-  <counter>                        its relative time counter, in units of 100 ns
-  <what>                           what it holds:
-    frames <n>                     n frames
-    program <channel> <version> <first> <count>
-                                   a program of that channel, from frame <first> on
-    end <channel> <offered> <kept> the end of that channel
-    other                          anything else, which is passed over
-A recording that can't be read to its end is told on standard error, and nothing is listed:
-  read <number> <Name> <at>        Truncated, Sync, Checksum, Length, Body or DataChecksum, and
-                                   the place of the packet that has it
-
-Exit status: 0 listed; 1 not read to its end; 2 words; 3 the file; 4 no memory.
-
-Example:
-  bpfrec list flight.ch11";
-
-const AUDIT: &str = "\
-Reads a recording and judges it by itself: whether each frame was accepted by the program that the
-recording has for it, and whether each channel's end counts its frames. Prints on standard output
-  channel <id> programs <n> frames <n> offered <n>     for each channel, in ascending order
-  yes other <m>                    m packets hold something else
-or the first thing that is wrong, with packets and frames counted from 0:
-  no 1 NoProgram <packet>          frames, and no program of their channel before them
-  no 2 BadProgram <packet>         a program that verify refuses
-  no 3 NotAccepted <packet> <frame>
-                                   a frame that its program drops, or that has no check sequence
-  no 4 Order <packet>              a packet after its channel's end, or programs out of order
-  no 5 NoEnd <channel>             a channel without its end
-  no 6 Counts <channel>            an end whose numbers are not those of its frames
-A recording without packets is yes other 0, so look for the lines of your channels.
-A recording that can't be read to its end is told as by list.
-
-Exit status: 0 yes; 1 no, or not read to its end; 2 words; 3 the file; 4 no memory.
-
-Example:
-  bpfrec audit flight.ch11";
-
-const EXTRACT: &str = "\
-Reads a recording, writes the frames of one of its channels into the feed OUT, in order, and
-prints on standard output
-  frames <n> passed <m>            n frames are in the feed, and m were passed over, since they
-                                   are no frames with their check sequence
-A recording that can't be read to its end is told as by list, and then OUT is not created.
-
-Exit status: 0 written; 1 not read to its end; 2 words; 3 a file; 4 no memory.
-
-Example:
-  bpfrec extract flight.ch11 1 channel_1.feed";
-
-const UPGRADE: &str = "\
-Reads a recording, gives each packet of frames, each program and each end that has no data checksum
-one, and writes the recording so into OUT. All that they say stays, so list, audit and extract find
-the same in it, but for the places and the lengths of packets. Each other packet is copied, and so
-is one that would get too long, past 524,288 bytes. Prints on standard output
-  upgraded <n> copied <m>          n packets were given a data checksum, and m were copied
-A recording that is up to date is copied byte for byte: upgraded 0. A recording that can't be read to
-its end is told as by list, and then OUT is not created. OUT may not be IN.
-
-Exit status: 0 written; 1 not read to its end; 2 words; 3 a file; 4 no memory.
-
-Example:
-  bpfrec upgrade last_year.ch11 flight.ch11";
-
-const SIMULATE: &str = "\
-Runs the recorder's core, without threads and files, by a script: what happens to its channels, one
-event after another, in any order. Prints the answer of each event on standard output. The fields of
-a line are separated by one space, and a listing takes the rest of its line:
-  recorder <limit> <ring> <version>                the first line, as in the settings of record
-  channel <id> <net> <speed> <max> <listing>       1 to 64 of them, each with an id of its own
-  take <channel> <counter> <marks> <frame>         a frame comes, in hexadecimal with its check
-                                                   sequence; marks: 1 CRC error, 2 frame error
-  install <channel> <listing>                      the channel's filter is changed
-  send <channel>                                   its next piece goes to its ring
-  write <channel>                                  the first piece of its ring is written
-  close <channel>                                  no more frames come
-Each event is answered by a line:
-  took <number> <version> <value>                  a value of 0 drops the frame
-  installed <version> <mark>                       from frame <mark> on
-  sent program <version>, sent frames <n>, or sent end
-  wrote <packet>                                   its bytes in hexadecimal
-  closed <offered> <kept>
-  refused <number> <Name>                          NoChannel, Closed, RingFull, NothingToSend,
-                                                   NothingToWrite, VersionsFull or CountFull
-A refused event changes nothing, and the script goes on. A line that is none of these ends it, and
-is told on standard error, counted from 1; 0 is a script that ends before its first channel:
-  script line <n>
-
-Exit status: 0 the script ended; 1 a line is refused; 2 words; 3 the file; 4 no memory.
-
-Example:
-bpfrec simulate - <<'END'
-recorder 16424 4 8
-channel 1 0 3 100 1,6 0 0 1,
-take 1 16 0 ffffffffffff0200000000010806a1b2c3d4
-send 1
-write 1
-close 1
-END";
-
-const PRINT_VERSION: &str = "\
-Prints on standard output what --version prints too:
-  bpfrec <version>
-
-Exit status: 0 answered; 2 words; 3 standard output.
-
-Example:
-  bpfrec version";
-
-const RECORD: &str = "\
-Records the channels that SETTINGS names into the file OUT, until every feed has ended and so has
-standard input. SETTINGS is a TOML document:
-  limit = 65536                    the longest packet of frames, in bytes, 16424 to 524284
-  ring = 64                        how many pieces of a channel may wait for OUT, 1 to 4096
-  version = 8                      the data type version of the packets, 0 to 255
-  [[channel]]                      1 to 64 of them, each with an id of its own
-  id = 1                           1 to 65535
-  feed = \"one.feed\"                where its frames come from: a file, or a named pipe
-  filter = \"one.txt\"               the listing of its filter's first program
-  net = 0                          the network identifier of its frames, 0 to 255
-  speed = 0                        their Ethernet speed, 0 to 15
-  max = 9223372036854775807        how many frames are taken at most, 0 to this number
-Only id, feed and filter must be set; the numbers above are the others' defaults. Filters and
-feeds are opened channel by channel, and then OUT is created, or emptied if it is there; the opening
-of a pipe waits for its writer. No pipe may feed two channels. OUT may be none of these files, nor
-a file that a standard stream is, nor what another recorder writes: it is locked. With /dev/null as
-OUT the filters are tried; a named pipe as OUT takes the recording to another machine.
-
-From then on a silent pipe holds up no other channel. Nothing is dropped for want of time: a pipe
-that fills holds up its writer, which has to count what it drops. A channel that has ended closes
-its feed. Recording ends when every feed and standard input have ended; after OUT has failed each
-of them ends with its next frame or line. Ctrl-C would end it without end packets; keep it from the
-recorder, so that what feeds it ends first:
-  (trap '' INT TERM; exec bpfrec record flight.toml flight.ch11 < /dev/null) &
-A job in the background needs < /dev/null, or a pipe.
-
-A line on standard input changes the filter of a channel while recording goes on:
-  set <channel> <file>             the program that <file> lists is in force from now on
-and each is answered on standard error, as soon as its answer is known:
-  installed <channel> <version> <mark>   from frame <mark> on, counted from 0
-  refused <channel> <reason>       Line, File, Listing, Program, NoChannel or VersionsFull
-
-At the end it prints on standard output
-  channel <id> versions <n> offered <n> kept <n> <ending>   for each channel, in their order
-  wrote <pieces> <bytes>
-where <ending> is SourceEnd, CountFull, or SourceFault and the fault; none of them changes the
-status. Settings that are refused are told as settings <number> <Name> .., with status 2; an output
-that fails as run 2 Output <whole> <bytes>, at that moment.
-
-Exit status: 0 recorded; 1 a filter was refused, or the recording failed; 2 words or settings;
-3 a file; 4 no memory.
-
-Example:
-  bpfrec record flight.toml flight.ch11 < /dev/null";
 
 /// A command, its words and its help.
 pub(crate) struct CommandTexts {
@@ -252,32 +26,6 @@ pub(crate) struct CommandTexts {
     pub(crate) help: HelpText,
     /// The words after it, in order; each must be given.
     pub(crate) words: &'static [WordTexts],
-}
-
-/// The text that help ends in, by a name: a constant that has all the texts is slow to prove.
-pub(crate) enum HelpText {
-    /// [`ASM`]
-    Asm,
-    /// [`DIS`]
-    Dis,
-    /// [`VERIFY`]
-    Verify,
-    /// [`RUN`]
-    Run,
-    /// [`LIST`]
-    List,
-    /// [`AUDIT`]
-    Audit,
-    /// [`EXTRACT`]
-    Extract,
-    /// [`UPGRADE`]
-    Upgrade,
-    /// [`RECORD`]
-    Record,
-    /// [`SIMULATE`]
-    Simulate,
-    /// [`PRINT_VERSION`]
-    Version,
 }
 
 /// A word after a command, and its help.
@@ -473,26 +221,9 @@ fn command<'a>(alloc: Global, texts: &CommandTexts) -> Result<Command<'a>, Alloc
     Ok(command)
 }
 
-/// The text that help ends in.
-fn text_of(help: &HelpText) -> &'static str {
-    match help {
-        HelpText::Asm => ASM,
-        HelpText::Dis => DIS,
-        HelpText::Verify => VERIFY,
-        HelpText::Run => RUN,
-        HelpText::List => LIST,
-        HelpText::Audit => AUDIT,
-        HelpText::Extract => EXTRACT,
-        HelpText::Upgrade => UPGRADE,
-        HelpText::Record => RECORD,
-        HelpText::Simulate => SIMULATE,
-        HelpText::Version => PRINT_VERSION,
-    }
-}
-
 /// A word that must be given.
 fn operand<'a>(alloc: Global, texts: &WordTexts) -> Arg<'a>
-    ensures rule { rule_of result ≡ operand texts.now.name.now }
+    ensures rule { rule_of result ≡ operand_rule texts.now.name.now }
     ensures local { result.global ≡ false }
 {
     Arg::new(alloc, texts.name)

@@ -8,7 +8,7 @@ use Rattle.rec_channel.specs.History.{Version}
 use Rattle.rec_lane.specs.Offered.{OfferedFrame, frames_of}
 use Rattle.rec_lane.specs.Pieces.{LaneSettings, PieceData, channel_of, channel_pieces, ArePieces}
 use Rattle.rec_lane.specs.Pieces.PieceData.{OfEnd}
-use Rattle.rec_writer.specs.Encoding.{packet_of, packet_channel, next_sequence, writer_output, output_after}
+use Rattle.rec_writer.specs.Encoding.{piece_packet, packet_channel, next_sequence, writer_output, output_after}
 use Rattle.rec_writer.specs.Recording.{RecordedChannel, AreOfChannels, IsRecording, IsOutputOf, is_of}
 use Rattle.rec_writer.specs.Writers.{WriterState, HasWritten, HoldsRecording}
 
@@ -31,7 +31,7 @@ output_split : (version : ℕ) (earlier pieces later : List PieceData)
     → output_after version earlier (pieces ++ later) ≡ output_after version earlier pieces ++ output_after version (earlier ++ pieces) later
 output_split version earlier [] later = ap (λ ps. output_after version ps later) (sym (append-nil earlier))
 output_split version earlier (p ∷ ps) later =
-    let packet = packet_of p version (next_sequence earlier (packet_channel p)) in
+    let packet = piece_packet p version (next_sequence earlier (packet_channel p)) in
     let rest = output_split version (earlier ++ p ∷ []) ps later ∙ ap (λ qs. output_after version (earlier ++ p ∷ []) ps ++ output_after version qs later) (append_assoc earlier (p ∷ []) ps) in
     ap (λ bs. packet ++ bs) rest ∙ sym (append_assoc packet (output_after version (earlier ++ p ∷ []) ps) (output_after version (earlier ++ p ∷ ps) later))
 
@@ -84,11 +84,11 @@ no_frames : (offered : List OfferedFrame) → frames_of offered ≡ [] → offer
 no_frames [] none = refl
 no_frames (f ∷ fs) none = cc
 
-end_alone : (version : ℕ) (settings : LaneSettings) → writer_output version (OfEnd settings.channel 0 0 0 ∷ []) ≡ packet_of (OfEnd settings.channel 0 0 0) version 0
-end_alone version settings = append-nil (packet_of (OfEnd settings.channel 0 0 0) version 0)
+end_alone : (version : ℕ) (settings : LaneSettings) → writer_output version (OfEnd settings.channel 0 0 0 ∷ []) ≡ piece_packet (OfEnd settings.channel 0 0 0) version 0
+end_alone version settings = append-nil (piece_packet (OfEnd settings.channel 0 0 0) version 0)
 
 pub end_recorded : OfTheirChannel → (version : ℕ) (settings : LaneSettings) (history : List Version) (bytes : List ℕ)
-    → bytes ≡ packet_of (OfEnd settings.channel 0 0 0) version 0
+    → bytes ≡ piece_packet (OfEnd settings.channel 0 0 0) version 0
     → IsRecording version (record { settings = settings; frames = []; history = history } ∷ []) bytes
 end_recorded theirs version settings history bytes is =
     one_recorded theirs version (record { settings = settings; frames = []; history = history }) bytes
@@ -96,7 +96,7 @@ end_recorded theirs version settings history bytes is =
 
 pub only_end : (version : ℕ) (settings : LaneSettings) (history : List Version) (bytes : List ℕ)
     → IsRecording version (record { settings = settings; frames = []; history = history } ∷ []) bytes
-    → bytes ≡ packet_of (OfEnd settings.channel 0 0 0) version 0
+    → bytes ≡ piece_packet (OfEnd settings.channel 0 0 0) version 0
 only_end version settings history bytes r =
     let o = only_recorded version (record { settings = settings; frames = []; history = history }) bytes r in
     let none = no_frames o.1.0 o.1.2 in

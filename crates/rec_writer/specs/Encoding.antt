@@ -57,8 +57,8 @@ packet_in profile piece version sequence =
 abbrev pub piece_header : PieceData → (version sequence : ℕ) → HeaderData
 piece_header piece version sequence = header_in WithSum piece version sequence
 
-abbrev pub packet_of : PieceData → (version sequence : ℕ) → List ℕ
-packet_of piece version sequence = packet_in WithSum piece version sequence
+abbrev pub piece_packet : PieceData → (version sequence : ℕ) → List ℕ
+piece_packet piece version sequence = packet_in WithSum piece version sequence
 
 -- ---- pieces in order
 

@@ -5,8 +5,8 @@ use Rattle.rec_writer.specs.Encoding.{next_sequence}
 use Rattle.rec_writer.specs.declared.numbers.Numbered.{Numbered}
 
 -- the channel IDs
-abbrev pub channels_in : List Numbered → List ℕ
-channels_in numbers = map (λ (n : Numbered). n.channel) numbers
+abbrev pub numbered_channels : List Numbered → List ℕ
+numbered_channels numbers = map (λ (n : Numbered). n.channel) numbers
 
 -- each number is that of the next packet with its channel ID, after these pieces
 abbrev pub AreNext : List PieceData → List Numbered → Type 0
@@ -14,8 +14,8 @@ AreNext pieces numbers =
     All (λ (n : Numbered). n.next ≡ next_sequence pieces n.channel) numbers
 
 -- no channel ID stands twice
-abbrev pub AreDistinct : List ℕ → Type 0
-AreDistinct channels = AllPairs (λ (one other : ℕ). one ≢ other) channels
+abbrev pub AreDistinctChannels : List ℕ → Type 0
+AreDistinctChannels channels = AllPairs (λ (one other : ℕ). one ≢ other) channels
 
 -- the numbers before any piece: those of records, and of these channels
 abbrev pub fresh_numbers : List ℕ → List Numbered

@@ -3,8 +3,8 @@ use Rattle.std.specs.Prelude.{ℕ, ◌≡◌, ◌≢◌, ◌+◌, ◌-◌, ◌^�
 use Rattle.std.specs.Io.KnownBytes.{Appends}
 use Rattle.rec_lane.specs.Pieces.{PieceData}
 use Rattle.rec_writer.specs.Recording.{RecordedChannel, IsRecording}
-use Rattle.rec_writer.specs.Encoding.{writer_output, packet_of, packet_channel, next_sequence}
-use Rattle.rec_writer.specs.Numbers.{AreNext, channels_in, AreDistinct, number_at, with_packet}
+use Rattle.rec_writer.specs.Encoding.{writer_output, piece_packet, packet_channel, next_sequence}
+use Rattle.rec_writer.specs.Numbers.{AreNext, numbered_channels, AreDistinctChannels, number_at, with_packet}
 use Rattle.rec_writer.specs.declared.numbers.Numbered.{Numbered}
 use Rattle.rec_writer.specs.declared.fault.WriteFault.{WriteFault}
 use Rattle.rec_writer.specs.declared.fault.WriteFault.TheVariants.{Output, Failed}
@@ -22,7 +22,7 @@ pub record WriterState : Type 0 where
 
 -- it is a writer of this channel
 abbrev pub Knows : WriterState → ℕ → Type 0
-Knows writer channel = (channel ≢ 0) × Contains (channels_in writer.numbers) channel
+Knows writer channel = (channel ≢ 0) × Contains (numbered_channels writer.numbers) channel
 
 -- ---- what a writer stands for
 
@@ -36,12 +36,12 @@ pub record HasWritten
   pub numbers_are : AreNext pieces writer.numbers
 
 -- the bytes are the beginning of the piece's packet after these pieces, and not all of it
-pub record IsCut (version : ℕ) (pieces : List PieceData) (piece : PieceData) (cut : List ℕ)
+pub record IsCutPiece (version : ℕ) (pieces : List PieceData) (piece : PieceData) (cut : List ℕ)
     : Type 0 where
   pub rest : List ℕ
   pub some : rest ≢ []
   pub front : cut ++ rest
-      ≡ packet_of piece version (next_sequence pieces (packet_channel piece))
+      ≡ piece_packet piece version (next_sequence pieces (packet_channel piece))
 
 -- the output holds these bytes and then a recording of the channels
 abbrev pub HoldsRecording : List ℕ → WriterState → List RecordedChannel → Type 0
@@ -64,7 +64,7 @@ pub record PutsPart (old new : WriterState) (piece : PieceData) : Type 0 where
   pub fails : new.failed ≡ true
   pub stands : (first : Option (List ℕ)) (pieces : List PieceData)
       → HasWritten first pieces [] old
-      → (cut : List ℕ) × IsCut old.version pieces piece cut × HasWritten first pieces cut new
+      → (cut : List ℕ) × IsCutPiece old.version pieces piece cut × HasWritten first pieces cut new
 
 -- why a piece did not go out
 abbrev pub PutFails : WriterState → WriterState → PieceData → WriteFault → Type 0
@@ -84,7 +84,7 @@ FinishFails writer (Failed whole bytes) =
 
 -- the piece's packet with the sequence number that stands at an index
 abbrev pub packet_at : WriterState → (at : ℕ) → PieceData → List ℕ
-packet_at writer at piece = packet_of piece writer.version (number_at writer.numbers at).next
+packet_at writer at piece = piece_packet piece writer.version (number_at writer.numbers at).next
 
 -- the packet went out whole, and is counted
 pub record SendsWhole (old new : WriterState) (at : ℕ) (piece : PieceData) : Type 0 where
@@ -108,6 +108,6 @@ pub record SendsPart (old new : WriterState) (at : ℕ) (piece : PieceData) (fau
 -- the first number is that of records, no channel ID stands twice, and a part of a packet went
 -- out only where the output failed
 pub record IsWriter (numbers : List Numbered) (bytes : ℕ) (failed : Bool) : Type 0 where
-  pub records : slice_get (channels_in numbers) 0 ≡ Some 0
-  pub distinct : AreDistinct (channels_in numbers)
+  pub records : slice_get (numbered_channels numbers) 0 ≡ Some 0
+  pub distinct : AreDistinctChannels (numbered_channels numbers)
   pub none_cut : failed ≡ false → bytes ≡ 0

@@ -5,7 +5,7 @@ ghost use Rattle.rec_channel.specs.History.{Version};
 ghost use Rattle.rec_channel.specs.declared.limits.TheConstants.{MAX_CHANNELS};
 ghost use Rattle.rec_lane.specs.Pieces.{LaneSettings, PieceData};
 ghost use Rattle.rec_lane.specs.Pieces.PieceData.{OfEnd};
-ghost use Rattle.rec_writer.specs.Encoding.{packet_of, writer_output, output_after};
+ghost use Rattle.rec_writer.specs.Encoding.{piece_packet, writer_output, output_after};
 ghost use Rattle.rec_writer.specs.Recording.{RecordedChannel, AreOfChannels, IsRecording, IsOutputOf};
 ghost use Rattle.rec_writer.specs.Writers.{WriterState, HasWritten, HoldsRecording};
 
@@ -47,7 +47,7 @@ pub fn a_channel_of_no_frames_is_recorded_as_its_end()
     ensures { (version : ℕ) (settings : LaneSettings) (history : List Version) (bytes : List ℕ)
         → IsRecording version
         (record { settings = settings; frames = []; history = history } ∷ []) bytes
-        ↔ (bytes ≡ packet_of (OfEnd settings.channel 0 0 0) version 0) }
+        ↔ (bytes ≡ piece_packet (OfEnd settings.channel 0 0 0) version 0) }
 {
     pieces_are_of_their_channel();
 }

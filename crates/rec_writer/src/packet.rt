@@ -6,16 +6,13 @@ ghost use Rattle.ch11_packet.specs.PacketLen.{written_len};
 ghost use Rattle.ch11_packet.specs.Views.{header_data};
 ghost use Rattle.ch11_packet.specs.declared.header.TheConstants.{MAX_ETHERNET_PACKET_LEN};
 ghost use Rattle.rec_lane.specs.Views.{piece_data};
-ghost use Rattle.rec_writer.specs.Encoding.{packet_of, packet_channel, packet_kind, packet_counter, piece_bytes, piece_header};
+ghost use Rattle.rec_writer.specs.Encoding.{piece_packet, packet_channel, packet_kind, packet_counter, piece_bytes, piece_header};
 
 use ch11_packet::{
     COMPUTER_GENERATED_DATA, END_RECORD_LEN, ETHERNET_DATA, Header, INSN_LEN, PROGRAM_HEAD_LEN,
-    packets_have_their_lengths, written_len,
+    RECORD_CHANNEL, packets_have_their_lengths, written_len,
 };
 use rec_lane::Piece;
-
-/// The channel ID of the packets of records.
-pub(crate) const RECORDS: u16 = 0;
 
 /// The packet's flags: no secondary header, and a data checksum of 32 bits.
 const FLAGS: u8 = 0x03;
@@ -23,7 +20,7 @@ const FLAGS: u8 = 0x03;
 /// The length of a piece's packet in bytes, with its header, its filler and its data checksum.
 pub fn packet_len(piece: &Piece) -> u32
     ensures { (version sequence : ℕ)
-        → length (packet_of (piece_data piece.now) version sequence) ≡ result }
+        → length (piece_packet (piece_data piece.now) version sequence) ≡ result }
 {
     packets_have_their_lengths();
     written_len(data_len(piece)) as u32
@@ -71,7 +68,7 @@ pub(crate) fn packet_channel(piece: &Piece) -> u16
 {
     match piece {
         Piece::Data(data) => data.channel,
-        Piece::Program(_) | Piece::End(_) => RECORDS,
+        Piece::Program(_) | Piece::End(_) => RECORD_CHANNEL,
     }
 }
 

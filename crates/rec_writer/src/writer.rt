@@ -2,13 +2,13 @@
 
 ghost use Rattle.std.specs.Prelude.{ℕ, ◌≡◌, ◌≢◌, ◌+◌, ◌<◌, ◌≤◌, ◌∷◌, false, true, [], length, IsTrue, ◌↔◌, IfOk, IfErr, IfSome, IfNone, OnOk, All, Contains, Some, slice_get};
 ghost use Rattle.std.specs.Io.KnownBytes.{Keeps};
-ghost use Rattle.rec_writer.specs.Numbers.{channels_in, fresh_numbers, with_packet};
+ghost use Rattle.rec_writer.specs.Numbers.{numbered_channels, fresh_numbers, with_packet};
 
 use crate::fault::WriteFault;
 use crate::numbers::Numbered;
-use crate::packet::{RECORDS, packet_channel, packet_header};
+use crate::packet::{packet_channel, packet_header};
 use arrayvec::ArrayVec;
-use ch11_packet::{body_sum, end_body, program_body, write_packet};
+use ch11_packet::{RECORD_CHANNEL, body_sum, end_body, program_body, write_packet};
 use rec_channel::MAX_CHANNELS;
 use rec_lane::{Piece, ProgramPiece};
 use std::io::Write;
@@ -52,7 +52,7 @@ impl<W: Write> Writer<W> {
     ghost use Rattle.rec_lane.specs.Pieces.{channel_of};
     ghost use Rattle.ch11_packet.specs.Sums.{body_sum};
     ghost use Rattle.rec_writer.specs.Encoding.{piece_bytes};
-    ghost use Rattle.rec_writer.specs.Numbers.{AreDistinct};
+    ghost use Rattle.rec_writer.specs.Numbers.{AreDistinctChannels};
     ghost use Rattle.rec_writer.specs.Writers.{Knows, HasWritten, PutsWhole, PutFails, SendsWhole, SendsPart, FinishFails};
 
     /// A writer that has written nothing, of 1 to [`MAX_CHANNELS`] channels. Its packets have this
@@ -62,10 +62,10 @@ impl<W: Write> Writer<W> {
         requires some { 0 < length channels.now }
         requires few { length channels.now ≤ MAX_CHANNELS }
         requires named { All (λ (channel : ℕ). channel ≢ 0) channels.now }
-        requires distinct { AreDistinct channels.now }
+        requires distinct { AreDistinctChannels channels.now }
         ensures held { result.held ≡ W.contents out }
         ensures version { result.version ≡ version }
-        ensures channels { channels_in result.numbers ≡ 0 ∷ channels.now }
+        ensures channels { numbered_channels result.numbers ≡ 0 ∷ channels.now }
         ensures works { result.failed ≡ false }
         ensures stands { HasWritten (W.contents out) [] [] result }
     {
@@ -83,7 +83,7 @@ impl<W: Write> Writer<W> {
     pub fn knows(&self, channel: u16) -> bool
         ensures { IsTrue result ↔ Knows self.now channel }
     {
-        if channel == RECORDS {
+        if channel == RECORD_CHANNEL {
             return false;
         }
         match position_of(self.numbers.as_slice(), channel) {
@@ -124,7 +124,7 @@ impl<W: Write> Writer<W> {
         ensures whole { IfOk result (λ _. PutsWhole self.old self.new (piece_data piece.now)) }
         ensures fault { IfErr result (PutFails self.old self.new (piece_data piece.now)) }
         ensures version { self.new.version ≡ self.old.version }
-        ensures channels { channels_in self.new.numbers ≡ channels_in self.old.numbers }
+        ensures channels { numbered_channels self.new.numbers ≡ numbered_channels self.old.numbers }
     {
         match piece {
             Piece::Program(program) => self.put_program(piece, program),
@@ -172,7 +172,7 @@ impl<W: Write> Writer<W> {
         ensures whole { IfOk result (λ _. PutsWhole self.old self.new (piece_data piece.now)) }
         ensures fault { IfErr result (PutFails self.old self.new (piece_data piece.now)) }
         ensures version { self.new.version ≡ self.old.version }
-        ensures channels { channels_in self.new.numbers ≡ channels_in self.old.numbers }
+        ensures channels { numbered_channels self.new.numbers ≡ numbered_channels self.old.numbers }
     {
         let body = program_body(
             program.channel,
@@ -193,7 +193,7 @@ impl<W: Write> Writer<W> {
         ensures whole { IfOk result (λ _. PutsWhole self.old self.new (piece_data piece.now)) }
         ensures fault { IfErr result (PutFails self.old self.new (piece_data piece.now)) }
         ensures version { self.new.version ≡ self.old.version }
-        ensures channels { channels_in self.new.numbers ≡ channels_in self.old.numbers }
+        ensures channels { numbered_channels self.new.numbers ≡ numbered_channels self.old.numbers }
     {
         if self.failed {
             return Err(WriteFault::Failed {
@@ -208,10 +208,10 @@ impl<W: Write> Writer<W> {
     /// Where the number of a channel ID stands: that of records, or of a channel that the writer
     /// has.
     fn number_of(&self, channel: u16) -> usize
-        requires { channel ≢ 0 → Contains (channels_in self.now.numbers) channel }
-        ensures there { slice_get (channels_in self.now.numbers) result ≡ Some channel }
+        requires { channel ≢ 0 → Contains (numbered_channels self.now.numbers) channel }
+        ensures there { slice_get (numbered_channels self.now.numbers) result ≡ Some channel }
         ensures within { result < length self.now.numbers }
-        ensures distinct { AreDistinct (channels_in self.now.numbers) }
+        ensures distinct { AreDistinctChannels (numbered_channels self.now.numbers) }
     {
         let Some(at) = position_of(self.numbers.as_slice(), channel) else {
             unreachable!()
@@ -229,7 +229,7 @@ impl<W: Write> Writer<W> {
         requires sum { sum ≡ body_sum body.now }
         ensures whole { OnOk result (SendsWhole self.old self.new at (piece_data piece.now)) }
         ensures part { IfErr result (SendsPart self.old self.new at (piece_data piece.now)) }
-        ensures channels { channels_in self.new.numbers ≡ channels_in self.old.numbers }
+        ensures channels { numbered_channels self.new.numbers ≡ numbered_channels self.old.numbers }
     {
         let header = packet_header(piece, self.version, self.numbers[at].next);
         match write_packet(&mut self.out, &header, body, sum) {
@@ -260,9 +260,9 @@ fn count_packet(numbers: &mut ArrayVec<Numbered, MAX_NUMBERS>, at: usize)
 
 /// Where the number of a channel ID stands.
 fn position_of(numbers: &[Numbered], channel: u16) -> Option<usize>
-    ensures found { IfSome result (λ at. slice_get (channels_in numbers.now) at ≡ Some channel) }
+    ensures found { IfSome result (λ at. slice_get (numbered_channels numbers.now) at ≡ Some channel) }
     ensures within { IfSome result (λ at. at < length numbers.now) }
-    ensures none { IfNone result (¬ Contains (channels_in numbers.now) channel) }
+    ensures none { IfNone result (¬ Contains (numbered_channels numbers.now) channel) }
 {
     'numbers: for at in 0..numbers.len() {
         if numbers[at].channel == channel {
@@ -279,7 +279,7 @@ fn first_numbers(channels: &[u16]) -> ArrayVec<Numbered, MAX_NUMBERS>
 {
     let mut numbers = ArrayVec::new();
     numbers.push(Numbered {
-        channel: RECORDS,
+        channel: RECORD_CHANNEL,
         next: 0,
     });
     'channels: for at in 0..channels.len() {

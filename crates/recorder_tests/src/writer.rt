@@ -1,6 +1,6 @@
 //! Tests, and the pieces and outputs that they share.
 ghost use Rattle.std.specs.Prelude.{ℕ, ◌≢◌, All};
-ghost use Rattle.rec_writer.specs.Numbers.{AreDistinct};
+ghost use Rattle.rec_writer.specs.Numbers.{AreDistinctChannels};
 
 use ch11_packet::{DataBody, DataBuilder, HEADER_LEN, Header, Limit};
 use eth_frame::Frame;
@@ -245,7 +245,7 @@ fn a_writer_knows_its_channels(rt: HostRuntime) -> Result<(), Fail> {
 /// 64 channels: 1, 1,041 and so on up to 65,521.
 fn many_channels() -> [u16; MAX_CHANNELS]
     ensures named { All (λ (channel : ℕ). channel ≢ 0) result }
-    ensures distinct { AreDistinct result }
+    ensures distinct { AreDistinctChannels result }
 {
     let mut channels = [0; MAX_CHANNELS];
     'channels: for at in 0..MAX_CHANNELS {

@@ -102,7 +102,7 @@ pub(crate) struct EndlessChanges {
 
 impl EndlessChanges {
     ghost use Rattle.std.specs.Prelude.{◌≡◌, ◌+◌, ◌≤◌, [], false, IfOk, IfSome, vec_len, vec_capacity};
-    ghost use Rattle.rec_run.specs.Changes.{given_of};
+    ghost use Rattle.rec_run.specs.Control.{given_of};
 
     /// A control that gives changes of this channel.
     pub(crate) fn new(alloc: Global, channel: u16, calls: Calls) -> Result<EndlessChanges, Fail>
@@ -145,7 +145,7 @@ impl EndlessChanges {
 
 impl Control for EndlessChanges {
     ghost use Rattle.std.specs.Prelude.{map};
-    ghost use Rattle.rec_run.specs.Changes.{given_of, answered_of};
+    ghost use Rattle.rec_run.specs.Control.{given_of, answered_of};
 
     ghost given = { λ c. map given_of c.given.items };
 

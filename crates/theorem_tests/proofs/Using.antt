@@ -6,7 +6,7 @@ use Rattle.eth_frame.specs.Source.{Left}
 use Rattle.eth_frame.specs.declared.source.SourceEnding.{SourceEnding}
 use Rattle.rec_writer.specs.Encoding.{writer_output}
 use Rattle.rec_writer.specs.declared.fault.WriteFault.{WriteFault}
-use Rattle.rec_run.specs.Changes.{Given, Answered}
+use Rattle.rec_run.specs.Control.{Given, Answered}
 use Rattle.rec_run.specs.Recorded.{IsRecorded, IsControlled}
 use Rattle.rec_run.specs.Verdicts.{CutsShort}
 use Rattle.rec_run.specs.declared.job.Job.{Job}

@@ -1,7 +1,7 @@
 -- What a caller of `record` concludes of an output that says what it holds.
 use Rattle.std.specs.Prelude.{ℕ, ◌≡◌, List, ◌++◌, Option, Some}
 use Rattle.eth_frame.specs.Source.{Left}
-use Rattle.rec_run.specs.Changes.{Given}
+use Rattle.rec_run.specs.Control.{Given}
 use Rattle.rec_run.specs.declared.job.Job.{Job}
 use Rattle.rec_run.specs.declared.report.Done.{Done}
 use Rattle.rec_run.specs.declared.report.RunFault.{RunFault}

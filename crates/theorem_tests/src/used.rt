@@ -2,7 +2,7 @@
 
 ghost use Rattle.std.specs.Prelude.{◌≤◌, IfOk, IfErr};
 ghost use Rattle.rec_channel.specs.declared.limits.TheConstants.{MAX_RING};
-ghost use Rattle.rec_run.specs.Changes.{MayBeAsked};
+ghost use Rattle.rec_run.specs.Control.{MayBeAsked};
 ghost use Rattle.rec_run.specs.Jobs.{AreJobs};
 ghost use Rattle.theorem_tests.specs.Used.{FindsAll, FindsPart};
 

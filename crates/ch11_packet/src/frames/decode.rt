@@ -1,7 +1,7 @@
 //! A body of Ethernet data that is read.
 ghost use Rattle.std.specs.Prelude.{ℕ, ◌≡◌, ◌↔◌, ◌++◌, List, IfSome, IfNone, IfOk, IsOkAnd, Err};
 ghost use Rattle.ch11_packet.specs.declared.frames.decode.BodyFault.{BodyFault};
-ghost use Rattle.ch11_packet.specs.FramesRead.{ReadFrameData, StandsFirst, IsFiller, IsCut, SpellsBody, HasBodyFault};
+ghost use Rattle.ch11_packet.specs.FramesRead.{ReadFrameData, FrameStandsFirst, IsFiller, IsCutFrame, SpellsBody, HasBodyFault};
 ghost use Rattle.ch11_packet.specs.Views.{read_frame_data};
 
 use crate::frames::frame::ReadFrame;
@@ -115,8 +115,8 @@ pub fn decode_frames(body: &[u8]) -> Result<Frames<'_>, BodyFault>
 /// isn't whole.
 pub(crate) fn split_frame(body: &[u8]) -> Option<(ReadFrame<'_>, &[u8])>
     ensures first { IfSome result (λ split.
-        StandsFirst (read_frame_data split.0) body.now split.1.now) }
-    ensures cut { IfNone result (IsCut body.now) }
+        FrameStandsFirst (read_frame_data split.0) body.now split.1.now) }
+    ensures cut { IfNone result (IsCutFrame body.now) }
 {
     if body.len() < FRAME_HEADER_LEN {
         return None;

@@ -4,7 +4,7 @@ ghost use Rattle.std.specs.Option.{option_map};
 ghost use Rattle.ch11_packet.specs.declared.records.decode.RecordFault.{RecordFault};
 ghost use Rattle.ch11_packet.specs.declared.records.record.Record.{Record};
 ghost use Rattle.eth_frame.specs.Bytes.{u32_at, u64_at};
-ghost use Rattle.ch11_packet.specs.RecordsRead.{RecordData, SpellsRecord, IsTagged, insn_count_in, HasRecordLength, HasFields, HasRecordFault};
+ghost use Rattle.ch11_packet.specs.RecordsRead.{RecordData, SpellsRecord, IsTagged, insn_count_in, HasRecordLength, HasRecordFields, HasRecordFault};
 ghost use Rattle.ch11_packet.specs.Views.{record_data};
 
 use crate::records::record::{ProgramRecord, Record};
@@ -67,7 +67,7 @@ pub fn decode_record(body: &[u8]) -> Result<Option<Record<'_>>, RecordFault>
 /// The record of a known kind and of this channel in these bytes: `None` if they are too few or too
 /// many.
 fn known_record(kind: u16, channel: u16, body: &[u8]) -> Option<Record<'_>>
-    requires { HasFields kind channel body.now }
+    requires { HasRecordFields kind channel body.now }
     ensures length { IfNone result (¬ HasRecordLength body.now) }
     ensures spelled { IfSome result (λ found. SpellsRecord (record_data found) body.now) }
 {

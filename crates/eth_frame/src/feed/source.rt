@@ -2,7 +2,7 @@
 ghost use Rattle.std.specs.Prelude.{◌≡◌, ◌↔◌, ◌<◌, ◌⊎◌, length, IsSome, IfSome, IsSomeAnd, OnOk, OnErr, IfErr, None, Ok};
 ghost use Rattle.std.specs.Io.KnownBytes.{Consumes};
 ghost use Rattle.std.specs.Option.{option_map};
-ghost use Rattle.eth_frame.specs.Heads.{HasHead};
+ghost use Rattle.eth_frame.specs.Heads.{HasFrameHead};
 ghost use Rattle.eth_frame.specs.Feed.{left_of_feed, left_of_source, failures_before};
 ghost use Rattle.eth_frame.specs.FeedTaking.{TakesRecord};
 
@@ -95,7 +95,7 @@ fn take_body<R: Read>(
     requires { buffer.old ≡ None }
 
     // At Ok.
-    ensures ok { OnOk result (IsSomeAnd buffer.new (λ frame. HasHead head frame
+    ensures ok { OnOk result (IsSomeAnd buffer.new (λ frame. HasFrameHead head frame
         × Consumes (R.remaining reader.old) (R.remaining reader.new) frame.bytes)) }
 
     // At a fault.

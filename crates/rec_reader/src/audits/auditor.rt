@@ -4,7 +4,7 @@ ghost use Rattle.std.specs.Prelude.{ℕ, ◌≡◌, ◌∷◌, ◌++◌, [], Lis
 ghost use Rattle.rec_reader.specs.declared.audits.answer.AuditFault.{AuditFault};
 ghost use Rattle.rec_reader.specs.Packets.{PacketData};
 ghost use Rattle.rec_reader.specs.Audits.{Audits};
-ghost use Rattle.rec_reader.specs.Auditors.{fault_in, StandsFor, TakesPacket, Walks, state_of, state_after, SetsState, JudgesState};
+ghost use Rattle.rec_reader.specs.Auditors.{fault_in, AuditorStandsFor, TakesPacket, Walks, state_of, state_after, SetsState, JudgesState};
 ghost use Rattle.rec_reader.specs.Views.{packet_data, said_data};
 
 use crate::audits::answer::{Audit, AuditFault, AuditLines};
@@ -30,7 +30,7 @@ impl Auditor {
     /// An auditor of no packets. It takes no memory yet.
     pub fn new(alloc: Global) -> Auditor
         ensures works { fault_in result ≡ None }
-        ensures stands { StandsFor result [] }
+        ensures stands { AuditorStandsFor result [] }
     {
         Auditor {
             alloc,
@@ -51,11 +51,11 @@ impl Auditor {
     /// other: the packets from there on are not judged.
     pub fn take(&mut self, packet: &Packet<'_>) -> Result<(), AuditFault>
         // The packets that it stands for.
-        ensures stands { (packets : List PacketData) → StandsFor self.old packets
-            → StandsFor self.new (packets ++ packet_data packet.now ∷ []) }
+        ensures stands { (packets : List PacketData) → AuditorStandsFor self.old packets
+            → AuditorStandsFor self.new (packets ++ packet_data packet.now ∷ []) }
 
         // The answer.
-        ensures walks { (packets : List PacketData) → StandsFor self.old packets
+        ensures walks { (packets : List PacketData) → AuditorStandsFor self.old packets
             → Walks (packets ++ packet_data packet.now ∷ []) result }
         ensures fault { MatchResult result
             (λ _. fault_in self.new ≡ None) (λ fault. fault_in self.new ≡ Some fault) }
@@ -102,7 +102,7 @@ impl Auditor {
     /// [`AuditFault::Counts`] of the least channel that has one; [`AuditFault::Memory`] if there
     /// was no memory for the lines.
     pub fn end(self) -> Result<Audit, AuditFault>
-        ensures audits { (packets : List PacketData) → StandsFor self packets
+        ensures audits { (packets : List PacketData) → AuditorStandsFor self packets
             → Audits packets result }
         ensures again { (fault : AuditFault) → fault_in self ≡ Some fault → result ≡ Err fault }
     {

@@ -6,7 +6,7 @@ ghost use Rattle.eth_frame.specs.Frame.{view};
 ghost use Rattle.eth_frame.specs.Views.{frame_data};
 ghost use Rattle.ch11_packet.specs.Views.{read_frame_data, record_insns};
 ghost use Rattle.rec_reader.specs.Channels.Saying.{OfFrames, OfProgram};
-ghost use Rattle.rec_reader.specs.Audits.{Accepts, RefusesFirst, Follows, WereOffered, IsClosing, line_with};
+ghost use Rattle.rec_reader.specs.Audits.{Accepts, RefusesFirst, FollowsProgram, WereOffered, IsClosing, line_with};
 ghost use Rattle.rec_reader.specs.Auditors.{unnamed_state, counted, counted_more, state_after, JudgesState};
 ghost use Rattle.rec_reader.specs.Views.{program_data, said_data};
 
@@ -148,7 +148,7 @@ impl ChannelState {
 
     /// Whether a program may come next.
     fn is_followed_by(&self, program: &ProgramRecord<'_>) -> bool
-        ensures { IsTrue result ↔ Follows self.now.last (program_data program.now) }
+        ensures { IsTrue result ↔ FollowsProgram self.now.last (program_data program.now) }
     {
         match &self.last {
             None => program.first == 0,

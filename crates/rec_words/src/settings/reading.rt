@@ -4,6 +4,7 @@ ghost use Rattle.std.specs.Prelude.{◌≡◌, ◌↔◌, ◌==◌, [], List, Ok
 ghost use Rattle.std.specs.List.{list_any};
 ghost use Rattle.toml.specs.Data.{Members};
 ghost use Rattle.toml.specs.View.{table_view, items_view};
+ghost use Rattle.ch11_packet.specs.declared.limit.TheConstants.{MIN_LIMIT, MAX_LIMIT};
 ghost use Rattle.rec_words.specs.Settings.{settings, settings_in, channel_in, channels_in, channel_tables, tables_in, number_or, repeated};
 ghost use Rattle.rec_words.specs.SettingsViews.{settings_data, channel_data, Reports};
 
@@ -59,8 +60,9 @@ fn settings_in(alloc: Global, table: &Table) -> Result<Settings, SettingsFault>
 /// The limit of packets, which counts no data checksum.
 fn limit_in(table: &Table) -> Result<Limit, SettingsFault>
     ensures { MatchResult result
-        (λ limit. number_or 65536 16424 524284 (codes "limit") (table_view table.now) ≡ Ok limit)
-        (Reports (number_or 65536 16424 524284 (codes "limit") (table_view table.now))) }
+        (λ limit. number_or 65536 MIN_LIMIT MAX_LIMIT (codes "limit") (table_view table.now)
+        ≡ Ok limit)
+        (Reports (number_or 65536 MIN_LIMIT MAX_LIMIT (codes "limit") (table_view table.now))) }
 {
     let least = u64::from(MIN_LIMIT);
     let bytes = number_or(table, "limit", least, u64::from(MAX_LIMIT), 65_536)?;

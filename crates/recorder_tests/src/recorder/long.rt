@@ -168,13 +168,12 @@ fn many_channels_record_beside_many_changes(rt: HostRuntime) -> Result<(), Fail>
     let control = fresh_script(alloc, Arc::try_clone(&marks)?, steps, NONE);
     let out = output(alloc, marks, usize::MAX);
     let done = recorded(&rt, alloc, jobs, 4_096, control, out)?;
-    let full = done
-        .control
-        .told
+    let told = done.control.log.told();
+    let full = told
         .iter()
         .filter(|t| t.answer == Answer::VersionsFull)
         .count();
-    assert_eq!(rt; (done.control.told.len(), full), (1_100, 77));
+    assert_eq!(rt; (told.len(), full), (1_100, 77));
     for report in done.report.channels.as_slice() {
         let found = rising_counters(alloc, done.out.output.bytes.as_slice(), report.channel)?;
         assert_eq!(rt; found.map(|n| n as u64), Some(report.kept));

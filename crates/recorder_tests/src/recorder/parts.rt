@@ -219,17 +219,15 @@ pub(super) fn fresh_script(
     steps: Vec<Step>,
     told_mark: usize,
 ) -> Script
-    ensures given { result.given.items ≡ [] }
-    ensures told { result.told.items ≡ [] }
-    ensures goes_on { result.ended ≡ false }
+    ensures given { result.log.given ≡ [] }
+    ensures told { result.log.answered ≡ [] }
+    ensures goes_on { result.log.ended ≡ false }
 {
     Script {
         marks,
         steps,
-        given: Vec::new(alloc),
-        told: Vec::new(alloc),
+        log: ControlLog::new(alloc),
         told_mark,
-        ended: false,
         late: false,
     }
 }

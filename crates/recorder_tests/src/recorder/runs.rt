@@ -160,9 +160,9 @@ pub(super) fn recorded<R: Threads + Wait + Sync>(
     out: Watched,
 ) -> Result<Done<FeedSource<Stages>, Script, Watched>, Fail>
     requires ring { (1 ≤ ring) × (ring ≤ 4096) }
-    requires given { control.given.items ≡ [] }
-    requires told { control.told.items ≡ [] }
-    requires goes_on { control.ended ≡ false }
+    requires given { control.log.given ≡ [] }
+    requires told { control.log.answered ≡ [] }
+    requires goes_on { control.log.ended ≡ false }
 {
     if !jobs_ok(jobs.as_slice()) {
         return Err("jobs that may be recorded")?;
@@ -259,7 +259,7 @@ fn a_change_meets_the_frames_after_it(rt: HostRuntime) -> Result<(), Fail> {
         mark: 2,
     };
     assert_eq!(rt;
-        done.control.told.first().map(|told| told.answer),
+        done.control.log.told().first().map(|told| told.answer),
         Some(want)
     );
     Ok(())

@@ -1,7 +1,7 @@
 use Rattle.std.proofs.Common.{refl, subst, All, rules}
 use Rattle.std.specs.List.{AllZip}
-use Rattle.rec_run.specs.Joins.{AreOver, AreEnded}
-use Rattle.rec_run.specs.Logs.{IsOfSome}
+use Rattle.rec_run.specs.Threads.{AreOver, AreEnded}
+use Rattle.rec_run.specs.Control.{IsOfSome}
 use Rattle.rec_run.specs.Verdicts.{TellsOf}
 use Rattle.rec_run.proofs.Judging.{good_of, concludes, concludes_cut, concludes_control, cut_here}
 use Rattle.rec_run.proofs.recording.conclude.Goals as goal

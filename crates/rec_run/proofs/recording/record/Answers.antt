@@ -1,5 +1,5 @@
 use Rattle.std.proofs.Common.{◌≡◌, ◌≢◌, ℕ, ◌∷◌, All, arith, refl, ap, sym, subst, ◌∙◌}
-use Rattle.rec_writer.specs.Numbers.{AreDistinct}
+use Rattle.rec_writer.specs.Numbers.{AreDistinctChannels}
 use Rattle.rec_run.specs.Jobs.{channels_of_jobs}
 use Rattle.rec_run.proofs.Judging.{written_of, passed_fit, whole_recording, cut_recording, whole_control}
 use Rattle.rec_run.proofs.Tying.{recorded_run}
@@ -11,7 +11,7 @@ new-requires-clause-named g c = subst (λ cs. All (λ (channel : ℕ). channel �
 pub new-requires-clause-distinct : goal.new-requires-clause-distinct
 new-requires-clause-distinct g c =
     let same : c.as_slice-3.result.now ≡ channels_of_jobs c.args.jobs.items = c.as_slice-3.ensures.value ∙ c.channels_of-channels.ensures.channels ∙ ap (λ js. channels_of_jobs js) c.as_slice.ensures.value in
-    subst (λ cs. AreDistinct cs) (sym same) c.requires.jobs.distinct
+    subst (λ cs. AreDistinctChannels cs) (sym same) c.requires.jobs.distinct
 
 pub run_threads-requires-after_bounds : goal.run_threads-requires-after_bounds
 run_threads-requires-after_bounds g c lifetimes within =
@@ -23,7 +23,7 @@ run_threads-requires-after_bounds g c lifetimes within =
         lines_fit = omega (arith, c.in_ok-lines.ensures.capacity, c.len-count.ensures);
         none_joined = c.in_ok-joined.ensures.len;
         joined_fit = omega (arith, c.in_ok-joined.ensures.capacity, c.len-count.ensures);
-        distinct = subst (λ js. AreDistinct (channels_of_jobs js)) (sym prepared) c.requires.jobs.distinct;
+        distinct = subst (λ js. AreDistinctChannels (channels_of_jobs js)) (sym prepared) c.requires.jobs.distinct;
         known = c.new.ensures.channels ∙ ap (λ cs. 0 ∷ cs) (same ∙ ap (λ js. channels_of_jobs js) (sym prepared));
         works = c.new.ensures.works;
         no_bytes = refl;

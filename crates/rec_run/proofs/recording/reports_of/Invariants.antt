@@ -3,7 +3,7 @@ use Rattle.std.specs.Prelude.{vec_capacity}
 use Rattle.std.specs.List.{AllZip}
 use Rattle.std.specs.Vec.Iter.{into_iter_items, into_iter_len}
 use Rattle.rec_run.specs.Verdicts.{TellsOf}
-use Rattle.rec_run.specs.declared.joined.Joined.{Joined}
+use Rattle.rec_run.specs.declared.threads.joins.Joined.{Joined}
 use Rattle.rec_run.proofs.recording.reports_of.Given as goal
 
 abbrev pub invariant-workers : goal.invariant-workers

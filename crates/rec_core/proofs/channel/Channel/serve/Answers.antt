@@ -2,7 +2,7 @@ use Rattle.std.proofs.Common.{ℕ, subst, sym}
 use Rattle.std.specs.Arc.{arc_value}
 use Rattle.rec_core.specs.declared.event.Event.{Event}
 use Rattle.rec_core.specs.World.EventData.{OfTake, OfInstall, OfSend, OfClose}
-use Rattle.rec_core.specs.Steps.{Answers, Serves}
+use Rattle.rec_core.specs.Steps.{AnswersEvent, Serves}
 use Rattle.rec_core.specs.Views.{channel_parts, event_data}
 use Rattle.rec_core.proofs.Serves.{serves_quietly, no_output_take, no_output_install, no_output_send, no_output_close}
 use Rattle.rec_core.proofs.channel.Channel.serve.Goals as goal
@@ -13,7 +13,7 @@ returns-in-Take-clause-serves g c =
     let new = channel_parts c.take.new.self in
     subst (λ (e : Event). (size : ℕ) → Serves size old new c.args.writer.now c.args.writer.now (event_data e) c.take.result) (sym c.in-Take.is)
     (serves_quietly old new c.args.writer.now (OfTake c.in-Take.channel c.in-Take.frame) c.take.result c.requires.held (no_output_take c.in-Take.channel c.in-Take.frame)
-    (λ size. subst (λ f. Answers size old new (OfTake c.in-Take.channel f) c.take.result) c.frame.ensures.same (c.take.ensures.answers size c.in-Take.channel)))
+    (λ size. subst (λ f. AnswersEvent size old new (OfTake c.in-Take.channel f) c.take.result) c.frame.ensures.same (c.take.ensures.answers size c.in-Take.channel)))
 
 pub returns-in-Install-clause-serves : goal.returns-in-Install-clause-serves
 returns-in-Install-clause-serves g c =

@@ -1,6 +1,0 @@
-use Rattle.std.specs.List.{AllWithin}
-use Rattle.rec_run.specs.Logs.{IsOfSome}
-use Rattle.rec_run.proofs.agreement.are_of_some.Given as goal
-
-abbrev pub invariant-entries : goal.invariant-entries
-invariant-entries l = AllWithin (IsOfSome l.channels) l.log 0 l.entry-index

@@ -1,6 +1,0 @@
-use Rattle.std.proofs.Common.{◌≡◌, ◌+◌, length}
-use Rattle.rtrb.specs.Ring.{IsPair, sent, known_free}
-use Rattle.rec_run.proofs.setup.return_ring.Given as goal
-
-abbrev pub invariant-buffers : goal.invariant-buffers
-invariant-buffers l = IsPair l.returns l.blanks × (length (sent l.returns) ≡ l.k) × (known_free l.returns + l.k ≡ l.fn.ring + 3)

@@ -1,5 +1,0 @@
-use Rattle.std.proofs.Common.{◌≡◌}
-use Rattle.rec_run.proofs.waiting.make_ready.Given as goal
-
-abbrev pub invariant-turns : goal.invariant-turns
-invariant-turns g l = l.lane ≡ l.initial.lane

@@ -1,0 +1,109 @@
+#define _GNU_SOURCE
+#include "adapter.h"
+#include "interface.h"
+#include "prefilter.h"
+
+#include <net/if.h>
+
+enum {
+    /* Longer than any frame of a feed, so that a longer one is seen to be cut. */
+    MOST_CAPTURED = 16384,
+    BYTES_A_MIB = 1 << 20,
+};
+
+static int refused(const char *name, const char *why)
+{
+    tell("%s: %s", name, why);
+    return 0;
+}
+
+/* Why an interface can't be captured, in one line. */
+static int refused_by(pcap_t *pcap, const char *name, int status)
+{
+    switch (status) {
+    case PCAP_ERROR_PERM_DENIED:
+    case PCAP_ERROR_PROMISC_PERM_DENIED:
+        return refused(name, "no permission to capture: be root, or once setcap cap_net_raw,cap_net_admin=ep bin/capture");
+    case PCAP_ERROR_NO_SUCH_DEVICE:
+        return refused(name, "no such interface");
+    case PCAP_ERROR_IFACE_NOT_UP:
+        return refused(name, "it is down: ip link set it up");
+    case PCAP_ERROR:
+        return refused(name, pcap_geterr(pcap));
+    default:
+        return refused(name, pcap_statustostr(status));
+    }
+}
+
+/* The adapter's clock, where it is set by the host's, and else as it is. */
+static int use_adapter_clock(pcap_t *pcap)
+{
+    static const int CLOCKS[] = {PCAP_TSTAMP_ADAPTER, PCAP_TSTAMP_ADAPTER_UNSYNCED};
+    int *known, count = pcap_list_tstamp_types(pcap, &known), is_set = 0;
+    for (size_t clock = 0; clock < sizeof CLOCKS / sizeof *CLOCKS; clock++)
+        for (int i = 0; i < count && !is_set; i++)
+            is_set = known[i] == CLOCKS[clock] && pcap_set_tstamp_type(pcap, known[i]) == 0;
+    if (count > 0)
+        pcap_free_tstamp_types(known);
+    return is_set;
+}
+
+static int set_up(pcap_t *pcap, const char *name, const struct words *words)
+{
+    pcap_set_snaplen(pcap, MOST_CAPTURED);
+    pcap_set_promisc(pcap, words->is_promiscuous);
+    pcap_set_immediate_mode(pcap, 1);
+    pcap_set_buffer_size(pcap, words->buffer_mib * BYTES_A_MIB);
+    pcap_set_tstamp_precision(pcap, PCAP_TSTAMP_PRECISION_NANO);
+    if (words->uses_adapter_clock && !use_adapter_clock(pcap))
+        return refused(name, "its adapter gives no times");
+    int status = pcap_activate(pcap);
+    if (status < 0)
+        return refused_by(pcap, name, status);
+    if (status > 0)
+        tell("%s: %s", name, status == PCAP_WARNING ? pcap_geterr(pcap) : pcap_statustostr(status));
+    if (pcap_datalink(pcap) != DLT_EN10MB)
+        return refused(name, "no Ethernet interface");
+    return 1;
+}
+
+static int set_direction(pcap_t *pcap, const char *name, enum direction direction)
+{
+    static const pcap_direction_t DIRECTIONS[] = {PCAP_D_INOUT, PCAP_D_IN, PCAP_D_OUT};
+    if (pcap_setdirection(pcap, DIRECTIONS[direction]) != 0)
+        return refused(name, pcap_geterr(pcap));
+    return 1;
+}
+
+static void note_adapter(struct interface *interface)
+{
+    struct adapter adapter;
+    ask_adapter(interface->name, &adapter);
+    enum check_sequences asked = interface->words->check_sequences;
+    interface->has_check_sequences = asked == AS_THE_ADAPTER_SAYS ? adapter.gives_check_sequences : asked == GIVEN;
+    if (adapter.joining[0] != 0)
+        tell("%s: the kernel may join frames (%s), and a joined frame is none of the wire: ethtool -K %s gro off lro off "
+             "gso off tso off",
+             interface->name, adapter.joining, interface->name);
+}
+
+int open_interface(struct interface *interface, const struct way *way, const struct words *words)
+{
+    char error[PCAP_ERRBUF_SIZE];
+    const char *name = way->from;
+    *interface = (struct interface){.name = name, .path = way->to, .words = words, .feed = {.output.fd = -1}};
+    interface->number = if_nametoindex(name);
+    interface->pcap = pcap_create(name, error);
+    if (interface->pcap == NULL)
+        return refused(name, error);
+    if (!set_up(interface->pcap, name, words) || !set_direction(interface->pcap, name, words->direction))
+        return 0;
+    if (way->prefilter != NULL && !drop_by_listing(interface->pcap, name, way->prefilter))
+        return 0;
+    if (pcap_setnonblock(interface->pcap, 1, error) != 0)
+        return refused(name, error);
+    int is_nano = pcap_get_tstamp_precision(interface->pcap) == PCAP_TSTAMP_PRECISION_NANO;
+    interface->nanoseconds_per_unit = is_nano ? 1 : 1000;
+    note_adapter(interface);
+    return 1;
+}

@@ -1,0 +1,58 @@
+/* Where a feed's bytes go: a pipe or a file. */
+#ifndef OUTPUT_H
+#define OUTPUT_H
+
+#include <stddef.h>
+#include <stdint.h>
+
+enum output_state {
+    OUTPUT_OPEN,
+    OUTPUT_LEFT,      /* whoever read the pipe has left it */
+    OUTPUT_FAILED,    /* `error` says why */
+    OUTPUT_ABANDONED, /* the run was to end at once */
+};
+
+struct output {
+    const char *path;
+    int fd;
+    enum output_state state;
+    int error;
+    int64_t waited; /* nanoseconds for which the pipe was full */
+    void (*while_waiting)(void *); /* called now and then while the pipe is full */
+    void *told;
+};
+
+/* Opens what is at `path`, where `-` is standard output. A named pipe is waited for until it has a reader. Whether it is
+ * open; else `state` says why not. */
+int open_output(struct output *output, const char *path);
+
+/* Whether it is open; else why not. */
+int is_open(const struct output *output);
+
+/* The output failed with this error. It is no more open: 0. */
+int fail_output(struct output *output, int error);
+
+/* Writes all the bytes. Whether it is still open. */
+int write_all(struct output *output, const unsigned char *bytes, size_t len);
+
+enum switching {
+    SWITCHED,
+    SWITCH_LATER,  /* a pipe has no reader yet */
+    SWITCH_FAILED, /* `errno` says why */
+};
+
+/* Opens what the path names by now. Where that is something else, `fd` is of it, and else -1. */
+enum switching open_next(const struct output *output, int *fd);
+
+/* Goes over to what was opened so. */
+void go_over(struct output *output, int fd);
+
+/* Opens what the path names by now and closes it, for an output that has ended. */
+enum switching pass_next(const struct output *output);
+
+void close_output(struct output *output);
+
+/* Why an output isn't open any more. */
+const char *output_fault(const struct output *output);
+
+#endif

@@ -1,0 +1,36 @@
+/* A thread that writes a feed's full buffers, while the next ones are filled. */
+#ifndef WRITER_H
+#define WRITER_H
+
+#include "output.h"
+
+#include <pthread.h>
+
+/* So many that neither thread often waits for the other. */
+enum { BLOCKS = 8 };
+
+struct writer {
+    struct output *output;
+    struct {
+        unsigned char *bytes;
+        size_t len;
+    } blocks[BLOCKS]; /* a ring */
+    unsigned first, count; /* of those that are to be written */
+    int is_started, is_ending;
+    int is_open; /* whether the output was after the last write */
+    pthread_t thread;
+    pthread_mutex_t lock;
+    pthread_cond_t changed;
+};
+
+/* Starts the thread, with blocks of so many bytes. Where it can't be, `is_started` stays 0. */
+void start_writer(struct writer *writer, struct output *output, size_t room);
+
+/* Gives it a block to write, once there is another for it, which is taken in its place. Whether the output was still
+ * open then; until the thread has ended, it alone looks at the output. */
+int hand_over(struct writer *writer, unsigned char **bytes, size_t len);
+
+/* Ends it once all is written. */
+void end_writer(struct writer *writer);
+
+#endif
