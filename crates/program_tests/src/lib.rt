@@ -1,7 +1,10 @@
-//! The tests of the program, by its public calls: runs without words, and the settings of recordings.
+//! The tests of the program, by its public calls: runs without words, the settings of recordings, and
+//! the limits in help.
 #![tactic(auto)]
 
 #[cfg(test)]
 mod command_line;
+#[cfg(test)]
+mod help;
 #[cfg(test)]
 mod settings;
