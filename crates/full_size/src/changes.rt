@@ -39,16 +39,19 @@ impl Changes {
         }
     }
 
-    /// The next change, once the source was asked for its frame.
+    /// Whether there is a next change, once the source was asked for its frame.
+    fn is_due(&self) -> bool {
+        self.next < self.channel.versions() && self.steps.is_asked(&self.rt, u64::from(self.next))
+    }
+
+    /// The next change, if there is one.
     fn change(&mut self) -> Option<Change>
         ensures log { self.new.log ≡ self.old.log }
     {
-        if self.next >= self.channel.versions()
-            || !self.steps.is_asked(&self.rt, u64::from(self.next))
-        {
+        if !self.is_due() {
             return None;
         }
-        let program = version(self.alloc, self.next).ok()?;
+        let program = version(self.alloc, self.next)?;
         self.next = self.next.saturating_add(1);
         Some(Change {
             channel: self.channel.id,

@@ -5,7 +5,7 @@ ghost use Rattle.std.specs.Prelude.{◌≤◌};
 use ch11_packet::{MAX_LIMIT, MIN_LIMIT};
 use eth_frame::{MAX_FRAME_LEN, MIN_FRAME_LEN};
 use rec_channel::MAX_VERSIONS;
-use std::alloc::AllocError;
+use std::alloc::{AllocError, Global};
 
 /// The number of the shortest frames that a packet of the greatest limit holds.
 pub(crate) const MOST_IN_PACKET: u32 = 17_475;
@@ -16,8 +16,12 @@ pub(crate) const LONGEST_IN_PACKET: u32 = 31;
 /// The length of a frame's head in a feed.
 const HEAD_LEN: usize = 9;
 
+/// How much more each byte of a frame is than the one before; the first is the lowest of the frame's
+/// number.
+const STEP: u8 = 37;
+
 /// What a channel is fed.
-#[derive(Clone, Copy, Debug, PartialEq, Eq)]
+#[derive(Clone, Copy)]
 pub(crate) enum Kind {
     /// A frame for each version that a channel may have, and some more for the last.
     Versions,
@@ -33,8 +37,16 @@ pub(crate) enum Kind {
     Varied,
 }
 
+/// The channels of a recording: those from an index up to another.
+#[derive(Clone, Copy)]
+pub(crate) struct Channels {
+    /// The index of the first, the one that is given changes.
+    pub(crate) first: u16,
+    pub(crate) end: u16,
+}
+
 /// A channel.
-#[derive(Clone, Copy, Debug)]
+#[derive(Clone, Copy)]
 pub(crate) struct Channel {
     pub(crate) id: u16,
     pub(crate) kind: Kind,
@@ -95,11 +107,23 @@ impl Channel {
         }
     }
 
+    /// The number of the first frame from this one on that its programs accept.
+    pub(crate) fn accepted_from(self, first: u32) -> u32 {
+        for number in first..self.frames() {
+            if self.accepts(number) {
+                return number;
+            }
+        }
+        self.frames()
+    }
+
     /// How many frames its programs accept.
     pub(crate) fn kept(self) -> u64 {
-        (0..self.frames())
-            .filter(|number| self.accepts(*number))
-            .count() as u64
+        let mut kept = 0u64;
+        for number in 0..self.frames() {
+            kept = kept.saturating_add(u64::from(self.accepts(number)));
+        }
+        kept
     }
 
     /// The length of the frame of this number.
@@ -115,29 +139,50 @@ impl Channel {
         MIN_FRAME_LEN as u16 + more
     }
 
-    /// Adds the record of the frame of this number to a feed. Its counter is its number, its marks
-    /// are the number's two lowest bits, and its first byte is its lowest byte.
+    /// The head of the frame's record in a feed. Its counter is its number, and its marks are the
+    /// number's two lowest bits.
+    fn head(self, number: u32) -> [u8; HEAD_LEN] {
+        let [first, second, third, fourth] = number.to_le_bytes();
+        let [low, high] = self.frame_len(number).to_le_bytes();
+        [first, second, third, fourth, 0, 0, first & 3, low, high]
+    }
+
+    /// Adds the record of the frame of this number to a feed.
     pub(crate) fn push_record(self, number: u32, feed: &mut Vec<u8>) -> Result<(), AllocError> {
-        let len = self.frame_len(number);
-        let [low, ..] = number.to_le_bytes();
-        feed.extend_from_slice(&number.to_le_bytes())?;
-        feed.extend_from_slice(&[0, 0, low & 3])?;
-        feed.extend_from_slice(&len.to_le_bytes())?;
-        let mut byte = low;
-        for _ in 0..len {
+        feed.extend_from_slice(&self.head(number))?;
+        let [mut byte, ..] = number.to_le_bytes();
+        for _ in 0..self.frame_len(number) {
             feed.push(byte)?;
-            byte = byte.wrapping_add(37);
+            byte = byte.wrapping_add(STEP);
         }
         Ok(())
+    }
+
+    /// The feed of the frames that its programs accept.
+    pub(crate) fn accepted_feed(self, alloc: Global) -> Result<Vec<u8>, AllocError> {
+        let mut feed = Vec::new(alloc);
+        for number in 0..self.frames() {
+            if self.accepts(number) {
+                self.push_record(number, &mut feed)?;
+            }
+        }
+        Ok(feed)
+    }
+
+    /// Whether these are the bytes of the frame of this number.
+    pub(crate) fn has_frame(self, number: u32, bytes: &[u8]) -> bool {
+        let [mut fed, ..] = number.to_le_bytes();
+        for byte in bytes {
+            if *byte != fed {
+                return false;
+            }
+            fed = fed.wrapping_add(STEP);
+        }
+        bytes.len() == usize::from(self.frame_len(number))
     }
 }
 
 /// Whether this version of a channel with many accepts each frame; the others drop each.
 pub(crate) fn is_keeping(version: u32) -> bool {
     version % 3 != 2
-}
-
-/// The frame's bytes in its record.
-pub(crate) fn bytes_in(record: &[u8]) -> &[u8] {
-    record.get(HEAD_LEN..).unwrap_or(&[])
 }

@@ -1,7 +1,6 @@
 //! The filters of the channels.
 
 use crate::channel::{Kind, is_keeping};
-use anyhow::{Context, Result};
 use bpf_insn::{Insn, MAX_INSNS, parse_listing};
 use bpf_verify::{Verified, verify};
 use rec_channel::MAX_VERSIONS;
@@ -21,8 +20,16 @@ const BY_FIRST_BYTE: &str = "4,48 0 0 0,69 0 1 1,6 0 0 1,6 0 0 0,";
 /// has the greatest program.
 const MORE_INSNS: usize = MAX_INSNS / MAX_VERSIONS;
 
+/// A load of 1.
+const LOAD: Insn = Insn {
+    code: 0,
+    jt: 0,
+    jf: 0,
+    k: 1,
+};
+
 /// The first program of a channel.
-pub(crate) fn first_program(alloc: Global, kind: Kind) -> Result<Arc<Verified, Global>> {
+pub(crate) fn first_program(alloc: Global, kind: Kind) -> Option<Arc<Verified, Global>> {
     match kind {
         Kind::Versions => version(alloc, 0),
         Kind::Many => listed(alloc, BY_LENGTH),
@@ -32,33 +39,36 @@ pub(crate) fn first_program(alloc: Global, kind: Kind) -> Result<Arc<Verified, G
 }
 
 /// The program of a version of a channel with many: loads of 1, and a return.
-pub(crate) fn version(alloc: Global, version: u32) -> Result<Arc<Verified, Global>> {
+pub(crate) fn version(alloc: Global, version: u32) -> Option<Arc<Verified, Global>> {
     let mut insns = Vec::new(alloc);
-    for _ in 1..(version as usize)
-        .saturating_add(1)
-        .saturating_mul(MORE_INSNS)
-    {
-        insns.push(Insn {
-            code: 0,
-            jt: 0,
-            jf: 0,
-            k: 1,
-        })?;
-    }
-    insns.push(Insn {
-        code: 6,
-        jt: 0,
-        jf: 0,
-        k: u32::from(is_keeping(version)),
-    })?;
+    insns.resize(loads_of(version), LOAD).ok()?;
+    insns.push(returning(is_keeping(version))).ok()?;
     verified(alloc, insns)
 }
 
-fn listed(alloc: Global, listing: &str) -> Result<Arc<Verified, Global>> {
-    verified(alloc, parse_listing(alloc, listing)?)
+/// How many loads the program of a version has.
+fn loads_of(version: u32) -> usize {
+    (version as usize)
+        .saturating_add(1)
+        .saturating_mul(MORE_INSNS)
+        .saturating_sub(1)
 }
 
-fn verified(alloc: Global, insns: Vec<Insn>) -> Result<Arc<Verified, Global>> {
-    let program = verify(insns).ok().context("a valid program")?;
-    Ok(Arc::new(alloc, program)?)
+/// The return that accepts a frame, or drops it.
+fn returning(is_accepted: bool) -> Insn {
+    Insn {
+        code: 6,
+        jt: 0,
+        jf: 0,
+        k: u32::from(is_accepted),
+    }
+}
+
+fn listed(alloc: Global, listing: &str) -> Option<Arc<Verified, Global>> {
+    verified(alloc, parse_listing(alloc, listing).ok()?)
+}
+
+fn verified(alloc: Global, insns: Vec<Insn>) -> Option<Arc<Verified, Global>> {
+    let program = verify(insns).ok()?;
+    Arc::new(alloc, program).ok()
 }

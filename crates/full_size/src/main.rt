@@ -6,50 +6,65 @@
 
 mod changes;
 mod channel;
+mod extracting;
 mod feed;
 mod filters;
+mod indexing;
+mod jobs;
 mod making;
 mod reading;
 mod steps;
 mod streaming;
-mod wide;
+mod telling;
 
-use anyhow::{Context, Result};
-use making::make;
-use reading::{audit_all, extract_all, find_all, index_all};
-use rec_reader::read_recording;
-use std::sync::Wait;
-use std::thread::Threads;
-use streaming::stream;
-use wide::make_wide;
+use channel::Channels;
+use making::{Made, recorded};
+use reading::{find_in, read_in_every_way};
+use rec_channel::{MAX_CHANNELS, MAX_RING};
+use telling::{count_told, tell};
 
-fn main(rt: HostRuntime) -> Result<()> {
-    run(&rt, rt)
+/// How many pieces a channel's ring has room for.
+const RING: usize = 8;
+
+/// All channels.
+const ALL: Channels = Channels {
+    first: 0,
+    end: MAX_CHANNELS as u16,
+};
+
+/// The channel with the longest frames in the greatest packets.
+const LONGEST: Channels = Channels { first: 3, end: 4 };
+
+fn main(rt: HostRuntime) -> Result<(), &'static str> {
+    let made = recorded(&rt, rt, ALL, RING);
+    let is_so = compare(rt, made.as_ref());
+    let made = recorded(&rt, rt, LONGEST, MAX_RING);
+    if is_so && compare_wide(rt, made.as_ref()) {
+        Ok(())
+    } else {
+        Err("the next line has no number: what is told or read there is not what was fed")
+    }
 }
 
-/// Makes the recording and reads it; a line for each way.
-fn run<R: Threads + Wait + Sync>(threads: &R, rt: HostRuntime) -> Result<()> {
-    let alloc = rt.alloc();
-    let made = make(threads, rt)?;
-    println!(rt; "recorded {} channels", made.channels)?;
-    println!(rt; "{} packets, {} bytes", made.pieces, made.bytes.len())?;
-    let recording = read_recording(alloc, made.bytes.as_slice())
-        .ok()
-        .context("a recording that is read")?;
-    println!(rt; "read whole {} frames", find_all(alloc, &recording)?)?;
-    println!(rt;
-        "read as a stream {} packets",
-        stream(alloc, made.bytes.as_slice(), &recording)?
-    )?;
-    println!(rt;
-        "indexed {} packets of frames",
-        index_all(alloc, &recording)?
-    )?;
-    println!(rt; "audited {} programs", audit_all(alloc, &recording)?)?;
-    println!(rt; "extracted {} frames", extract_all(alloc, &recording)?)?;
-    println!(rt;
-        "recorded {} frames through the longest ring of the greatest packets",
-        make_wide(threads, rt)?
-    )?;
-    Ok(())
+/// Compares a recording of all channels with what they were fed, by a line for what was recorded, and
+/// one for each way to read it: whether each line has its number.
+fn compare(rt: HostRuntime, made: Option<&Made>) -> bool {
+    let Some(made) = made else {
+        return false;
+    };
+    tell(rt, "recorded ", count_told(ALL, made), " channels\n")
+        && tell(rt, "", Some(made.report.pieces), " packets, ")
+        && tell(rt, "", Some(made.out.len() as u64), " bytes\n")
+        && read_in_every_way(rt, ALL, made.out.as_slice())
+}
+
+/// Compares a recording with the most room that settings can ask for with what its channel was fed, by
+/// a line: whether it has its number.
+fn compare_wide(rt: HostRuntime, made: Option<&Made>) -> bool {
+    let Some(made) = made else {
+        return false;
+    };
+    let found = find_in(rt.alloc(), LONGEST, made.out.as_slice());
+    let behind = " frames through the longest ring of the greatest packets\n";
+    count_told(LONGEST, made).is_some() && tell(rt, "recorded ", found, behind)
 }

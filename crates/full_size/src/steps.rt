@@ -1,6 +1,5 @@
 //! How a channel's source and the control go on by turns.
 
-use anyhow::Result;
 use std::alloc::Global;
 use std::sync::Arc;
 use std::sync::atomic::{AtomicU64, Ordering};
@@ -26,14 +25,12 @@ pub(crate) type Shared = Arc<Steps, Global>;
 
 impl Steps {
     /// Steps before the first.
-    pub(crate) fn shared(alloc: Global) -> Result<Shared> {
-        Ok(Arc::new(
-            alloc,
-            Steps {
-                asked: AtomicU64::new(0),
-                told: AtomicU64::new(0),
-            },
-        )?)
+    pub(crate) fn shared(alloc: Global) -> Option<Shared> {
+        let steps = Steps {
+            asked: AtomicU64::new(0),
+            told: AtomicU64::new(0),
+        };
+        Arc::new(alloc, steps).ok()
     }
 
     /// The source was asked for the frame of this number: `false` if the version of the same number

@@ -1,7 +1,6 @@
 //! The recording as a stream, beside the reading of all its bytes.
 
-use anyhow::{Result, bail};
-use rec_reader::{Reader, Recording};
+use rec_reader::{Packet, Reader, Recording};
 use std::alloc::Global;
 use std::io;
 use std::io::Read;
@@ -28,23 +27,31 @@ impl Read for Pieces<'_> {
     }
 }
 
-/// Reads the recording as a stream: the same packets come, and then its end. How many there are.
-pub(crate) fn stream(alloc: Global, bytes: &[u8], recording: &Recording<'_>) -> Result<usize> {
-    let mut reader = Reader::new(
-        alloc,
-        Pieces {
-            rest: bytes,
-            calls: 0,
-        },
-    );
+/// Reads the recording as a stream. How many packets come: `None` unless they are the same, and then
+/// the end.
+pub(crate) fn stream(alloc: Global, bytes: &[u8], recording: &Recording<'_>) -> Option<u64> {
+    let rest = bytes;
+    let mut reader = Reader::new(alloc, Pieces { rest, calls: 0 });
     for packet in recording.packets() {
-        match reader.next()? {
-            Some(owned) if owned.packet() == *packet => {}
-            _ => bail!("another packet at {}", packet.at),
+        if !gives(&mut reader, Some(packet)) {
+            return None;
         }
     }
-    if reader.next()?.is_some() {
-        bail!("a packet after the end");
+    if gives(&mut reader, None) {
+        Some(recording.packets().len() as u64)
+    } else {
+        None
     }
-    Ok(recording.packets().len())
+}
+
+/// Whether this packet comes next, or the end.
+fn gives(reader: &mut Reader<Pieces<'_>>, wanted: Option<&Packet<'_>>) -> bool {
+    match reader.next() {
+        Ok(Some(owned)) => match wanted {
+            Some(packet) => owned.packet() == *packet,
+            None => false,
+        },
+        Ok(None) => wanted.is_none(),
+        Err(_) => false,
+    }
 }

@@ -4,7 +4,7 @@ ghost use Rattle.std.specs.Prelude.{◌≤◌, IfOk, IfErr};
 ghost use Rattle.rec_channel.specs.declared.limits.TheConstants.{MAX_RING};
 ghost use Rattle.rec_run.specs.Control.{MayBeAsked};
 ghost use Rattle.rec_run.specs.Jobs.{AreJobs};
-ghost use Rattle.theorem_tests.specs.Used.{FindsAll, FindsPart};
+ghost use Rattle.theorem_used.specs.Used.{FindsAll, FindsPart};
 
 use eth_frame::FrameSource;
 use rec_run::{Control, Done, Job, RunFault, record};

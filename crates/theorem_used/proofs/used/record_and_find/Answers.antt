@@ -1,5 +1,5 @@
-use Rattle.theorem_tests.proofs.Using.{finds_all, finds_part}
-use Rattle.theorem_tests.proofs.used.record_and_find.Goals as goal
+use Rattle.theorem_used.proofs.Using.{finds_all, finds_part}
+use Rattle.theorem_used.proofs.used.record_and_find.Goals as goal
 
 pub returns-clause-found : goal.returns-clause-found
 returns-clause-found g c =

@@ -15,7 +15,7 @@ use Rattle.rec_run.specs.declared.report.Report.{Report}
 use Rattle.rec_run.specs.declared.report.RunFault.{RunFault}
 use Rattle.rec_run.specs.declared.report.RunFault.TheVariants.{Memory, Write, Link, History}
 use Rattle.rec_theorem.specs.Theorem.{HasRecorded, HasBeenCut, Finds, FindsCut}
-use Rattle.theorem_tests.specs.Used.{FindsAll, FindsPart}
+use Rattle.theorem_used.specs.Used.{FindsAll, FindsPart}
 
 -- an output that said what it held says what it holds
 held_now : (before bytes : List ℕ) (first held : Option (List ℕ)) → first ≡ Some before → Appends first held bytes → held ≡ Some (before ++ bytes)
