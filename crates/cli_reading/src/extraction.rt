@@ -4,26 +4,28 @@ ghost use Rattle.std.specs.Prelude.{OnOk};
 ghost use Rattle.std.specs.Io.KnownBytes.{Appends};
 ghost use Rattle.cli_reading.specs.Lines.{extracted_line, TakesCounts};
 
-use crate::output_file::{buffered_output, write_held};
-use crate::reading::{
-    Counts, begin_again, counts_of, is_read_twice, next_packet, open, packet_again, reader_over,
-};
-use cli_streams::{Ending, Inputs, LockFile, STREAM, channel_in, print_line};
-use rec_reader::{Extracted, Reader, extract_packet};
+use crate::written::{PerPacket, write_recording};
+use cli_streams::{Ending, LockFile, channel_in, print_line};
+use rec_reader::{Extracted, Packet, extract_packet};
 use std::alloc::Global;
 use std::io::{Read, Write};
 use std::rt::Files;
 
-/// No frames.
-const NOTHING: Extracted = Extracted {
-    frames: 0,
-    passed: 0,
-};
+/// A channel's frames as the records of a feed, and how many were written and passed over.
+#[derive(Drop)]
+struct Extraction {
+    channel: u16,
+    extracted: Extracted,
+}
 
-/// `extract FILE CHANNEL OUT`: writes the channel's frames into a feed, and prints how many. The
-/// feed's file is created only if the recording is read to its end: a file is read once to see that
-/// it is, and once more to write the frames, with one packet at a time; of what can't be read twice,
-/// the channel's frames are held in memory. A feed's file that is the recording itself is refused.
+impl PerPacket for Extraction {
+    fn write_packet<W: Write>(&mut self, packet: &Packet<'_>, out: &mut W) -> bool {
+        extract_packet(packet, self.channel, out, &mut self.extracted).is_ok()
+    }
+}
+
+/// `extract FILE CHANNEL OUT`: writes the channel's frames into the feed OUT, as [`write_recording`]
+/// does, and prints how many were written and passed over.
 pub fn extract_frames<'a, R: AllocGlobal + Files, I: Read, O: Write>(
     rt: &R,
     file: &'a str,
@@ -52,14 +54,16 @@ fn extract<'a, R: AllocGlobal + Files, I: Read>(
 where
     R::File: LockFile,
 {
-    let mut inputs = Inputs::new(rt.alloc());
-    inputs.add_streams(rt)?;
-    if file != STREAM {
-        return extract_file(rt, file, channel, &mut inputs, out);
-    }
-    inputs.refuse_output(rt, out)?;
-    let mut reader = reader_over(rt.alloc(), input)?;
-    extract_held(rt, file, channel, &inputs, out, &mut reader)
+    let nothing = Extracted {
+        frames: 0,
+        passed: 0,
+    };
+    let mut extraction = Extraction {
+        channel,
+        extracted: nothing,
+    };
+    write_recording(rt, file, out, input, &mut extraction)?;
+    Ok(extraction.extracted)
 }
 
 /// Prints how many frames were written, and how many were passed over.
@@ -75,85 +79,6 @@ fn print_extracted<O: Write>(
     let mut line = Vec::new(alloc);
     let built = writeln!(&mut line, "frames {frames} passed {passed}");
     print_line(output, &mut line, built)
-}
-
-/// Extracts a channel of a recording in a file.
-fn extract_file<'a, R: AllocGlobal + Files>(
-    rt: &R,
-    file: &'a str,
-    channel: u16,
-    inputs: &mut Inputs,
-    out: &'a str,
-) -> Result<Extracted, Ending<'a>>
-where
-    R::File: LockFile,
-{
-    let alloc = rt.alloc();
-    let mut recording = open(rt, file)?;
-    inputs.add(&recording)?;
-    inputs.refuse_output(rt, out)?;
-    if !is_read_twice(&recording) {
-        let mut reader = reader_over(alloc, &mut recording)?;
-        return extract_held(rt, file, channel, inputs, out, &mut reader);
-    }
-    let judged = counts_of(file, &mut reader_over(alloc, &mut recording)?)?;
-    begin_again(file, &mut recording)?;
-    let mut reader = reader_over(alloc, &mut recording)?;
-    let mut feed = buffered_output(rt, inputs, out)?;
-    extract_again(file, &mut reader, judged, channel, out, &mut feed)
-}
-
-/// Extracts a channel of a recording that was judged before. If it isn't what was judged, that is
-/// the file's fault; then some of its frames may have been written.
-fn extract_again<'a, I: Read, W: Write>(
-    file: &'a str,
-    reader: &mut Reader<I>,
-    judged: Counts,
-    channel: u16,
-    out: &'a str,
-    feed: &mut W,
-) -> Result<Extracted, Ending<'a>> {
-    let mut extracted = NOTHING;
-    let mut counts = Counts::NONE;
-    'packets: for _ in 0..judged.packets {
-        let owned = packet_again(file, reader)?;
-        let packet = owned.packet();
-        counts.count(&packet);
-        let written = extract_packet(&packet, channel, feed, &mut extracted);
-        written.map_err(|_| Ending::File(out))?;
-    }
-    if counts != judged {
-        return Err(Ending::File(file));
-    }
-    feed.flush().map_err(|_| Ending::File(out))?;
-    Ok(extracted)
-}
-
-/// Extracts a channel of a recording that can be read only once. Its frames are held until the
-/// recording is read to its end.
-fn extract_held<'a, R: AllocGlobal + Files, I: Read>(
-    rt: &R,
-    file: &'a str,
-    channel: u16,
-    inputs: &Inputs,
-    out: &'a str,
-    reader: &mut Reader<I>,
-) -> Result<Extracted, Ending<'a>>
-where
-    R::File: LockFile,
-{
-    let mut held = Vec::new(rt.alloc());
-    let mut extracted = NOTHING;
-    'packets: for _ in 0..u64::MAX {
-        let Some(owned) = next_packet(file, reader)? else {
-            break 'packets;
-        };
-        let written = extract_packet(&owned.packet(), channel, &mut held, &mut extracted);
-        // memory takes all bytes, if there is some
-        written.map_err(|_| Ending::Memory)?;
-    }
-    write_held(rt, inputs, out, held.as_slice())?;
-    Ok(extracted)
 }
 
 /// The channel that a word names: a number from 0 to 65,535, in decimal digits alone.

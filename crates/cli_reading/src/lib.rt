@@ -8,6 +8,7 @@ mod output_file;
 mod packet_list;
 mod reading;
 mod upgrading;
+mod written;
 
 pub use auditing::audit_recording;
 pub use extraction::extract_frames;

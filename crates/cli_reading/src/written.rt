@@ -1,0 +1,117 @@
+//! What a command writes for a recording, packet by packet, into a file.
+
+use crate::output_file::{buffered_output, write_held};
+use crate::reading::{
+    Counts, begin_again, counts_of, is_read_twice, next_packet, open, packet_again, reader_over,
+};
+use cli_streams::{Ending, Inputs, LockFile, STREAM};
+use rec_reader::{Packet, Reader};
+use std::io::{Read, Write};
+use std::rt::Files;
+
+/// What is written for each packet, and what is counted meanwhile.
+pub(crate) trait PerPacket {
+    /// Writes what is written for a packet: whether the output took it.
+    fn write_packet<W: Write>(&mut self, packet: &Packet<'_>, out: &mut W) -> bool;
+}
+
+/// Writes the file OUT for the recording FILE. OUT is created only if the recording is read to its
+/// end: a file is read once to see that it is, and once more to write, with one packet at a time; of
+/// what can't be read twice, what is written is held in memory. An OUT that is the recording itself
+/// is refused.
+pub(crate) fn write_recording<'a, R: AllocGlobal + Files, I: Read, P: PerPacket>(
+    rt: &R,
+    file: &'a str,
+    out: &'a str,
+    input: &mut I,
+    written: &mut P,
+) -> Result<(), Ending<'a>>
+where
+    R::File: LockFile,
+{
+    let mut inputs = Inputs::new(rt.alloc());
+    inputs.add_streams(rt)?;
+    if file != STREAM {
+        return write_file(rt, file, &mut inputs, out, written);
+    }
+    inputs.refuse_output(rt, out)?;
+    let mut reader = reader_over(rt.alloc(), input)?;
+    write_once(rt, file, &inputs, out, &mut reader, written)
+}
+
+/// Writes for a recording in a file.
+fn write_file<'a, R: AllocGlobal + Files, P: PerPacket>(
+    rt: &R,
+    file: &'a str,
+    inputs: &mut Inputs,
+    out: &'a str,
+    written: &mut P,
+) -> Result<(), Ending<'a>>
+where
+    R::File: LockFile,
+{
+    let alloc = rt.alloc();
+    let mut recording = open(rt, file)?;
+    inputs.add(&recording)?;
+    inputs.refuse_output(rt, out)?;
+    if !is_read_twice(&recording) {
+        let mut reader = reader_over(alloc, &mut recording)?;
+        return write_once(rt, file, inputs, out, &mut reader, written);
+    }
+    let judged = counts_of(file, &mut reader_over(alloc, &mut recording)?)?;
+    begin_again(file, &mut recording)?;
+    let mut reader = reader_over(alloc, &mut recording)?;
+    let mut output = buffered_output(rt, inputs, out)?;
+    write_again(file, &mut reader, judged, out, &mut output, written)
+}
+
+/// Writes for a recording that was judged before. If it isn't what was judged, that is the file's
+/// fault; then some of what is written may be there.
+fn write_again<'a, I: Read, W: Write, P: PerPacket>(
+    file: &'a str,
+    reader: &mut Reader<I>,
+    judged: Counts,
+    out: &'a str,
+    output: &mut W,
+    written: &mut P,
+) -> Result<(), Ending<'a>> {
+    let mut counts = Counts::NONE;
+    'packets: for _ in 0..judged.packets {
+        let owned = packet_again(file, reader)?;
+        let packet = owned.packet();
+        counts.count(&packet);
+        if !written.write_packet(&packet, output) {
+            return Err(Ending::File(out));
+        }
+    }
+    if counts != judged {
+        return Err(Ending::File(file));
+    }
+    output.flush().map_err(|_| Ending::File(out))
+}
+
+/// Writes for a recording that can be read only once. What is written is held until the recording is
+/// read to its end.
+fn write_once<'a, R: AllocGlobal + Files, I: Read, P: PerPacket>(
+    rt: &R,
+    file: &'a str,
+    inputs: &Inputs,
+    out: &'a str,
+    reader: &mut Reader<I>,
+    written: &mut P,
+) -> Result<(), Ending<'a>>
+where
+    R::File: LockFile,
+{
+    let mut held = Vec::new(rt.alloc());
+    'packets: for _ in 0..u64::MAX {
+        let Some(owned) = next_packet(file, reader)? else {
+            break 'packets;
+        };
+        // memory takes all bytes, if there is some
+        if !written.write_packet(&owned.packet(), &mut held) {
+            return Err(Ending::Memory);
+        }
+    }
+    write_held(rt, inputs, out, held.as_slice())
+}
