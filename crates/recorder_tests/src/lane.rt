@@ -20,7 +20,7 @@ const ARP: &str = "ffffffffffff 020000000001 0806 a1b2c3d4";
 const LEAST: u32 = 16_424;
 
 /// A lane of channel 1 with network identifier 7 and speed 3.
-fn lane(alloc: Global, limit: u32) -> Result<Lane, Fail> {
+pub(crate) fn lane(alloc: Global, limit: u32) -> Result<Lane, Fail> {
     let limit = Limit::new(limit).ok_or("a limit in range")?;
     let spec = LaneSpec::new(1, 7, 3, limit).ok_or("settings in range")?;
     Ok(Lane::new(alloc, spec)?)
@@ -29,7 +29,7 @@ fn lane(alloc: Global, limit: u32) -> Result<Lane, Fail> {
 /// Draws a frame from the slot and offers it to the lane, which has met all frames drawn before. A
 /// lane without memory for its buffer is as before, and gets it when it is asked again:
 /// `tools/refused_growth` refuses it.
-fn offer(lane: &mut Lane, slot: &mut Slot, frame: &Frame<'_>) -> Result<Offered, Fail> {
+pub(crate) fn offer(lane: &mut Lane, slot: &mut Slot, frame: &Frame<'_>) -> Result<Offered, Fail> {
     let before = (lane.offered(), lane.kept(), false);
     if lane.ready().is_err() {
         if (lane.offered(), lane.kept(), lane.is_ready()) != before || lane.ready().is_err() {

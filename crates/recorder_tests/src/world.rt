@@ -3,12 +3,11 @@
 ghost use Rattle.std.specs.Prelude.{◌<◌, ◌≤◌};
 ghost use Rattle.rec_channel.specs.declared.limits.TheConstants.{MAX_RING};
 
-use crate::shared::counters_of;
+use crate::shared::{counters_of, settings};
 use crate::writer::{Output, Then};
-use ch11_packet::Limit;
+use ch11_packet::MIN_LIMIT;
 use eth_frame::Frame;
 use rec_core::*;
-use rec_lane::LaneSpec;
 use samples::{CHECKED, all_bytes, joined_bytes, program};
 use std::alloc::Global;
 use std::io::{ErrorKind, Write};
@@ -100,17 +99,21 @@ fn reply_words(alloc: Global, reply: &Reply) -> Result<String, Fail> {
 }
 
 /// A channel with network identifier 0 and speed 3, whose packets are of the least limit.
-fn spec_of(alloc: Global, channel: u16, max: u64, listing: &str) -> Result<ChannelSpec, Fail> {
-    let limit = Limit::new(16_424).ok_or("a limit")?;
+pub(crate) fn spec_of(
+    alloc: Global,
+    channel: u16,
+    max: u64,
+    listing: &str,
+) -> Result<ChannelSpec, Fail> {
     Ok(ChannelSpec {
-        lane: LaneSpec::new(channel, 0, 3, limit).ok_or("settings in range")?,
+        lane: settings(channel, MIN_LIMIT)?,
         program: program(alloc, listing)?,
         max,
     })
 }
 
 /// A core of these channels, whose packets have data type version 8.
-fn core_of<W: Write + Drop>(
+pub(crate) fn core_of<W: Write + Drop>(
     alloc: Global,
     specs: &[ChannelSpec],
     ring: usize,

@@ -76,11 +76,12 @@ pub(crate) struct Output {
     at_once: usize,
     then: Then,
     pub(crate) flushes_fail: bool,
-    writes: u32,
+    pub(crate) writes: u32,
     flushes: u32,
 }
 
 impl Output {
+    /// An output that was not called.
     pub(crate) fn new(alloc: Global, room: usize, at_once: usize, then: Then) -> Output {
         Output {
             bytes: Vec::new(alloc),
@@ -124,8 +125,16 @@ impl Write for Output {
     }
 }
 
+/// An output with room for all bytes, of which it takes at most `at_once` a call.
+pub(crate) fn wide(alloc: Global, at_once: usize) -> Output {
+    Output::new(alloc, usize::MAX, at_once, Then::Fails)
+}
+
 /// Puts a piece of a channel that the writer knows.
-fn put<W: Write>(writer: &mut Writer<W>, piece: &Piece) -> Result<Result<(), WriteFault>, Fail> {
+pub(crate) fn put<W: Write>(
+    writer: &mut Writer<W>,
+    piece: &Piece,
+) -> Result<Result<(), WriteFault>, Fail> {
     if !writer.knows(piece.channel()) {
         return Err("a channel that the writer knows")?;
     }

@@ -3,10 +3,10 @@
 ghost use Rattle.std.specs.Prelude.{◌≡◌, [], false};
 
 use super::script::Script;
+use crate::shared::settings;
 use crate::writer::{Output, Then};
-use ch11_packet::Limit;
+use ch11_packet::MIN_LIMIT;
 use eth_frame::FeedSource;
-use rec_lane::LaneSpec;
 use rec_run::*;
 use samples::{all_bytes, program};
 use std::alloc::Global;
@@ -288,9 +288,8 @@ pub(super) fn job(
     listing: &str,
     source: FeedSource<Stages>,
 ) -> Result<Job<FeedSource<Stages>>, Fail> {
-    let limit = Limit::new(16_424).ok_or("a limit")?;
     Ok(Job {
-        spec: LaneSpec::new(channel, 0, 3, limit).ok_or("settings in range")?,
+        spec: settings(channel, MIN_LIMIT)?,
         program: program(alloc, listing)?,
         max: u64::MAX,
         source,

@@ -5,7 +5,7 @@ ghost use Rattle.std.specs.Prelude.{◌≡◌, ◌≤◌, [], false};
 use super::parts::*;
 use super::script::Script;
 use crate::shared::counters_of;
-use crate::writer::{Output, Then};
+use crate::writer::{Output, Then, wide};
 use eth_frame::{FeedSource, SourceFault};
 use rec_run::*;
 use rec_writer::WriteFault;
@@ -85,11 +85,6 @@ fn two_frames<R: Threads + Wait + Sync>(
         )),
         Err(_) => Err("a recording")?,
     }
-}
-
-/// An output with room for all bytes, of which it takes at most `at_once` a call.
-fn wide(alloc: Global, at_once: usize) -> Output {
-    Output::new(alloc, usize::MAX, at_once, Then::Fails)
 }
 
 /// What is told of the first channel.

@@ -1,11 +1,9 @@
 //! Sources and a control that never end by themselves, and an output that fails.
 
-ghost use Rattle.std.specs.Prelude.{◌≤◌, vec_len, vec_capacity};
-
-use crate::frames::{ACCEPT, LONGEST, Lengths};
-use crate::outputs::OpenPacket;
-use crate::signals::Shared;
-use rec_run::{Change, Control, Told};
+use crate::serving::frames::{ACCEPT, LONGEST, Lengths};
+use crate::serving::packet::OpenPacket;
+use crate::serving::signals::Shared;
+use rec_run::{Change, Control, ControlLog, Told};
 use samples::program;
 use std::alloc::Global;
 use std::io::{ErrorKind, Write};
@@ -21,7 +19,7 @@ const ASKED: usize = 0;
 const FAILED: usize = 1;
 
 /// How many counts there are.
-pub(crate) const COUNTS: usize = 2;
+pub(super) const COUNTS: usize = 2;
 
 /// After how many times as many calls as it may have a source or a control ends, so that no test goes
 /// on for ever.
@@ -35,7 +33,7 @@ const SINCE: u64 = 50;
 
 /// The calls of a source or of a control.
 #[derive(Drop)]
-pub(crate) struct Calls {
+pub(super) struct Calls {
     rt: HostRuntime,
     signals: Shared,
     /// How many it may have once the output has failed.
@@ -46,17 +44,17 @@ pub(crate) struct Calls {
 
 impl Calls {
     /// No call yet.
-    pub(crate) fn new(rt: HostRuntime, signals: Shared, most: u64) -> Calls {
-        Calls {
+    pub(super) fn new(rt: HostRuntime, signals: &Shared, most: u64) -> Result<Calls, Fail> {
+        Ok(Calls {
             rt,
-            signals,
+            signals: Arc::try_clone(signals)?,
             most,
             since: 0,
-        }
+        })
     }
 
     /// Whether there were no more than there may be.
-    pub(crate) fn are_few(&self) -> bool {
+    pub(super) fn are_few(&self) -> bool {
         self.since <= self.most
     }
 
@@ -74,8 +72,8 @@ impl Calls {
 
 /// The longest frame, again and again.
 #[derive(Drop)]
-pub(crate) struct Endless {
-    pub(crate) calls: Calls,
+pub(super) struct Endless {
+    pub(super) calls: Calls,
 }
 
 impl Lengths for Endless {
@@ -91,89 +89,66 @@ impl Lengths for Endless {
 
 /// A control that gives one change again and again.
 #[derive(Drop)]
-pub(crate) struct EndlessChanges {
-    pub(crate) calls: Calls,
+pub(super) struct EndlessChanges {
+    pub(super) calls: Calls,
     change: Change,
-    given: Vec<Change>,
-    told: Vec<Told>,
-    ended: bool,
-    ghost room: { vec_len given ≤ vec_capacity told },
+    log: ControlLog,
 }
 
 impl EndlessChanges {
-    ghost use Rattle.std.specs.Prelude.{◌≡◌, ◌+◌, ◌≤◌, [], false, IfOk, IfSome, vec_len, vec_capacity};
-    ghost use Rattle.rec_run.specs.Control.{given_of};
+    ghost use Rattle.std.specs.Prelude.{◌≡◌, [], false, IfOk};
 
     /// A control that gives changes of this channel.
-    pub(crate) fn new(alloc: Global, channel: u16, calls: Calls) -> Result<EndlessChanges, Fail>
-        ensures given { IfOk result (λ c. c.given.items ≡ []) }
-        ensures told { IfOk result (λ c. c.told.items ≡ []) }
-        ensures goes_on { IfOk result (λ c. c.ended ≡ false) }
+    pub(super) fn new(alloc: Global, channel: u16, calls: Calls) -> Result<EndlessChanges, Fail>
+        ensures given { IfOk result (λ c. c.log.given ≡ []) }
+        ensures told { IfOk result (λ c. c.log.answered ≡ []) }
+        ensures goes_on { IfOk result (λ c. c.log.ended ≡ false) }
     {
+        let program = program(alloc, ACCEPT)?;
         Ok(EndlessChanges {
             calls,
-            change: Change {
-                channel,
-                program: program(alloc, ACCEPT)?,
-            },
-            given: Vec::new(alloc),
-            told: Vec::new(alloc),
-            ended: false,
+            change: Change { channel, program },
+            log: ControlLog::new(alloc),
         })
     }
 
-    /// A share of the change, with room for it and for its answer.
+    /// The change once more; `None` after far too many calls.
     fn share(&mut self) -> Option<Change>
-        ensures given { self.new.given.items ≡ self.old.given.items }
-        ensures told { self.new.told.items ≡ self.old.told.items }
-        ensures change { self.new.change ≡ self.old.change }
-        ensures ended { self.new.ended ≡ self.old.ended }
-        ensures same { IfSome result (λ share. given_of share ≡ given_of self.old.change) }
-        ensures room { IfSome result (λ _.
-            (vec_len self.new.given + 1 ≤ vec_capacity self.new.given)
-            × (vec_len self.new.told + 1 ≤ vec_capacity self.new.told)) }
+        ensures log { self.new.log ≡ self.old.log }
     {
-        let program = Arc::try_clone(&self.change.program).ok()?;
-        self.given.reserve(1).ok()?;
-        self.told.reserve(1).ok()?;
+        if !self.calls.take() {
+            return None;
+        }
         Some(Change {
             channel: self.change.channel,
-            program,
+            program: Arc::try_clone(&self.change.program).ok()?,
         })
     }
 }
 
 impl Control for EndlessChanges {
-    ghost use Rattle.std.specs.Prelude.{map};
-    ghost use Rattle.rec_run.specs.Control.{given_of, answered_of};
+    ghost given = { λ c. c.log.given };
 
-    ghost given = { λ c. map given_of c.given.items };
+    ghost answered = { λ c. c.log.answered };
 
-    ghost answered = { λ c. map answered_of c.told.items };
-
-    ghost ended = { λ c. c.ended };
+    ghost ended = { λ c. c.log.ended };
 
     fn next(&mut self) -> Option<Change> {
-        if self.calls.take()
-            && let Some(kept) = self.share()
-            && let Some(share) = self.share()
-        {
-            self.given.push_reserved(kept);
-            return Some(share);
+        match self.share() {
+            Some(change) => self.log.give(change),
+            None => self.log.end(),
         }
-        self.ended = true;
-        None
     }
 
     fn told(&mut self, told: &Told) {
-        self.told.push_reserved(*told);
+        self.log.tell(told);
     }
 }
 
 /// An output that fails in the first packet with this channel ID in its header, once the sources were
 /// asked for so many frames.
 #[derive(Drop)]
-pub(crate) struct Failing {
+pub(super) struct Failing {
     rt: HostRuntime,
     signals: Shared,
     packet: OpenPacket,
@@ -183,7 +158,7 @@ pub(crate) struct Failing {
 
 impl Failing {
     /// An output that has taken nothing.
-    pub(crate) fn new(rt: HostRuntime, signals: Shared, channel: u16, asked: u64) -> Failing {
+    pub(super) fn new(rt: HostRuntime, signals: Shared, channel: u16, asked: u64) -> Failing {
         Failing {
             rt,
             signals,

@@ -20,15 +20,15 @@ const LOOK: u64 = 1;
 
 /// Counts that threads add to and wait for.
 #[derive(Drop)]
-pub(crate) struct Signals {
+pub(super) struct Signals {
     counts: Vec<AtomicU64>,
 }
 
-pub(crate) type Shared = Arc<Signals, Global>;
+pub(super) type Shared = Arc<Signals, Global>;
 
 impl Signals {
     /// This many counts, each of them 0.
-    pub(crate) fn shared(alloc: Global, many: usize) -> Result<Shared, Fail> {
+    pub(super) fn shared(alloc: Global, many: usize) -> Result<Shared, Fail> {
         let mut counts = Vec::new(alloc);
         for _ in 0..many {
             counts.push(AtomicU64::new(0))?;
@@ -37,21 +37,21 @@ impl Signals {
     }
 
     /// Adds one to a count.
-    pub(crate) fn count(&self, at: usize) {
+    pub(super) fn count(&self, at: usize) {
         if let Some(count) = self.counts.get(at) {
             count.fetch_add(1, Ordering::SeqCst);
         }
     }
 
     /// What a count has come to.
-    pub(crate) fn get(&self, at: usize) -> u64 {
+    pub(super) fn get(&self, at: usize) -> u64 {
         self.counts
             .get(at)
             .map_or(0, |count| count.load(Ordering::SeqCst))
     }
 
     /// Waits until a count has come so far; `false` if it doesn't within some seconds.
-    pub(crate) fn wait<R: Clock>(&self, rt: &R, at: usize, least: u64) -> bool {
+    pub(super) fn wait<R: Clock>(&self, rt: &R, at: usize, least: u64) -> bool {
         for _ in 0..LOOKS {
             if self.get(at) >= least {
                 return true;
@@ -64,14 +64,14 @@ impl Signals {
 
 /// A watch over a test, which ends the process unless the test is over within some seconds.
 #[derive(Drop)]
-pub(crate) struct Watch {
+pub(super) struct Watch {
     over: Shared,
     thread: JoinHandle<()>,
 }
 
 impl Watch {
     /// Begins to watch.
-    pub(crate) fn begin<R: Threads + Abort + Clock + Copy + Send + 'static>(
+    pub(super) fn begin<R: Threads + Abort + Clock + Copy + Send + 'static>(
         rt: R,
         alloc: Global,
     ) -> Result<Watch, Fail> {
@@ -84,7 +84,7 @@ impl Watch {
     }
 
     /// The test is over.
-    pub(crate) fn end<R: Threads>(self, rt: &R) {
+    pub(super) fn end<R: Threads>(self, rt: &R) {
         let Watch { over, thread } = self;
         over.count(0);
         thread.join(rt);

@@ -1,32 +1,37 @@
-//! Sources of frames of which only the lengths matter.
+//! Sources of frames of which only the lengths matter, and recordings of them.
 
-use ch11_packet::Limit;
+ghost use Rattle.std.specs.Prelude.{◌≤◌};
+
+use crate::serving::control::NoChanges;
+use crate::shared::settings;
 use eth_frame::{Frame, FrameBuf, FrameSource, MAX_FRAME_LEN, Next, SourceFault};
-use rec_lane::LaneSpec;
-use rec_run::Job;
+use rec_run::{Done, Job, jobs_ok, record};
 use samples::program;
 use std::alloc::Global;
+use std::io::Write;
+use std::sync::Wait;
 use std::test::Fail;
+use std::thread::Threads;
 
 /// Accepts each frame.
-pub(crate) const ACCEPT: &str = "1,6 0 0 1,";
+pub(super) const ACCEPT: &str = "1,6 0 0 1,";
 
 /// Drops each frame.
-pub(crate) const REJECT: &str = "1,6 0 0 0,";
+pub(super) const REJECT: &str = "1,6 0 0 0,";
 
 /// The length of the longest frame, which fills a packet of the least limit.
-pub(crate) const LONGEST: usize = MAX_FRAME_LEN;
+pub(super) const LONGEST: usize = MAX_FRAME_LEN;
 
 /// Tells the length of each frame when it is asked for.
-pub(crate) trait Lengths {
+pub(super) trait Lengths {
     /// The length of the next frame; `None` if there is none any more.
     fn next_len(&mut self) -> Option<usize>;
 }
 
 /// A source of frames of zeros, with counter 0.
 #[derive(Drop)]
-pub(crate) struct Frames<L: Drop> {
-    pub(crate) lengths: L,
+pub(super) struct Frames<L: Drop> {
+    pub(super) lengths: L,
     zeros: Vec<u8>,
     ended: bool,
 }
@@ -35,7 +40,7 @@ impl<L: Lengths + Drop> Frames<L> {
     ghost use Rattle.std.specs.Prelude.{◌≡◌, ◌↔◌, None, IsSome, IsTrue};
 
     /// A source of frames with these lengths.
-    pub(crate) fn new(alloc: Global, lengths: L) -> Result<Frames<L>, Fail> {
+    fn new(alloc: Global, lengths: L) -> Result<Frames<L>, Fail> {
         Ok(Frames {
             lengths,
             zeros: vec![in alloc; 0u8; LONGEST]?,
@@ -86,18 +91,37 @@ impl<L: Lengths + Drop> FrameSource for Frames<L> {
 }
 
 /// A job of a channel with speed 3, whose packets are of this limit.
-pub(crate) fn job<L: Lengths + Drop>(
+pub(super) fn job<L: Lengths + Drop>(
     alloc: Global,
     channel: u16,
     listing: &str,
     limit: u32,
     lengths: L,
 ) -> Result<Job<Frames<L>>, Fail> {
-    let limit = Limit::new(limit).ok_or("a limit")?;
+    let source = Frames::new(alloc, lengths)?;
     Ok(Job {
-        spec: LaneSpec::new(channel, 0, 3, limit).ok_or("settings in range")?,
+        spec: settings(channel, limit)?,
         program: program(alloc, listing)?,
         max: u64::MAX,
-        source: Frames::new(alloc, lengths)?,
+        source,
     })
+}
+
+/// A recording that ends, without changes.
+pub(super) fn recorded<L: Lengths + Send + Drop, W: Write + Drop, R: Threads + Wait + Sync>(
+    rt: &R,
+    alloc: Global,
+    jobs: Vec<Job<Frames<L>>>,
+    ring: usize,
+    out: W,
+) -> Result<Done<Frames<L>, NoChanges, W>, &'static str>
+    requires { (1 ≤ ring) × (ring ≤ 4096) }
+{
+    if !jobs_ok(jobs.as_slice()) {
+        return Err("jobs that may be recorded");
+    }
+    match record(rt, alloc, jobs, ring, 8, NoChanges::new(), out) {
+        Ok(done) => Ok(done),
+        Err(_) => Err("a recording that ends"),
+    }
 }

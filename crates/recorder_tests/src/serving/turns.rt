@@ -1,12 +1,12 @@
 //! Recordings whose channels take turns.
 
-use crate::control::NoChanges;
-use crate::frames::{ACCEPT, Frames, LONGEST, Lengths, job};
-use crate::outputs::OpenPacket;
-use crate::signals::{Shared, Signals, Watch};
+use crate::serving::frames::{ACCEPT, Frames, LONGEST, Lengths, job, recorded};
+use crate::serving::packet::OpenPacket;
+use crate::serving::signals::{Shared, Signals, Watch};
 use ch11_packet::MIN_LIMIT;
 use rec_channel::MAX_CHANNELS;
-use rec_run::{Done, Job, jobs_ok, record};
+use rec_run::{ChannelReport, Job};
+use std::alloc::Global;
 use std::io;
 use std::io::Write;
 use std::sync::{Arc, Wait};
@@ -73,6 +73,22 @@ impl Write for Counting {
     }
 }
 
+/// The channels beside one of the channels from 1 on: the next one first, or `backwards` the one
+/// before.
+fn neighbours(channel: u16, channels: u16, backwards: bool) -> [Option<u16>; 2] {
+    let next = if channel < channels {
+        Some(channel + 1)
+    } else {
+        None
+    };
+    let before = if channel > 1 { Some(channel - 1) } else { None };
+    if backwards {
+        [before, next]
+    } else {
+        [next, before]
+    }
+}
+
 /// Jobs of channels from 1 on, each of which waits for the next channel first, or `backwards` for the
 /// one before.
 fn jobs_in_turn(
@@ -83,22 +99,26 @@ fn jobs_in_turn(
 ) -> Result<Vec<Job<Frames<InTurn>>>, Fail> {
     let mut jobs = Vec::new(rt.alloc());
     for channel in 1..=channels {
-        let next = channel.checked_add(1).filter(|next| *next <= channels);
-        let before = channel.checked_sub(1).filter(|before| *before > 0);
         let lengths = InTurn {
             rt,
             packets: Arc::try_clone(packets)?,
-            neighbours: if backwards {
-                [before, next]
-            } else {
-                [next, before]
-            },
+            neighbours: neighbours(channel, channels, backwards),
             given: 0,
             late: false,
         };
         jobs.push(job(rt.alloc(), channel, ACCEPT, MIN_LIMIT, lengths)?)?;
     }
     Ok(jobs)
+}
+
+/// Whether each channel had all its frames, and each frame its turn.
+fn took_turns(channels: &[ChannelReport<Frames<InTurn>>]) -> bool {
+    for channel in channels {
+        if channel.source.lengths.late || channel.kept != FRAMES {
+            return false;
+        }
+    }
+    true
 }
 
 /// Records so many channels. A frame's packet is written before the channel beside it has its next
@@ -109,23 +129,21 @@ fn must_take_turns<R: Threads + Wait + Sync>(
     channels: u16,
     backwards: bool,
 ) -> Result<(), Fail> {
-    let alloc = rt.alloc();
-    let packets = Signals::shared(alloc, MAX_CHANNELS + 1)?;
+    let packets = Signals::shared(rt.alloc(), MAX_CHANNELS + 1)?;
     let jobs = jobs_in_turn(rt, &packets, channels, backwards)?;
-    if !jobs_ok(jobs.as_slice()) {
-        return Err("jobs that may be recorded")?;
+    let packet = OpenPacket::new(rt.alloc());
+    let done = recorded(threads, rt.alloc(), jobs, 1, Counting { packets, packet })?;
+    if !took_turns(done.report.channels.as_slice()) {
+        return Err("a packet that is written before the next frame")?;
     }
-    let out = Counting {
-        packets,
-        packet: OpenPacket::new(alloc),
-    };
-    let Ok(Done { report, .. }) = record(threads, alloc, jobs, 1, 8, NoChanges::new(), out) else {
-        return Err("a recording that ends")?;
-    };
-    for channel in &report.channels {
-        if channel.source.lengths.late || channel.kept != FRAMES {
-            return Err("a packet that is written before the next frame")?;
-        }
+    Ok(())
+}
+
+/// The same with 2, 3 and 64 channels, in both ways.
+fn all_must_take_turns<R: Threads + Wait + Sync>(threads: &R, rt: HostRuntime) -> Result<(), Fail> {
+    for channels in [2, 3, 64] {
+        must_take_turns(threads, rt, channels, false)?;
+        must_take_turns(threads, rt, channels, true)?;
     }
     Ok(())
 }
@@ -133,12 +151,9 @@ fn must_take_turns<R: Threads + Wait + Sync>(
 #[test]
 fn a_packet_is_written_before_the_next_channel_goes_on(rt: HostRuntime) -> Result<(), Fail> {
     let watch = Watch::begin(rt, rt.alloc())?;
-    for channels in [2, 3, 64] {
-        must_take_turns(&rt, rt, channels, false)?;
-        must_take_turns(&rt, rt, channels, true)?;
-    }
+    let outcome = all_must_take_turns(&rt, rt);
     watch.end(&rt);
-    Ok(())
+    outcome
 }
 
 /// How many pieces the rings of busy channels have room for.
@@ -191,36 +206,45 @@ impl Write for Held {
     }
 }
 
-/// Of the first packets, as many as a ring has room for, each channel has at least two.
-#[test]
-fn a_full_ring_is_not_written_alone(rt: HostRuntime) -> Result<(), Fail> {
-    let alloc = rt.alloc();
-    let watch = Watch::begin(rt, alloc)?;
-    let asked = Signals::shared(alloc, 3)?;
+/// The jobs of channels 1 and 2, which are busy.
+fn busy_jobs(alloc: Global, asked: &Shared) -> Result<Vec<Job<Frames<Busy>>>, Fail> {
     let mut jobs = Vec::new(alloc);
     for channel in [1, 2] {
         let lengths = Busy {
-            asked: Arc::try_clone(&asked)?,
+            asked: Arc::try_clone(asked)?,
             channel,
             left: BUSY,
         };
         jobs.push(job(alloc, channel, ACCEPT, MIN_LIMIT, lengths)?)?;
     }
-    if !jobs_ok(jobs.as_slice()) {
-        return Err("jobs that may be recorded")?;
-    }
+    Ok(jobs)
+}
+
+/// The channels of the packets of two busy channels, in the order in which they are written.
+fn held_channels<R: Threads + Wait + Sync>(threads: &R, rt: HostRuntime) -> Result<Vec<u16>, Fail> {
+    let alloc = rt.alloc();
+    let asked = Signals::shared(alloc, 3)?;
+    let jobs = busy_jobs(alloc, &asked)?;
     let out = Held {
         rt,
         asked,
         packet: OpenPacket::new(alloc),
         channels: Vec::new(alloc),
     };
-    let Ok(Done { out, .. }) = record(&rt, alloc, jobs, RING, 8, NoChanges::new(), out) else {
-        return Err("a recording that ends")?;
-    };
+    let done = recorded(threads, alloc, jobs, RING, out)?;
+    let held = done.out;
+    Ok(held.channels)
+}
+
+/// Of the first packets, as many as a ring has room for, each channel has at least two.
+#[test]
+fn a_full_ring_is_not_written_alone(rt: HostRuntime) -> Result<(), Fail> {
+    let watch = Watch::begin(rt, rt.alloc())?;
+    let channels = held_channels(&rt, rt);
     watch.end(&rt);
+    let channels = channels?;
     for channel in [1, 2] {
-        let first = out.channels.iter().take(RING);
+        let first = channels.iter().take(RING);
         assert!(rt; first.filter(|it| **it == channel).count() >= 2);
     }
     Ok(())

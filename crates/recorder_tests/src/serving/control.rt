@@ -4,7 +4,7 @@ use rec_run::{Change, Control, Told};
 
 /// A control that gives no change.
 #[derive(Drop)]
-pub(crate) struct NoChanges {
+pub(super) struct NoChanges {
     ended: bool,
 }
 
@@ -12,7 +12,7 @@ impl NoChanges {
     ghost use Rattle.std.specs.Prelude.{◌≡◌, false};
 
     /// A control that has not ended.
-    pub(crate) fn new() -> NoChanges
+    pub(super) fn new() -> NoChanges
         ensures goes_on { result.ended ≡ false }
     {
         NoChanges { ended: false }
