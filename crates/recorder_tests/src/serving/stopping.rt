@@ -46,7 +46,8 @@ fn endless_jobs(
 /// Whether each channel was stopped, and its source then asked no more.
 fn all_stopped(channels: &[ChannelReport<Frames<Endless>>]) -> bool {
     for channel in channels {
-        if !channel.source.lengths.calls.are_few() || channel.ending != Ending::Stopped {
+        let is_stopped = matches!(channel.ending, Ending::Stopped);
+        if !is_stopped || !channel.source.lengths.calls.are_few() {
             return false;
         }
     }
