@@ -21,10 +21,13 @@ const ACCEPT: &str = "1,6 0 0 1,";
 /// How many frames are drawn from a slot.
 const DRAWN: u64 = 70_000;
 
+/// The number of the last version.
+const LAST_VERSION: u64 = MAX_VERSIONS as u64 - 1;
+
 /// The version that the frame of a number meets, where each frame but the first comes after an install
 /// as long as there is room for a version.
 fn version_at(number: u64) -> u64 {
-    number.min(MAX_VERSIONS as u64 - 1)
+    number.min(LAST_VERSION)
 }
 
 /// Whether the frame of a number comes after an install.

@@ -36,7 +36,9 @@ fn endless_jobs(
     filters: &[&str],
 ) -> Result<Vec<Job<Frames<Endless>>>, Fail> {
     let mut jobs = Vec::new(rt.alloc());
-    for (channel, filter) in (1..).zip(filters) {
+    let mut channel = 0u16;
+    for filter in filters {
+        channel = channel.saturating_add(1);
         let calls = Calls::new(rt, signals, MOST_FRAMES)?;
         jobs.push(job(rt.alloc(), channel, filter, MIN_LIMIT, Endless { calls })?)?;
     }

@@ -77,11 +77,15 @@ impl Write for Counting {
 /// before.
 fn neighbours(channel: u16, channels: u16, backwards: bool) -> [Option<u16>; 2] {
     let next = if channel < channels {
-        Some(channel + 1)
+        channel.checked_add(1)
     } else {
         None
     };
-    let before = if channel > 1 { Some(channel - 1) } else { None };
+    let before = if channel > 1 {
+        channel.checked_sub(1)
+    } else {
+        None
+    };
     if backwards {
         [before, next]
     } else {

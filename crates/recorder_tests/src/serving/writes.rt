@@ -17,8 +17,11 @@ use std::thread::Threads;
 /// How many frames fill a packet of the greatest length.
 const FILLING: usize = 32;
 
+/// The number of the last of them.
+const LAST: usize = FILLING - 1;
+
 /// The length of the last of them; the others are the longest.
-const LAST: usize = 15_968;
+const LAST_LEN: usize = 15_968;
 
 /// The header of a packet of the greatest length, of channel 1 at counter 0, and the word that begins
 /// its body.
@@ -26,7 +29,7 @@ const FULL: &str = "25eb 0100 00000800 e4ff0700 08 00 03 68 000000000000 2453 20
 
 /// The length of the frame of a number among those that fill a packet.
 fn filling_len(number: usize) -> usize {
-    if number < FILLING - 1 { LONGEST } else { LAST }
+    if number < LAST { LONGEST } else { LAST_LEN }
 }
 
 /// The frames that fill a packet.
