@@ -104,7 +104,7 @@ def counts_of(program, told, printed):
 
 
 def go_ahead():
-    """Puts the session of this process ahead of other sessions' work."""
+    """Puts this process, and those that it starts, ahead of the machine's other work."""
     Path("/proc/self/autogroup").write_text("-20")
 
 
@@ -202,7 +202,7 @@ def main():
     parser.add_argument("--rounds", type=int, default=5)
     parser.add_argument("--part", choices=["wire", "files"])
     parser.add_argument("--buffer", type=int, default=BUFFER_MIB, help="MiB of the kernel's buffer for each program")
-    parser.add_argument("--ahead", action="store_true", help="put what is timed ahead of other sessions' work")
+    parser.add_argument("--ahead", action="store_true", help="put what is timed ahead of the machine's other work")
     words = parser.parse_args()
     if not os.environ.get(INSIDE):
         if missing():
