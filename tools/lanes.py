@@ -6,11 +6,11 @@ import time
 from repository import ROOT, toolchain
 from steps import LOGS
 
-# Checks wait for files and for their copies now and then, so there are more of them than processors.
-LANES_PER_PROCESSOR = 1.5
+# More checks than processors only take one another's caches.
+LANES_PER_PROCESSOR = 1
 # How many processes one check gains from at most, and how many functions pay for one more: each reads
 # all modules anew, which takes one to two minutes in the upper crates.
-MOST_JOBS, FUNCTIONS_A_JOB = 4, 40
+MOST_JOBS, FUNCTIONS_A_JOB = 4, 25
 # What a further process of a check takes, beside the memory of the first.
 MEMORY_OF_A_JOB = 0.6
 # How many measured seconds of work tell this machine's pace.
@@ -35,7 +35,8 @@ class Progress:
         gone = time.monotonic() - self.began
         now = ", ".join(it.name() for it in running)
         return (
-            f"{len(ended)} of {len(self.steps)} steps, {done} of {total} functions and edits, {minutes(gone)} gone, "
+            f"{len(ended)} of {len(self.steps)} steps, about {done} of {total} functions and edits, "
+            f"{minutes(gone)} gone, "
             f"{self.left(running)}: {now}"
         )
 
@@ -123,8 +124,8 @@ def is_ready(step, by_key):
 
 
 def start_ready(waiting, running, by_key, memory):
-    """Starts what can be started: the step with the longest way behind it gets the lanes that the
-    others leave."""
+    """Starts what can be started: each step gets a lane, and those with the longest way behind them get
+    the lanes that the others leave."""
     lanes = max(int(LANES_PER_PROCESSOR * processors()), 1)
     ready = [it for it in waiting if is_ready(it, by_key)]
     for at, it in enumerate(ready):
@@ -132,7 +133,7 @@ def start_ready(waiting, running, by_key, memory):
         room = memory - sum(memory_of(other, other.jobs) for other in running)
         if idle < 1 or running and memory_of(it, 1) > room:
             continue
-        jobs = 1 if at else max(idle - (len(ready) - 1), 1)
+        jobs = max(idle - (len(ready) - 1 - at), 1)
         jobs = min(jobs, jobs_for(it), processors())
         while jobs > 1 and memory_of(it, jobs) > room:
             jobs -= 1

@@ -17,8 +17,20 @@ LOGS = ROOT / "bin" / "steps"
 COSTS = ROOT / "tools" / "costs.txt"
 # How many edits one step tries.
 EDITS_A_STEP = 16
+# How much of a step that doesn't tell its functions may seem to be done before it has ended.
+MOST_OF_A_STEP = 0.95
 # A first guess of what a crate costs that tools/costs.txt doesn't have.
 SECONDS_A_LINE, MEGABYTES = 0.15, 3000
+
+
+def seconds_of(process):
+    """The seconds of processor that a process and those below it have taken: 0 of one that has ended."""
+    try:
+        words = Path(f"/proc/{process}/stat").read_text().rsplit(")", 1)[1].split()
+        below = Path(f"/proc/{process}/task/{process}/children").read_text().split()
+    except OSError:
+        return 0
+    return sum(map(int, words[11:15])) / os.sysconf("SC_CLK_TCK") + sum(map(seconds_of, below))
 
 
 @dataclass
@@ -99,10 +111,15 @@ class Step:
         return True
 
     def functions(self):
-        """How many functions are checked, or edits tried, and of how many."""
+        """How many functions are checked, or edits tried, and of how many: of a step that doesn't tell it,
+        about as many as the processor time that it took stands for."""
         text = self.text() if self.process else ""
         rows = re.findall(r"(?m)^(?:so far|checked \S+)[:,] (\d+) of (\d+)", text)
-        return (int(rows[-1][0]), int(rows[-1][1])) if rows else (0, self.cost.functions)
+        if rows:
+            return int(rows[-1][0]), int(rows[-1][1])
+        running = self.process and self.status is None
+        share = seconds_of(self.process.pid) / max(self.cost.seconds, 1) if running else 0
+        return int(min(share, MOST_OF_A_STEP) * self.cost.functions), self.cost.functions
 
     def text(self):
         return self.log.read_text(errors="replace") if self.log.exists() else ""

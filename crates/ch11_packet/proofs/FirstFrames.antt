@@ -1,6 +1,8 @@
 -- The frames that stand at the front of a body's bytes: they are the ones that are read there, and
 -- no others.
 use Rattle.std.proofs.Common.{◌≡◌, ℕ, zero, suc, ◌+◌, ◌-◌, ◌*◌, ◌/◌, ◌%◌, ◌^◌, ◌<◌, ◌≤◌, inl, inr, Bool, true, false, cond, eqb, List, [], ◌∷◌, ◌++◌, length, take, drop, refl, sym, ap, subst, ◌∙◌, arith}
+use Rattle.std.proofs.Props.{props}
+use Rattle.std.proofs.Math.Logic.{∥∥₁_elim}
 use Rattle.std.specs.Int.{w16, w32, to_le_bytes, bytes_low_first}
 use Rattle.std.proofs.lemmas.Nat.{from_le_bytes-to_le_bytes_4}
 use Rattle.std.proofs.lemmas.List.{length-append, take_at, drop_at, drop-drop, drop_all}
@@ -158,26 +160,29 @@ Begins-snoc (f ∷ fs) frame bytes rest more begins first =
 
 -- ---- the frames that are left
 
--- where no whole frame stands first none is left
-pub none_left : (left : ℕ) (bytes : List ℕ) → AreFrames left bytes → IsCutFrame bytes → first_reads left bytes ≡ []
+no_more : (left : ℕ) (bytes : List ℕ) → AreFrames left bytes → IsCutFrame bytes → first_reads left bytes ≡ []
 unfolding first_reads
-none_left zero bytes are cut = refl
-none_left (suc n) bytes are cut = absurd (not_cut _ bytes are.0 are.1 cut)
+no_more zero bytes are cut = refl
+no_more (suc n) bytes are cut = absurd (not_cut _ bytes are.0 are.1 cut)
+
+-- where no whole frame stands first none is left
+pub none_left : (left : ℕ) (bytes : List ℕ) → ∥ AreFrames left bytes ∥₁ → IsCutFrame bytes → first_reads left bytes ≡ []
+none_left left bytes are cut = ∥∥₁_elim are (hlevel props) (λ are. no_more left bytes are cut)
 
 -- the first of those that are left, and the others
 pub record TakesFirst (left : ℕ) (frame : ReadFrameData) (bytes more : List ℕ) : Type 0 where
   pub some : 0 < left
   pub whole : first_reads left bytes ≡ frame ∷ first_reads (left - 1) more
-  pub others : AreFrames (left - 1) more
+  pub others : ∥ AreFrames (left - 1) more ∥₁
 
 no_frame : (frame : ReadFrameData) (bytes more : List ℕ) → bytes ≡ [] → FrameStandsFirst frame bytes more → ⊥
 no_frame frame bytes more none first =
     let is = IsFirst-StandsFirst frame bytes more first in omega (arith, is.long, ap length none)
 
-pub takes_first : (left : ℕ) (frame : ReadFrameData) (bytes more : List ℕ) → AreFrames left bytes → FrameStandsFirst frame bytes more → TakesFirst left frame bytes more
+takes : (left : ℕ) (frame : ReadFrameData) (bytes more : List ℕ) → AreFrames left bytes → FrameStandsFirst frame bytes more → TakesFirst left frame bytes more
 unfolding first_reads
-takes_first zero frame bytes more are first = absurd (no_frame frame bytes more are first)
-takes_first (suc n) frame bytes more are first =
+takes zero frame bytes more are first = absurd (no_frame frame bytes more are first)
+takes (suc n) frame bytes more are first =
     let a = IsFirst-StandsFirst _ bytes are.0 are.1 in
     let b = IsFirst-StandsFirst frame bytes more first in
     let one : n ≡ suc n - 1 = omega arith in
@@ -186,8 +191,15 @@ takes_first (suc n) frame bytes more are first =
     record {
       some = omega arith;
       whole = ap (λ g. g ∷ first_reads n (after_first bytes)) b.frame_is ∙ ap (λ l. frame ∷ first_reads n l) b.more_is ∙ ap (λ k. frame ∷ first_reads k more) one;
-      others = subst (λ k. BeginsFrames (first_reads k more) more []) one others;
+      others = ∣ subst (λ k. BeginsFrames (first_reads k more) more []) one others ∣₁;
     }
+
+pub takes_first : (left : ℕ) (frame : ReadFrameData) (bytes more : List ℕ) → ∥ AreFrames left bytes ∥₁ → FrameStandsFirst frame bytes more → TakesFirst left frame bytes more
+takes_first left frame bytes more are first = record {
+  some = ∥∥₁_elim are (hlevel props) (λ are. (takes left frame bytes more are first).some);
+  whole = ∥∥₁_elim are (hlevel props) (λ are. (takes left frame bytes more are first).whole);
+  others = ∥∥₁_elim are (hlevel props) (λ are. (takes left frame bytes more are first).others);
+}
 
 pub length-first_reads : (count : ℕ) (bytes : List ℕ) → length (first_reads count bytes) ≡ count
 unfolding first_reads

@@ -1,5 +1,7 @@
 -- The body of frames that bytes are: they are one body at most, or have one fault.
 use Rattle.std.proofs.Common.{◌≡◌, ℕ, ◌+◌, ◌-◌, ◌*◌, ◌/◌, ◌%◌, ◌^◌, ◌<◌, ◌≤◌, inl, inr, List, [], ◌∷◌, ◌++◌, length, get_or, take, drop, Result, Ok, Err, refl, sym, ap, subst, ◌∙◌, arith}
+use Rattle.std.proofs.Props.{props}
+use Rattle.std.proofs.Math.Logic.{∥∥₁_elim, ∥∥₁_map}
 use Rattle.std.specs.Int.{w32, to_le_bytes}
 use Rattle.std.proofs.lemmas.Nat.{from_le_bytes-to_le_bytes_4}
 use Rattle.std.proofs.lemmas.List.{append-nil, length-append, nil_from_length, take_rest}
@@ -7,7 +9,7 @@ use Rattle.ch11_packet.specs.declared.frames.word.TheConstants.{BODY_WORD_LEN}
 use Rattle.ch11_packet.specs.declared.frames.decode.BodyFault.{BodyFault}
 use Rattle.ch11_packet.specs.declared.frames.decode.BodyFault.TheVariants.{Format, Short, LeftOver}
 use Rattle.eth_frame.specs.Bytes.{AreBytes, u32_at}
-use Rattle.ch11_packet.specs.FramesRead.{ReadFrameData, first_reads, FrameStandsFirst, BeginsFrames, IsCutFrame, AreFrames, SpellsBody, count_in, HasFormat, FramesEnd, MoreFollows, HasBodyFault}
+use Rattle.ch11_packet.specs.FramesRead.{ReadFrameData, first_reads, FrameStandsFirst, BeginsFrames, IsCutFrame, AreFrames, SpellsBody, IsBodyOf, count_in, HasFormat, FramesEnd, MoreFollows, HasBodyFault}
 use Rattle.eth_frame.proofs.Bytes.{four_bytes}
 use Rattle.ch11_packet.proofs.FirstFrames.{goes_on, GoesOn, not_cut, Begins-snoc, first_reads-Begins, length-first_reads}
 
@@ -187,3 +189,23 @@ SpellsBody-AreFrames body word fit is_format said are = SpellsBody-IsBody (first
 pub no_fault_answered : (A : Type 0) (answer : A) (frames : List ReadFrameData) (bytes : List ℕ) → SpellsBody frames bytes → (other : BodyFault)
     → (◌≡◌ {A = Result A BodyFault} (Ok answer) (Err other) → HasBodyFault bytes other) × (HasBodyFault bytes other → ◌≡◌ {A = Result A BodyFault} (Ok answer) (Err other))
 no_fault_answered A answer frames bytes spells other = (λ e. absurd cc, λ h. absurd (no_fault frames bytes other spells h))
+
+-- ---- a body of which it is known that it has so many frames
+
+pub word_held : (count : ℕ) (bytes : List ℕ) → ∥ IsBodyOf count bytes ∥₁ → BODY_WORD_LEN ≤ length bytes
+word_held count bytes known =
+    ∥∥₁_elim known (hlevel props) (λ of. (IsBody-SpellsBody of.0 bytes of.1).is_format.word)
+
+pub frames_held : (count : ℕ) (bytes : List ℕ) → ∥ IsBodyOf count bytes ∥₁ → ∥ AreFrames count (behind bytes) ∥₁
+frames_held count bytes known = ∥∥₁_map known (λ of.
+    let rest = drop BODY_WORD_LEN bytes in
+    let held = (IsBody-SpellsBody of.0 bytes of.1).held in
+    let same : first_reads count rest ≡ of.0 = ap (λ n. first_reads n rest) (sym of.2) ∙ first_reads-Begins of.0 rest [] held in
+    subst (AreFrames count) (sym (take_rest bytes BODY_WORD_LEN)) (subst (λ l. BeginsFrames l rest []) (sym same) held))
+
+pub held_read : (count : ℕ) (frames : List ReadFrameData) (bytes : List ℕ) → ∥ IsBodyOf count bytes ∥₁ → SpellsBody frames bytes → first_reads count (behind bytes) ≡ frames
+held_read count frames bytes known spells = ∥∥₁_elim known (hlevel props) (λ of.
+    let rest = drop BODY_WORD_LEN bytes in
+    let many : count ≡ length frames = sym of.2 ∙ ap length (one_body of.0 frames bytes of.1 spells) in
+    ap (first_reads count) (take_rest bytes BODY_WORD_LEN) ∙ ap (λ n. first_reads n rest) many
+    ∙ first_reads-Begins frames rest [] (IsBody-SpellsBody frames bytes spells).held)

@@ -139,6 +139,11 @@ pub record SpellsBody (frames : List ReadFrameData) (bytes : List ℕ) : Type 0 
   pub whole : bytes ≡ to_le_bytes w32 (length frames + spare * 2 ^ 16) ++ rest
   pub held : BeginsFrames frames rest []
 
+-- the bytes are the body of `count` frames
+abbrev pub IsBodyOf : (count : ℕ) (bytes : List ℕ) → Type 0
+IsBodyOf count bytes =
+    (frames : List ReadFrameData) × SpellsBody frames bytes × (length frames ≡ count)
+
 -- the number of frames and the format that a body's word says
 abbrev pub count_in : List ℕ → ℕ
 count_in bytes = u32_at bytes 0 % 2 ^ 16

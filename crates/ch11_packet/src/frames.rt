@@ -2,6 +2,7 @@
 mod blank;
 mod body;
 mod builder;
+mod bytes;
 mod decode;
 mod frame;
 mod walk;
@@ -10,7 +11,7 @@ mod word;
 pub use blank::Blank;
 pub use body::DataBody;
 pub use builder::DataBuilder;
-pub use decode::{BodyFault, Frames, decode_frames};
+pub use decode::{BodyFault, Frames, decode_frames, held_frames};
 pub use frame::ReadFrame;
 pub use walk::FrameWalk;
 pub use word::MAX_SPEED;

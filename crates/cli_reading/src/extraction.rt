@@ -19,6 +19,12 @@ struct Extraction {
 }
 
 impl PerPacket for Extraction {
+    ghost use Rattle.std.specs.Prelude.{[], ◌∷◌};
+    ghost use Rattle.rec_reader.specs.ChannelFrames.{channel_frames, feed_of};
+
+    ghost bytes_for = { λ extraction packet.
+        feed_of (channel_frames extraction.channel (packet ∷ [])) };
+
     fn write_packet<W: Write>(&mut self, packet: &Packet<'_>, out: &mut W) -> bool {
         extract_packet(packet, self.channel, out, &mut self.extracted).is_ok()
     }

@@ -48,9 +48,7 @@ fn list_again<'a, R: Read, O: Write>(
     judged: Counts,
     output: &mut O,
 ) -> Result<(), Ending<'a>> {
-    let Ok(mut lines) = BufWriter::new(alloc, output) else {
-        return Err(Ending::Memory);
-    };
+    let mut lines = BufWriter::new(alloc, output).map_err(|_| Ending::Memory)?;
     let mut line = Vec::new(alloc);
     let mut counts = Counts::NONE;
     'packets: for _ in 0..judged.packets {
@@ -95,10 +93,7 @@ fn add_line<W: Write>(
     counts: &mut Counts,
 ) -> Result<(), Ending<'static>> {
     counts.count(packet);
-    match print_packet(lines, packet) {
-        Ok(()) => Ok(()),
-        Err(error) => Err(Ending::of_read(STREAM, &error)),
-    }
+    print_packet(lines, packet).map_err(|error| Ending::of_io(STREAM, &error))
 }
 
 /// Prints how many packets there are.
@@ -126,8 +121,7 @@ fn print_packet<W: Write>(lines: &mut W, packet: &Packet<'_>) -> io::Result<()> 
     }
 }
 
-/// Prints a packet's place and its header's fields, two at a time: the proof of a text with more
-/// values takes several times as long.
+/// Prints a packet's place and its header's fields.
 fn print_header<W: Write>(lines: &mut W, packet: &Packet<'_>) -> io::Result<()> {
     let Header {
         channel,
@@ -138,8 +132,24 @@ fn print_header<W: Write>(lines: &mut W, packet: &Packet<'_>) -> io::Result<()> 
         counter,
         ..
     } = packet.header;
-    write!(lines, "{} {channel} ", packet.at)?;
-    write!(lines, "{kind:02x} {sequence} ")?;
-    write!(lines, "{packet_len} {data_len} ")?;
-    write!(lines, "{counter} ")
+    print_numbers(lines, &[packet.at, u64::from(channel)])?;
+    write!(lines, "{kind:02x} ")?;
+    print_numbers(
+        lines,
+        &[
+            u64::from(sequence),
+            u64::from(packet_len),
+            u64::from(data_len),
+            counter,
+        ],
+    )
+}
+
+/// Prints numbers, each with a blank behind it. One at a time: the proof of a text with more values
+/// takes several times as long.
+fn print_numbers<W: Write>(lines: &mut W, numbers: &[u64]) -> io::Result<()> {
+    'numbers: for number in numbers {
+        write!(lines, "{number} ")?;
+    }
+    Ok(())
 }

@@ -62,10 +62,7 @@ pub(crate) fn next_packet<'a, R: Read>(
     file: &'a str,
     reader: &mut Reader<R>,
 ) -> Result<Option<OwnedPacket>, Ending<'a>> {
-    match reader.next() {
-        Ok(packet) => Ok(packet),
-        Err(end) => Err(Ending::of_reading(file, end)),
-    }
+    reader.next().map_err(|end| Ending::of_reading(file, end))
 }
 
 /// The next packet of a recording that is read again. Where there is none, it isn't what it was, and
@@ -94,18 +91,13 @@ pub(crate) fn reader_over<'a, I: Read + Drop>(
     alloc: Global,
     input: I,
 ) -> Result<Reader<BufReader<I>>, Ending<'a>> {
-    match BufReader::with_capacity(alloc, PIECE, input) {
-        Ok(input) => Ok(Reader::new(alloc, input)),
-        Err(_) => Err(Ending::Memory),
-    }
+    let input = BufReader::with_capacity(alloc, PIECE, input).map_err(|_| Ending::Memory)?;
+    Ok(Reader::new(alloc, input))
 }
 
 /// A recording's file.
 pub(crate) fn open<'a, R: Files>(rt: &R, file: &'a str) -> Result<R::File, Ending<'a>> {
-    match fs::open(rt, file) {
-        Ok(recording) => Ok(recording),
-        Err(error) => Err(Ending::of_read(file, &error)),
-    }
+    fs::open(rt, file).map_err(|error| Ending::of_io(file, &error))
 }
 
 /// Whether an open file can be read twice, as a regular file can. A pipe can't.
@@ -118,8 +110,8 @@ pub(crate) fn is_read_twice<F: OpenFile>(recording: &F) -> bool {
 
 /// Goes back to the first byte of a recording.
 pub(crate) fn begin_again<'a, F: Seek>(file: &'a str, recording: &mut F) -> Result<(), Ending<'a>> {
-    match recording.seek(SeekFrom::Start(0)) {
-        Ok(_) => Ok(()),
-        Err(_) => Err(Ending::File(file)),
-    }
+    recording
+        .seek(SeekFrom::Start(0))
+        .map_err(|_| Ending::File(file))?;
+    Ok(())
 }

@@ -11,8 +11,19 @@ use std::rt::Files;
 
 /// What is written for each packet, and what is counted meanwhile.
 pub(crate) trait PerPacket {
+    ghost use Rattle.std.specs.Prelude.{ℕ, ◌≡◌, List, true};
+    ghost use Rattle.std.specs.Io.KnownBytes.{Appends};
+    ghost use Rattle.rec_reader.specs.Packets.{PacketData};
+    ghost use Rattle.rec_reader.specs.Views.{packet_data};
+
+    // What is written for a packet.
+    ghost bytes_for: { Self → PacketData → List ℕ };
+
     /// Writes what is written for a packet: whether the output took it.
-    fn write_packet<W: Write>(&mut self, packet: &Packet<'_>, out: &mut W) -> bool;
+    fn write_packet<W: Write>(&mut self, packet: &Packet<'_>, out: &mut W) -> bool
+        ensures written { result ≡ true → Appends (W.contents out.old) (W.contents out.new)
+            (bytes_for self.old (packet_data packet.now)) }
+        ensures same { result ≡ true → bytes_for self.new ≡ bytes_for self.old };
 }
 
 /// Writes the file OUT for the recording FILE. OUT is created only if the recording is read to its

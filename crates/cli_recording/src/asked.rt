@@ -95,18 +95,13 @@ pub fn next_asked<R: AllocGlobal + Files + Wait, I: Read + Drop, E: Write + Drop
 
 /// The program that a line asks for.
 fn asked_in<R: AllocGlobal + Files>(rt: &R, line: &[u8]) -> Result<Asked, Unmade> {
-    let Request { channel, file } = match request_in(line) {
-        Ok(request) => request,
-        Err(channel) => return Err(Unmade::Refused(channel, Refusal::Line)),
-    };
-    let program = match program_of(rt, file) {
-        Ok(program) => program,
-        Err(fault) => return Err(unmade_by(channel, fault)),
-    };
-    match Arc::new(rt.alloc(), program) {
-        Ok(program) => Ok(Asked { channel, program }),
-        Err(_) => Err(Unmade::Memory),
-    }
+    let Request { channel, file } = request_in(line).map_err(|channel| Unmade::Refused(
+        channel,
+        Refusal::Line,
+    ))?;
+    let program = program_of(rt, file).map_err(|fault| unmade_by(channel, fault))?;
+    let program = Arc::new(rt.alloc(), program).map_err(|_| Unmade::Memory)?;
+    Ok(Asked { channel, program })
 }
 
 /// The program that a regular file lists. Another file is refused before it is opened: a pipe would

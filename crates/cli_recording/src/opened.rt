@@ -24,12 +24,12 @@ pub fn read_settings<'a, R: AllocGlobal + Files>(
     file: &'a str,
     inputs: &mut Inputs,
 ) -> Result<Settings, Ending<'a>> {
-    let mut opened = fs::open(rt, file).map_err(|error| Ending::of_read(file, &error))?;
+    let mut opened = fs::open(rt, file).map_err(|error| Ending::of_io(file, &error))?;
     inputs.add(&opened)?;
-    match bounded_text(rt.alloc(), MAX_LISTING, &mut opened) {
-        Ok(text) => Ok(settings_of(rt.alloc(), text.as_str())?),
-        Err(error) => Err(Ending::of_read(file, &error)),
-    }
+    let text = bounded_text(rt.alloc(), MAX_LISTING, &mut opened).map_err(|error| Ending::of_io(
+        file, &error,
+    ))?;
+    Ok(settings_of(rt.alloc(), text.as_str())?)
 }
 
 /// The program that a filter's file lists; the file is added to the inputs.
@@ -40,12 +40,12 @@ pub fn read_filter<'a, R: AllocGlobal + Files>(
 ) -> Result<Verified, Ending<'a>> {
     let mut file = match fs::open(rt, filter.as_str()) {
         Ok(file) => file,
-        Err(error) => return Err(Ending::of_named_read(filter, &error)),
+        Err(error) => return Err(Ending::of_named_io(filter, &error)),
     };
     inputs.add(&file)?;
     match program_in(rt.alloc(), &mut file) {
         Ok(program) => Ok(program),
-        Err(FilterFault::File(error)) => Err(Ending::of_named_read(filter, &error)),
+        Err(FilterFault::File(error)) => Err(Ending::of_named_io(filter, &error)),
         Err(FilterFault::Listed(fault)) => Err(Ending::of_listed(rt.alloc(), fault)),
     }
 }
@@ -68,12 +68,12 @@ pub fn open_feed<'a, R: AllocGlobal + Files>(
     }
     let file = match fs::open(rt, feed.as_str()) {
         Ok(file) => file,
-        Err(error) => return Err(Ending::of_named_read(feed, &error)),
+        Err(error) => return Err(Ending::of_named_io(feed, &error)),
     };
     inputs.add(&file)?;
     feeds.add(&file)?;
-    let Ok(reader) = BufReader::with_capacity(rt.alloc(), FEED_BUFFER, file) else {
-        return Err(Ending::Memory);
-    };
+    let reader = BufReader::with_capacity(rt.alloc(), FEED_BUFFER, file).map_err(
+        |_| Ending::Memory,
+    )?;
     Ok(ClosingSource::new(FeedSource::new(reader), max))
 }

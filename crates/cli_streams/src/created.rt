@@ -34,8 +34,8 @@ where
     R::File: LockFile,
 {
     let opened = OpenOptions::new().write(true).create(true).open(rt, out);
-    let file = opened.map_err(|error| Ending::of_read(out, &error))?;
-    empty(inputs, &file).map_err(|error| Ending::of_read(out, &error))?;
+    let file = opened.map_err(|error| Ending::of_io(out, &error))?;
+    empty(inputs, &file).map_err(|error| Ending::of_io(out, &error))?;
     Ok(file)
 }
 

@@ -79,16 +79,16 @@ pub enum Ending<'a> {
 }
 
 impl<'a> Ending<'a> {
-    /// What a failed read of a file comes to.
-    pub fn of_read(path: &'a str, error: &io::Error) -> Ending<'a> {
+    /// What a failed read, creation or write of a file comes to.
+    pub fn of_io(path: &'a str, error: &io::Error) -> Ending<'a> {
         match error.kind() {
             ErrorKind::OutOfMemory => Ending::Memory,
             _ => Ending::File(path),
         }
     }
 
-    /// What a failed read of a file that the settings name comes to.
-    pub fn of_named_read(path: String, error: &io::Error) -> Ending<'a> {
+    /// What a failed read, creation or write comes to of a file that the settings name.
+    pub fn of_named_io(path: String, error: &io::Error) -> Ending<'a> {
         match error.kind() {
             ErrorKind::OutOfMemory => Ending::Memory,
             _ => Ending::NamedFile(path),

@@ -26,7 +26,7 @@ pub fn text_in<'a, R: AllocGlobal + Files, I: Read>(
     } else {
         fs::open(rt, file).and_then(|mut opened| bounded_text(rt.alloc(), most, &mut opened))
     };
-    read.map_err(|error| Ending::of_read(file, &error))
+    read.map_err(|error| Ending::of_io(file, &error))
 }
 
 /// The text that an input gives, of at most `most` bytes. One byte more is read, which tells that
@@ -52,8 +52,8 @@ pub fn whole_text<'a, I: Read>(alloc: Global, input: &mut I) -> Result<String, E
         string_bytes text ≡ bytes)) }
 {
     let mut text = String::new(alloc);
-    match input.read_to_string(&mut text) {
-        Ok(_) => Ok(text),
-        Err(error) => Err(Ending::of_read(STREAM, &error)),
-    }
+    input
+        .read_to_string(&mut text)
+        .map_err(|error| Ending::of_io(STREAM, &error))?;
+    Ok(text)
 }

@@ -60,7 +60,7 @@ impl Inputs {
             Ok(found) if self.is_spoiled(&found) => Err(Ending::File(out)),
             Ok(_) => Ok(()),
             Err(error) if error.kind() == ErrorKind::NotFound => Ok(()),
-            Err(error) => Err(Ending::of_read(out, &error)),
+            Err(error) => Err(Ending::of_io(out, &error)),
         }
     }
 

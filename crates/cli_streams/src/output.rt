@@ -27,7 +27,7 @@ pub fn print_line<O: Write>(
         (Appends (O.contents output.old) (O.contents output.new) line.old.items) }
     ensures emptied { OnOk result (line.new.items ≡ []) }
 {
-    built.map_err(|error| Ending::of_read(STREAM, &error))?;
+    built.map_err(|error| Ending::of_io(STREAM, &error))?;
     let written = output.write_all(line.as_slice());
     line.clear();
     finish(output, written)

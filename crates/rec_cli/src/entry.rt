@@ -3,9 +3,9 @@
 ghost use Rattle.std.specs.Prelude.{◌≡◌, ◌<◌, IfSome, length};
 ghost use Rattle.cli_filters.specs.Lines.{AnswersLines};
 
-use crate::recording::record_channels;
 use cli_filters::{answer_lines, assemble_file, disassemble_file, run_file, verify_file};
 use cli_reading::{audit_recording, extract_frames, list_packets, upgrade_recording};
+use cli_record::record_channels;
 use cli_simulate::simulate_script;
 use cli_streams::{ANSWERED, Ending, LockFile, print_line, print_text};
 use rec_words::{VERSION, Words, WordsFault, words_of};

@@ -2,7 +2,6 @@
 #![tactic(auto)]
 
 mod entry;
-mod recording;
 
 pub use cli_streams::{LockFile, ViewFault, view_of};
 pub use entry::{program, words_unread};

@@ -1,21 +1,21 @@
 -- The frames that a packet holds.
-use Rattle.std.proofs.Common.{◌≡◌, ℕ, List, Option, refl, sym, subst, ◌∙◌, true}
-use Rattle.std.specs.Prelude.{Result, Ok, Err, IsSome, IsOkAnd, is_some, is_ok}
+use Rattle.std.proofs.Common.{◌≡◌, ℕ, List, sym, ap, subst, ◌∙◌}
 use Rattle.ch11_packet.specs.declared.class.What.{What}
 use Rattle.ch11_packet.specs.declared.class.What.TheVariants.{Frames}
 use Rattle.ch11_packet.specs.Header.{HeaderData}
-use Rattle.ch11_packet.specs.FramesRead.{ReadFrameData, SpellsBody}
-use Rattle.ch11_packet.specs.Classes.{Holds, data_in}
+use Rattle.ch11_packet.specs.FramesRead.{ReadFrameData, SpellsBody, IsBodyOf}
+use Rattle.ch11_packet.specs.Classes.{Holds, data_in, said_frames}
+use Rattle.rec_reader.specs.ChannelFrames.{frames_held}
 
-ok_is : {X E : Type 0} (P : X → Type 0) (r : Result X E) → IsOkAnd r P → is_ok r ≡ true
-ok_is P (Ok x) h = refl
-ok_is P (Err e) h = absurd h
-
--- data that hold frames are decoded
-pub decoded : {X E : Type 0} (header : HeaderData) (body bytes : List ℕ) (what : What) (count : ℕ) (answer : Result X E) (view : X → List ReadFrameData) (some : Option X)
-    → bytes ≡ data_in header body → what ≡ Frames count
-    → ((frames : List ReadFrameData) → SpellsBody frames bytes → IsOkAnd answer (λ read. view read ≡ frames)) → is_some some ≡ is_ok answer
-    → Holds header body what → IsSome some
-decoded header body bytes what count answer view some is counted read same holds =
+-- the data of a packet that holds frames are the body of as many
+pub body_held : (header : HeaderData) (body bytes : List ℕ) (what : What) (count : ℕ) → bytes ≡ data_in header body → what ≡ Frames count
+    → Holds header body what → IsBodyOf count bytes
+body_held header body bytes what count is counted holds =
     let held = subst (Holds header body) counted holds in
-    same ∙ ok_is _ answer (read held.class.1 (subst (SpellsBody held.class.1) (sym is) held.class.2))
+    (held.class.1, subst (SpellsBody held.class.1) (sym is) held.class.2, held.class.3)
+
+-- the frames that they say are the packet's
+pub frames_said : (header : HeaderData) (body bytes : List ℕ) (what : What) (count : ℕ) (frames : List ReadFrameData) → bytes ≡ data_in header body → what ≡ Frames count
+    → said_frames bytes ≡ frames → frames ≡ frames_held what (data_in header body)
+frames_said header body bytes what count frames is counted said =
+    sym said ∙ ap said_frames is ∙ ap (λ held. frames_held held (data_in header body)) (sym counted)

@@ -6,8 +6,8 @@ ghost use Rattle.ch11_packet.specs.Classes.{Holds};
 ghost use Rattle.ch11_packet.specs.Views.{header_data};
 
 use ch11_packet::{
-    Frames, Header, ProgramRecord, Record, What, a_packet_holds_one_thing, decode_frames,
-    decode_record,
+    Frames, Header, ProgramRecord, Record, What, a_packet_holds_one_thing, decode_record,
+    held_frames,
 };
 
 /// A packet of a recording (IRIG 106-17 Chapter 11, in this project's profile), with what it holds
@@ -53,7 +53,7 @@ impl<'a> Packet<'a> {
     {
         a_packet_holds_one_thing();
         match self.what {
-            What::Frames(_) => decode_frames(self.data()).ok(),
+            What::Frames(count) => Some(held_frames(count, self.data())),
             _ => None,
         }
     }

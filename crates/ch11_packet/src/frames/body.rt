@@ -1,6 +1,7 @@
 //! A body of Ethernet data that is written.
 use crate::frames::blank::Blank;
-use crate::limit::{Limit, MAX_LIMIT};
+use crate::frames::bytes::BodyBytes;
+use crate::limit::MAX_LIMIT;
 use eth_frame::counter_of;
 use std::marker::Model;
 
@@ -8,12 +9,8 @@ use std::marker::Model;
 /// which was taken when they were written, so that whoever writes the packet needn't read them for it.
 #[derive(Debug, Drop)]
 pub struct DataBody {
-    bytes: Vec<u8>,
+    body: BodyBytes,
     sum: u32,
-    count: u16,
-    net: u8,
-    speed: u8,
-    limit: Limit,
 }
 
 impl Model for DataBody {
@@ -22,10 +19,12 @@ impl Model for DataBody {
 
     ghost Value = { EthernetBody };
 
-    ghost view = { λ b. body_of (frames_in b.count b.bytes.items) b.net b.speed b.limit };
+    ghost view = { λ b.
+        body_of (frames_in b.body.count b.body.bytes.items) b.body.net b.body.speed b.body.limit };
 
     ghost invariant = { λ b.
-        IsSealed b.count b.net b.speed b.limit (vec_capacity b.bytes) b.sum b.bytes.items };
+        IsSealed b.body.count b.body.net b.body.speed b.body.limit (vec_capacity b.body.bytes) b.sum
+        b.body.bytes.items };
 }
 
 impl DataBody {
@@ -38,25 +37,13 @@ impl DataBody {
     ghost use Rattle.ch11_packet.specs.Building.{IsEthernetBody, body_of, frames_in, IsSealed};
 
     /// The body with these bytes, of this sum.
-    pub(crate) fn new(
-        bytes: Vec<u8>,
-        sum: u32,
-        count: u16,
-        net: u8,
-        speed: u8,
-        limit: Limit,
-    ) -> DataBody
-        requires { IsSealed count net speed limit (vec_capacity bytes) sum bytes.items }
-        ensures { result ≡ body_of (frames_in count bytes.items) net speed limit }
+    pub(crate) fn new(body: BodyBytes, sum: u32) -> DataBody
+        requires { IsSealed body.count body.net body.speed body.limit (vec_capacity body.bytes) sum
+            body.bytes.items }
+        ensures { result
+            ≡ body_of (frames_in body.count body.bytes.items) body.net body.speed body.limit }
     {
-        DataBody {
-            bytes,
-            sum,
-            count,
-            net,
-            speed,
-            limit,
-        }
+        DataBody { body, sum }
     }
 
     /// The body's bytes, without the packet's trailing filler.
@@ -69,7 +56,7 @@ impl DataBody {
         // The body that they are of.
         ensures valid { IsEthernetBody self.now }
     {
-        self.bytes.as_slice()
+        self.body.bytes.as_slice()
     }
 
     /// The sum of the body's bytes, for the data checksum of its packet.
@@ -86,7 +73,7 @@ impl DataBody {
             ≡ Some result }
         ensures fits { result < 2 ^ 48 }
     {
-        let [_, _, _, _, c0, c1, c2, c3, c4, c5, ..] = self.bytes.as_slice() else {
+        let [_, _, _, _, c0, c1, c2, c3, c4, c5, ..] = self.body.bytes.as_slice() else {
             unreachable!()
         };
         counter_of([*c0, *c1, *c2, *c3, *c4, *c5])
@@ -98,18 +85,18 @@ impl DataBody {
         ensures count { result ≡ length self.now.frames }
         ensures some { 0 < result }
     {
-        self.count
+        self.body.count
     }
 
     /// The body's buffer as an empty one, of the limit of the builder that sealed the body.
     pub fn reuse(self) -> Blank
         ensures limit { result ≡ self.limit }
     {
-        let DataBody {
+        let BodyBytes {
             mut bytes,
             limit,
             ..
-        } = self;
+        } = self.body;
         bytes.clear();
         Blank { bytes, limit }
     }

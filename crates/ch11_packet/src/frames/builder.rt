@@ -6,6 +6,7 @@ ghost use Rattle.eth_frame.specs.Views.{frame_data};
 
 use crate::frames::blank::Blank;
 use crate::frames::body::DataBody;
+use crate::frames::bytes::BodyBytes;
 use crate::frames::word::{
     BODY_WORD_LEN, CRC_ERROR, FRAME_ERROR, FRAME_HEADER_LEN, MAX_SPEED, frame_len,
 };
@@ -20,11 +21,7 @@ use std::marker::Model;
 /// limit. It takes its memory when it is made, or has that of a buffer, and takes none later.
 #[derive(Debug, Drop)]
 pub struct DataBuilder {
-    bytes: Vec<u8>,
-    count: u16,
-    net: u8,
-    speed: u8,
-    limit: Limit,
+    body: BodyBytes,
 }
 
 impl Model for DataBuilder {
@@ -33,10 +30,12 @@ impl Model for DataBuilder {
 
     ghost Value = { OpenBody };
 
-    ghost view = { λ b. open_of (frames_in b.count b.bytes.items) b.net b.speed b.limit };
+    ghost view = { λ b.
+        open_of (frames_in b.body.count b.body.bytes.items) b.body.net b.body.speed b.body.limit };
 
     ghost invariant = { λ b.
-        IsOpen b.count b.net b.speed b.limit (vec_capacity b.bytes) b.bytes.items };
+        IsOpen b.body.count b.body.net b.body.speed b.body.limit (vec_capacity b.body.bytes)
+        b.body.bytes.items };
 }
 
 impl DataBuilder {
@@ -73,11 +72,13 @@ impl DataBuilder {
         let Blank { mut bytes, limit } = blank;
         append(&mut bytes, &[0; BODY_WORD_LEN]);
         DataBuilder {
-            bytes,
-            count: 0,
-            net,
-            speed,
-            limit,
+            body: BodyBytes {
+                bytes,
+                count: 0,
+                net,
+                speed,
+                limit,
+            },
         }
     }
 
@@ -85,15 +86,15 @@ impl DataBuilder {
     pub fn is_empty(&self) -> bool
         ensures empty { IsTrue result ↔ (self.now.frames ≡ []) }
     {
-        self.count == 0
+        self.body.count == 0
     }
 
     /// Whether the packet with a further frame of `len` bytes isn't longer than the limit.
     pub fn fits(&self, len: usize) -> bool
         ensures fits { IsTrue result ↔ Fits self.now len }
     {
-        let limit = self.limit.get() as usize;
-        len <= limit && packet_len(self.bytes.len() + frame_len(len)) <= limit
+        let limit = self.body.limit.get() as usize;
+        len <= limit && packet_len(self.body.bytes.len() + frame_len(len)) <= limit
     }
 
     /// Adds a frame, which fits.
@@ -102,8 +103,8 @@ impl DataBuilder {
         ensures added { self.new
             ≡ record self.old { frames = self.old.frames ++ frame_data frame.now ∷ [] } }
     {
-        append_frame(&mut self.bytes, frame, self.net, self.speed);
-        self.count += 1;
+        append_frame(&mut self.body.bytes, frame, self.body.net, self.body.speed);
+        self.body.count += 1;
     }
 
     /// The body of the frames that were added, of which there is at least one. The sum of its bytes is
@@ -113,18 +114,12 @@ impl DataBuilder {
         ensures sealed { result ≡ body_of self.frames self.net self.speed self.limit }
         ensures within { packet_len (data_len self.frames) ≤ self.limit }
     {
-        let DataBuilder {
-            mut bytes,
-            count,
-            net,
-            speed,
-            limit,
-        } = self;
-        let [low, high] = count.to_le_bytes();
-        bytes[0] = low;
-        bytes[1] = high;
-        let sum = body_sum(bytes.as_slice());
-        DataBody::new(bytes, sum, count, net, speed, limit)
+        let DataBuilder { mut body } = self;
+        let [low, high] = body.count.to_le_bytes();
+        body.bytes[0] = low;
+        body.bytes[1] = high;
+        let sum = body_sum(body.bytes.as_slice());
+        DataBody::new(body, sum)
     }
 }
 

@@ -1,14 +1,14 @@
 //! A body of Ethernet data that is read.
 ghost use Rattle.std.specs.Prelude.{ℕ, ◌≡◌, ◌↔◌, ◌++◌, List, IfSome, IfNone, IfOk, IsOkAnd, Err};
 ghost use Rattle.ch11_packet.specs.declared.frames.decode.BodyFault.{BodyFault};
-ghost use Rattle.ch11_packet.specs.FramesRead.{ReadFrameData, FrameStandsFirst, IsFiller, IsCutFrame, SpellsBody, HasBodyFault};
+ghost use Rattle.ch11_packet.specs.FramesRead.{ReadFrameData, FrameStandsFirst, IsFiller, IsCutFrame, SpellsBody, IsBodyOf, HasBodyFault};
 ghost use Rattle.ch11_packet.specs.Views.{read_frame_data};
 
 use crate::frames::frame::ReadFrame;
 use crate::frames::walk::FrameWalk;
 use crate::frames::word::{
-    CONTENT_BITS, COUNT_BITS, CRC_ERROR, FORMAT_BIT, FRAME_ERROR, FRAME_HEADER_LEN, LENGTH_BITS,
-    SPEED_BITS,
+    BODY_WORD_LEN, CONTENT_BITS, COUNT_BITS, CRC_ERROR, FORMAT_BIT, FRAME_ERROR, FRAME_HEADER_LEN,
+    LENGTH_BITS, SPEED_BITS,
 };
 use eth_frame::counter_of;
 use std::marker::Model;
@@ -45,11 +45,11 @@ impl<'a> Model for Frames<'a> {
 
     ghost view = { λ f. first_reads f.count f.bytes.now };
 
-    ghost invariant = { λ f. AreFrames f.count f.bytes.now };
+    ghost invariant = { λ f. ∥ AreFrames f.count f.bytes.now ∥₁ };
 }
 
 impl<'a> Frames<'a> {
-    ghost use Rattle.std.specs.Prelude.{◌≡◌, length, slice_get};
+    ghost use Rattle.std.specs.Prelude.{◌≡◌, [], ◌∷◌, IfSome, IfNone, length, slice_get};
     ghost use Rattle.std.specs.Option.{option_map};
     ghost use Rattle.ch11_packet.specs.Views.{read_frame_data};
 
@@ -65,7 +65,11 @@ impl<'a> Frames<'a> {
     pub fn walk(&self) -> FrameWalk<'a>
         ensures all { result ≡ self.now }
     {
-        FrameWalk::new(self.count, self.bytes)
+        let left = Frames {
+            count: self.count,
+            bytes: self.bytes,
+        };
+        FrameWalk { left }
     }
 
     /// Frame `at`, counted from 0: `None` from the count on. It passes over the frames before it,
@@ -74,6 +78,20 @@ impl<'a> Frames<'a> {
         ensures at { option_map read_frame_data result ≡ slice_get self.now at }
     {
         self.walk().nth(usize::from(at))
+    }
+
+    /// Takes the first frame: `None` where there is none.
+    pub(crate) fn take_first(&mut self) -> Option<ReadFrame<'a>>
+        ensures none { IfNone result ((self.old ≡ []) × (self.new ≡ [])) }
+        ensures first { IfSome result (λ frame. self.old ≡ read_frame_data frame ∷ self.new) }
+    {
+        let (frame, after) = split_frame(self.bytes)?;
+        let count = self.count - 1;
+        *self = Frames {
+            count,
+            bytes: after,
+        };
+        Some(frame)
     }
 }
 
@@ -109,6 +127,18 @@ pub fn decode_frames(body: &[u8]) -> Result<Frames<'_>, BodyFault>
         return Err(BodyFault::LeftOver);
     }
     Ok(Frames { count, bytes })
+}
+
+/// The frames of a body that is known to have `count` of them, as the class of its packet says. They
+/// aren't gone over for that.
+pub fn held_frames(count: u16, body: &[u8]) -> Frames<'_>
+    requires { ∥ IsBodyOf count body.now ∥₁ }
+    ensures read { (frames : List ReadFrameData) → SpellsBody frames body.now → result ≡ frames }
+{
+    Frames {
+        count,
+        bytes: &body[BODY_WORD_LEN..],
+    }
 }
 
 /// The frame at the front of these bytes, and what comes after it and its filler: `None` if it

@@ -1,37 +1,21 @@
 //! A walk over the frames of a body that is read.
-use crate::frames::decode::split_frame;
+use crate::frames::decode::Frames;
 use crate::frames::frame::ReadFrame;
 use std::marker::Model;
 
 /// The frames of a body that are still to come, one by one.
 #[derive(Debug, Drop)]
 pub struct FrameWalk<'a> {
-    left: u16,
-    bytes: &'a [u8],
+    pub(crate) left: Frames<'a>,
 }
 
 impl<'a> Model for FrameWalk<'a> {
     ghost use Rattle.std.specs.Prelude.{List};
-    ghost use Rattle.ch11_packet.specs.FramesRead.{ReadFrameData, first_reads, AreFrames};
+    ghost use Rattle.ch11_packet.specs.FramesRead.{ReadFrameData};
 
     ghost Value = { List ReadFrameData };
 
-    ghost view = { λ w. first_reads w.left w.bytes.now };
-
-    ghost invariant = { λ w. AreFrames w.left w.bytes.now };
-}
-
-impl<'a> FrameWalk<'a> {
-    ghost use Rattle.std.specs.Prelude.{◌≡◌};
-    ghost use Rattle.ch11_packet.specs.FramesRead.{first_reads, AreFrames};
-
-    /// A walk over the `left` frames of these bytes.
-    pub(crate) fn new(left: u16, bytes: &'a [u8]) -> FrameWalk<'a>
-        requires { AreFrames left bytes.now }
-        ensures { result ≡ first_reads left bytes.now }
-    {
-        FrameWalk { left, bytes }
-    }
+    ghost view = { λ w. w.left };
 }
 
 impl<'a> Iterator for FrameWalk<'a> {
@@ -46,9 +30,6 @@ impl<'a> Iterator for FrameWalk<'a> {
     ghost remaining = { item_count (λ walk. walk) };
 
     fn next(&mut self) -> Option<ReadFrame<'a>> {
-        let (frame, after) = split_frame(self.bytes)?;
-        self.bytes = after;
-        self.left -= 1;
-        Some(frame)
+        self.left.take_first()
     }
 }

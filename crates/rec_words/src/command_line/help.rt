@@ -230,7 +230,8 @@ Example:
 const RECORD: &str = "\
 Records the channels that SETTINGS names into the file OUT, until every feed has ended and so has
 standard input. SETTINGS is a TOML document:
-  limit = 65536                    the longest packet of frames, in bytes, 16424 to 524284
+  limit = 65536                    the longest packet of frames without its data checksum,
+                                   in bytes, 16424 to 524284
   ring = 64                        how many pieces of a channel may wait for OUT, 1 to 4096
   version = 8                      the data type version of the packets, 0 to 255
   [[channel]]                      1 to 64 of them, each with an id of its own

@@ -15,9 +15,10 @@ one_more : (app next whole : App) (sub : Shape) (all : List CommandTexts) (at : 
 one_more app next whole sub all at d here added same before =
     rw (added, same) (rw (drop_more all at d here) at before)
 
--- no argument of either is global
-none_global : (old sub new : Bool) → new ≡ (old || sub) → old ≡ false → sub ≡ false → new ≡ false
-none_global old sub new e f g = rw (e, f, g) refl
+-- the program has no global argument with a further command, where it had none before and the
+-- command has none
+none_global : (before command with_command : Bool) → with_command ≡ (before || command) → before ≡ false → command ≡ false → with_command ≡ false
+none_global before command with_command either none none_of_it = rw (either, none, none_of_it) refl
 
 pub commands-preserved : goal.commands-preserved
 commands-preserved c =

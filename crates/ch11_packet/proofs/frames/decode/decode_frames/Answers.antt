@@ -38,12 +38,14 @@ returns-then-not-is_empty-clause-fault c =
 pub invariant_of-result : goal.invariant_of-result
 invariant_of-result c =
     let all : c.frames.counter ≡ c.from_le_bytes-word.result % 2 ^ 16 = omega arith in
-    AreFrames-Passed _ c.frames.counter _ c.frames.rest.now c.frames.invariant all (nil_from_length _ (eqb-true _ 0 (sym c.is_empty.ensures ∙ c.if-not-is_empty.false)))
+    ∣ AreFrames-Passed _ c.frames.counter _ c.frames.rest.now c.frames.invariant all (nil_from_length _ (eqb-true _ 0 (sym c.is_empty.ensures ∙ c.if-not-is_empty.false))) ∣₁
 
 pub returns-clause-spelled : goal.returns-clause-spelled
 returns-clause-spelled c =
     let is_format = read_format c.args.body.now _ c.in-len4-up.len_at_least c.from_le_bytes-word.ensures c.if-word-ne0.false in
-    SpellsBody-AreFrames c.args.body.now _ (λ i. omega (arith, c.type_inv.body i)) is_format c.from_le_bytes-word.ensures (invariant_of-result c)
+    let all : c.frames.counter ≡ c.from_le_bytes-word.result % 2 ^ 16 = omega arith in
+    let are = AreFrames-Passed _ c.frames.counter _ c.frames.rest.now c.frames.invariant all (nil_from_length _ (eqb-true _ 0 (sym c.is_empty.ensures ∙ c.if-not-is_empty.false))) in
+    SpellsBody-AreFrames c.args.body.now _ (λ i. omega (arith, c.type_inv.body i)) is_format c.from_le_bytes-word.ensures are
 
 pub returns-clause-read : goal.returns-clause-read
 returns-clause-read c = λ frames spells.

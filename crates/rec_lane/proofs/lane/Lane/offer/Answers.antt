@@ -9,29 +9,49 @@ use Rattle.rec_lane.specs.Views.{pieces_data}
 use Rattle.rec_lane.proofs.lane.Lane.offer.Goals as goal
 
 pub returns-then-is_current-clause-value : goal.returns-then-is_current-clause-value
-returns-then-is_current-clause-value c = c.offer_known-known.ensures.value c.args.drawn.version (arc_value c.args.drawn.program) (sym c.is_current.ensures.current ∙ c.if-is_current.true)
+returns-then-is_current-clause-value c =
+    let is = sym c.is_current.ensures.current ∙ c.if-is_current.true in
+    c.offer_known-known.ensures.value c.args.drawn.version (arc_value c.args.drawn.program) is
 
 pub returns-then-is_current-clause-met : goal.returns-then-is_current-clause-met
-returns-then-is_current-clause-met c = c.offer_known-known.ensures.met c.args.drawn.version (arc_value c.args.drawn.program) (sym c.is_current.ensures.current ∙ c.if-is_current.true)
+returns-then-is_current-clause-met c =
+    let is = sym c.is_current.ensures.current ∙ c.if-is_current.true in
+    c.offer_known-known.ensures.met c.args.drawn.version (arc_value c.args.drawn.program) is
 
 pub returns-then-is_current-clause-pieces : goal.returns-then-is_current-clause-pieces
 returns-then-is_current-clause-pieces c =
-    subst (λ ps. MakesCertain c.args.self.now (offered_now c.args.self.now c.args.drawn.version (arc_value c.args.drawn.program) (frame_data c.args.frame.now) c.offer_known-known.result.value) ps)
-    (sym c.pieces_of.ensures.pieces) (c.offer_known-known.ensures.pieces c.args.drawn.version (arc_value c.args.drawn.program) (sym c.is_current.ensures.current ∙ c.if-is_current.true))
+    let version = c.args.drawn.version in
+    let program = arc_value c.args.drawn.program in
+    let is = sym c.is_current.ensures.current ∙ c.if-is_current.true in
+    let now = offered_now c.args.self.now version program (frame_data c.args.frame.now) c.offer_known-known.result.value in
+    subst (MakesCertain c.args.self.now now) (sym c.pieces_of.ensures.pieces) (c.offer_known-known.ensures.pieces version program is)
 
 pub returns-then-is_current-clause-in_history : goal.returns-then-is_current-clause-in_history
 returns-then-is_current-clause-in_history c =
-    subst (λ ps. TakesFrame c.args.self.now c.offer_known-known.new.self (frame_data c.args.frame.now) c.args.drawn.version (arc_value c.args.drawn.program) ps)
-    (sym c.pieces_of.ensures.pieces) (c.offer_known-known.ensures.in_history c.args.drawn.version (arc_value c.args.drawn.program) (sym c.is_current.ensures.current ∙ c.if-is_current.true))
+    let version = c.args.drawn.version in
+    let program = arc_value c.args.drawn.program in
+    let is = sym c.is_current.ensures.current ∙ c.if-is_current.true in
+    subst (TakesFrame c.args.self.now c.offer_known-known.new.self (frame_data c.args.frame.now) version program)
+    (sym c.pieces_of.ensures.pieces) (c.offer_known-known.ensures.in_history version program is)
 
 pub returns-else-is_current-clause-value : goal.returns-else-is_current-clause-value
-returns-else-is_current-clause-value c = runs_first c.args.self.now.current c.args.drawn.version (arc_value c.args.drawn.program) (view (frame_data c.args.frame.now)) c.offer_first.result.value (sym c.is_current.ensures.current ∙ c.if-is_current.false) c.offer_first.ensures.value
+returns-else-is_current-clause-value c =
+    let isnt = sym c.is_current.ensures.current ∙ c.if-is_current.false in
+    runs_first c.args.self.now.current c.args.drawn.version (arc_value c.args.drawn.program) (view (frame_data c.args.frame.now)) c.offer_first.result.value isnt c.offer_first.ensures.value
 
 pub returns-else-is_current-clause-met : goal.returns-else-is_current-clause-met
-returns-else-is_current-clause-met c = λ before h. subst (λ (lane : LaneState). HasMet lane (before ++ offered_now c.args.self.now c.args.drawn.version (arc_value c.args.drawn.program) (frame_data c.args.frame.now) c.offer_first.result.value ∷ [])) (sym c.offer_first.ensures.lane) (first_met _ before _ _ _ _ (sym c.is_current.ensures.current ∙ c.if-is_current.false) h)
+returns-else-is_current-clause-met c = λ before stands.
+    let isnt = sym c.is_current.ensures.current ∙ c.if-is_current.false in
+    let now = offered_now c.args.self.now c.args.drawn.version (arc_value c.args.drawn.program) (frame_data c.args.frame.now) c.offer_first.result.value in
+    subst (λ (lane : LaneState). HasMet lane (before ++ now ∷ [])) (sym c.offer_first.ensures.lane) (first_met _ before _ _ _ _ isnt stands)
 
 pub returns-else-is_current-clause-pieces : goal.returns-else-is_current-clause-pieces
-returns-else-is_current-clause-pieces c = λ before h. first_pieces _ before _ _ _ _ (sym c.is_current.ensures.current ∙ c.if-is_current.false) c.offer_first.ensures.roomy h ∙ ap (λ ps. pieces_so_far c.args.self.now.settings before ++ ps) (sym c.offer_first.ensures.pieces)
+returns-else-is_current-clause-pieces c = λ before stands.
+    let isnt = sym c.is_current.ensures.current ∙ c.if-is_current.false in
+    first_pieces _ before _ _ _ _ isnt c.offer_first.ensures.roomy stands ∙ ap (λ ps. pieces_so_far c.args.self.now.settings before ++ ps) (sym c.offer_first.ensures.pieces)
 
 pub returns-else-is_current-clause-in_history : goal.returns-else-is_current-clause-in_history
-returns-else-is_current-clause-in_history c = c.a_lane_stands_for_frames_and_a_history.ensures.takes c.args.self.now c.offer_first.new.self (frame_data c.args.frame.now) c.args.drawn.version (arc_value c.args.drawn.program) c.offer_first.result.value (pieces_data c.offer_first.result.pieces.items) (returns-else-is_current-clause-value c) (returns-else-is_current-clause-met c) (returns-else-is_current-clause-pieces c)
+returns-else-is_current-clause-in_history c =
+    c.a_lane_stands_for_frames_and_a_history.ensures.takes c.args.self.now c.offer_first.new.self (frame_data c.args.frame.now) c.args.drawn.version (arc_value c.args.drawn.program)
+    c.offer_first.result.value (pieces_data c.offer_first.result.pieces.items)
+    (returns-else-is_current-clause-value c) (returns-else-is_current-clause-met c) (returns-else-is_current-clause-pieces c)

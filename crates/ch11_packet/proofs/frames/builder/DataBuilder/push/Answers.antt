@@ -7,7 +7,7 @@ use Rattle.ch11_packet.proofs.frames.builder.DataBuilder.push.Goals as goal
 
 pub append_frame-requires-clause-room : goal.append_frame-requires-clause-room
 append_frame-requires-clause-room c =
-    let b = c.self.inside in
+    let b = c.self.inside.body in
     let len = length c.args.frame.now.bytes.now in
     let room = room_for b.count b.net b.speed b.limit (vec_capacity b.bytes) b.bytes.items len c.self.invariant (subst (λ (v : OpenBody). Fits v len) (sym c.self.view_is) c.requires) in
     let same = b.bytes.ok in
@@ -15,13 +15,13 @@ append_frame-requires-clause-room c =
 
 pub overflow_add-self : goal.overflow_add-self
 overflow_add-self c =
-    let b = c.self.inside in
+    let b = c.self.inside.body in
     let few = count_fits b.count b.net b.speed b.limit (vec_capacity b.bytes) b.bytes.items c.self.invariant in
     omega (arith, few)
 
 pub invariant_of-self : goal.invariant_of-self
 invariant_of-self c =
-    let b = c.self.inside in
+    let b = c.self.inside.body in
     let frame = frame_data c.args.frame.now in
     (IsOpen-push b.count b.net b.speed b.limit (vec_capacity b.bytes) (vec_capacity c.append_frame.new.body)
     b.bytes.items c.append_frame.new.body.items frame c.self.invariant c.args.frame.now.in_range
@@ -29,7 +29,7 @@ invariant_of-self c =
 
 pub returns : goal.returns
 returns c =
-    let b = c.self.inside in
+    let b = c.self.inside.body in
     let frame = frame_data c.args.frame.now in
     let now =
     IsOpen-push b.count b.net b.speed b.limit (vec_capacity b.bytes) (vec_capacity c.append_frame.new.body)

@@ -8,14 +8,14 @@ use Rattle.ch11_packet.proofs.frames.builder.DataBuilder.seal.Goals as goal
 
 pub new-requires : goal.new-requires
 new-requires c =
-    let b = c.self.inside in
+    let b = c.self.inside.body in
     let some = some_frames b.count b.bytes.items (λ e. c.requires (ap (λ (v : OpenBody). v.frames) (sym c.self.view_is) ∙ e)) in
     let summed = c.body_sum-sum.ensures.sum ∙ ap body_sum c.as_slice.ensures.value in
     (IsSealed-IsOpen b.count b.net b.speed b.limit (vec_capacity b.bytes) _ b.bytes.items _ c.self.invariant some (rw c.to_le_bytes.ensures (search rules)) summed).is_sealed
 
 pub returns-clause-sealed : goal.returns-clause-sealed
 returns-clause-sealed c =
-    let b = c.self.inside in
+    let b = c.self.inside.body in
     let some = some_frames b.count b.bytes.items (λ e. c.requires (ap (λ (v : OpenBody). v.frames) (sym c.self.view_is) ∙ e)) in
     let bytes = slice_set (slice_set b.bytes.items 0 (b.count % 256)) 1 (b.count / 256 % 256) in
     let sealed = IsSealed-IsOpen b.count b.net b.speed b.limit (vec_capacity b.bytes) (body_sum bytes) b.bytes.items bytes c.self.invariant some refl refl in
@@ -24,6 +24,6 @@ returns-clause-sealed c =
 
 pub returns-clause-within : goal.returns-clause-within
 returns-clause-within c =
-    let b = c.self.inside in
+    let b = c.self.inside.body in
     let size = length-IsOpen b.count b.net b.speed b.limit (vec_capacity b.bytes) b.bytes.items c.self.invariant in
     rw (← c.self.view_is, ← size) c.self.invariant.fits

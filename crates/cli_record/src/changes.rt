@@ -9,7 +9,7 @@ use std::sync::{Mutex, Wait};
 
 /// Changes by the lines of an input. Each line is answered on standard error.
 #[derive(Drop)]
-pub(super) struct LineControl<'r, R: Sync, I: Send + Drop, E: Send + Drop> {
+pub(crate) struct LineControl<'r, R: Sync, I: Send + Drop, E: Send + Drop> {
     rt: &'r R,
     errors: &'r Mutex<E>,
     lines: Lines<I>,
@@ -22,7 +22,7 @@ impl<'r, R: AllocGlobal + Sync, I: Read + Send + Drop, E: Send + Drop> LineContr
     ghost use Rattle.std.specs.Prelude.{◌≡◌, [], false, IfOk};
 
     /// A control that has read nothing.
-    pub(super) fn new(
+    pub(crate) fn new(
         rt: &'r R,
         input: I,
         errors: &'r Mutex<E>,
@@ -41,7 +41,7 @@ impl<'r, R: AllocGlobal + Sync, I: Read + Send + Drop, E: Send + Drop> LineContr
     }
 
     /// How it ended: at its last line, or since there was no memory.
-    pub(super) fn outcome(&self) -> Result<(), Ending<'static>> {
+    pub(crate) fn outcome(&self) -> Result<(), Ending<'static>> {
         if self.lacks_memory {
             return Err(Ending::Memory);
         }

@@ -4,7 +4,7 @@ use cli_streams::RecordingFault;
 use rec_writer::WriteFault;
 
 /// How much went out of a recording whose output failed.
-pub(super) fn output_fault(fault: WriteFault) -> RecordingFault {
+pub(crate) fn output_fault(fault: WriteFault) -> RecordingFault {
     match fault {
         WriteFault::Output { whole, bytes } | WriteFault::Failed { whole, bytes } => {
             RecordingFault::Output { whole, bytes }

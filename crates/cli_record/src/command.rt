@@ -1,14 +1,9 @@
 //! The command that records.
 
-mod changes;
-mod fault;
-mod jobs;
-mod report;
-
-use self::changes::LineControl;
-use self::fault::output_fault;
-use self::jobs::jobs_of;
-use self::report::print_report;
+use crate::changes::LineControl;
+use crate::fault::output_fault;
+use crate::jobs::jobs_of;
+use crate::report::print_report;
 use cli_recording::{AnnouncedOutput, read_settings};
 use cli_streams::{Ending, Inputs, LockFile, RecordingFault, create_output};
 use rec_run::{Done, RunFault, jobs_ok, record};
@@ -22,7 +17,7 @@ use std::thread::Threads;
 /// channel and how much was written, when OUT is on its disk. Lines of `input` change filters
 /// meanwhile, and are answered on `errors`, where a failure of OUT is told at once too. An OUT that
 /// is one of the inputs, or that another program has locked, is refused.
-pub(crate) fn record_channels<
+pub fn record_channels<
     'a,
     R: AllocGlobal + Files + Threads + Wait + Sync,
     I: Read + Send + Drop,

@@ -7,7 +7,7 @@ use std::io;
 use std::io::Write;
 
 /// Prints a line for each channel, and how much was written; each line is one write.
-pub(super) fn print_report<S: Drop, O: Write>(
+pub(crate) fn print_report<S: Drop, O: Write>(
     alloc: Global,
     output: &mut O,
     report: &Report<S>,

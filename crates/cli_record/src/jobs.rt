@@ -11,7 +11,7 @@ use std::sync::Arc;
 
 /// The jobs of the channels: for each its filter is read, and then its feed opened. What was opened
 /// is added to the inputs.
-pub(super) fn jobs_of<'a, R: AllocGlobal + Files>(
+pub(crate) fn jobs_of<'a, R: AllocGlobal + Files>(
     rt: &R,
     limit: Limit,
     channels: Vec<ChannelSettings>,
