@@ -6,7 +6,7 @@ import time
 from repository import ROOT, toolchain
 from steps import LOGS
 
-# More checks than processors only take one another's caches.
+# How many processes of checks run side by side, for each processor.
 LANES_PER_PROCESSOR = 1
 # How many processes one check gains from at most, and how many functions pay for one more: each reads
 # all modules anew, which takes one to two minutes in the upper crates.
