@@ -15,7 +15,7 @@ demo: build ## builds the program, and shows a recording from filter to extracte
 	tools/demo
 
 build: ## proves the program and all that it stands on: bin/bpfrec, and bin/capture where libpcap-dev is
-	@tools/build
+	@tools/build $(if $(KEEP_COSTS),--keep-costs)
 
 capture: ## bin/capture alone, which makes feeds of interfaces; it wants libpcap-dev
 	@tools/build_capture

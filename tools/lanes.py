@@ -8,9 +8,10 @@ from steps import LOGS
 
 # How many processes of checks run side by side, for each processor.
 LANES_PER_PROCESSOR = 1
-# How many processes one check gains from at most, and how many functions pay for one more: each reads
-# all modules anew, which takes one to two minutes in the upper crates.
-MOST_JOBS, FUNCTIONS_A_JOB = 4, 25
+# How many processes one check may have, and from how many functions on it may have one more: each checks
+# some functions, and then the next one reads all libraries anew, so two take up to twice the processor time
+# of one. With fewer functions they gain nothing: cli_record, which is proved alone, takes as long by two.
+MOST_JOBS, FUNCTIONS_A_JOB = 2, 100
 # What a further process of a check takes, beside the memory of the first.
 MEMORY_OF_A_JOB = 0.6
 # How many measured seconds of work tell this machine's pace.

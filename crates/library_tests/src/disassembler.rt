@@ -3,6 +3,7 @@
 use bpf_asm::assemble;
 use bpf_dis::{DisFault, text_of};
 use bpf_insn::{Insn, parse_listing};
+use samples::assert_same;
 use std::alloc::{AllocError, Global};
 use std::test::Fail;
 
@@ -23,7 +24,7 @@ fn is_read_again(rt: &HostRuntime, text: &str, listing: &str) -> Result<bool, Fa
 
 #[test]
 fn the_worked_examples_are_printed_as_written(rt: HostRuntime) -> Result<(), Fail> {
-    let table = [
+    let table = &[
         (
             "4,40 0 0 12,21 0 1 2054,6 0 0 4294967295,6 0 0 0,",
             "ldh [12]\njeq #2054,L2,L3\nL2: ret #4294967295\nL3: ret #0\n",
@@ -31,9 +32,9 @@ fn the_worked_examples_are_printed_as_written(rt: HostRuntime) -> Result<(), Fai
         ("1,6 1 0 0,", "dis 1 NoForm 0"),
         ("0,", ""),
     ];
-    for (listing, text) in table {
+    for &(listing, text) in table {
         let answer = printed(&rt, listing)?;
-        assert_eq!(rt; answer.as_str(), text, "{listing}");
+        assert_same!(rt; answer.as_str(), text, "{listing}");
     }
     Ok(())
 }
@@ -84,11 +85,11 @@ const LINES: [(&str, &str); 40] = [
 
 #[test]
 fn every_form_that_is_no_jump_has_its_line(rt: HostRuntime) -> Result<(), Fail> {
-    for (insn, line) in LINES {
+    for &(insn, line) in &LINES {
         let listing = format!(in rt.alloc(); "1,{insn},")?;
         let text = format!(in rt.alloc(); "{line}\n")?;
         let answer = printed(&rt, listing.as_str())?;
-        assert_eq!(rt; answer.as_str(), text.as_str(), "{insn}");
+        assert_same!(rt; answer.as_str(), text.as_str(), "{insn}");
         assert!(rt;
             is_read_again(&rt, text.as_str(), listing.as_str())?,
             "{insn}"
@@ -99,7 +100,7 @@ fn every_form_that_is_no_jump_has_its_line(rt: HostRuntime) -> Result<(), Fail> 
 
 #[test]
 fn every_jump_has_its_labels(rt: HostRuntime) -> Result<(), Fail> {
-    let table = [
+    let table = &[
         ("5 0 0 1", "jmp L2\nret #0\nL2: ret a\n"),
         ("21 0 1 7", "jeq #7,L1,L2\nL1: ret #0\nL2: ret a\n"),
         ("29 1 0 0", "jeq x,L2,L1\nL1: ret #0\nL2: ret a\n"),
@@ -110,10 +111,10 @@ fn every_jump_has_its_labels(rt: HostRuntime) -> Result<(), Fail> {
         ("69 0 1 7", "jset #7,L1,L2\nL1: ret #0\nL2: ret a\n"),
         ("77 0 1 0", "jset x,L1,L2\nL1: ret #0\nL2: ret a\n"),
     ];
-    for (insn, text) in table {
+    for &(insn, text) in table {
         let listing = format!(in rt.alloc(); "3,{insn},6 0 0 0,22 0 0 0,")?;
         let answer = printed(&rt, listing.as_str())?;
-        assert_eq!(rt; answer.as_str(), text, "{insn}");
+        assert_same!(rt; answer.as_str(), text, "{insn}");
         assert!(rt; is_read_again(&rt, text, listing.as_str())?, "{insn}");
     }
     Ok(())
@@ -158,17 +159,17 @@ fn programs_of_4096_and_of_10000_instructions_have_labels_throughout(
     for tests in [4_094, 9_998] {
         let (program, text) = chain(rt.alloc(), tests)?;
         let printed = text_of(rt.alloc(), program.as_slice())?;
-        assert_eq!(rt; printed.as_str(), text.as_str(), "{tests}");
+        assert_same!(rt; printed.as_str(), text.as_str(), "{tests}");
     }
     let (program, text) = chain(rt.alloc(), 4_094)?;
     let assembled = assemble(rt.alloc(), text.as_str())?;
-    assert_eq!(rt; assembled.as_slice(), program.as_slice());
+    assert_same!(rt; assembled.as_slice(), program.as_slice());
     Ok(())
 }
 
 #[test]
 fn the_first_fault_is_reported(rt: HostRuntime) -> Result<(), Fail> {
-    let table = [
+    let table = &[
         // No form.
         ("1,14 0 0 0,", "dis 1 NoForm 0"),
         ("2,6 0 0 0,65535 0 0 0,", "dis 1 NoForm 1"),
@@ -189,10 +190,10 @@ fn the_first_fault_is_reported(rt: HostRuntime) -> Result<(), Fail> {
         ("2,14 0 0 0,5 0 0 0,", "dis 1 NoForm 0"),
         ("1,5 1 0 7,", "dis 1 NoForm 0"),
     ];
-    for (listing, fault) in table {
+    for &(listing, fault) in table {
         let answer = printed(&rt, listing)?;
-        assert_eq!(rt; answer.as_str(), fault, "{listing}");
+        assert_same!(rt; answer.as_str(), fault, "{listing}");
     }
-    assert_eq!(rt; DisFault::Memory.to_string(rt.alloc())?.as_str(), "memory");
+    assert_same!(rt; DisFault::Memory.to_string(rt.alloc())?.as_str(), "memory");
     Ok(())
 }

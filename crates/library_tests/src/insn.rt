@@ -1,5 +1,6 @@
 //! Instructions as they are stored, read and printed.
 use bpf_insn::*;
+use samples::assert_same;
 use std::test::Fail;
 
 /// The ARP filter as tcpdump prints it: accepts frames whose EtherType is 0x0806.
@@ -8,12 +9,12 @@ const ARP: &str = "4,40 0 0 12,21 0 1 2054,6 0 0 4294967295,6 0 0 0,";
 #[test]
 fn the_arp_filter_is_read_and_stored(rt: HostRuntime) -> Result<(), Fail> {
     let program = parse_listing(rt.alloc(), ARP)?;
-    assert_eq!(rt; program.len(), 4);
-    assert_eq!(rt; form_of(program[0]), Some(Form::LdAbs(Size::H)));
-    assert_eq!(rt; form_of(program[1]), Some(Form::Test(Cond::Eq, Src::K)));
-    assert_eq!(rt; program[0].to_bytes(), [0x28, 0, 0, 0, 12, 0, 0, 0]);
-    assert_eq!(rt; program[1].to_bytes(), [0x15, 0, 0, 1, 6, 8, 0, 0]);
-    assert_eq!(rt; Insn::from_bytes([0x15, 0, 0, 1, 6, 8, 0, 0]), program[1]);
+    assert_same!(rt; program.len(), 4);
+    assert_same!(rt; form_of(program[0]), Some(Form::LdAbs(Size::H)));
+    assert_same!(rt; form_of(program[1]), Some(Form::Test(Cond::Eq, Src::K)));
+    assert_same!(rt; program[0].to_bytes(), [0x28, 0, 0, 0, 12, 0, 0, 0]);
+    assert_same!(rt; program[1].to_bytes(), [0x15, 0, 0, 1, 6, 8, 0, 0]);
+    assert_same!(rt; Insn::from_bytes([0x15, 0, 0, 1, 6, 8, 0, 0]), program[1]);
     Ok(())
 }
 
@@ -26,13 +27,13 @@ fn an_instruction_may_stand_on_a_line(rt: HostRuntime) -> Result<(), Fail> {
         jf: 0,
         k: 1,
     };
-    assert_eq!(rt; program.as_slice(), [ret].as_slice());
+    assert_same!(rt; program.as_slice(), [ret].as_slice());
     Ok(())
 }
 
 #[test]
 fn a_listing_is_refused_with_its_first_fault(rt: HostRuntime) {
-    let table = [
+    let table = &[
         ("", ListingFault::Syntax { at: 0 }),
         (" ,\n", ListingFault::Syntax { at: 3 }),
         ("1 1,6 0 0 0,", ListingFault::Syntax { at: 0 }),
@@ -53,8 +54,8 @@ fn a_listing_is_refused_with_its_first_fault(rt: HostRuntime) {
         ("65535,", count(65_535, 0)),
         ("0,6 0 0 0,", count(0, 1)),
     ];
-    for (text, fault) in table {
-        assert_eq!(rt;
+    for &(text, fault) in table {
+        assert_same!(rt;
             parse_listing(rt.alloc(), text).err(),
             Some(fault),
             "{text}"
@@ -72,7 +73,7 @@ fn a_program_is_printed_as_its_listing(rt: HostRuntime) -> Result<(), Fail> {
         let program = parse_listing(rt.alloc(), text)?;
         assert!(rt; program.len() <= 65_535);
         let printed = print_listing(rt.alloc(), program.as_slice())?;
-        assert_eq!(rt; printed.as_str(), text);
+        assert_same!(rt; printed.as_str(), text);
     }
     Ok(())
 }
@@ -84,8 +85,8 @@ fn the_longest_listing_is_read_and_printed(rt: HostRuntime) -> Result<(), Fail> 
         text.push_str("6 0 0 1,")?;
     }
     let program = parse_listing(rt.alloc(), text.as_str())?;
-    assert_eq!(rt; program.len(), 65_535);
-    assert_eq!(rt;
+    assert_same!(rt; program.len(), 65_535);
+    assert_same!(rt;
         print_listing(rt.alloc(), program.as_slice())?.as_str(),
         text.as_str()
     );
@@ -96,12 +97,12 @@ fn the_longest_listing_is_read_and_printed(rt: HostRuntime) -> Result<(), Fail> 
 fn jumps_lead_where_their_distances_say(rt: HostRuntime) -> Result<(), Fail> {
     let program = parse_listing(rt.alloc(), ARP)?;
     let test = Form::Test(Cond::Eq, Src::K);
-    assert_eq!(rt; jump_targets(test, program[1], 1), Targets::Two(2, 3));
-    assert_eq!(rt;
+    assert_same!(rt; jump_targets(test, program[1], 1), Targets::Two(2, 3));
+    assert_same!(rt;
         successors(Form::LdAbs(Size::H), program[0], 0),
         Targets::One(1)
     );
-    assert_eq!(rt; successors(Form::RetK, program[2], 2), Targets::Nowhere);
+    assert_same!(rt; successors(Form::RetK, program[2], 2), Targets::Nowhere);
     assert!(rt; jumps_out(test, program[1], 1, 3));
     assert!(rt; !jumps_out(test, program[1], 1, 4));
     Ok(())
@@ -109,10 +110,10 @@ fn jumps_lead_where_their_distances_say(rt: HostRuntime) -> Result<(), Fail> {
 
 #[test]
 fn a_form_tells_its_code_its_name_and_its_fields(rt: HostRuntime) {
-    assert_eq!(rt; code_of(Form::Test(Cond::Set, Src::X)), 0x4d);
-    assert_eq!(rt; op_mnemonic(Op::Lsh), "lsh");
-    assert_eq!(rt; cond_mnemonic(Cond::Ge), "jge");
-    assert_eq!(rt; load_mnemonic(Size::B), "ldb");
+    assert_same!(rt; code_of(Form::Test(Cond::Set, Src::X)), 0x4d);
+    assert_same!(rt; op_mnemonic(Op::Lsh), "lsh");
+    assert_same!(rt; cond_mnemonic(Cond::Ge), "jge");
+    assert_same!(rt; load_mnemonic(Size::B), "ldb");
     assert!(rt; uses_k(Form::RetK) && !uses_k(Form::RetA));
     assert!(rt; uses_distances(Form::Test(Cond::Eq, Src::X)) && !uses_distances(Form::Ja));
     assert!(rt; reads_scratch(Form::LdxMem) && !reads_scratch(Form::Stx));

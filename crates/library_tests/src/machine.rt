@@ -5,6 +5,7 @@ ghost use Rattle.std.specs.Prelude.{◌≤◌, length};
 use bpf_insn::{Insn, parse_listing};
 use bpf_machine::*;
 use bpf_verify::verify;
+use samples::assert_same;
 use std::alloc::Global;
 use std::process::Abort;
 use std::test::Fail;
@@ -17,7 +18,7 @@ const VIEW: &str = "ffffffffffff0200000000010806";
 
 #[test]
 fn a_program_returns_its_value_in_its_steps(rt: HostRuntime) -> Result<(), Fail> {
-    let table = [
+    let table = &[
         (ARP, VIEW, 4_294_967_295, 3),
         (ARP, "ffffffffffff0200000000010800", 0, 3),
         // a load outside the view
@@ -43,15 +44,15 @@ fn a_program_returns_its_value_in_its_steps(rt: HostRuntime) -> Result<(), Fail>
         ),
         ("2,128 0 0 0,22 0 0 0,", VIEW, 14, 2),
     ];
-    for (listing, view, value, steps) in table {
+    for &(listing, view, value, steps) in table {
         let program = verify(parse_listing(rt.alloc(), listing)?)?;
         let view = hex::decode(rt.alloc(), view)?;
         assert!(rt; view.len() <= MAX_VIEW);
         let outcome = Outcome { value, steps };
-        assert_eq!(rt; run(&program, view.as_slice()), outcome, "{listing}");
+        assert_same!(rt; run(&program, view.as_slice()), outcome, "{listing}");
         let mut prepared = Prepared::with_room(rt.alloc())?;
         prepared.prepare(&program);
-        assert_eq!(rt; prepared.value(view.as_slice()), value, "{listing}");
+        assert_same!(rt; prepared.value(view.as_slice()), value, "{listing}");
     }
     Ok(())
 }
@@ -64,7 +65,7 @@ fn the_longest_view_has_16379_bytes(rt: HostRuntime) -> Result<(), Fail> {
         value: 16_379,
         steps: 2,
     };
-    assert_eq!(rt; run(&length, view.as_slice()), outcome);
+    assert_same!(rt; run(&length, view.as_slice()), outcome);
     Ok(())
 }
 
@@ -77,12 +78,12 @@ fn the_longest_line_of_instructions_takes_4096_steps(rt: HostRuntime) -> Result<
         value: 4_095,
         steps: 4_096,
     };
-    assert_eq!(rt; run(&program, &[]), outcome);
+    assert_same!(rt; run(&program, &[]), outcome);
     let mut prepared = Prepared::with_room(rt.alloc())?;
     prepared.prepare(&program);
-    assert_eq!(rt; prepared.value(&[]), 4_095);
+    assert_same!(rt; prepared.value(&[]), 4_095);
     prepared.prepare(&verify(parse_listing(rt.alloc(), ARP)?)?);
-    assert_eq!(rt; prepared.value(&[]), 0);
+    assert_same!(rt; prepared.value(&[]), 0);
     Ok(())
 }
 
@@ -141,7 +142,7 @@ const RET_A: u16 = 0x16;
 #[test]
 fn each_load_and_store_alone_does_its_part(rt: HostRuntime) -> Result<(), Fail> {
     let alloc = rt.alloc();
-    let listings = [
+    let listings = &[
         ("2,0 0 0 7,22 0 0 0,", 7),
         ("2,128 0 0 0,22 0 0 0,", 8),
         ("3,129 0 0 0,135 0 0 0,22 0 0 0,", 8),
@@ -152,14 +153,14 @@ fn each_load_and_store_alone_does_its_part(rt: HostRuntime) -> Result<(), Fail> 
         ("3,0 0 0 77,132 0 0 0,22 0 0 0,", 4_294_967_219),
         ("3,5 0 0 1,6 0 0 1,6 0 0 2,", 2),
     ];
-    for (listing, value) in listings {
+    for &(listing, value) in listings {
         let insns = parse_listing(alloc, listing)?;
         returns(&rt, alloc, insns.as_slice(), &BYTES, value)?;
     }
-    for (absolute, indexed, size, value) in LOADS {
+    for &(absolute, indexed, size, value) in &LOADS {
         let absolute = [insn(absolute, u32::from(OFFSET)), insn(RET_A, 0)];
         let indexed = [insn(LDX, 1), insn(indexed, 1), insn(RET_A, 0)];
-        for (cut, value) in [(0, value), (1, 0)] {
+        for &(cut, value) in &[(0, value), (1, 0)] {
             let view = shown(size, cut);
             returns(&rt, alloc, &absolute, view, value)?;
             returns(&rt, alloc, &indexed, view, value)?;
@@ -171,14 +172,14 @@ fn each_load_and_store_alone_does_its_part(rt: HostRuntime) -> Result<(), Fail> 
 #[test]
 fn each_operation_and_test_alone_does_its_part(rt: HostRuntime) -> Result<(), Fail> {
     let alloc = rt.alloc();
-    for (with_k, with_x, value) in OPERATIONS {
+    for &(with_k, with_x, value) in &OPERATIONS {
         let with_k = [insn(LD, 77), insn(with_k, 6), insn(RET_A, 0)];
         let with_x = [insn(LDX, 6), insn(LD, 77), insn(with_x, 0), insn(RET_A, 0)];
         returns(&rt, alloc, &with_k, &[], value)?;
         returns(&rt, alloc, &with_x, &[], value)?;
     }
     let [yes, no] = [insn(RET_K, 1), insn(RET_K, 2)];
-    for (code, k, holds) in TESTS {
+    for &(code, k, holds) in &TESTS {
         let value = if holds { 1 } else { 2 };
         let with_k = [insn(LD, 77), test(code, 0, 1, k), yes, no];
         let with_x = [insn(LDX, k), insn(LD, 77), test(code | 8, 0, 1, 0), yes, no];
@@ -192,8 +193,8 @@ fn each_operation_and_test_alone_does_its_part(rt: HostRuntime) -> Result<(), Fa
 fn a_load_and_its_test_are_their_two_instructions(rt: HostRuntime) -> Result<(), Fail> {
     let alloc = rt.alloc();
     let [yes, no] = [insn(RET_K, 1), insn(RET_K, 2)];
-    for (load, _, size, word) in LOADS {
-        for (code, k, holds) in TESTS {
+    for &(load, _, size, word) in &LOADS {
+        for &(code, k, holds) in &TESTS {
             let value = if holds { 1 } else { 2 };
             // `k` is to the word what it is to 77; of a set bit it is the word's own, or none
             let k = match code {
@@ -220,7 +221,7 @@ fn two_tests_are_their_two_instructions(rt: HostRuntime) -> Result<(), Fail> {
     let alloc = rt.alloc();
     let [one, two, three] = [insn(RET_K, 1), insn(RET_K, 2), insn(RET_K, 3)];
     let second = test(0x15, 2, 0, 6);
-    for (a, joined, past, into) in [(5, 2, 2, 1), (6, 3, 1, 3), (7, 1, 1, 1)] {
+    for &(a, joined, past, into) in &[(5, 2, 2, 1), (6, 3, 1, 3), (7, 1, 1, 1)] {
         let ld = insn(LD, a);
         // the first's false way leads to the second, and past it; and a jump to the second
         let next = [ld, test(0x15, 2, 0, 5), second, one, two, three];
@@ -264,7 +265,7 @@ fn returns(
     let program = verify(Vec::from_slice(alloc, insns)?)?;
     let mut prepared = Prepared::with_room(alloc)?;
     prepared.prepare(&program);
-    assert_eq!(rt; prepared.value(view), value, "{insns:?} on {view:?}");
-    assert_eq!(rt; run(&program, view).value, value, "{insns:?} on {view:?}");
+    assert_same!(rt; prepared.value(view), value, "{insns:?} on {view:?}");
+    assert_same!(rt; run(&program, view).value, value, "{insns:?} on {view:?}");
     Ok(())
 }

@@ -1,12 +1,13 @@
 //! Programs that are valid and programs that are not, each with its first fault.
 use bpf_insn::{Insn, SCRATCH_WORDS, parse_listing};
 use bpf_verify::*;
+use samples::assert_same;
 use std::alloc::AllocError;
 use std::test::Fail;
 
 #[test]
 fn a_program_is_refused_with_its_first_fault(rt: HostRuntime) -> Result<(), Fail> {
-    let table = [
+    let table = &[
         ("0,", "refused 1 Empty"),
         ("1,14 0 0 0,", "refused 3 BadOpcode 0"),
         ("2,2 0 0 16,6 0 0 0,", "refused 4 BadScratch 0"),
@@ -19,9 +20,9 @@ fn a_program_is_refused_with_its_first_fault(rt: HostRuntime) -> Result<(), Fail
         ("2,6 0 0 0,7 0 0 0,", "refused 7 NoReturn"),
         (UNSET_ON_ONE_BRANCH, "refused 8 Unset 3 0 0 1 3"),
     ];
-    for (text, printed) in table {
+    for &(text, printed) in table {
         let refused = verify(parse_listing(rt.alloc(), text)?).err().ok_or(text)?;
-        assert_eq!(rt;
+        assert_same!(rt;
             format!(in rt.alloc(); "{refused}")?.as_str(),
             printed,
             "{text}"
@@ -32,30 +33,30 @@ fn a_program_is_refused_with_its_first_fault(rt: HostRuntime) -> Result<(), Fail
 
 #[test]
 fn a_valid_program_is_taken(rt: HostRuntime) -> Result<(), Fail> {
-    let table = [
+    let table = &[
         ("4,1 0 0 7,3 0 0 15,96 0 0 15,22 0 0 0,", 4),
         ("3,5 0 0 1,96 0 0 3,6 0 0 1,", 3),
         ("3,5 0 0 1,4 0 0 1,6 0 0 0,", 3),
     ];
-    for (text, count) in table {
+    for &(text, count) in table {
         let taken = verify(parse_listing(rt.alloc(), text)?)?;
-        assert_eq!(rt; taken.len(), count, "{text}");
-        assert_eq!(rt; taken.insns().len(), count, "{text}");
+        assert_same!(rt; taken.len(), count, "{text}");
+        assert_same!(rt; taken.insns().len(), count, "{text}");
     }
     Ok(())
 }
 
 #[test]
 fn programs_are_compared_whole(rt: HostRuntime) -> Result<(), Fail> {
-    let table = [
+    let table = &[
         ("1,6 0 0 1,", "1,6 0 0 1,", true),
         ("1,6 0 0 1,", "1,6 0 0 0,", false),
         ("1,6 0 0 1,", "2,6 0 0 1,6 0 0 1,", false),
     ];
-    for (one, other, same) in table {
+    for &(one, other, same) in table {
         let one = verify(parse_listing(rt.alloc(), one)?)?;
         let other = verify(parse_listing(rt.alloc(), other)?)?;
-        assert_eq!(rt; one.same(&other), same);
+        assert_same!(rt; one.same(&other), same);
     }
     Ok(())
 }
@@ -70,15 +71,15 @@ fn a_path_shows_an_unset_read_or_not(rt: HostRuntime) -> Result<(), Fail> {
 
 #[test]
 fn a_program_has_at_most_4096_instructions(rt: HostRuntime) -> Result<(), Fail> {
-    assert_eq!(rt;
+    assert_same!(rt;
         verify(vec![in rt.alloc(); insn(6, 0, 0); 4_096]?)?.len(),
         4_096
     );
     let refused = verify(vec![in rt.alloc(); insn(6, 0, 0); 4_097]?)
         .err()
         .ok_or("4,097 instructions are taken")?;
-    assert_eq!(rt; refused.fault, VerifyFault::TooLong);
-    assert_eq!(rt; refused.program.len(), 4_097);
+    assert_same!(rt; refused.fault, VerifyFault::TooLong);
+    assert_same!(rt; refused.program.len(), 4_097);
     Ok(())
 }
 
@@ -91,7 +92,7 @@ fn the_longest_path_to_an_unset_read_has_4095_indexes(rt: HostRuntime) -> Result
     let VerifyFault::Unset { at, word, path } = fault else {
         return Err("word 7 is unset".into());
     };
-    assert_eq!(rt; (at, word, path.len()), (4_094, 7, 4_095));
+    assert_same!(rt; (at, word, path.len()), (4_094, 7, 4_095));
     assert!(rt; path.iter().copied().eq(0..4_095));
     assert!(rt; check_path(&program, &path, word));
     assert!(rt; !check_path(&program, &path, 8));
@@ -100,12 +101,12 @@ fn the_longest_path_to_an_unset_read_has_4095_indexes(rt: HostRuntime) -> Result
 
 #[test]
 fn each_branch_counts_where_branches_meet(rt: HostRuntime) -> Result<(), Fail> {
-    assert_eq!(rt; verify(branches(&rt, SCRATCH_WORDS as u32)?)?.len(), 4_096);
+    assert_same!(rt; verify(branches(&rt, SCRATCH_WORDS as u32)?)?.len(), 4_096);
     let Refused { program, fault } = verify(branches(&rt, 7)?).err().ok_or("word 7 is unset")?;
     let VerifyFault::Unset { at, word, path } = fault else {
         return Err("word 7 is unset".into());
     };
-    assert_eq!(rt; (at, word), (39, 7));
+    assert_same!(rt; (at, word), (39, 7));
     assert!(rt; check_path(&program, &path, word));
     Ok(())
 }

@@ -1,6 +1,7 @@
 //! Runs without words, and what is printed of them.
 
 use rec_cli::{LockFile, program};
+use samples::assert_same;
 use std::io;
 use std::io::{ErrorKind, Read, Write};
 use std::process::Abort;
@@ -43,20 +44,20 @@ where
     let mut out = Vec::new(rt.alloc());
     let mut err = Vec::new(rt.alloc());
     let ended = run(rt, input, &mut out, &mut err);
-    assert_eq!(*rt; ended, status, "{input:?}");
-    assert_eq!(*rt; out.as_slice(), output.as_bytes(), "{input:?}");
-    assert_eq!(*rt; err.as_slice(), errors.as_bytes(), "{input:?}");
+    assert_same!(*rt; ended, status, "{input:?}");
+    assert_same!(*rt; out.as_slice(), output.as_bytes(), "{input:?}");
+    assert_same!(*rt; err.as_slice(), errors.as_bytes(), "{input:?}");
 }
 
 #[test]
 fn a_listing_and_a_view_give_value_and_steps(rt: HostRuntime) -> Result<(), Fail> {
-    let table = [
+    let table = &[
         (ARP, VIEW, "4294967295 3"),
         (ARP, "ffffffffffff0200000000010800", "0 3"),
         ("2,128 0 0 0,22 0 0 0,", VIEW, "14 2"),
         ("2,128 0 0 0,22 0 0 0,", "FFfF", "2 2"),
     ];
-    for (listing, view, answer) in table {
+    for &(listing, view, answer) in table {
         let input = format!(in rt.alloc(); "{listing}\n{view}\n")?;
         let answer = format!(in rt.alloc(); "{answer}\n")?;
         check(&rt, input.as_bytes(), 0, answer.as_str(), "");
@@ -66,13 +67,13 @@ fn a_listing_and_a_view_give_value_and_steps(rt: HostRuntime) -> Result<(), Fail
 
 #[test]
 fn lines_may_end_in_a_carriage_return_or_not_at_all(rt: HostRuntime) -> Result<(), Fail> {
-    let table = [
+    let table = &[
         "{ARP}\r\n{VIEW}\r\n",
         "{ARP}\n{VIEW}",
         "{ARP}\n{VIEW}\r",
         "{ARP}\n{VIEW}\nthis line is not judged\n",
     ];
-    for shape in table {
+    for &shape in table {
         let input = shape.replace(rt.alloc(), "{ARP}", ARP)?;
         let input = input.as_str().replace(rt.alloc(), "{VIEW}", VIEW)?;
         check(&rt, input.as_bytes(), 0, "4294967295 3\n", "");
@@ -85,7 +86,7 @@ fn lines_may_end_in_a_carriage_return_or_not_at_all(rt: HostRuntime) -> Result<(
 #[test]
 fn a_fault_has_its_line_its_stream_and_its_status(rt: HostRuntime) {
     // the input, the line on standard output, the line on standard error, and the status
-    let table = [
+    let table = &[
         ("", "", "listing 1 Syntax 0\n", 1),
         ("65535,", "", "listing 2 Count 65535 0\n", 1),
         ("1,6 0 0 4294967296,", "", "listing 3 Range 8\n", 1),
@@ -117,7 +118,7 @@ fn a_fault_has_its_line_its_stream_and_its_status(rt: HostRuntime) {
         ("1,6 0 0 0,\nff ff", "", "view\n", 1),
         ("1,6 0 0 0,\n\u{e9}", "", "view\n", 1),
     ];
-    for (input, output, errors, status) in table {
+    for &(input, output, errors, status) in table {
         check(&rt, input.as_bytes(), status, output, errors);
     }
     check(&rt, b"1,6 0 0 0,\n\nand \xff", 3, "", "file -\n");
@@ -159,8 +160,8 @@ impl Write for Broken {
 fn a_failing_stream_is_reported_as_a_file(rt: HostRuntime) {
     let mut out = Vec::new(rt.alloc());
     let mut err = Vec::new(rt.alloc());
-    assert_eq!(rt; run(&rt, Broken, &mut out, &mut err), 3);
-    assert_eq!(rt;
+    assert_same!(rt; run(&rt, Broken, &mut out, &mut err), 3);
+    assert_same!(rt;
         run(
             &rt,
             b"2,128 0 0 0,22 0 0 0,".as_slice(),
@@ -169,9 +170,9 @@ fn a_failing_stream_is_reported_as_a_file(rt: HostRuntime) {
         ),
         3
     );
-    assert_eq!(rt; run(&rt, b"0,".as_slice(), &mut Broken, &mut err), 3);
+    assert_same!(rt; run(&rt, b"0,".as_slice(), &mut Broken, &mut err), 3);
     assert_eq!(rt; err.as_slice(), b"file -\nfile -\nfile -\n".as_slice());
     // a failed write to standard error is passed over
-    assert_eq!(rt; run(&rt, b"".as_slice(), &mut out, Broken), 1);
-    assert_eq!(rt; out.len(), 0);
+    assert_same!(rt; run(&rt, b"".as_slice(), &mut out, Broken), 1);
+    assert_same!(rt; out.len(), 0);
 }

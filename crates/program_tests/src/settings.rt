@@ -1,6 +1,7 @@
 //! Settings of recordings, and the first fault of a text that has none.
 
 use rec_cli::{ChannelSettings, Settings, settings_of};
+use samples::assert_same;
 use std::alloc::Global;
 use std::process::Abort;
 use std::test::Fail;
@@ -42,7 +43,7 @@ fn shown(alloc: Global, settings: &Settings) -> Result<String, Fail> {
 
 fn check<R: AllocGlobal + Abort>(rt: &R, text: &str, line: &str) -> Result<(), Fail> {
     let told = told(rt.alloc(), text)?;
-    assert_eq!(*rt; told.as_str(), line, "{text}");
+    assert_same!(*rt; told.as_str(), line, "{text}");
     Ok(())
 }
 
@@ -67,7 +68,7 @@ fn what_is_not_set_has_its_default(rt: HostRuntime) -> Result<(), Fail> {
 
 #[test]
 fn keys_of_the_recording_are_taken_to_their_limits(rt: HostRuntime) -> Result<(), Fail> {
-    let table = [
+    let table = &[
         ("limit = 16424", "16424 64 8"),
         ("limit = 524284", "524284 64 8"),
         ("limit = 16423", "settings 4 Value limit"),
@@ -83,7 +84,7 @@ fn keys_of_the_recording_are_taken_to_their_limits(rt: HostRuntime) -> Result<()
         ("version = -1", "settings 4 Value version"),
         ("version = 256", "settings 4 Value version"),
     ];
-    for (key, line) in table {
+    for &(key, line) in table {
         let text = format!(in rt.alloc(); "{key}\n{CHANNEL}")?;
         let told = told(rt.alloc(), text.as_str())?;
         assert!(rt; told.as_str().starts_with(line), "{key}: {told}");
@@ -93,7 +94,7 @@ fn keys_of_the_recording_are_taken_to_their_limits(rt: HostRuntime) -> Result<()
 
 #[test]
 fn keys_of_a_channel_are_taken_to_their_limits(rt: HostRuntime) -> Result<(), Fail> {
-    let table = [
+    let table = &[
         (
             "id = 65535",
             "65536 64 8 / 65535 f l 0 0 9223372036854775807",
@@ -114,7 +115,7 @@ fn keys_of_a_channel_are_taken_to_their_limits(rt: HostRuntime) -> Result<(), Fa
         ("net = 256", "settings 3 Missing id"),
         ("id = 1\nport = 7\nnet = 256", "settings 2 Unknown port"),
     ];
-    for (keys, line) in table {
+    for &(keys, line) in table {
         let text = format!(in rt.alloc(); "[[channel]]\nfeed = \"f\"\nfilter = \"l\"\n{keys}\n")?;
         check(&rt, text.as_str(), line)?;
     }
@@ -123,7 +124,7 @@ fn keys_of_a_channel_are_taken_to_their_limits(rt: HostRuntime) -> Result<(), Fa
 
 #[test]
 fn the_first_fault_is_told(rt: HostRuntime) -> Result<(), Fail> {
-    let table = [
+    let table = &[
         ("limit = 1\nlimit = 2", "settings 1 Syntax"),
         ("limit = 16420", "settings 4 Value limit"),
         (
@@ -151,7 +152,7 @@ fn the_first_fault_is_told(rt: HostRuntime) -> Result<(), Fail> {
         ("[[channel]]\nid = 1\nfeed = 1", "settings 4 Value feed"),
         ("[[channel]]\nfeed = 1\nfilter = 1", "settings 3 Missing id"),
     ];
-    for (text, line) in table {
+    for &(text, line) in table {
         check(&rt, text, line)?;
     }
     Ok(())
@@ -190,7 +191,7 @@ fn a_recording_has_64_channels_at_most(rt: HostRuntime) -> Result<(), Fail> {
     }
     let text = channels(rt.alloc(), ids.as_slice())?;
     let settings = settings_of(rt.alloc(), text.as_str())?;
-    assert_eq!(rt; settings.channels.len(), 64);
+    assert_same!(rt; settings.channels.len(), 64);
     ids.push(65)?;
     let text = channels(rt.alloc(), ids.as_slice())?;
     check(&rt, text.as_str(), "settings 5 Channels")

@@ -2,7 +2,7 @@
 use crate::shared::packets_of;
 use ch11_packet::{COMPUTER_GENERATED_DATA, Header, end_body};
 use rec_reader::*;
-use samples::{ACCEPTING, END, FRAMES, REJECTING, joined_bytes};
+use samples::{ACCEPTING, END, FRAMES, REJECTING, assert_same, joined_bytes};
 use std::alloc::Global;
 use std::fmt::Write as _;
 use std::test::Fail;
@@ -44,7 +44,7 @@ pub(crate) fn told(alloc: Global, answer: Result<Audit, AuditFault>) -> Result<S
 fn recordings_are_approved_or_refused(rt: HostRuntime) -> Result<(), Fail> {
     let whole = "channel 1 programs 2 frames 1 offered 2 yes other 0";
     let none = "channel 1 programs 0 frames 0 offered 0 yes other 0";
-    for (packets, want) in [
+    for &(packets, want) in &[
         (TWO_VERSIONS.as_slice(), whole),
         (&[EMPTY_END], none),
         (&[], "yes other 0"),
@@ -59,7 +59,7 @@ fn recordings_are_approved_or_refused(rt: HostRuntime) -> Result<(), Fail> {
         let bytes = joined_bytes(rt.alloc(), packets)?;
         let recording = packets_of(rt.alloc(), bytes.as_slice());
         let answer = told(rt.alloc(), audit(rt.alloc(), &recording))?;
-        assert_eq!(rt; answer.as_str(), want);
+        assert_same!(rt; answer.as_str(), want);
     }
     Ok(())
 }
@@ -67,7 +67,7 @@ fn recordings_are_approved_or_refused(rt: HostRuntime) -> Result<(), Fail> {
 #[test]
 fn a_changed_byte_is_found(rt: HostRuntime) -> Result<(), Fail> {
     // the packets, the byte that is set, its value, and the answer
-    for (packets, at, value, want) in [
+    for &(packets, at, value, want) in &[
         (TWO_VERSIONS.as_slice(), 116, 0x00, "no 3 NotAccepted 2 0"),
         (TWO_VERSIONS.as_slice(), 112, 0xff, "no 2 BadProgram 1"),
         (TWO_VERSIONS.as_slice(), 224, 0x02, "no 6 Counts 1"),
@@ -80,7 +80,7 @@ fn a_changed_byte_is_found(rt: HostRuntime) -> Result<(), Fail> {
         }
         let recording = packets_of(rt.alloc(), bytes.as_slice());
         let answer = told(rt.alloc(), audit(rt.alloc(), &recording))?;
-        assert_eq!(rt; answer.as_str(), want, "byte {at}");
+        assert_same!(rt; answer.as_str(), want, "byte {at}");
     }
     Ok(())
 }
@@ -90,12 +90,12 @@ fn a_cut_recording_has_no_end(rt: HostRuntime) -> Result<(), Fail> {
     let bytes = joined_bytes(rt.alloc(), &TWO_VERSIONS)?;
     for len in [200, 210] {
         let Some(front) = bytes.get(..len) else {
-            return Err("232 bytes")?;
+            return Err("232 bytes".into());
         };
         let recording = packets_of(rt.alloc(), front);
-        assert_eq!(rt; recording.packets().len(), 3);
+        assert_same!(rt; recording.packets().len(), 3);
         let answer = told(rt.alloc(), audit(rt.alloc(), &recording))?;
-        assert_eq!(rt; answer.as_str(), "no 5 NoEnd 1", "{len} bytes");
+        assert_same!(rt; answer.as_str(), "no 5 NoEnd 1", "{len} bytes");
     }
     Ok(())
 }
@@ -112,9 +112,9 @@ fn after_a_fault_each_call_answers_the_same(rt: HostRuntime) -> Result<(), Fail>
     let mut auditor = Auditor::new(rt.alloc());
     for (number, packet) in recording.packets().iter().enumerate() {
         let want = if number == 0 { Ok(()) } else { Err(fault) };
-        assert_eq!(rt; auditor.take(packet), want, "packet {number}");
+        assert_same!(rt; auditor.take(packet), want, "packet {number}");
     }
-    assert_eq!(rt; auditor.end().err(), Some(fault));
+    assert_same!(rt; auditor.end().err(), Some(fault));
     Ok(())
 }
 
@@ -128,13 +128,13 @@ fn each_of_65535_channels_has_its_line(rt: HostRuntime) -> Result<(), Fail> {
         bytes.extend_from_slice(&end_body(channel, 0, 0))?;
     }
     let recording = packets_of(alloc, bytes.as_slice());
-    assert_eq!(rt; recording.packets().len(), 65_535);
+    assert_same!(rt; recording.packets().len(), 65_535);
     let audited = audit(alloc, &recording)?;
-    assert_eq!(rt; audited.other, 0);
+    assert_same!(rt; audited.other, 0);
     let lines = audited.channels.as_slice();
-    assert_eq!(rt; lines.len(), 65_535);
+    assert_same!(rt; lines.len(), 65_535);
     for (number, line) in lines.iter().enumerate() {
-        assert_eq!(rt; usize::from(line.channel), number + 1);
+        assert_same!(rt; usize::from(line.channel), number + 1);
     }
     Ok(())
 }

@@ -5,7 +5,7 @@ use crate::shared::{extract, packets_of};
 use crate::stream::compare;
 use ch11_packet::{HEADER_LEN, Header, What, body_sum};
 use rec_reader::*;
-use samples::{ACCEPTING, CHECKED, END, FRAMES, REJECTING, all_bytes, joined_bytes};
+use samples::{ACCEPTING, CHECKED, END, FRAMES, REJECTING, all_bytes, assert_same, joined_bytes};
 use std::alloc::Global;
 use std::test::Fail;
 
@@ -79,11 +79,11 @@ fn packets_are_read_with_checksums_and_without(rt: HostRuntime) -> Result<(), Fa
     for chosen in 0..16 {
         let (bytes, held) = mixed(alloc, chosen)?;
         let (packets, fault) = reading(alloc, bytes.as_slice())?;
-        assert_eq!(rt; packets.as_slice(), held.as_slice(), "{chosen}");
-        assert_eq!(rt; fault, None, "{chosen}");
-        for most in PIECES {
+        assert_same!(rt; packets.as_slice(), held.as_slice(), "{chosen}");
+        assert_same!(rt; fault, None, "{chosen}");
+        for &most in &PIECES {
             let found = compare(&rt, alloc, bytes.as_slice(), most)?;
-            assert_eq!(rt; found, (4, None), "{chosen}, pieces of {most}");
+            assert_same!(rt; found, (4, None), "{chosen}, pieces of {most}");
         }
     }
     Ok(())
@@ -102,11 +102,11 @@ fn recordings_with_checksums_are_approved_and_extracted(rt: HostRuntime) -> Resu
         let (bytes, _) = mixed(alloc, chosen)?;
         let recording = packets_of(alloc, bytes.as_slice());
         let answer = told(alloc, audit(alloc, &recording))?;
-        assert_eq!(rt; answer.as_str(), approved, "{chosen}");
+        assert_same!(rt; answer.as_str(), approved, "{chosen}");
         let mut feed = Vec::new(alloc);
         let extracted = extract(&recording, 1, &mut feed);
-        assert_eq!(rt; extracted, Ok(kept), "{chosen}");
-        assert_eq!(rt; feed.as_slice(), all_bytes(alloc, want)?.as_slice());
+        assert_same!(rt; extracted, Ok(kept), "{chosen}");
+        assert_same!(rt; feed.as_slice(), all_bytes(alloc, want)?.as_slice());
     }
     Ok(())
 }
@@ -124,9 +124,9 @@ fn a_cut_recording_with_checksums_reads_as_its_first_packets(rt: HostRuntime) ->
             at: at as u64,
         };
         let want = (whole, (at < len).then_some(cut));
-        for most in PIECES {
+        for &most in &PIECES {
             let found = compare(&rt, alloc, front, most)?;
-            assert_eq!(rt; found, want, "{len} bytes in pieces of {most}");
+            assert_same!(rt; found, want, "{len} bytes in pieces of {most}");
         }
     }
     Ok(())
@@ -158,9 +158,9 @@ fn each_changed_byte_of_a_recording_with_checksums_is_found(rt: HostRuntime) -> 
             let bytes = changed(alloc, &[(at, value)])?;
             let same = bytes.as_slice() == whole.as_slice();
             let want = if same { None } else { fault_of(at) };
-            for most in PIECES {
+            for &most in &PIECES {
                 let (_, end) = compare(&rt, alloc, bytes.as_slice(), most)?;
-                assert_eq!(rt; end, want, "byte {at} is {value}");
+                assert_same!(rt; end, want, "byte {at} is {value}");
             }
         }
     }
@@ -172,15 +172,15 @@ fn a_changed_program_with_its_sum_is_not_accepted(rt: HostRuntime) -> Result<(),
     let alloc = rt.alloc();
     let bytes = changed(alloc, &[(120, 0x00)])?;
     let Err(fault) = read_recording(alloc, bytes.as_slice()) else {
-        return Err("a wrong sum")?;
+        return Err("a wrong sum".into());
     };
     let printed = format!(in alloc; "{fault}")?;
-    assert_eq!(rt; printed.as_str(), "read 8 DataChecksum 64");
+    assert_same!(rt; printed.as_str(), "read 8 DataChecksum 64");
     let bytes = changed(alloc, &[(120, 0x00), (124, 0x4d)])?;
     let (_, fault) = reading(alloc, bytes.as_slice())?;
-    assert_eq!(rt; fault, None);
+    assert_same!(rt; fault, None);
     let answer = told(alloc, audit(alloc, &packets_of(alloc, bytes.as_slice())))?;
-    assert_eq!(rt; answer.as_str(), "no 3 NotAccepted 2 0");
+    assert_same!(rt; answer.as_str(), "no 3 NotAccepted 2 0");
     Ok(())
 }
 
@@ -195,9 +195,9 @@ fn a_cut_packet_is_not_summed(rt: HostRuntime) -> Result<(), Fail> {
         } else {
             ReadFaultKind::DataChecksum
         };
-        for most in PIECES {
+        for &most in &PIECES {
             let found = compare(&rt, alloc, front, most)?;
-            assert_eq!(rt; found, (1, Some(ReadEnd { kind, at: 64 })), "{len} bytes");
+            assert_same!(rt; found, (1, Some(ReadEnd { kind, at: 64 })), "{len} bytes");
         }
     }
     Ok(())
@@ -270,21 +270,21 @@ fn kind_of(what: Option<What>, added: u32) -> Option<ReadFaultKind> {
 fn the_sum_of_each_kind_of_packet_is_judged(rt: HostRuntime) -> Result<(), Fail> {
     let alloc = rt.alloc();
     let end = all_bytes(alloc, CHECKED[3])?;
-    for (head, text, what) in KINDS {
+    for &(head, text, what) in &KINDS {
         for added in [0, 1, 0x8000_0000] {
             let mut bytes = packet(alloc, head, text, added)?;
             let behind = bytes.len() as u64;
             bytes.extend_from_slice(end.as_slice())?;
             let (packets, fault) = reading(alloc, bytes.as_slice())?;
             match kind_of(what, added) {
-                Some(kind) => assert_eq!(rt; fault, Some((kind, 0)), "{head:?}, {text}, {added}"),
+                Some(kind) => assert_same!(rt; fault, Some((kind, 0)), "{head:?}, {text}, {added}"),
                 None => {
                     let held = [(0, what.unwrap_or(What::Other)), (behind, LAST)];
-                    assert_eq!(rt; packets.as_slice(), held.as_slice(), "{head:?}, {text}");
-                    assert_eq!(rt; fault, None, "{head:?}, {text}, {added}");
+                    assert_same!(rt; packets.as_slice(), held.as_slice(), "{head:?}, {text}");
+                    assert_same!(rt; fault, None, "{head:?}, {text}, {added}");
                 }
             }
-            for most in PIECES {
+            for &most in &PIECES {
                 compare(&rt, alloc, bytes.as_slice(), most)?;
             }
         }
@@ -324,11 +324,11 @@ const FAULTS: [(&str, ReadFaultKind); 6] = [
 #[test]
 fn a_wrong_sum_is_looked_for_before_the_body(rt: HostRuntime) -> Result<(), Fail> {
     let alloc = rt.alloc();
-    for (text, kind) in FAULTS {
+    for &(text, kind) in &FAULTS {
         let bytes = all_bytes(alloc, text)?;
-        for most in PIECES {
+        for &most in &PIECES {
             let found = compare(&rt, alloc, bytes.as_slice(), most)?;
-            assert_eq!(rt; found, (0, Some(ReadEnd { kind, at: 0 })), "{text}");
+            assert_same!(rt; found, (0, Some(ReadEnd { kind, at: 0 })), "{text}");
         }
     }
     Ok(())

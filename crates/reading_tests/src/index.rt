@@ -1,6 +1,6 @@
 //! Where the frames of each channel are.
 use rec_reader::*;
-use samples::{ACCEPTING, END, FRAMES, REJECTING, joined_bytes};
+use samples::{ACCEPTING, END, FRAMES, REJECTING, assert_same, joined_bytes};
 use std::alloc::Global;
 use std::test::Fail;
 
@@ -27,14 +27,14 @@ fn entry(packet: u64, at: u64, frames: u16) -> Entry {
 #[test]
 fn an_index_lists_the_packets_of_frames(rt: HostRuntime) -> Result<(), Fail> {
     let index = index_of(rt.alloc(), &[REJECTING, ACCEPTING, FRAMES, END])?;
-    assert_eq!(rt; index.packets_of(1), [entry(2, 120, 1)].as_slice());
-    assert_eq!(rt; index.packets_of(0).len(), 0);
+    assert_same!(rt; index.packets_of(1), [entry(2, 120, 1)].as_slice());
+    assert_same!(rt; index.packets_of(0).len(), 0);
     let mixed = [NO_FRAMES, OTHER_CHANNEL, FRAMES, OTHER_CHANNEL, REJECTING];
     let index = index_of(rt.alloc(), &mixed)?;
     let one = [entry(0, 0, 0), entry(2, 88, 1)];
-    assert_eq!(rt; index.packets_of(1), one.as_slice());
+    assert_same!(rt; index.packets_of(1), one.as_slice());
     let two = [entry(1, 28, 1), entry(3, 148, 1)];
-    assert_eq!(rt; index.packets_of(2), two.as_slice());
-    assert_eq!(rt; index.packets_of(3).len(), 0);
+    assert_same!(rt; index.packets_of(2), two.as_slice());
+    assert_same!(rt; index.packets_of(3).len(), 0);
     Ok(())
 }

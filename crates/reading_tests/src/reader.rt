@@ -3,7 +3,7 @@ use crate::shared::{extract, packets_of};
 use ch11_packet::{ETHERNET_DATA, HEADER_LEN, Header, ReadFrame, What};
 use eth_frame::{FeedSource, FeedWriteFault, FrameBuf, FrameSource, Next, write_feed};
 use rec_reader::*;
-use samples::{ACCEPTING, CHECKED, END, FRAMES, REJECTING, all_bytes, joined_bytes};
+use samples::{ACCEPTING, CHECKED, END, FRAMES, REJECTING, all_bytes, assert_same, joined_bytes};
 use std::alloc::Global;
 use std::fmt::Write as _;
 use std::io;
@@ -84,9 +84,9 @@ fn a_recording_reads_as_its_packets(rt: HostRuntime) -> Result<(), Fail> {
     let bytes = joined_bytes(rt.alloc(), &TWO_VERSIONS)?;
     let (packets, fault) = reading(rt.alloc(), bytes.as_slice())?;
     assert_eq!(rt; packets.as_slice(), HELD.as_slice());
-    assert_eq!(rt; fault, None);
+    assert_same!(rt; fault, None);
     let (packets, fault) = reading(rt.alloc(), &[])?;
-    assert_eq!(rt; (packets.len(), fault), (0, None));
+    assert_same!(rt; (packets.len(), fault), (0, None));
     Ok(())
 }
 
@@ -97,15 +97,15 @@ fn a_cut_recording_reads_as_its_first_packets(rt: HostRuntime) -> Result<(), Fai
     for len in 0..=232 {
         let whole = ends.iter().filter(|end| 0 < **end && **end <= len).count();
         let Some(front) = bytes.get(..len) else {
-            return Err("232 bytes")?;
+            return Err("232 bytes".into());
         };
         let (packets, fault) = reading(rt.alloc(), front)?;
-        assert_eq!(rt; Some(packets.as_slice()), HELD.get(..whole), "{len} bytes");
+        assert_same!(rt; Some(packets.as_slice()), HELD.get(..whole), "{len} bytes");
         let want = match ends.get(whole) {
             Some(end) if *end < len => Some((ReadFaultKind::Truncated, *end as u64)),
             _ => None,
         };
-        assert_eq!(rt; fault, want, "{len} bytes");
+        assert_same!(rt; fault, want, "{len} bytes");
     }
     Ok(())
 }
@@ -113,7 +113,7 @@ fn a_cut_recording_reads_as_its_first_packets(rt: HostRuntime) -> Result<(), Fai
 #[test]
 fn a_damaged_packet_ends_the_reading(rt: HostRuntime) -> Result<(), Fail> {
     // the byte that is set, its value, the fault, its place, and the number of packets before it
-    for (at, value, kind, place, before) in [
+    for &(at, value, kind, place, before) in &[
         (0, 0x00, ReadFaultKind::Sync, 0, 0),
         (4, 0x3d, ReadFaultKind::Checksum, 0, 0),
         (121, 0x00, ReadFaultKind::Sync, 120, 2),
@@ -127,8 +127,8 @@ fn a_damaged_packet_ends_the_reading(rt: HostRuntime) -> Result<(), Fail> {
             *byte = value;
         }
         let (packets, fault) = reading(rt.alloc(), bytes.as_slice())?;
-        assert_eq!(rt; fault, Some((kind, place)), "byte {at}");
-        assert_eq!(rt; packets.len(), before, "byte {at}");
+        assert_same!(rt; fault, Some((kind, place)), "byte {at}");
+        assert_same!(rt; packets.len(), before, "byte {at}");
     }
     Ok(())
 }
@@ -172,10 +172,10 @@ const FAULTS: [(&str, ReadFaultKind); 8] = [
 
 #[test]
 fn faults_are_looked_for_in_their_order(rt: HostRuntime) -> Result<(), Fail> {
-    for (text, kind) in FAULTS {
+    for &(text, kind) in &FAULTS {
         let bytes = all_bytes(rt.alloc(), text)?;
         let (packets, fault) = reading(rt.alloc(), bytes.as_slice())?;
-        assert_eq!(rt; (packets.len(), fault), (0, Some((kind, 0))), "{text}");
+        assert_same!(rt; (packets.len(), fault), (0, Some((kind, 0))), "{text}");
     }
     Ok(())
 }
@@ -193,10 +193,10 @@ fn other_packets_are_read_and_passed_over(rt: HostRuntime) -> Result<(), Fail> {
         (88, What::Frames(1)),
         (148, What::Other),
     ];
-    assert_eq!(rt; packets.as_slice(), held.as_slice());
-    assert_eq!(rt; fault, None);
+    assert_same!(rt; packets.as_slice(), held.as_slice());
+    assert_same!(rt; fault, None);
     // each flag and data type of its own, with a packet of frames after it
-    for head in [
+    for &head in &[
         (1, 0x80, 0x68),
         (1, 0x40, 0x68),
         (1, 0x01, 0x68),
@@ -214,8 +214,8 @@ fn other_packets_are_read_and_passed_over(rt: HostRuntime) -> Result<(), Fail> {
         bytes.extend_from_slice(all_bytes(rt.alloc(), FRAMES)?.as_slice())?;
         let (packets, fault) = reading(rt.alloc(), bytes.as_slice())?;
         let held = [(0, What::Other), (32, What::Frames(1))];
-        assert_eq!(rt; packets.as_slice(), held.as_slice(), "{head:?}");
-        assert_eq!(rt; fault, None, "{head:?}");
+        assert_same!(rt; packets.as_slice(), held.as_slice(), "{head:?}");
+        assert_same!(rt; fault, None, "{head:?}");
     }
     Ok(())
 }
@@ -233,7 +233,7 @@ fn counters(frames: &Vec<ReadFrame<'_>>, alloc: Global) -> Result<Vec<u64>, Fail
 fn a_channel_has_the_frames_of_its_packets_in_order(rt: HostRuntime) -> Result<(), Fail> {
     let alloc = rt.alloc();
     let mut bytes = Vec::new(alloc);
-    for (channel, body) in [
+    for &(channel, body) in &[
         (
             1,
             "02000000 070000000000 0000 02000000 aaaa 050000000000 0000 00000000",
@@ -247,9 +247,9 @@ fn a_channel_has_the_frames_of_its_packets_in_order(rt: HostRuntime) -> Result<(
     }
     bytes.extend_from_slice(packet(alloc, (1, 0x80, ETHERNET_DATA), "00000000")?.as_slice())?;
     let Ok(recording) = read_recording(alloc, bytes.as_slice()) else {
-        return Err("a recording")?;
+        return Err("a recording".into());
     };
-    for (channel, want) in [
+    for &(channel, want) in &[
         (1, [7, 5, 1].as_slice()),
         (2, &[6]),
         (0, &[9]),
@@ -257,7 +257,7 @@ fn a_channel_has_the_frames_of_its_packets_in_order(rt: HostRuntime) -> Result<(
         (65_535, &[]),
     ] {
         let frames = frames_of(alloc, &recording, channel)?;
-        assert_eq!(rt;
+        assert_same!(rt;
             counters(&frames, alloc)?.as_slice(),
             want,
             "channel {channel}"
@@ -272,14 +272,14 @@ fn a_frame_that_is_read_has_its_marks_and_its_bytes(rt: HostRuntime) -> Result<(
     let body = "01000000 010000000000 ffff 02c000c0 cccc";
     let bytes = packet(alloc, (1, 0, ETHERNET_DATA), body)?;
     let Ok(recording) = read_recording(alloc, bytes.as_slice()) else {
-        return Err("a recording")?;
+        return Err("a recording".into());
     };
     let frames = frames_of(alloc, &recording, 1)?;
     let Some(last) = frames.last() else {
-        return Err("a frame")?;
+        return Err("a frame".into());
     };
-    assert_eq!(rt; (last.crc_error, last.frame_error), (true, true));
-    assert_eq!(rt; last.bytes, [0xcc, 0xcc].as_slice());
+    assert_same!(rt; (last.crc_error, last.frame_error), (true, true));
+    assert_same!(rt; last.bytes, [0xcc, 0xcc].as_slice());
     Ok(())
 }
 
@@ -288,7 +288,7 @@ fn an_extracted_feed_reads_as_the_frames_that_were_kept(rt: HostRuntime) -> Resu
     let alloc = rt.alloc();
     let bytes = joined_bytes(alloc, &TWO_VERSIONS)?;
     let Ok(recording) = read_recording(alloc, bytes.as_slice()) else {
-        return Err("a recording")?;
+        return Err("a recording".into());
     };
     let mut feed = Vec::new(alloc);
     for read in &frames_of(alloc, &recording, 1)? {
@@ -296,18 +296,18 @@ fn an_extracted_feed_reads_as_the_frames_that_were_kept(rt: HostRuntime) -> Resu
         write_feed(&frame, &mut feed)?;
     }
     let want = "200000000000 00 1200 ffffffffffff 020000000001 0806 a1b2c3d4";
-    assert_eq!(rt; feed.as_slice(), all_bytes(alloc, want)?.as_slice());
+    assert_same!(rt; feed.as_slice(), all_bytes(alloc, want)?.as_slice());
     let mut source = FeedSource::new(feed.as_slice());
     let mut buffer = FrameBuf::new();
-    assert_eq!(rt; source.next(&mut buffer), Ok(Next::Frame));
+    assert_same!(rt; source.next(&mut buffer), Ok(Next::Frame));
     let Some(frame) = buffer.frame() else {
-        return Err("the frame")?;
+        return Err("the frame".into());
     };
-    assert_eq!(rt;
+    assert_same!(rt;
         (frame.counter, frame.crc_error, frame.frame_error),
         (32, false, false)
     );
-    assert_eq!(rt; source.next(&mut buffer), Ok(Next::End));
+    assert_same!(rt; source.next(&mut buffer), Ok(Next::End));
     Ok(())
 }
 
@@ -336,7 +336,7 @@ impl Write for Narrow {
 /// check sequence, each in a packet of its own.
 fn with_other_frames(alloc: Global) -> Result<Vec<u8>, Fail> {
     let mut bytes = joined_bytes(alloc, &TWO_VERSIONS)?;
-    for frame in [
+    for &frame in &[
         "12000010 ffffffffffff 020000000001 0806 a1b2c3d4",
         "11000000 ffffffffffff 020000000001 0806 a1b2c3 00",
         "12000080 ffffffffffff 020000000001 0806 a1b2c3d4",
@@ -354,9 +354,9 @@ fn a_channel_is_extracted_packet_by_packet(rt: HostRuntime) -> Result<(), Fail> 
     let bytes = with_other_frames(alloc)?;
     let recording = packets_of(alloc, bytes.as_slice());
     let mut feed = Vec::new(alloc);
-    for (channel, frames, passed) in [(1, 2, 2), (2, 0, 0)] {
+    for &(channel, frames, passed) in &[(1, 2, 2), (2, 0, 0)] {
         let extracted = extract(&recording, channel, &mut feed);
-        assert_eq!(rt;
+        assert_same!(rt;
             extracted,
             Ok(Extracted { frames, passed }),
             "channel {channel}"
@@ -364,7 +364,7 @@ fn a_channel_is_extracted_packet_by_packet(rt: HostRuntime) -> Result<(), Fail> 
     }
     let want = "200000000000 00 1200 ffffffffffff 020000000001 0806 a1b2c3d4 \
         300000000000 01 1200 ffffffffffff 020000000001 0806 a1b2c3d4";
-    assert_eq!(rt; feed.as_slice(), all_bytes(alloc, want)?.as_slice());
+    assert_same!(rt; feed.as_slice(), all_bytes(alloc, want)?.as_slice());
     Ok(())
 }
 
@@ -375,7 +375,7 @@ fn an_extraction_ends_at_a_failed_output(rt: HostRuntime) -> Result<(), Fail> {
     let recording = packets_of(alloc, bytes.as_slice());
     for room in [0, 8, 9, 26, 27, 53] {
         let extracted = extract(&recording, 1, &mut Narrow { room });
-        assert_eq!(rt; extracted, Err(FeedWriteFault::Device), "{room} bytes");
+        assert_same!(rt; extracted, Err(FeedWriteFault::Device), "{room} bytes");
     }
     Ok(())
 }
@@ -399,15 +399,15 @@ fn a_recording_of_many_packets_is_read(rt: HostRuntime) -> Result<(), Fail> {
     }
     bytes.extend_from_slice(&[0xff; 2])?;
     let Ok(recording) = read_recording(alloc, bytes.as_slice()) else {
-        return Err("a recording")?;
+        return Err("a recording".into());
     };
-    assert_eq!(rt; recording.packets().len(), 20_001);
+    assert_same!(rt; recording.packets().len(), 20_001);
     let last = recording
         .packets()
         .last()
         .map(|packet| (packet.at, packet.what));
-    assert_eq!(rt; last, Some((1_040_000, What::Frames(17_475))));
-    assert_eq!(rt; frames_of(alloc, &recording, 7)?.len(), 17_475);
+    assert_same!(rt; last, Some((1_040_000, What::Frames(17_475))));
+    assert_same!(rt; frames_of(alloc, &recording, 7)?.len(), 17_475);
     Ok(())
 }
 
@@ -420,7 +420,7 @@ fn read_again(alloc: Global, bytes: &[u8], len: u64) -> Result<Recording<'_>, Fa
             let ReadEnd { kind, at } = fault.end();
             let before = fault.into_before().packets().len() as u64;
             if kind != ReadFaultKind::Memory || at != before.saturating_mul(len) {
-                return Err("no memory for the packet after these")?;
+                return Err("no memory for the packet after these".into());
             }
             Ok(packets_of(alloc, bytes))
         }
@@ -434,33 +434,33 @@ fn a_call_without_memory_is_made_again(rt: HostRuntime) -> Result<(), Fail> {
     let alloc = rt.alloc();
     let bytes = joined_bytes(alloc, &CHECKED)?;
     let recording = read_again(alloc, bytes.as_slice(), 64)?;
-    assert_eq!(rt; recording.packets().len(), 4);
+    assert_same!(rt; recording.packets().len(), 4);
     let bytes = joined_bytes(alloc, &TWO_VERSIONS)?;
     let recording = read_again(alloc, bytes.as_slice(), 60)?;
-    assert_eq!(rt; recording.packets().len(), 4);
+    assert_same!(rt; recording.packets().len(), 4);
     let frames = match frames_of(alloc, &recording, 1) {
         Ok(frames) => Some(frames.len()),
         Err(_) => frames_of(alloc, &recording, 1)
             .map(|frames| frames.len())
             .ok(),
     };
-    assert_eq!(rt; frames, Some(1));
+    assert_same!(rt; frames, Some(1));
     let index = match Index::of(alloc, &recording) {
         Err(_) => Index::of(alloc, &recording),
         index => index,
     };
-    assert_eq!(rt; index.map(|index| index.packets_of(1).len()).ok(), Some(1));
+    assert_same!(rt; index.map(|index| index.packets_of(1).len()).ok(), Some(1));
     let audited = match audit(alloc, &recording) {
         Err(_) => audit(alloc, &recording),
         audited => audited,
     };
-    assert_eq!(rt; audited.map(|audited| audited.other).ok(), Some(0));
+    assert_same!(rt; audited.map(|audited| audited.other).ok(), Some(0));
     Ok(())
 }
 
 #[test]
 fn a_fault_of_reading_has_its_number_its_name_and_its_place(rt: HostRuntime) -> Result<(), Fail> {
-    for (kind, text) in [
+    for &(kind, text) in &[
         (ReadFaultKind::Truncated, "read 1 Truncated 180"),
         (ReadFaultKind::Sync, "read 2 Sync 180"),
         (ReadFaultKind::Checksum, "read 3 Checksum 180"),
@@ -471,13 +471,13 @@ fn a_fault_of_reading_has_its_number_its_name_and_its_place(rt: HostRuntime) -> 
     ] {
         let mut printed = String::new(rt.alloc());
         write!(printed, "{}", ReadEnd { kind, at: 180 })?;
-        assert_eq!(rt; printed.as_str(), text);
+        assert_same!(rt; printed.as_str(), text);
     }
     let bytes = joined_bytes(rt.alloc(), &TWO_VERSIONS)?;
     let Err(fault) = read_recording(rt.alloc(), bytes.as_slice().get(..210).unwrap_or(&[])) else {
-        return Err("a fault")?;
+        return Err("a fault".into());
     };
     let printed = format!(in rt.alloc(); "{fault}")?;
-    assert_eq!(rt; printed.as_str(), "read 1 Truncated 180");
+    assert_same!(rt; printed.as_str(), "read 1 Truncated 180");
     Ok(())
 }

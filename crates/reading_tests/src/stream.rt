@@ -2,7 +2,7 @@
 use crate::shared::packets_of;
 use ch11_packet::Header;
 use rec_reader::*;
-use samples::{ACCEPTING, END, FRAMES, REJECTING, all_bytes, joined_bytes};
+use samples::{ACCEPTING, END, FRAMES, REJECTING, all_bytes, assert_same, joined_bytes};
 use std::alloc::Global;
 use std::io;
 use std::io::{ErrorKind, Read};
@@ -93,7 +93,7 @@ fn streamed(
             Ok(None) => None,
             Err(end) => Some(end),
         };
-        assert_eq!(rt; again, end);
+        assert_same!(rt; again, end);
         return Ok((packets, end));
     }
     Err("an end")?
@@ -115,10 +115,10 @@ pub(crate) fn compare(
             (fault.into_before(), Some(end))
         }
     };
-    assert_eq!(rt; end, want);
-    assert_eq!(rt; packets.len(), recording.packets().len());
+    assert_same!(rt; end, want);
+    assert_same!(rt; packets.len(), recording.packets().len());
     for (owned, packet) in packets.iter().zip(recording.packets()) {
-        assert_eq!(rt; owned.packet(), *packet);
+        assert_same!(rt; owned.packet(), *packet);
     }
     Ok((packets.len(), end))
 }
@@ -164,7 +164,7 @@ fn recordings_read_the_same_in_any_pieces(rt: HostRuntime) -> Result<(), Fail> {
     ] {
         for most in [1, 7, 24, 4_096] {
             let found = compare(&rt, alloc, bytes, most)?;
-            assert_eq!(rt; found, (packets, end), "pieces of {most}");
+            assert_same!(rt; found, (packets, end), "pieces of {most}");
         }
     }
     for most in [1, 7, 24, 4_096] {
@@ -187,7 +187,7 @@ fn recordings_read_the_same_in_any_pieces(rt: HostRuntime) -> Result<(), Fail> {
 #[test]
 fn a_failing_input_is_a_fault_of_the_device(rt: HostRuntime) -> Result<(), Fail> {
     let bytes = joined_bytes(rt.alloc(), &TWO_VERSIONS)?;
-    for (kind, fails_once) in [
+    for &(kind, fails_once) in &[
         (ErrorKind::BrokenPipe, false),
         (ErrorKind::BrokenPipe, true),
         (ErrorKind::Interrupted, false),
@@ -200,10 +200,10 @@ fn a_failing_input_is_a_fault_of_the_device(rt: HostRuntime) -> Result<(), Fail>
             stream.kind = kind;
             stream.fails_once = fails_once;
             let (packets, end) = streamed(&rt, rt.alloc(), stream)?;
-            assert_eq!(rt; packets.len(), calls / 2, "{calls} calls");
+            assert_same!(rt; packets.len(), calls / 2, "{calls} calls");
             let at = ENDS.get(calls / 2).copied().unwrap_or(0) as u64;
             let kind = ReadFaultKind::Device;
-            assert_eq!(rt; end, Some(ReadEnd { kind, at }), "{calls} calls");
+            assert_same!(rt; end, Some(ReadEnd { kind, at }), "{calls} calls");
         }
     }
     Ok(())
@@ -228,7 +228,7 @@ fn packets_over_65536_bytes_read_the_same(rt: HostRuntime) -> Result<(), Fail> {
         let bytes = with_packet(alloc, len)?;
         for most in [4_093, 65_535, usize::MAX] {
             let found = compare(&rt, alloc, bytes.as_slice(), most)?;
-            assert_eq!(rt; found, (3, None), "a packet of {len}, pieces of {most}");
+            assert_same!(rt; found, (3, None), "a packet of {len}, pieces of {most}");
         }
     }
     Ok(())
@@ -248,7 +248,7 @@ fn damaged_recordings_read_the_same(rt: HostRuntime) -> Result<(), Fail> {
             kind,
             at: at as u64,
         };
-        assert_eq!(rt;
+        assert_same!(rt;
             (packets, end),
             (whole, (at < len).then_some(cut)),
             "{len} bytes"

@@ -3,7 +3,7 @@ use crate::audit::told;
 use crate::shared::{extract, packets_of};
 use ch11_packet::{ETHERNET_DATA, HEADER_LEN, Header, What, body_sum};
 use rec_reader::*;
-use samples::{ACCEPTING, CHECKED, END, FRAMES, REJECTING, all_bytes, joined_bytes};
+use samples::{ACCEPTING, CHECKED, END, FRAMES, REJECTING, all_bytes, assert_same, joined_bytes};
 use std::alloc::Global;
 use std::io;
 use std::io::{ErrorKind, Write};
@@ -53,11 +53,11 @@ impl Write for Narrow {
 /// The upgrade of a recording's bytes, and how many packets were given a data checksum and copied.
 fn upgraded(alloc: Global, bytes: &[u8]) -> Result<(Vec<u8>, u64, u64), Fail> {
     let Ok(recording) = read_recording(alloc, bytes) else {
-        return Err("a recording")?;
+        return Err("a recording".into());
     };
     let mut new = Vec::new(alloc);
     let Ok(Upgraded { packets, copied }) = upgrade(&recording, &mut new) else {
-        return Err("memory")?;
+        return Err("memory".into());
     };
     Ok((new, packets, copied))
 }
@@ -81,13 +81,13 @@ fn an_old_recording_is_given_its_checksums(rt: HostRuntime) -> Result<(), Fail> 
     let old = joined_bytes(alloc, &OLD)?;
     let new = joined_bytes(alloc, &CHECKED)?;
     let (bytes, packets, copied) = upgraded(alloc, old.as_slice())?;
-    assert_eq!(rt; bytes.as_slice(), new.as_slice());
-    assert_eq!(rt; (packets, copied), (4, 0));
+    assert_same!(rt; bytes.as_slice(), new.as_slice());
+    assert_same!(rt; (packets, copied), (4, 0));
     let (bytes, packets, copied) = upgraded(alloc, new.as_slice())?;
-    assert_eq!(rt; bytes.as_slice(), new.as_slice());
-    assert_eq!(rt; (packets, copied), (0, 4));
+    assert_same!(rt; bytes.as_slice(), new.as_slice());
+    assert_same!(rt; (packets, copied), (0, 4));
     let (bytes, packets, copied) = upgraded(alloc, &[])?;
-    assert_eq!(rt; (bytes.len(), packets, copied), (0, 0, 0));
+    assert_same!(rt; (bytes.len(), packets, copied), (0, 0, 0));
     Ok(())
 }
 
@@ -97,8 +97,8 @@ fn other_packets_are_copied_between_the_others(rt: HostRuntime) -> Result<(), Fa
     for text in [SETUP, SECONDARY] {
         let old = all_bytes(alloc, text)?;
         let (bytes, packets, copied) = upgraded(alloc, old.as_slice())?;
-        assert_eq!(rt; bytes.as_slice(), old.as_slice(), "{text}");
-        assert_eq!(rt; (packets, copied), (0, 1), "{text}");
+        assert_same!(rt; bytes.as_slice(), old.as_slice(), "{text}");
+        assert_same!(rt; (packets, copied), (0, 1), "{text}");
     }
     let [rejecting, accepting, frames, end] = CHECKED;
     let old = joined_bytes(
@@ -110,8 +110,8 @@ fn other_packets_are_copied_between_the_others(rt: HostRuntime) -> Result<(), Fa
         &[SETUP, rejecting, SECONDARY, accepting, frames, SETUP, end],
     )?;
     let (bytes, packets, copied) = upgraded(alloc, old.as_slice())?;
-    assert_eq!(rt; bytes.as_slice(), new.as_slice());
-    assert_eq!(rt; (packets, copied), (3, 4));
+    assert_same!(rt; bytes.as_slice(), new.as_slice());
+    assert_same!(rt; (packets, copied), (3, 4));
     Ok(())
 }
 
@@ -119,7 +119,7 @@ fn other_packets_are_copied_between_the_others(rt: HostRuntime) -> Result<(), Fa
 fn fields(alloc: Global, bytes: &[u8]) -> Result<(Header, Vec<u8>), Fail> {
     let recording = packets_of(alloc, bytes);
     let [packet] = recording.packets() else {
-        return Err("one packet")?;
+        return Err("one packet".into());
     };
     let behind = packet.body.get(packet.data().len()..).unwrap_or(&[]);
     Ok((packet.header, behind.to_vec(alloc)?))
@@ -131,7 +131,7 @@ fn all_but_flags_filler_and_sum_stays(rt: HostRuntime) -> Result<(), Fail> {
     let body = "01000000 100000000000 0000 11000003 ffffffffffff 020000000001 0806 a1b2c3";
     let data = all_bytes(alloc, body)?;
     // the flags, the old filler, and the flags that are written
-    for (flags, filler, want) in [
+    for &(flags, filler, want) in &[
         (0x00, "000000", 0x03),
         (0x3c, "000000", 0x3f),
         (0x14, "ff00ff", 0x17),
@@ -142,12 +142,12 @@ fn all_but_flags_filler_and_sum_stays(rt: HostRuntime) -> Result<(), Fail> {
         let head = (65_535, flags, ETHERNET_DATA);
         let old = packet(alloc, head, data.as_slice(), filler.as_slice())?;
         let (new, packets, copied) = upgraded(alloc, old.as_slice())?;
-        assert_eq!(rt; (packets, copied), (1, 0), "flags {flags}");
+        assert_same!(rt; (packets, copied), (1, 0), "flags {flags}");
         let (header, behind) = fields(alloc, new.as_slice())?;
         let same = Header::new(65_535, 64, 33, 9, 77, want, ETHERNET_DATA, 16);
-        assert_eq!(rt; Some(header), same, "flags {flags}");
+        assert_same!(rt; Some(header), same, "flags {flags}");
         let [s0, s1, s2, s3] = body_sum(data.as_slice()).to_le_bytes();
-        assert_eq!(rt;
+        assert_same!(rt;
             behind.as_slice(),
             [0, 0, 0, s0, s1, s2, s3].as_slice(),
             "flags {flags}"
@@ -187,7 +187,7 @@ fn long_packet(alloc: Global, data_len: usize, frames: u16) -> Result<Vec<u8>, F
 fn a_packet_that_would_get_too_long_is_copied(rt: HostRuntime) -> Result<(), Fail> {
     let alloc = rt.alloc();
     // the data of a packet of 524,284 bytes without data checksum, and of one word more
-    for (data_len, packets, len) in [
+    for &(data_len, packets, len) in &[
         (524_256, 1, 524_284),
         (524_257, 1, 524_288),
         (524_260, 1, 524_288),
@@ -196,10 +196,10 @@ fn a_packet_that_would_get_too_long_is_copied(rt: HostRuntime) -> Result<(), Fai
     ] {
         let old = long_packet(alloc, data_len, 17_475)?;
         let (new, given, copied) = upgraded(alloc, old.as_slice())?;
-        assert_eq!(rt; (given, copied), (packets, 1 - packets), "{data_len} bytes");
-        assert_eq!(rt; new.len(), len, "{data_len} bytes");
+        assert_same!(rt; (given, copied), (packets, 1 - packets), "{data_len} bytes");
+        assert_same!(rt; new.len(), len, "{data_len} bytes");
         let (header, _) = fields(alloc, new.as_slice())?;
-        assert_eq!(rt; header.data_len as usize, data_len);
+        assert_same!(rt; header.data_len as usize, data_len);
         if packets == 0 {
             assert!(rt; new.as_slice() == old.as_slice(), "{data_len} bytes");
         }
@@ -211,7 +211,7 @@ fn a_packet_that_would_get_too_long_is_copied(rt: HostRuntime) -> Result<(), Fai
 fn a_long_record_of_a_program_is_copied(rt: HostRuntime) -> Result<(), Fail> {
     let alloc = rt.alloc();
     // instructions, and how many packets are given a data checksum: 24 + 28 + 8 * 65,529 + 4 = 524,288
-    for (count, packets) in [(65_529_u16, 1), (65_530, 0), (65_535, 0)] {
+    for &(count, packets) in &[(65_529_u16, 1), (65_530, 0), (65_535, 0)] {
         let mut data = all_bytes(
             alloc,
             "00000000 43425052 0100 0100 00000000 0000000000000000",
@@ -221,7 +221,7 @@ fn a_long_record_of_a_program_is_copied(rt: HostRuntime) -> Result<(), Fail> {
         data.resize(28 + 8 * usize::from(count), 0)?;
         let old = packet(alloc, (0, 0, 0), data.as_slice(), &[])?;
         let (new, given, copied) = upgraded(alloc, old.as_slice())?;
-        assert_eq!(rt; (given, copied), (packets, 1 - packets), "{count}");
+        assert_same!(rt; (given, copied), (packets, 1 - packets), "{count}");
         let recording = packets_of(alloc, new.as_slice());
         let what = recording.packets().first().map(|packet| packet.what);
         let want = What::Program {
@@ -230,7 +230,7 @@ fn a_long_record_of_a_program_is_copied(rt: HostRuntime) -> Result<(), Fail> {
             first: 0,
             count,
         };
-        assert_eq!(rt; what, Some(want));
+        assert_same!(rt; what, Some(want));
     }
     Ok(())
 }
@@ -239,7 +239,7 @@ fn a_long_record_of_a_program_is_copied(rt: HostRuntime) -> Result<(), Fail> {
 fn an_upgrade_says_the_same(rt: HostRuntime) -> Result<(), Fail> {
     let alloc = rt.alloc();
     let [rejecting, accepting, frames, end] = CHECKED;
-    for texts in [
+    for &texts in &[
         OLD.as_slice(),
         &CHECKED,
         &[REJECTING, accepting, FRAMES, end],
@@ -254,7 +254,7 @@ fn an_upgrade_says_the_same(rt: HostRuntime) -> Result<(), Fail> {
         let (new, _, _) = upgraded(alloc, old.as_slice())?;
         let before = packets_of(alloc, old.as_slice());
         let after = packets_of(alloc, new.as_slice());
-        assert_eq!(rt;
+        assert_same!(rt;
             told(alloc, audit(alloc, &after))?.as_str(),
             told(alloc, audit(alloc, &before))?.as_str()
         );
@@ -264,12 +264,12 @@ fn an_upgrade_says_the_same(rt: HostRuntime) -> Result<(), Fail> {
             let mut feed = Vec::new(alloc);
             let extracted = extract(&before, channel, &mut feed);
             let mut again = Vec::new(alloc);
-            assert_eq!(rt; extract(&after, channel, &mut again), extracted);
-            assert_eq!(rt; again.as_slice(), feed.as_slice());
+            assert_same!(rt; extract(&after, channel, &mut again), extracted);
+            assert_same!(rt; again.as_slice(), feed.as_slice());
         }
         let (twice, packets, _) = upgraded(alloc, new.as_slice())?;
-        assert_eq!(rt; packets, 0);
-        assert_eq!(rt; twice.as_slice(), new.as_slice());
+        assert_same!(rt; packets, 0);
+        assert_same!(rt; twice.as_slice(), new.as_slice());
     }
     Ok(())
 }
@@ -280,7 +280,7 @@ fn an_output_that_fails_has_the_front_of_the_upgrade(rt: HostRuntime) -> Result<
     let old = joined_bytes(alloc, &OLD)?;
     let new = joined_bytes(alloc, &CHECKED)?;
     let Ok(recording) = read_recording(alloc, old.as_slice()) else {
-        return Err("a recording")?;
+        return Err("a recording".into());
     };
     for room in 0..248 {
         let mut out = Narrow::new(alloc, room);
@@ -289,19 +289,19 @@ fn an_output_that_fails_has_the_front_of_the_upgrade(rt: HostRuntime) -> Result<
             whole: whole as u64,
             bytes: (room - 64 * whole) as u64,
         };
-        assert_eq!(rt; upgrade(&recording, &mut out), Err(fault), "{room} bytes");
-        assert_eq!(rt; Some(out.taken.as_slice()), new.get(..room), "{room} bytes");
+        assert_same!(rt; upgrade(&recording, &mut out), Err(fault), "{room} bytes");
+        assert_same!(rt; Some(out.taken.as_slice()), new.get(..room), "{room} bytes");
     }
     let mut out = Narrow::new(alloc, 248);
     let done = Upgraded {
         packets: 4,
         copied: 0,
     };
-    assert_eq!(rt; upgrade(&recording, &mut out), Ok(done));
-    assert_eq!(rt; out.taken.as_slice(), new.as_slice());
+    assert_same!(rt; upgrade(&recording, &mut out), Ok(done));
+    assert_same!(rt; out.taken.as_slice(), new.as_slice());
     let mut out = Narrow::new(alloc, 70);
     let fault = UpgradeFault::Output { whole: 1, bytes: 6 };
-    assert_eq!(rt; upgrade(&recording, &mut out), Err(fault));
+    assert_same!(rt; upgrade(&recording, &mut out), Err(fault));
     Ok(())
 }
 
@@ -311,7 +311,7 @@ fn an_output_that_fails_in_a_copy_tells_its_bytes(rt: HostRuntime) -> Result<(),
     let old = joined_bytes(alloc, &[SETUP, REJECTING, SECONDARY])?;
     let (new, _, _) = upgraded(alloc, old.as_slice())?;
     let Ok(recording) = read_recording(alloc, old.as_slice()) else {
-        return Err("a recording")?;
+        return Err("a recording".into());
     };
     let ends = [0, 28, 92, 152];
     for room in 0..152 {
@@ -322,8 +322,8 @@ fn an_output_that_fails_in_a_copy_tells_its_bytes(rt: HostRuntime) -> Result<(),
             whole: whole as u64,
             bytes: bytes as u64,
         };
-        assert_eq!(rt; upgrade(&recording, &mut out), Err(fault), "{room} bytes");
-        assert_eq!(rt; Some(out.taken.as_slice()), new.get(..room), "{room} bytes");
+        assert_same!(rt; upgrade(&recording, &mut out), Err(fault), "{room} bytes");
+        assert_same!(rt; Some(out.taken.as_slice()), new.get(..room), "{room} bytes");
     }
     Ok(())
 }
@@ -341,11 +341,11 @@ fn a_stream_is_upgraded_packet_by_packet(rt: HostRuntime) -> Result<(), Fail> {
     };
     for _ in 0..4 {
         let Ok(Some(owned)) = reader.next() else {
-            return Err("a packet")?;
+            return Err("a packet".into());
         };
         upgrade_packet(&owned.packet(), &mut out, &mut counts)?;
     }
-    assert_eq!(rt; out.as_slice(), new.as_slice());
-    assert_eq!(rt; (counts.packets, counts.copied), (u64::MAX, 5));
+    assert_same!(rt; out.as_slice(), new.as_slice());
+    assert_same!(rt; (counts.packets, counts.copied), (u64::MAX, 5));
     Ok(())
 }

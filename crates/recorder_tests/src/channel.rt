@@ -1,7 +1,7 @@
 //! A slot, alone and shared.
 use bpf_verify::Verified;
 use rec_channel::*;
-use samples::program;
+use samples::{assert_same, program};
 use std::alloc::Global;
 use std::sync::{Arc, Wait};
 use std::test::Fail;
@@ -48,13 +48,13 @@ fn equal_programs_are_versions_of_their_own(rt: HostRuntime) -> Result<(), Fail>
     let mut slot = Slot::new(rt.alloc(), Arc::try_clone(&accept)?, 1)?;
     for version in 1..1024 {
         let installed = slot.install(Arc::try_clone(&accept)?)?;
-        assert_eq!(rt; installed.version, version);
+        assert_same!(rt; installed.version, version);
     }
     let Err(InstallFault::VersionsFull { program }) = slot.install(accept) else {
         return Err(Fail::from("a 1025th version"));
     };
-    assert_eq!(rt; returned(&program), Some(1));
-    assert_eq!(rt; slot.versions().len(), 1024);
+    assert_same!(rt; returned(&program), Some(1));
+    assert_same!(rt; slot.versions().len(), 1024);
     Ok(())
 }
 
@@ -62,18 +62,18 @@ fn equal_programs_are_versions_of_their_own(rt: HostRuntime) -> Result<(), Fail>
 fn a_shared_slot_moves_its_callers_on(rt: HostRuntime) -> Result<(), Fail> {
     let slot = SharedSlot::new(Slot::new(rt.alloc(), program(rt.alloc(), ACCEPT)?, 2)?);
     let (installed, front) = slot.install(&rt, program(rt.alloc(), REJECT)?, &Front::START)?;
-    assert_eq!(rt; (installed.version, installed.mark), (1, 0));
-    assert_eq!(rt; (front.versions, front.offered), (2, 0));
+    assert_same!(rt; (installed.version, installed.mark), (1, 0));
+    assert_same!(rt; (front.versions, front.offered), (2, 0));
     let (drawn, front) = slot.draw(&rt, &front)?;
-    assert_eq!(rt; (drawn.number, drawn.version), (0, 1));
-    assert_eq!(rt; returned(&drawn.program), Some(0));
-    assert_eq!(rt; (front.versions, front.offered), (2, 1));
+    assert_same!(rt; (drawn.number, drawn.version), (0, 1));
+    assert_same!(rt; returned(&drawn.program), Some(0));
+    assert_same!(rt; (front.versions, front.offered), (2, 1));
     let ahead = Front {
         versions: 3,
         offered: 0,
     };
     let seen = front;
-    assert_eq!(rt;
+    assert_same!(rt;
         slot.draw(&rt, &ahead).err(),
         Some(DrawFault::Stale { seen })
     );
@@ -84,9 +84,9 @@ fn a_shared_slot_moves_its_callers_on(rt: HostRuntime) -> Result<(), Fail> {
     ) else {
         return Err(Fail::from("a front that is ahead"));
     };
-    assert_eq!(rt; (returned(&program), seen), (Some(1), front));
+    assert_same!(rt; (returned(&program), seen), (Some(1), front));
     let parts = slot.into_slot().into_parts();
-    assert_eq!(rt; (parts.versions.len(), parts.offered), (2, 1));
+    assert_same!(rt; (parts.versions.len(), parts.offered), (2, 1));
     Ok(())
 }
 
@@ -97,23 +97,23 @@ fn a_caller_is_told_of_the_versions_since_its_front(rt: HostRuntime) -> Result<(
     let DrawnSince::LaterVersion(drawn) = slot.draw_since(&rt, &mut front)? else {
         return Err(Fail::from("the first version is new"));
     };
-    assert_eq!(rt; (drawn.number, drawn.version), (0, 0));
-    assert_eq!(rt; returned(&drawn.program), Some(1));
+    assert_same!(rt; (drawn.number, drawn.version), (0, 0));
+    assert_same!(rt; returned(&drawn.program), Some(1));
     let DrawnSince::NoVersion(1) = slot.draw_since(&rt, &mut front)? else {
         return Err(Fail::from("frame 1, under no new version"));
     };
-    assert_eq!(rt; (front.versions, front.offered), (1, 2));
+    assert_same!(rt; (front.versions, front.offered), (1, 2));
     slot.install(&rt, program(rt.alloc(), REJECT)?, &Front::START)?;
     let DrawnSince::LaterVersion(drawn) = slot.draw_since(&rt, &mut front)? else {
         return Err(Fail::from("the second version is new"));
     };
-    assert_eq!(rt; (drawn.number, drawn.version), (2, 1));
-    assert_eq!(rt; returned(&drawn.share), Some(0));
-    assert_eq!(rt;
+    assert_same!(rt; (drawn.number, drawn.version), (2, 1));
+    assert_same!(rt; returned(&drawn.share), Some(0));
+    assert_same!(rt;
         slot.draw_since(&rt, &mut front).err(),
         Some(DrawFault::CountFull)
     );
-    assert_eq!(rt; (front.versions, front.offered), (2, 3));
+    assert_same!(rt; (front.versions, front.offered), (2, 3));
     Ok(())
 }
 
@@ -123,20 +123,20 @@ fn a_caller_whose_front_is_ahead_draws_nothing(rt: HostRuntime) -> Result<(), Fa
     let mut front = Front::START;
     slot.draw_since(&rt, &mut front)?;
     let seen = front;
-    for (versions, offered) in [(2, 0), (2, 1), (1, 2), (0, 3), (u32::MAX, u64::MAX)] {
+    for &(versions, offered) in &[(2, 0), (2, 1), (1, 2), (0, 3), (u32::MAX, u64::MAX)] {
         let ahead = Front { versions, offered };
         let mut known = ahead;
-        assert_eq!(rt;
+        assert_same!(rt;
             slot.draw_since(&rt, &mut known).err(),
             Some(DrawFault::Stale { seen })
         );
-        assert_eq!(rt; known, ahead);
+        assert_same!(rt; known, ahead);
     }
     let DrawnSince::NoVersion(1) = slot.draw_since(&rt, &mut front)? else {
         return Err(Fail::from("frame 1, the next one"));
     };
     let parts = slot.into_slot().into_parts();
-    assert_eq!(rt; (parts.versions.len(), parts.offered), (1, 2));
+    assert_same!(rt; (parts.versions.len(), parts.offered), (1, 2));
     Ok(())
 }
 
@@ -165,10 +165,10 @@ fn two_callers_share_the_numbers(rt: HostRuntime) -> Result<(), Fail> {
     }
     all.sort_unstable();
     for (at, number) in all.iter().enumerate() {
-        assert_eq!(rt; *number, at as u64);
+        assert_same!(rt; *number, at as u64);
     }
-    assert_eq!(rt; all.len(), 2000);
-    assert_eq!(rt;
+    assert_same!(rt; all.len(), 2000);
+    assert_same!(rt;
         slot.draw(&rt, &Front::START).err(),
         Some(DrawFault::CountFull)
     );
@@ -182,7 +182,7 @@ fn a_shared_slot_takes_1023_installs_and_all_its_draws(rt: HostRuntime) -> Resul
     let mut front = Front::START;
     for version in 1..1024 {
         let (installed, after) = slot.install(&rt, Arc::try_clone(&accept)?, &front)?;
-        assert_eq!(rt; (installed.version, installed.mark), (version, 0));
+        assert_same!(rt; (installed.version, installed.mark), (version, 0));
         front = after;
     }
     let Err(InstallFault::VersionsFull { .. }) = slot.install(&rt, accept, &front) else {
@@ -190,10 +190,10 @@ fn a_shared_slot_takes_1023_installs_and_all_its_draws(rt: HostRuntime) -> Resul
     };
     for number in 0..10_000 {
         let (drawn, after) = slot.draw(&rt, &front)?;
-        assert_eq!(rt; (drawn.number, drawn.version), (number, 1023));
+        assert_same!(rt; (drawn.number, drawn.version), (number, 1023));
         front = after;
     }
-    assert_eq!(rt; slot.draw(&rt, &front).err(), Some(DrawFault::CountFull));
-    assert_eq!(rt; (Front::START.versions, Front::START.offered), (0, 0));
+    assert_same!(rt; slot.draw(&rt, &front).err(), Some(DrawFault::CountFull));
+    assert_same!(rt; (Front::START.versions, Front::START.offered), (0, 0));
     Ok(())
 }

@@ -3,7 +3,7 @@ use ch11_packet::{Blank, Limit};
 use eth_frame::Frame;
 use rec_channel::Slot;
 use rec_lane::*;
-use samples::{all_bytes, program};
+use samples::{all_bytes, assert_same, program};
 use std::alloc::Global;
 use std::test::Fail;
 
@@ -33,7 +33,7 @@ pub(crate) fn offer(lane: &mut Lane, slot: &mut Slot, frame: &Frame<'_>) -> Resu
     let before = (lane.offered(), lane.kept(), false);
     if lane.ready().is_err() {
         if (lane.offered(), lane.kept(), lane.is_ready()) != before || lane.ready().is_err() {
-            return Err("a lane that is as before")?;
+            return Err("a lane that is as before".into());
         }
     }
     let drawn = slot.draw()?;
@@ -93,27 +93,16 @@ enum Step {
 /// The pieces that a lane gives from its first program on, in words: those of each frame, and last
 /// those of the end, with a semicolon after each frame's.
 fn pieces_of(alloc: Global, first: &str, steps: &[Step]) -> Result<String, Fail> {
-    let bytes = vec![in alloc; 0x5au8; 16_383]?;
     let mut slot = Slot::new(alloc, program(alloc, first)?, 3)?;
     let mut lane = lane(alloc, LEAST)?;
     let mut text = String::new(alloc);
     for step in steps {
         match *step {
-            Step::Accept => {
-                slot.install(program(alloc, ACCEPT)?)?;
-            }
-            Step::Reject => {
-                slot.install(program(alloc, REJECT)?)?;
-            }
+            Step::Accept => install(alloc, &mut slot, ACCEPT)?,
+            Step::Reject => install(alloc, &mut slot, REJECT)?,
             Step::Frame(counter, len) => {
-                let bytes = bytes
-                    .as_slice()
-                    .get(..len)
-                    .ok_or("no more than the longest frame")?;
-                let frame = Frame::new(counter, false, false, bytes).ok_or("a frame in range")?;
-                let offered = offer(&mut lane, &mut slot, &frame)?;
-                text.push_str(all_words(alloc, offered.pieces.as_slice())?.as_str())?;
-                text.push_str("; ")?;
+                let given = given_for(alloc, &mut lane, &mut slot, counter, len)?;
+                text.push_str(given.as_str())?;
             }
         }
     }
@@ -121,61 +110,82 @@ fn pieces_of(alloc: Global, first: &str, steps: &[Step]) -> Result<String, Fail>
     Ok(text)
 }
 
+/// Installs a listed program.
+fn install(alloc: Global, slot: &mut Slot, listing: &str) -> Result<(), Fail> {
+    slot.install(program(alloc, listing)?)?;
+    Ok(())
+}
+
+/// The pieces that a lane gives for a frame of `len` bytes, in words, with a semicolon behind them.
+fn given_for(
+    alloc: Global,
+    lane: &mut Lane,
+    slot: &mut Slot,
+    counter: u64,
+    len: usize,
+) -> Result<String, Fail> {
+    let bytes = vec![in alloc; 0x5au8; len]?;
+    let frame = Frame::new(counter, false, false, bytes.as_slice()).ok_or("a frame in range")?;
+    let offered = offer(lane, slot, &frame)?;
+    let mut text = all_words(alloc, offered.pieces.as_slice())?;
+    text.push_str("; ")?;
+    Ok(text)
+}
+
+/// Steps from a first program on, and the pieces that they give.
+const GIVEN: [(&str, &[Step], &str); 4] = [
+    (
+        ACCEPT,
+        &[Step::Frame(16, 18), Step::Frame(32, 18)],
+        "program 1 16 0 0 1; ; data 1 16 2 64, end 1 32 2 2",
+    ),
+    (
+        REJECT,
+        &[Step::Frame(16, 18), Step::Accept, Step::Frame(32, 18)],
+        "program 1 16 0 0 0; program 1 32 1 1 1; data 1 32 1 34, end 1 32 2 1",
+    ),
+    (
+        ACCEPT,
+        &[Step::Frame(16, 16_383), Step::Frame(32, 16_383)],
+        "program 1 16 0 0 1; data 1 16 1 16400; data 1 32 1 16400, end 1 32 2 2",
+    ),
+    (ACCEPT, &[], "end 1 0 0 0"),
+];
+
 #[test]
 fn each_frame_gives_the_pieces_that_are_certain(rt: HostRuntime) -> Result<(), Fail> {
-    let two = [Step::Frame(16, 18), Step::Frame(32, 18)];
-    let replaced = [Step::Frame(16, 18), Step::Accept, Step::Frame(32, 18)];
-    let longest = [Step::Frame(16, 16_383), Step::Frame(32, 16_383)];
-    let table: [(&str, &[Step], &str); 4] = [
-        (
-            ACCEPT,
-            &two,
-            "program 1 16 0 0 1; ; data 1 16 2 64, end 1 32 2 2",
-        ),
-        (
-            REJECT,
-            &replaced,
-            "program 1 16 0 0 0; program 1 32 1 1 1; data 1 32 1 34, end 1 32 2 1",
-        ),
-        (
-            ACCEPT,
-            &longest,
-            "program 1 16 0 0 1; data 1 16 1 16400; data 1 32 1 16400, end 1 32 2 2",
-        ),
-        (ACCEPT, &[], "end 1 0 0 0"),
-    ];
-    for (first, steps, text) in table {
-        assert_eq!(rt; pieces_of(rt.alloc(), first, steps)?.as_str(), text);
+    for &(first, steps, text) in &GIVEN {
+        assert_same!(rt; pieces_of(rt.alloc(), first, steps)?.as_str(), text);
     }
     Ok(())
 }
 
+/// The same where versions end packets, and where counters fall.
+const ENDED: [(&str, &[Step], &str); 2] = [
+    // the first version meets no frame, and the third neither
+    (
+        REJECT,
+        &[
+            Step::Accept,
+            Step::Frame(16, 18),
+            Step::Reject,
+            Step::Reject,
+            Step::Frame(32, 18),
+            Step::Frame(48, 18),
+        ],
+        "program 1 16 1 0 1; data 1 16 1 34, program 1 32 3 1 0; ; end 1 48 3 1",
+    ),
+    (
+        ACCEPT,
+        &[Step::Frame(281_474_976_710_655, 18), Step::Frame(0, 18)],
+        "program 1 281474976710655 0 0 1; ; data 1 281474976710655 2 64, end 1 0 2 2",
+    ),
+];
+
 #[test]
 fn versions_end_packets_and_counters_may_fall(rt: HostRuntime) -> Result<(), Fail> {
-    // the first version meets no frame, and the third neither
-    let passed_over = [
-        Step::Accept,
-        Step::Frame(16, 18),
-        Step::Reject,
-        Step::Reject,
-        Step::Frame(32, 18),
-        Step::Frame(48, 18),
-    ];
-    let falling = [Step::Frame(281_474_976_710_655, 18), Step::Frame(0, 18)];
-    let table: [(&str, &[Step], &str); 2] = [
-        (
-            REJECT,
-            &passed_over,
-            "program 1 16 1 0 1; data 1 16 1 34, program 1 32 3 1 0; ; end 1 48 3 1",
-        ),
-        (
-            ACCEPT,
-            &falling,
-            "program 1 281474976710655 0 0 1; ; data 1 281474976710655 2 64, end 1 0 2 2",
-        ),
-    ];
-    for (first, steps, text) in table {
-        assert_eq!(rt; pieces_of(rt.alloc(), first, steps)?.as_str(), text);
+    for &(first, steps, text) in &ENDED {
+        assert_same!(rt; pieces_of(rt.alloc(), first, steps)?.as_str(), text);
     }
     Ok(())
 }
@@ -191,13 +201,13 @@ fn a_frame_is_packed_with_the_settings_of_its_lane(rt: HostRuntime) -> Result<()
     let second = Frame::new(32, true, false, odd.as_slice()).ok_or("a frame in range")?;
     let mut slot = Slot::new(rt.alloc(), program(rt.alloc(), ACCEPT)?, 2)?;
     let mut lane = lane(rt.alloc(), 524_284)?;
-    assert_eq!(rt;
+    assert_same!(rt;
         (lane.offered(), lane.kept(), lane.is_ready()),
         (0, 0, false)
     );
-    assert_eq!(rt; offer(&mut lane, &mut slot, &first)?.value, 1);
-    assert_eq!(rt; offer(&mut lane, &mut slot, &second)?.value, 1);
-    assert_eq!(rt;
+    assert_same!(rt; offer(&mut lane, &mut slot, &first)?.value, 1);
+    assert_same!(rt; offer(&mut lane, &mut slot, &second)?.value, 1);
+    assert_same!(rt;
         (lane.offered(), lane.kept(), lane.is_ready()),
         (2, 2, true)
     );
@@ -205,14 +215,14 @@ fn a_frame_is_packed_with_the_settings_of_its_lane(rt: HostRuntime) -> Result<()
     let Some(Piece::Data(data)) = pieces.as_slice().first() else {
         return Err(Fail::from("the open packet goes out before the end"));
     };
-    assert_eq!(rt; data.body.bytes(), all_bytes(rt.alloc(), body)?.as_slice());
+    assert_same!(rt; data.body.bytes(), all_bytes(rt.alloc(), body)?.as_slice());
     Ok(())
 }
 
 #[test]
 fn the_filter_sees_the_frame_without_its_check_sequence(rt: HostRuntime) -> Result<(), Fail> {
     // the length of what it sees, and a byte of the check sequence
-    for (listing, value, kept) in [
+    for &(listing, value, kept) in &[
         ("2,128 0 0 0,22 0 0 0,", 14, 1),
         ("2,48 0 0 14,22 0 0 0,", 0, 0),
     ] {
@@ -220,8 +230,8 @@ fn the_filter_sees_the_frame_without_its_check_sequence(rt: HostRuntime) -> Resu
         let frame = Frame::new(16, false, false, arp.as_slice()).ok_or("a frame in range")?;
         let mut slot = Slot::new(rt.alloc(), program(rt.alloc(), listing)?, 1)?;
         let mut lane = lane(rt.alloc(), LEAST)?;
-        assert_eq!(rt; offer(&mut lane, &mut slot, &frame)?.value, value);
-        assert_eq!(rt; (lane.offered(), lane.kept()), (1, kept));
+        assert_same!(rt; offer(&mut lane, &mut slot, &frame)?.value, value);
+        assert_same!(rt; (lane.offered(), lane.kept()), (1, kept));
     }
     Ok(())
 }
@@ -238,14 +248,14 @@ fn a_lane_packs_257_packets_in_two_buffers(rt: HostRuntime) -> Result<(), Fail> 
         assert!(rt; lane.is_ready());
         let mut offered = offer(&mut lane, &mut slot, &frame)?;
         if let Some(Piece::Data(data)) = offered.pieces.pop() {
-            assert_eq!(rt; (data.body.counter(), data.body.count()), (packets, 1));
+            assert_same!(rt; (data.body.counter(), data.body.count()), (packets, 1));
             packets = packets.saturating_add(1);
             assert!(rt; lane.give(data.body.reuse()).is_none());
         }
     }
-    assert_eq!(rt; packets, 256);
+    assert_same!(rt; packets, 256);
     let last = all_words(rt.alloc(), lane.end().as_slice())?;
-    assert_eq!(rt; last.as_str(), "data 1 256 1 16400, end 1 256 257 257");
+    assert_same!(rt; last.as_str(), "data 1 256 1 16400, end 1 256 257 257");
     Ok(())
 }
 
@@ -253,23 +263,23 @@ fn a_lane_packs_257_packets_in_two_buffers(rt: HostRuntime) -> Result<(), Fail> 
 fn a_buffer_is_taken_where_it_is_missing_and_of_the_lanes_limit(
     rt: HostRuntime,
 ) -> Result<(), Fail> {
-    let table = [
+    let table = &[
         (16_424, false, true),
         (16_424, true, false),
         (16_428, false, false),
         (524_284, true, false),
     ];
-    for (most, ready, is_taken) in table {
+    for &(most, ready, is_taken) in table {
         let mut lane = lane(rt.alloc(), LEAST)?;
         if ready {
             lane.ready()?;
         }
         let limit = Limit::new(most).ok_or("a limit in range")?;
         let back = lane.give(Blank::with_limit(rt.alloc(), limit)?);
-        assert_eq!(rt; back.is_none(), is_taken, "{most}");
-        assert_eq!(rt; lane.is_ready(), ready || is_taken, "{most}");
+        assert_same!(rt; back.is_none(), is_taken, "{most}");
+        assert_same!(rt; lane.is_ready(), ready || is_taken, "{most}");
         if let Some(blank) = back {
-            assert_eq!(rt; blank.limit(), limit);
+            assert_same!(rt; blank.limit(), limit);
         }
         lane.ready()?;
         assert!(rt; lane.is_ready());
@@ -280,18 +290,18 @@ fn a_buffer_is_taken_where_it_is_missing_and_of_the_lanes_limit(
 #[test]
 fn settings_have_a_channel_over_0_and_a_speed_of_15_at_most(rt: HostRuntime) -> Result<(), Fail> {
     let limit = Limit::new(LEAST).ok_or("the least limit")?;
-    let table = [
+    let table = &[
         (0, 0, false),
         (1, 0, true),
         (65_535, 15, true),
         (1, 16, false),
         (0, 255, false),
     ];
-    for (channel, speed, in_range) in table {
+    for &(channel, speed, in_range) in table {
         let spec = LaneSpec::new(channel, 255, speed, limit);
-        assert_eq!(rt; spec.is_some(), in_range, "{channel} {speed}");
+        assert_same!(rt; spec.is_some(), in_range, "{channel} {speed}");
     }
     let place = words(rt.alloc(), &Piece::default())?;
-    assert_eq!(rt; place.as_str(), "end 1 0 0 0");
+    assert_same!(rt; place.as_str(), "end 1 0 0 0");
     Ok(())
 }

@@ -10,7 +10,7 @@ use rec_channel::{Front, MAX_CHANNELS, MAX_VERSIONS, SharedSlot, Slot};
 use rec_core::{ChannelSpec, Event, run_world};
 use rec_lane::{EndPiece, Lane, Piece};
 use rec_writer::Writer;
-use samples::program;
+use samples::{assert_same, program};
 use std::alloc::Global;
 use std::sync::{Arc, Wait};
 use std::test::Fail;
@@ -50,7 +50,7 @@ fn a_slot_draws_70000_frames_under_1024_versions(rt: HostRuntime) -> Result<(), 
     let mut slot = Slot::new(rt.alloc(), Arc::try_clone(&accept)?, DRAWN)?;
     for number in 0..DRAWN {
         let drawn = draw(&mut slot, &accept, number)?;
-        assert_eq!(rt; drawn, (number, version_at(number)));
+        assert_same!(rt; drawn, (number, version_at(number)));
     }
     Ok(())
 }
@@ -84,7 +84,7 @@ fn a_shared_slot_draws_70000_frames_under_1024_versions(rt: HostRuntime) -> Resu
     for number in 0..DRAWN {
         draw_shared(&rt, &slot, &accept, &mut front, number)?;
         let version = version_at(number).saturating_add(1);
-        assert_eq!(rt;
+        assert_same!(rt;
             (u64::from(front.versions), front.offered),
             (version, number + 1)
         );
@@ -108,7 +108,7 @@ fn a_lane_takes_1500_buffers(rt: HostRuntime) -> Result<(), Fail> {
     let mut lane = lane(rt.alloc(), MIN_LIMIT)?;
     for kept in 1..1_501 {
         fill(&mut lane, &mut slot, &frame)?;
-        assert_eq!(rt; (lane.kept(), lane.is_ready()), (kept, kept == 1));
+        assert_same!(rt; (lane.kept(), lane.is_ready()), (kept, kept == 1));
     }
     Ok(())
 }
@@ -125,8 +125,8 @@ fn a_writer_puts_100001_pieces(rt: HostRuntime) -> Result<(), Fail> {
     for _ in 0..100_001 {
         put(&mut writer, &end)??;
     }
-    assert_eq!(rt; (writer.whole(), writer.out().writes), (100_001, 300_003));
-    assert_eq!(rt; writer.out().bytes.len(), 5_600_056);
+    assert_same!(rt; (writer.whole(), writer.out().writes), (100_001, 300_003));
+    assert_same!(rt; writer.out().bytes.len(), 5_600_056);
     Ok(())
 }
 
@@ -204,7 +204,7 @@ fn a_core_of_64_channels_does_thousands_of_events(rt: HostRuntime) -> Result<(),
     let events = all_events(rt.alloc())?;
     let answers = run_world(rt.alloc(), &mut world, events.as_slice())?;
     assert!(rt; answers.iter().all(|answer| answer.is_ok()));
-    assert_eq!(rt; answers.len(), 5_126);
-    assert_eq!(rt; world.out().bytes.len(), 5_051_496);
+    assert_same!(rt; answers.len(), 5_126);
+    assert_same!(rt; world.out().bytes.len(), 5_051_496);
     Ok(())
 }

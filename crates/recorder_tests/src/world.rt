@@ -8,7 +8,7 @@ use crate::writer::{Output, Then};
 use ch11_packet::MIN_LIMIT;
 use eth_frame::Frame;
 use rec_core::*;
-use samples::{CHECKED, all_bytes, joined_bytes, program};
+use samples::{CHECKED, all_bytes, assert_same, joined_bytes, program};
 use std::alloc::Global;
 use std::io::{ErrorKind, Write};
 use std::process::Abort;
@@ -123,7 +123,7 @@ pub(crate) fn core_of<W: Write + Drop>(
     requires few { ring ≤ MAX_RING }
 {
     if !specs_ok(specs) {
-        return Err("channels that a core may have")?;
+        return Err("channels that a core may have".into());
     }
     Ok(World::new(alloc, specs, ring, 8, out)?)
 }
@@ -141,9 +141,9 @@ fn run_steps<W: Write + Drop>(
         events.push(event_of(alloc, channel, *step)?)?;
     }
     let answers = run_world(alloc, world, events.as_slice())?;
-    assert_eq!(rt; answers.len(), steps.len());
+    assert_same!(rt; answers.len(), steps.len());
     for (answer, (_, want)) in answers.iter().zip(steps) {
-        assert_eq!(rt; words(alloc, answer)?.as_str(), *want);
+        assert_same!(rt; words(alloc, answer)?.as_str(), *want);
     }
     Ok(())
 }
@@ -154,7 +154,7 @@ fn an_interleaving_is_written_to_the_byte(rt: HostRuntime) -> Result<(), Fail> {
     let mut world = core_of(rt.alloc(), &specs, 4, Vec::new(rt.alloc()))?;
     run_steps(&rt, rt.alloc(), &mut world, 1, &INTERLEAVING)?;
     let want = joined_bytes(rt.alloc(), &CHECKED)?;
-    assert_eq!(rt; world.out().as_slice(), want.as_slice());
+    assert_same!(rt; world.out().as_slice(), want.as_slice());
     Ok(())
 }
 
@@ -162,7 +162,7 @@ fn an_interleaving_is_written_to_the_byte(rt: HostRuntime) -> Result<(), Fail> {
 fn refusals_come_in_their_order(rt: HostRuntime) -> Result<(), Fail> {
     let specs = [spec_of(rt.alloc(), 7, 1, ACCEPT)?];
     let mut world = core_of(rt.alloc(), &specs, 1, Vec::new(rt.alloc()))?;
-    let steps = [
+    let steps = &[
         (Step::Take(1), "took 0 0 1"),
         (Step::Take(2), "refused 7 CountFull"),
         (Step::Send, "sent program 0"),
@@ -173,7 +173,7 @@ fn refusals_come_in_their_order(rt: HostRuntime) -> Result<(), Fail> {
         (Step::Take(3), "refused 2 Closed"),
         (Step::Install(REJECT), "installed 1 1"),
     ];
-    run_steps(&rt, rt.alloc(), &mut world, 7, &steps)?;
+    run_steps(&rt, rt.alloc(), &mut world, 7, steps)?;
     run_steps(
         &rt,
         rt.alloc(),
@@ -201,9 +201,9 @@ fn a_channel_has_1024_versions(rt: HostRuntime) -> Result<(), Fail> {
             version: number,
             mark: 0,
         };
-        assert_eq!(rt; world.step(&install), Ok(installed));
+        assert_same!(rt; world.step(&install), Ok(installed));
     }
-    assert_eq!(rt; world.step(&install), Err(CoreFault::VersionsFull));
+    assert_same!(rt; world.step(&install), Err(CoreFault::VersionsFull));
     Ok(())
 }
 
@@ -227,27 +227,29 @@ fn channels_are_written_beside_one_another(rt: HostRuntime) -> Result<(), Fail> 
     run_steps(&rt, rt.alloc(), &mut world, 2, &[(Step::Write, "wrote 56")])?;
     run_steps(&rt, rt.alloc(), &mut world, 1, &[(Step::Write, "wrote 56")])?;
     let want = joined_bytes(rt.alloc(), &[FIRST_END, SECOND_END])?;
-    assert_eq!(rt; world.out().as_slice(), want.as_slice());
+    assert_same!(rt; world.out().as_slice(), want.as_slice());
     Ok(())
 }
 
-/// What is answered to the steps of the interleaving by a core whose output takes `room` bytes: the
+/// How many bytes are out after each step of the interleaving that writes; 0 for the others.
+const ENDS: [usize; 13] = [0, 0, 0, 0, 64, 0, 128, 0, 0, 192, 0, 248, 248];
+
+/// The steps of the interleaving, and what is answered by a core whose output takes `room` bytes: the
 /// writes that end past these are refused.
-fn cut_steps(room: usize) -> [(Step, &'static str); 13] {
-    let mut steps = INTERLEAVING;
-    for (at, end) in [(4, 64), (6, 128), (9, 192), (11, 248), (12, 248)] {
-        if end > room {
-            steps[at].1 = "refused 8 Output";
-        }
+fn cut_steps(alloc: Global, room: usize) -> Result<Vec<(Step, &'static str)>, Fail> {
+    let mut steps = Vec::new(alloc);
+    for (&(step, want), &end) in INTERLEAVING.iter().zip(&ENDS) {
+        let want = if end > room { "refused 8 Output" } else { want };
+        steps.push((step, want))?;
     }
-    steps
+    Ok(steps)
 }
 
 #[test]
 fn an_output_that_fails_holds_its_first_bytes(rt: HostRuntime) -> Result<(), Fail> {
     let want = joined_bytes(rt.alloc(), &CHECKED)?;
     let specs = [spec_of(rt.alloc(), 1, 100, REJECT)?];
-    for (at_once, then) in [
+    for &(at_once, then) in &[
         (usize::MAX, Then::Fails),
         (1, Then::TakesNone),
         (7, Then::FailsOnce(ErrorKind::Interrupted)),
@@ -255,15 +257,16 @@ fn an_output_that_fails_holds_its_first_bytes(rt: HostRuntime) -> Result<(), Fai
         for room in 0..248 {
             let out = Output::new(rt.alloc(), room, at_once, then);
             let mut world = core_of(rt.alloc(), &specs, 4, out)?;
-            run_steps(&rt, rt.alloc(), &mut world, 1, &cut_steps(room))?;
-            assert_eq!(rt; Some(world.out().bytes.as_slice()), want.get(..room));
+            let steps = cut_steps(rt.alloc(), room)?;
+            run_steps(&rt, rt.alloc(), &mut world, 1, steps.as_slice())?;
+            assert_same!(rt; Some(world.out().bytes.as_slice()), want.get(..room));
             let again = [(Step::Write, "refused 8 Output")];
             run_steps(&rt, rt.alloc(), &mut world, 1, &again)?;
-            assert_eq!(rt; world.out().bytes.len(), room);
+            assert_same!(rt; world.out().bytes.len(), room);
             // the frame that was accepted is read where its packet went out whole
             let frames: &[u64] = if room < 192 { &[] } else { &[32] };
             let found = counters_of(rt.alloc(), world.out().bytes.as_slice(), 1)?;
-            assert_eq!(rt; found.as_slice(), frames, "{room} bytes");
+            assert_same!(rt; found.as_slice(), frames, "{room} bytes");
         }
     }
     Ok(())
@@ -284,7 +287,7 @@ fn done_again<W: Write + Drop>(
             Err(CoreFault::Memory) => world.step(&event),
             answer => answer,
         };
-        assert_eq!(rt; words(alloc, &answer)?.as_str(), *want);
+        assert_same!(rt; words(alloc, &answer)?.as_str(), *want);
     }
     Ok(())
 }
@@ -302,13 +305,13 @@ fn an_event_without_memory_is_done_again(rt: HostRuntime) -> Result<(), Fail> {
     done_again(&rt, alloc, &mut world, 1, &INTERLEAVING)?;
     let close = [(Step::Close, "closed 0 0"), (Step::Send, "sent end")];
     done_again(&rt, alloc, &mut world, 2, &close)?;
-    assert_eq!(rt; world.out().as_slice(), want.as_slice());
+    assert_same!(rt; world.out().as_slice(), want.as_slice());
     let events = [Event::Close { channel: 2 }];
     let answers = match run_world(alloc, &mut world, &events) {
         Err(_) => run_world(alloc, &mut world, &events),
         answers => answers,
     };
     let first = answers.as_ref().ok().and_then(|answers| answers.first());
-    assert_eq!(rt; first, Some(&Err(CoreFault::Closed)));
+    assert_same!(rt; first, Some(&Err(CoreFault::Closed)));
     Ok(())
 }

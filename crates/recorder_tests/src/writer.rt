@@ -6,7 +6,7 @@ use ch11_packet::{DataBody, DataBuilder, HEADER_LEN, Header, Limit};
 use eth_frame::Frame;
 use rec_lane::{DataPiece, EndPiece, Piece, ProgramPiece};
 use rec_writer::*;
-use samples::{CHECKED, joined_bytes, program};
+use samples::{CHECKED, assert_same, joined_bytes, program};
 use std::alloc::Global;
 use std::io;
 use std::io::{ErrorKind, Write};
@@ -28,7 +28,7 @@ fn body(alloc: Global, counter: u64) -> Result<DataBody, Fail> {
 /// The program of a version of channel 1, from the frame with the same number on.
 fn version(alloc: Global, number: u32, counter: u64, listing: &str) -> Result<Piece, Fail> {
     if counter >> 48 != 0 {
-        return Err("a counter of 48 bits")?;
+        return Err("a counter of 48 bits".into());
     }
     Ok(Piece::Program(ProgramPiece {
         channel: 1,
@@ -136,7 +136,7 @@ pub(crate) fn put<W: Write>(
     piece: &Piece,
 ) -> Result<Result<(), WriteFault>, Fail> {
     if !writer.knows(piece.channel()) {
-        return Err("a channel that the writer knows")?;
+        return Err("a channel that the writer knows".into());
     }
     Ok(writer.put(piece))
 }
@@ -144,22 +144,22 @@ pub(crate) fn put<W: Write>(
 #[test]
 fn each_piece_is_its_packet(rt: HostRuntime) -> Result<(), Fail> {
     let want = joined_bytes(rt.alloc(), &CHECKED)?;
-    for (at_once, writes) in [(usize::MAX, 12), (1, 248)] {
+    for &(at_once, writes) in &[(usize::MAX, 12), (1, 248)] {
         let out = Output::new(rt.alloc(), usize::MAX, at_once, Then::Fails);
         let mut writer = Writer::new(out, &[1], 8);
         let ends = [(64, 64), (64, 128), (64, 192), (56, 248)];
         for (piece, (len, end)) in pieces(rt.alloc())?.iter().zip(ends) {
-            assert_eq!(rt; put(&mut writer, piece)?, Ok(()));
-            assert_eq!(rt; packet_len(piece), len);
-            assert_eq!(rt; Some(writer.out().bytes.as_slice()), want.get(..end));
-            assert_eq!(rt; writer.bytes(), 0);
+            assert_same!(rt; put(&mut writer, piece)?, Ok(()));
+            assert_same!(rt; packet_len(piece), len);
+            assert_same!(rt; Some(writer.out().bytes.as_slice()), want.get(..end));
+            assert_same!(rt; writer.bytes(), 0);
         }
-        assert_eq!(rt; (writer.whole(), writer.out().flushes), (4, 0));
-        assert_eq!(rt; writer.out().writes, writes);
+        assert_same!(rt; (writer.whole(), writer.out().flushes), (4, 0));
+        assert_same!(rt; writer.out().writes, writes);
         let Ok(out) = writer.finish() else {
-            return Err("a finished recording")?;
+            return Err("a finished recording".into());
         };
-        assert_eq!(rt; (out.bytes.as_slice(), out.flushes), (want.as_slice(), 1));
+        assert_same!(rt; (out.bytes.as_slice(), out.flushes), (want.as_slice(), 1));
     }
     Ok(())
 }
@@ -180,23 +180,23 @@ fn sequence_numbers_go_on_from_255_with_0(rt: HostRuntime) -> Result<(), Fail> {
     for number in 0..257 {
         put(&mut writer, &piece)??;
         let Some(packet) = writer.out().get(number * 64..) else {
-            return Err("a packet")?;
+            return Err("a packet".into());
         };
-        assert_eq!(rt; packet.get(13), Some(&((number % 256) as u8)));
+        assert_same!(rt; packet.get(13), Some(&((number % 256) as u8)));
     }
     put(&mut writer, &end)??;
     let Some(packet) = writer.out().get(257 * 64..) else {
-        return Err("the end's packet")?;
+        return Err("the end's packet".into());
     };
-    assert_eq!(rt; (packet.len(), packet.get(13)), (56, Some(&0)));
-    assert_eq!(rt; writer.whole(), 258);
+    assert_same!(rt; (packet.len(), packet.get(13)), (56, Some(&0)));
+    assert_same!(rt; writer.whole(), 258);
     Ok(())
 }
 
 #[test]
 fn after_a_fault_nothing_is_written(rt: HostRuntime) -> Result<(), Fail> {
     let want = joined_bytes(rt.alloc(), &CHECKED[..2])?;
-    for then in [
+    for &then in &[
         Then::Fails,
         Then::TakesNone,
         Then::FailsOnce(ErrorKind::StorageFull),
@@ -205,19 +205,19 @@ fn after_a_fault_nothing_is_written(rt: HostRuntime) -> Result<(), Fail> {
         let mut writer = Writer::new(Output::new(rt.alloc(), 70, 7, then), &[1], 8);
         let all = pieces(rt.alloc())?;
         let (first, second) = (&all[0], &all[1]);
-        assert_eq!(rt; put(&mut writer, first)?, Ok(()));
+        assert_same!(rt; put(&mut writer, first)?, Ok(()));
         let output = WriteFault::Output { whole: 1, bytes: 6 };
-        assert_eq!(rt; put(&mut writer, second)?, Err(output), "{then:?}");
+        assert_same!(rt; put(&mut writer, second)?, Err(output), "{then:?}");
         let writes = writer.out().writes;
         let failed = WriteFault::Failed { whole: 1, bytes: 6 };
-        assert_eq!(rt; put(&mut writer, second)?, Err(failed));
-        assert_eq!(rt; (writer.whole(), writer.bytes()), (1, 6));
+        assert_same!(rt; put(&mut writer, second)?, Err(failed));
+        assert_same!(rt; (writer.whole(), writer.bytes()), (1, 6));
         let Err((fault, out)) = writer.finish() else {
-            return Err("a fault")?;
+            return Err("a fault".into());
         };
-        assert_eq!(rt; fault, failed);
-        assert_eq!(rt; (out.writes, out.flushes), (writes, 0));
-        assert_eq!(rt; Some(out.bytes.as_slice()), want.get(..70));
+        assert_same!(rt; fault, failed);
+        assert_same!(rt; (out.writes, out.flushes), (writes, 0));
+        assert_same!(rt; Some(out.bytes.as_slice()), want.get(..70));
     }
     Ok(())
 }
@@ -231,18 +231,18 @@ fn a_flush_that_fails_is_a_fault_with_no_bytes(rt: HostRuntime) -> Result<(), Fa
         put(&mut writer, piece)??;
     }
     let Err((fault, out)) = writer.finish() else {
-        return Err("a fault")?;
+        return Err("a fault".into());
     };
-    assert_eq!(rt; fault, WriteFault::Output { whole: 4, bytes: 0 });
-    assert_eq!(rt; (out.bytes.len(), out.flushes), (248, 1));
+    assert_same!(rt; fault, WriteFault::Output { whole: 4, bytes: 0 });
+    assert_same!(rt; (out.bytes.len(), out.flushes), (248, 1));
     Ok(())
 }
 
 #[test]
 fn a_writer_knows_its_channels(rt: HostRuntime) -> Result<(), Fail> {
-    let channels = [7, 65_535, 1, 300];
-    let writer = Writer::new(Vec::new(rt.alloc()), &channels, 255);
-    for channel in channels {
+    let channels = &[7, 65_535, 1, 300];
+    let writer = Writer::new(Vec::new(rt.alloc()), channels, 255);
+    for &channel in channels {
         assert!(rt; writer.knows(channel));
     }
     for other in [0, 2, 6, 8, 301, 65_534] {
@@ -284,7 +284,7 @@ fn records_of_64_channels_have_one_sequence(rt: HostRuntime) -> Result<(), Fail>
     for round in 0..4 {
         for channel in channels {
             if channel == 0 {
-                return Err("a channel ID")?;
+                return Err("a channel ID".into());
             }
             let end = Piece::End(EndPiece {
                 channel,
@@ -300,7 +300,7 @@ fn records_of_64_channels_have_one_sequence(rt: HostRuntime) -> Result<(), Fail>
                 number_of(&mut writer, &end)?,
                 number_of(&mut writer, &data)?,
             ];
-            assert_eq!(rt; numbers, [(0, records), (channel, round)]);
+            assert_same!(rt; numbers, [(0, records), (channel, round)]);
             records = records.wrapping_add(1);
         }
     }

@@ -1,13 +1,16 @@
 //! What the tests of several crates share: a recording's packets and other bytes as hexadecimal texts,
-//! and programs as listings.
+//! programs as listings, and comparisons.
 //!
 //! `CHECKED` are the packets of a recording of 248 bytes as it is written: of channel 1, which kept the
 //! second of two frames. `REJECTING`, `ACCEPTING`, `FRAMES` and `END` are the same packets as the first
 //! profile has them, without data checksums: 232 bytes, which are read.
 #![tactic(auto)]
 
+mod comparison;
+
 use bpf_insn::parse_listing;
 use bpf_verify::{Verified, verify};
+pub use comparison::{Differing, compared, compared_in};
 use std::alloc::Global;
 use std::sync::Arc;
 use std::test::Fail;

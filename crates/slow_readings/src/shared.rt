@@ -94,7 +94,7 @@ pub(crate) fn offer(
     lane.ready()?;
     let drawn = slot.draw()?;
     if drawn.number != lane.offered() {
-        return Err("the number of the lane's next frame")?;
+        return Err("the number of the lane's next frame".into());
     }
     let offered = lane.offer(&frame, drawn);
     for piece in offered.pieces {

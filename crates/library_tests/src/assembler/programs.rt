@@ -1,34 +1,41 @@
 //! Whole programs: worked examples, faults in their order, and limits.
 
 use super::*;
+use samples::assert_same;
 use std::alloc::{AllocError, Global};
+
+/// Texts, and the instructions of each: code, distances and constant.
+const TEXTS: [(&str, &[(u16, u8, u8, u32)]); 5] = [
+    (
+        "ldh [12]\njne #0x806, drop\nret #-1\ndrop: ret #0",
+        &[
+            (40, 0, 0, 12),
+            (21, 0, 1, 2054),
+            (6, 0, 0, u32::MAX),
+            (6, 0, 0, 0),
+        ],
+    ),
+    (
+        "jle #7, low\nret #0\nlow: ret #1",
+        &[(37, 0, 1, 7), (6, 0, 0, 0), (6, 0, 0, 1)],
+    ),
+    (
+        "jeq x,b,a\na: jmp c\n\nb:\n txa\nc: d: ret a",
+        &[(29, 1, 0, 0), (5, 0, 0, 1), (135, 0, 0, 0), (22, 0, 0, 0)],
+    ),
+    ("ret #0x10 /* a\n b */ ; c", &[(6, 0, 0, 16)]),
+    ("", &[]),
+];
 
 #[test]
 fn texts_are_assembled(rt: HostRuntime) -> Result<(), Fail> {
-    let arp = [
-        insn(40, 0, 0, 12),
-        insn(21, 0, 1, 2054),
-        insn(6, 0, 0, u32::MAX),
-        insn(6, 0, 0, 0),
-    ];
-    let inverted = [insn(37, 0, 1, 7), insn(6, 0, 0, 0), insn(6, 0, 0, 1)];
-    let branch = [
-        insn(29, 1, 0, 0),
-        insn(5, 0, 0, 1),
-        insn(135, 0, 0, 0),
-        insn(22, 0, 0, 0),
-    ];
-    let commented = [insn(6, 0, 0, 16)];
-    let table: [(&str, &[Insn]); 5] = [
-        ("ldh [12]\njne #0x806, drop\nret #-1\ndrop: ret #0", &arp),
-        ("jle #7, low\nret #0\nlow: ret #1", &inverted),
-        ("jeq x,b,a\na: jmp c\n\nb:\n txa\nc: d: ret a", &branch),
-        ("ret #0x10 /* a\n b */ ; c", &commented),
-        ("", &[]),
-    ];
-    for (text, program) in table {
+    for &(text, insns) in &TEXTS {
+        let mut want = Vec::new(rt.alloc());
+        for &(code, jt, jf, k) in insns {
+            want.push(insn(code, jt, jf, k))?;
+        }
         let assembled = assemble(rt.alloc(), text)?;
-        assert_eq!(rt; assembled.as_slice(), program, "{text}");
+        assert_same!(rt; assembled.as_slice(), want.as_slice(), "{text}");
     }
     Ok(())
 }
@@ -64,9 +71,9 @@ const ASM_FAULTS: [(&str, AsmFault); 23] = [
 
 #[test]
 fn the_first_fault_of_a_text_is_reported(rt: HostRuntime) {
-    for (text, fault) in ASM_FAULTS {
+    for &(text, fault) in &ASM_FAULTS {
         let answer = assemble(rt.alloc(), text);
-        assert_eq!(rt; answer.err(), Some(fault), "{text}");
+        assert_same!(rt; answer.err(), Some(fault), "{text}");
     }
 }
 
@@ -89,7 +96,7 @@ fn assembled_first(alloc: Global, text: &str) -> Result<Option<Insn>, AsmFault> 
 
 #[test]
 fn a_test_leads_over_255_instructions_and_a_jump_over_4094(rt: HostRuntime) -> Result<(), Fail> {
-    let table = [
+    let table = &[
         ("jeq #0,far\n", 255, Ok(Some(insn(21, 255, 0, 0)))),
         ("jne #0,far\n", 255, Ok(Some(insn(21, 0, 255, 0)))),
         ("jeq #0,far\n", 256, Err(AsmFault::TooFar { line: 1 })),
@@ -98,9 +105,9 @@ fn a_test_leads_over_255_instructions_and_a_jump_over_4094(rt: HostRuntime) -> R
         ("jmp far\n", 4_094, Ok(Some(insn(5, 0, 0, 4_094)))),
         ("jmp far\n", 4_095, Err(AsmFault::TooLong)),
     ];
-    for (first, count, answer) in table {
+    for &(first, count, answer) in table {
         let text = padded(rt.alloc(), first, count, "far: ret #1")?;
-        assert_eq!(rt; assembled_first(rt.alloc(), &text), answer);
+        assert_same!(rt; assembled_first(rt.alloc(), &text), answer);
     }
     Ok(())
 }
@@ -109,8 +116,8 @@ fn a_test_leads_over_255_instructions_and_a_jump_over_4094(rt: HostRuntime) -> R
 fn a_program_has_at_most_4096_instructions(rt: HostRuntime) -> Result<(), Fail> {
     let text = padded(rt.alloc(), "", 4_096, "")?;
     let program = assemble(rt.alloc(), &text)?;
-    assert_eq!(rt; program.len(), 4_096);
-    let table = [
+    assert_same!(rt; program.len(), 4_096);
+    let table = &[
         ("ret #1", AsmFault::TooLong),
         ("ret #1\nret 08", AsmFault::TooLong),
         ("ret 08", AsmFault::Number { line: 4_097 }),
@@ -118,9 +125,9 @@ fn a_program_has_at_most_4096_instructions(rt: HostRuntime) -> Result<(), Fail> 
         ("ret 5", AsmFault::OperandNotAllowed { line: 4_097 }),
         ("ret #1 #2", AsmFault::Syntax { line: 4_097 }),
     ];
-    for (last, fault) in table {
+    for &(last, fault) in table {
         let text = padded(rt.alloc(), "", 4_096, last)?;
-        assert_eq!(rt; assembled_first(rt.alloc(), &text), Err(fault));
+        assert_same!(rt; assembled_first(rt.alloc(), &text), Err(fault));
     }
     Ok(())
 }
@@ -141,10 +148,10 @@ fn labels_of_300_bytes_are_told_apart_by_their_last(rt: HostRuntime) -> Result<(
         insn(6, 0, 0, 1),
         insn(6, 0, 0, 2),
     ];
-    assert_eq!(rt; program.as_slice(), expected.as_slice());
+    assert_same!(rt; program.as_slice(), expected.as_slice());
     let text = format!(in rt.alloc(); "jmp {name}\n{name}c: ret #1")?;
     let missing = AsmFault::LabelMissing { line: 1 };
-    assert_eq!(rt; assemble(rt.alloc(), &text).err(), Some(missing));
+    assert_same!(rt; assemble(rt.alloc(), &text).err(), Some(missing));
     Ok(())
 }
 
@@ -157,14 +164,14 @@ fn lines_past_1000_are_counted(rt: HostRuntime) -> Result<(), Fail> {
     let text = format!(in rt.alloc(); "jmp far\n{lines}neg\n{lines}far: ret #1")?;
     let program = assemble(rt.alloc(), &text)?;
     let expected = [insn(5, 0, 0, 1), insn(132, 0, 0, 0), insn(6, 0, 0, 1)];
-    assert_eq!(rt; program.as_slice(), expected.as_slice());
-    let table = [
+    assert_same!(rt; program.as_slice(), expected.as_slice());
+    let table = &[
         ("jmp far", AsmFault::LabelMissing { line: 1_201 }),
         ("ret 08", AsmFault::Number { line: 1_201 }),
     ];
-    for (last, fault) in table {
+    for &(last, fault) in table {
         let text = format!(in rt.alloc(); "{lines}{last}")?;
-        assert_eq!(rt; assemble(rt.alloc(), &text).err(), Some(fault));
+        assert_same!(rt; assemble(rt.alloc(), &text).err(), Some(fault));
     }
     Ok(())
 }
@@ -178,7 +185,7 @@ fn each_of_4096_labels_is_found(rt: HostRuntime) -> Result<(), Fail> {
         text.push_str(&line)?;
     }
     text.push_str("l4095: jeq #0,end\nend: ")?;
-    assert_eq!(rt;
+    assert_same!(rt;
         assemble(rt.alloc(), &text).err(),
         Some(AsmFault::Syntax { line: 4_097 })
     );
@@ -206,14 +213,14 @@ fn each_of_4096_lines_leads_over_255_instructions(rt: HostRuntime) -> Result<(),
         expected.push(insn(6, 0, 0, at))?;
     }
     let program = assemble(rt.alloc(), &text)?;
-    assert_eq!(rt; program.as_slice(), expected.as_slice());
+    assert_same!(rt; program.as_slice(), expected.as_slice());
     Ok(())
 }
 
 #[test]
 fn each_fault_is_printed_as_its_text(rt: HostRuntime) -> Result<(), Fail> {
     let line = 7;
-    let table = [
+    let table = &[
         (AsmFault::Syntax { line }, "asm 1 Syntax line 7"),
         (AsmFault::Number { line }, "asm 2 Number line 7"),
         (
@@ -231,9 +238,9 @@ fn each_fault_is_printed_as_its_text(rt: HostRuntime) -> Result<(), Fail> {
         (AsmFault::TooLong, "asm 9 TooLong"),
         (AsmFault::Memory, "memory"),
     ];
-    for (fault, printed) in table {
+    for &(fault, printed) in table {
         let text = format!(in rt.alloc(); "{fault}")?;
-        assert_eq!(rt; text.as_str(), printed);
+        assert_same!(rt; text.as_str(), printed);
     }
     Ok(())
 }

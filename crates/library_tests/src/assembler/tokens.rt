@@ -1,9 +1,10 @@
 //! Tokens: numbers, and the faults of a line's tokens.
 use super::*;
+use samples::assert_same;
 
 #[test]
 fn each_spelling_of_a_number_is_read_at_its_limits(rt: HostRuntime) -> Result<(), Fail> {
-    let table = [
+    let table = &[
         ("ldi 0", 0),
         ("ldi 1", 1),
         ("ldi 4294967295", u32::MAX),
@@ -20,9 +21,9 @@ fn each_spelling_of_a_number_is_read_at_its_limits(rt: HostRuntime) -> Result<()
         ("ldi 017", 15),
         ("ldi 037777777777", u32::MAX),
     ];
-    for (text, k) in table {
+    for &(text, k) in table {
         let program = assemble(rt.alloc(), text)?;
-        assert_eq!(rt;
+        assert_same!(rt;
             program.as_slice(),
             [insn(0x00, 0, 0, k)].as_slice(),
             "{text}"
@@ -60,7 +61,7 @@ const TOKEN_FAULTS: [(&str, AsmFault); 21] = [
 
 #[test]
 fn the_first_fault_of_the_tokens_is_reported(rt: HostRuntime) {
-    for (text, fault) in TOKEN_FAULTS {
-        assert_eq!(rt; assemble(rt.alloc(), text).err(), Some(fault), "{text}");
+    for &(text, fault) in &TOKEN_FAULTS {
+        assert_same!(rt; assemble(rt.alloc(), text).err(), Some(fault), "{text}");
     }
 }

@@ -1,5 +1,6 @@
 //! Feeds: what is written and what is read.
 use super::*;
+use samples::assert_same;
 
 #[test]
 fn a_record_is_written_and_read(rt: HostRuntime) -> Result<(), Fail> {
@@ -8,12 +9,12 @@ fn a_record_is_written_and_read(rt: HostRuntime) -> Result<(), Fail> {
     let mut feed = Vec::new(rt.alloc());
     write_feed(&frame, &mut feed)?;
     let record: [u8; 27] = bytes(rt.alloc(), RECORD)?;
-    assert_eq!(rt; feed.as_slice(), record.as_slice());
+    assert_same!(rt; feed.as_slice(), record.as_slice());
     let mut buffer = FrameBuf::new();
     let mut source = FeedSource::new(Pieces::of(&feed, 1));
-    assert_eq!(rt; source.next(&mut buffer), Ok(Next::Frame));
-    assert_eq!(rt; buffer.frame(), Some(frame));
-    assert_eq!(rt; answers(&mut source, &mut buffer), [Ok(Next::End); 3]);
+    assert_same!(rt; source.next(&mut buffer), Ok(Next::Frame));
+    assert_same!(rt; buffer.frame(), Some(frame));
+    assert_same!(rt; answers(&mut source, &mut buffer), [Ok(Next::End); 3]);
     assert!(rt; buffer.frame().is_none());
     Ok(())
 }
@@ -25,7 +26,7 @@ fn each_cut_record_is_truncated(rt: HostRuntime) -> Result<(), Fail> {
     for cut in 1..27 {
         let mut source = FeedSource::new(Pieces::of(&record[..cut], 4_096));
         let want = [Err(SourceFault::Truncated); 3];
-        assert_eq!(rt;
+        assert_same!(rt;
             answers(&mut source, &mut buffer),
             want,
             "cut after {cut} bytes"
@@ -39,7 +40,7 @@ fn each_cut_record_is_truncated(rt: HostRuntime) -> Result<(), Fail> {
 fn each_bad_length_and_each_bad_mark_is_refused(rt: HostRuntime) -> Result<(), Fail> {
     let mut record: [u8; 27] = bytes(rt.alloc(), RECORD)?;
     let mut buffer = FrameBuf::new();
-    for (marks_and_length, fault) in [
+    for &(marks_and_length, fault) in &[
         ("00 1100", SourceFault::Length),
         ("00 0000", SourceFault::Length),
         ("00 0040", SourceFault::Length),
@@ -58,7 +59,7 @@ fn each_bad_length_and_each_bad_mark_is_refused(rt: HostRuntime) -> Result<(), F
         record[6..9].copy_from_slice(&field);
         let mut source = FeedSource::new(Pieces::of(&record, 4_096));
         let want = [Err(fault); 3];
-        assert_eq!(rt;
+        assert_same!(rt;
             answers(&mut source, &mut buffer),
             want,
             "marks and length {marks_and_length}"
@@ -74,7 +75,7 @@ fn a_failing_reader_is_a_fault_of_the_device(rt: HostRuntime) -> Result<(), Fail
     let mut buffer = FrameBuf::new();
     for kind in [ErrorKind::BrokenPipe, ErrorKind::Interrupted] {
         let device = Err(SourceFault::Device);
-        for (call, want) in [
+        for &(call, want) in &[
             (1, [device, device, device]),
             (2, [device, device, device]),
             (3, [Ok(Next::Frame), device, device]),
@@ -82,7 +83,7 @@ fn a_failing_reader_is_a_fault_of_the_device(rt: HostRuntime) -> Result<(), Fail
             (5, [Ok(Next::Frame), Ok(Next::Frame), device]),
         ] {
             let mut source = FeedSource::new(Pieces::failing(&two, call, kind));
-            assert_eq!(rt;
+            assert_same!(rt;
                 answers(&mut source, &mut buffer),
                 want,
                 "failing at call {call}"
@@ -97,7 +98,7 @@ fn a_failing_reader_is_a_fault_of_the_device(rt: HostRuntime) -> Result<(), Fail
 fn a_source_that_has_ended_reads_no_more(rt: HostRuntime) -> Result<(), Fail> {
     let mut buffer = FrameBuf::new();
     // a feed of one frame at most, the call at which its reader fails, and the ending
-    for (text, fails_at, ending) in [
+    for &(text, fails_at, ending) in &[
         ("", None, Ok(Next::End)),
         (RECORD, None, Ok(Next::End)),
         ("100000000000 00", None, Err(SourceFault::Truncated)),
@@ -124,10 +125,10 @@ fn a_source_that_has_ended_reads_no_more(rt: HostRuntime) -> Result<(), Fail> {
         if answer == Ok(Next::Frame) {
             answer = source.next(&mut buffer);
         }
-        assert_eq!(rt; answer, ending, "{text}");
+        assert_same!(rt; answer, ending, "{text}");
         let reads = calls.get();
-        assert_eq!(rt; answers(&mut source, &mut buffer), [ending; 3]);
-        assert_eq!(rt; calls.get(), reads, "{text}");
+        assert_same!(rt; answers(&mut source, &mut buffer), [ending; 3]);
+        assert_same!(rt; calls.get(), reads, "{text}");
     }
     Ok(())
 }
@@ -137,7 +138,7 @@ fn a_failing_output_is_a_fault_of_the_device(rt: HostRuntime) -> Result<(), Fail
     let arp: [u8; 18] = bytes(rt.alloc(), ARP)?;
     let frame = Frame::new(16, false, false, &arp).ok_or("a frame")?;
     let device = Err(FeedWriteFault::Device);
-    for (room, fails, want) in [
+    for &(room, fails, want) in &[
         (27, true, Ok(())),
         (26, true, device),
         (26, false, device),
@@ -145,7 +146,7 @@ fn a_failing_output_is_a_fault_of_the_device(rt: HostRuntime) -> Result<(), Fail
         (0, false, device),
     ] {
         let mut out = Full { room, fails };
-        assert_eq!(rt; write_feed(&frame, &mut out), want, "room for {room} bytes");
+        assert_same!(rt; write_feed(&frame, &mut out), want, "room for {room} bytes");
     }
     Ok(())
 }
@@ -184,10 +185,10 @@ fn a_long_feed_is_read_in_any_pieces(rt: HostRuntime) -> Result<(), Fail> {
         let mut buffer = FrameBuf::new();
         for at in 0..10_000 {
             let want = frame_at(at, &bytes).ok_or("a frame")?;
-            assert_eq!(rt; source.next(&mut buffer), Ok(Next::Frame));
-            assert_eq!(rt; buffer.frame(), Some(want), "frame {at}, pieces of {most}");
+            assert_same!(rt; source.next(&mut buffer), Ok(Next::Frame));
+            assert_same!(rt; buffer.frame(), Some(want), "frame {at}, pieces of {most}");
         }
-        assert_eq!(rt; answers(&mut source, &mut buffer), [Ok(Next::End); 3]);
+        assert_same!(rt; answers(&mut source, &mut buffer), [Ok(Next::End); 3]);
     }
     Ok(())
 }

@@ -1,5 +1,6 @@
 //! What packets hold.
 use super::*;
+use samples::assert_same;
 
 /// A program's record: one instruction, version 0 of channel 1 from frame 0 on.
 const PROGRAM: &str = "00000000 43425052 0100 0100 00000000 0000000000000000 0100 0000 \
@@ -65,7 +66,7 @@ fn classified(
     );
     let header = header.ok_or("a header")?;
     if header.packet_len as usize != HEADER_LEN + body.len() {
-        return Err("a packet of this length")?;
+        return Err("a packet of this length".into());
     }
     Ok(classify(&header, body))
 }
@@ -102,24 +103,24 @@ const HELD: [(Head, &str, What); 8] = [
 
 #[test]
 fn frames_and_records_are_told(rt: HostRuntime) -> Result<(), Fail> {
-    for (head, text, what) in HELD {
+    for &(head, text, what) in &HELD {
         let found = class_of(rt.alloc(), head, text)?;
-        assert_eq!(rt; found, Ok(what), "{head:?}, {text}");
+        assert_same!(rt; found, Ok(what), "{head:?}, {text}");
     }
     Ok(())
 }
 
 #[test]
 fn the_sum_of_frames_and_records_is_judged(rt: HostRuntime) -> Result<(), Fail> {
-    for ((channel, flags, kind), text, what) in HELD {
-        for added in ADDED {
+    for &((channel, flags, kind), text, what) in &HELD {
+        for &added in &ADDED {
             let head = (channel, flags | 0x03, kind);
             let found = class_with_sum(rt.alloc(), head, text, added)?;
             let want = match added {
                 0 => Ok(what),
                 _ => Err(ClassFault::DataChecksum),
             };
-            assert_eq!(rt; found, want, "{head:?}, {text}, {added}");
+            assert_same!(rt; found, want, "{head:?}, {text}, {added}");
         }
     }
     Ok(())
@@ -153,13 +154,13 @@ const OTHERS: [(Head, &str); 17] = [
 
 #[test]
 fn other_packets_are_passed_over(rt: HostRuntime) -> Result<(), Fail> {
-    for ((channel, flags, kind), text) in OTHERS {
+    for &((channel, flags, kind), text) in &OTHERS {
         let what = class_of(rt.alloc(), (channel, flags, kind), text)?;
-        assert_eq!(rt; what, Ok(What::Other), "{channel}, {flags}, {kind}, {text}");
-        for added in ADDED {
+        assert_same!(rt; what, Ok(What::Other), "{channel}, {flags}, {kind}, {text}");
+        for &added in &ADDED {
             let head = (channel, flags | 0x03, kind);
             let what = class_with_sum(rt.alloc(), head, text, added)?;
-            assert_eq!(rt; what, Ok(What::Other), "{head:?}, {text}, {added}");
+            assert_same!(rt; what, Ok(What::Other), "{head:?}, {text}, {added}");
         }
     }
     Ok(())
@@ -168,7 +169,7 @@ fn other_packets_are_passed_over(rt: HostRuntime) -> Result<(), Fail> {
 /// One of the two flags alone reports a checksum of 8 or of 16 bits.
 #[test]
 fn other_checksums_are_passed_over(rt: HostRuntime) -> Result<(), Fail> {
-    for (channel, kind, text) in [
+    for &(channel, kind, text) in &[
         (1, 0x68, BODY),
         (0, 0x00, END),
         // data that would be faults
@@ -178,10 +179,10 @@ fn other_checksums_are_passed_over(rt: HostRuntime) -> Result<(), Fail> {
         for flags in [0x01, 0x02, 0x3d, 0x3e] {
             let head = (channel, flags, kind);
             let what = class_of(rt.alloc(), head, text)?;
-            assert_eq!(rt; what, Ok(What::Other), "{head:?}, {text}");
-            for added in ADDED {
+            assert_same!(rt; what, Ok(What::Other), "{head:?}, {text}");
+            for &added in &ADDED {
                 let what = class_with_sum(rt.alloc(), head, text, added)?;
-                assert_eq!(rt; what, Ok(What::Other), "{head:?}, {text}, {added}");
+                assert_same!(rt; what, Ok(What::Other), "{head:?}, {text}, {added}");
             }
         }
     }
@@ -207,24 +208,24 @@ const BAD_BODIES: [(Head, &str); 10] = [
 
 #[test]
 fn a_bad_body_is_a_fault(rt: HostRuntime) -> Result<(), Fail> {
-    for (head, text) in BAD_BODIES {
+    for &(head, text) in &BAD_BODIES {
         let found = class_of(rt.alloc(), head, text)?;
-        assert_eq!(rt; found, Err(ClassFault::Body), "{head:?}, {text}");
+        assert_same!(rt; found, Err(ClassFault::Body), "{head:?}, {text}");
     }
     Ok(())
 }
 
 #[test]
 fn the_sum_is_judged_before_the_body(rt: HostRuntime) -> Result<(), Fail> {
-    for ((channel, flags, kind), text) in BAD_BODIES {
-        for added in ADDED {
+    for &((channel, flags, kind), text) in &BAD_BODIES {
+        for &added in &ADDED {
             let head = (channel, flags | 0x03, kind);
             let found = class_with_sum(rt.alloc(), head, text, added)?;
             let want = match added {
                 0 => ClassFault::Body,
                 _ => ClassFault::DataChecksum,
             };
-            assert_eq!(rt; found, Err(want), "{head:?}, {text}, {added}");
+            assert_same!(rt; found, Err(want), "{head:?}, {text}, {added}");
         }
     }
     Ok(())
@@ -233,7 +234,7 @@ fn the_sum_is_judged_before_the_body(rt: HostRuntime) -> Result<(), Fail> {
 /// The packets of a recording with data checksums, whose sums are written out.
 #[test]
 fn packets_with_their_sums_are_told(rt: HostRuntime) -> Result<(), Fail> {
-    for (head, text, data_len, what) in [
+    for &(head, text, data_len, what) in &[
         (
             (0, 0x03, 0x00),
             "00000000 43425052 0100 0100 00000000 0000000000000000 0100 0000 0600000000000000 \
@@ -257,7 +258,7 @@ fn packets_with_their_sums_are_told(rt: HostRuntime) -> Result<(), Fail> {
     ] {
         let body = all_bytes(rt.alloc(), text)?;
         let found = classified(head, data_len, body.as_slice())?;
-        assert_eq!(rt; found, Ok(what), "{text}");
+        assert_same!(rt; found, Ok(what), "{text}");
     }
     Ok(())
 }

@@ -1,24 +1,25 @@
 //! Bodies of Ethernet data, written and read.
 use super::*;
+use samples::assert_same;
 
 #[test]
 fn a_limit_is_16424_to_524284_bytes(rt: HostRuntime) {
-    let table = [
+    let table = &[
         (16_423, None),
         (16_424, Some(16_424)),
         (524_284, Some(524_284)),
         (524_285, None),
         (524_288, None),
     ];
-    for (bytes, limit) in table {
-        assert_eq!(rt; Limit::new(bytes).map(Limit::get), limit);
+    for &(bytes, limit) in table {
+        assert_same!(rt; Limit::new(bytes).map(Limit::get), limit);
     }
 }
 
 #[test]
 fn a_body_of_one_frame_is_written(rt: HostRuntime) -> Result<(), Fail> {
     let arp: [u8; 19] = bytes(rt.alloc(), ARP)?;
-    for (len, text, sum) in [(18, BODY, 0xb6a4_daec), (19, ODD_BODY, 0xb789_daed)] {
+    for &(len, text, sum) in &[(18, BODY, 0xb6a4_daec), (19, ODD_BODY, 0xb789_daed)] {
         let frame = Frame::new(16, false, false, &arp[..len]).ok_or("a frame in range")?;
         let limit = Limit::new(MIN_LIMIT).ok_or("the least limit")?;
         let mut builder = DataBuilder::with_limit(rt.alloc(), limit, 0, 3)?;
@@ -26,10 +27,10 @@ fn a_body_of_one_frame_is_written(rt: HostRuntime) -> Result<(), Fail> {
         assert!(rt; builder.fits(len));
         builder.push(&frame);
         let body = builder.seal();
-        assert_eq!(rt; body.bytes(), all_bytes(rt.alloc(), text)?.as_slice());
-        assert_eq!(rt; body.counter(), 16);
-        assert_eq!(rt; body.count(), 1);
-        assert_eq!(rt; body.sum(), sum);
+        assert_same!(rt; body.bytes(), all_bytes(rt.alloc(), text)?.as_slice());
+        assert_same!(rt; body.counter(), 16);
+        assert_same!(rt; body.count(), 1);
+        assert_same!(rt; body.sum(), sum);
     }
     Ok(())
 }
@@ -46,11 +47,11 @@ fn the_longest_frame_fills_the_least_packet(rt: HostRuntime) -> Result<(), Fail>
         assert!(rt; !builder.fits(len), "{len} bytes");
     }
     let body = builder.seal();
-    assert_eq!(rt; body.bytes().len(), 16_400);
+    assert_same!(rt; body.bytes().len(), 16_400);
     let header = Header::new(1, 16_428, 16_400, 8, 0, 3, ETHERNET_DATA, 16).ok_or(
         "a header in range",
     )?;
-    assert_eq!(rt; Header::decode(&header.encode()), Ok(header));
+    assert_same!(rt; Header::decode(&header.encode()), Ok(header));
     Ok(())
 }
 
@@ -69,15 +70,15 @@ fn the_greatest_packet_is_filled_with_every_bit_of_net_and_speed(
     assert!(rt; !builder.fits(18));
     assert!(rt; !builder.is_empty());
     let body = builder.seal();
-    assert_eq!(rt;
+    assert_same!(rt;
         (body.count(), body.counter()),
         (17_475, 281_474_976_710_655)
     );
     let frames = decode_frames(body.bytes())?;
-    assert_eq!(rt; frames.count(), 17_475);
+    assert_same!(rt; frames.count(), 17_475);
     let last = frames.frame_at(17_474).ok_or("the last frame")?;
-    assert_eq!(rt; (last.net, last.speed, last.content), (255, 15, 0));
-    assert_eq!(rt;
+    assert_same!(rt; (last.net, last.speed, last.content), (255, 15, 0));
+    assert_same!(rt;
         (last.counter, last.crc_error, last.frame_error),
         (frame.counter, true, true)
     );
@@ -95,21 +96,21 @@ fn a_body_of_one_frame_is_read(rt: HostRuntime) -> Result<(), Fail> {
     let arp: [u8; 19] = bytes(rt.alloc(), ARP)?;
     let even: [u8; 34] = bytes(rt.alloc(), BODY)?;
     let odd: [u8; 36] = bytes(rt.alloc(), ODD_BODY)?;
-    let table = [
+    let table = &[
         (even.as_slice(), 18),
         (odd.as_slice(), 19),
         (&odd[..35], 19),
     ];
-    for (body, len) in table {
+    for &(body, len) in table {
         let frames = decode_frames(body)?;
-        assert_eq!(rt; frames.count(), 1);
+        assert_same!(rt; frames.count(), 1);
         let frame = frames.frame_at(0).ok_or("a frame")?;
-        assert_eq!(rt; (frame.net, frame.speed, frame.content), (0, 3, 0));
-        assert_eq!(rt; frame.frame(), Frame::new(16, false, false, &arp[..len]));
-        assert_eq!(rt; frames.frame_at(1), None);
+        assert_same!(rt; (frame.net, frame.speed, frame.content), (0, 3, 0));
+        assert_same!(rt; frame.frame(), Frame::new(16, false, false, &arp[..len]));
+        assert_same!(rt; frames.frame_at(1), None);
         let mut walk = frames.walk();
-        assert_eq!(rt; walk.next(), Some(frame));
-        assert_eq!(rt; walk.next(), None);
+        assert_same!(rt; walk.next(), Some(frame));
+        assert_same!(rt; walk.next(), None);
     }
     Ok(())
 }
@@ -122,15 +123,15 @@ fn a_body_of_65535_frames_is_read(rt: HostRuntime) -> Result<(), Fail> {
         body.extend_from_slice(&[low, high, 0, 0, 0, 0, 0, 0, 0, 0, 7, 3])?;
     }
     let frames = decode_frames(&body)?;
-    assert_eq!(rt; frames.count(), 65_535);
+    assert_same!(rt; frames.count(), 65_535);
     for (at, frame) in frames.walk().enumerate() {
-        assert_eq!(rt; frame.counter, at as u64);
+        assert_same!(rt; frame.counter, at as u64);
     }
     let last = frames.walk().last().ok_or("the last frame")?;
-    assert_eq!(rt; (last.counter, last.net, last.speed), (65_534, 7, 3));
-    assert_eq!(rt; last.bytes.len(), 0);
-    assert_eq!(rt; frames.frame_at(65_534), Some(last));
-    assert_eq!(rt; frames.frame_at(65_535), None);
+    assert_same!(rt; (last.counter, last.net, last.speed), (65_534, 7, 3));
+    assert_same!(rt; last.bytes.len(), 0);
+    assert_same!(rt; frames.frame_at(65_534), Some(last));
+    assert_same!(rt; frames.frame_at(65_535), None);
     body.push(0)?;
     assert!(rt; has_fault(&body, BodyFault::LeftOver));
     body.truncate(4 + 12 * 65_534);
@@ -141,7 +142,7 @@ fn a_body_of_65535_frames_is_read(rt: HostRuntime) -> Result<(), Fail> {
 #[test]
 fn unused_bits_of_a_body_make_no_difference(rt: HostRuntime) -> Result<(), Fail> {
     let odd: [u8; 36] = bytes(rt.alloc(), ODD_BODY)?;
-    for (at, value) in [
+    for &(at, value) in &[
         (2, 0xff),
         (3, 0x0f),
         (10, 0xff),
@@ -151,14 +152,14 @@ fn unused_bits_of_a_body_make_no_difference(rt: HostRuntime) -> Result<(), Fail>
     ] {
         let mut body: [u8; 36] = bytes(rt.alloc(), ODD_BODY)?;
         put(&mut body, at, value);
-        assert_eq!(rt; first_frame(&body)?, first_frame(&odd)?, "byte {at}");
+        assert_same!(rt; first_frame(&body)?, first_frame(&odd)?, "byte {at}");
     }
     Ok(())
 }
 
 #[test]
 fn a_frame_is_read_with_its_marks_speed_and_content(rt: HostRuntime) -> Result<(), Fail> {
-    for (top_byte, fields) in [
+    for &(top_byte, fields) in &[
         (0x83, (true, false, 0, 3)),
         (0x43, (false, true, 0, 3)),
         (0x1f, (false, false, 1, 15)),
@@ -174,9 +175,9 @@ fn a_frame_is_read_with_its_marks_speed_and_content(rt: HostRuntime) -> Result<(
             frame.content,
             frame.speed,
         );
-        assert_eq!(rt; read, fields);
-        assert_eq!(rt; frame.net, 7);
-        assert_eq!(rt; frame.frame().is_some(), frame.content == 0);
+        assert_same!(rt; read, fields);
+        assert_same!(rt; frame.net, 7);
+        assert_same!(rt; frame.frame().is_some(), frame.content == 0);
     }
     Ok(())
 }
@@ -187,8 +188,8 @@ fn a_frame_of_17_bytes_is_read_as_no_whole_frame(rt: HostRuntime) -> Result<(), 
     let mut body: [u8; 34] = bytes(rt.alloc(), BODY)?;
     put(&mut body, 12, 17);
     let frame = first_frame(&body)?;
-    assert_eq!(rt; frame.bytes, &arp[..17]);
-    assert_eq!(rt; frame.frame(), None);
+    assert_same!(rt; frame.bytes, &arp[..17]);
+    assert_same!(rt; frame.frame(), None);
     Ok(())
 }
 
@@ -199,7 +200,7 @@ fn has_fault(body: &[u8], fault: BodyFault) -> bool {
 
 #[test]
 fn each_bad_body_has_its_fault(rt: HostRuntime) -> Result<(), Fail> {
-    for (text, fault) in [
+    for &(text, fault) in &[
         ("010000", BodyFault::Short),
         ("000010", BodyFault::Short),
         ("01000010", BodyFault::Format),
@@ -243,10 +244,10 @@ fn what_a_builder_sealed_is_read(rt: HostRuntime) -> Result<(), Fail> {
     let mut walk = frames.walk();
     for frame in [odd, even, odd] {
         let read = walk.next().ok_or("a frame")?;
-        assert_eq!(rt; (read.net, read.speed), (7, 5));
-        assert_eq!(rt; read.frame(), Some(frame));
+        assert_same!(rt; (read.net, read.speed), (7, 5));
+        assert_same!(rt; read.frame(), Some(frame));
     }
-    assert_eq!(rt; walk.next(), None);
+    assert_same!(rt; walk.next(), None);
     Ok(())
 }
 
@@ -255,15 +256,15 @@ fn a_buffer_that_comes_back_has_the_next_frames_alone(rt: HostRuntime) -> Result
     let arp: [u8; 19] = bytes(rt.alloc(), ARP)?;
     let odd = "01000000 010000000000 0000 13000705 ffffffffffff 020000000001 0806 a1b2c3d4 e5 00";
     let even = "01000000 020000000000 0000 1200ff0f ffffffffffff 020000000001 0806 a1b2c3d4";
-    let bodies = [
+    let bodies = &[
         (7, 5, 1, 19, odd, 0xb990_dade),
         (255, 15, 2, 18, even, 0xc3a3_dade),
         (0, 3, 16, 18, BODY, 0xb6a4_daec),
     ];
-    for (most, fits_another) in [(16_424, false), (524_284, true)] {
+    for &(most, fits_another) in &[(16_424, false), (524_284, true)] {
         let limit = Limit::new(most).ok_or("a limit in range")?;
         let mut blank = Blank::with_limit(rt.alloc(), limit)?;
-        for (net, speed, counter, len, text, sum) in bodies {
+        for &(net, speed, counter, len, text, sum) in bodies {
             let frame = Frame::new(counter, false, false, &arp[..len]).ok_or("a frame in range")?;
             assert!(rt; speed <= MAX_SPEED);
             let mut builder = DataBuilder::over(blank, net, speed);
@@ -271,15 +272,15 @@ fn a_buffer_that_comes_back_has_the_next_frames_alone(rt: HostRuntime) -> Result
             assert!(rt; builder.fits(16_383));
             assert!(rt; builder.fits(len));
             builder.push(&frame);
-            assert_eq!(rt; builder.fits(16_383), fits_another, "{most}");
+            assert_same!(rt; builder.fits(16_383), fits_another, "{most}");
             let body = builder.seal();
-            assert_eq!(rt; body.bytes(), all_bytes(rt.alloc(), text)?.as_slice());
-            assert_eq!(rt;
+            assert_same!(rt; body.bytes(), all_bytes(rt.alloc(), text)?.as_slice());
+            assert_same!(rt;
                 (body.counter(), body.count(), body.sum()),
                 (counter, 1, sum)
             );
             blank = body.reuse();
-            assert_eq!(rt; blank.limit(), limit);
+            assert_same!(rt; blank.limit(), limit);
         }
     }
     Ok(())

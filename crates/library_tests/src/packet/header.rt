@@ -1,5 +1,6 @@
 //! Packet headers.
 use super::*;
+use samples::assert_same;
 
 /// The header of a packet of Ethernet data with one frame of 18 bytes at counter 16.
 const HEADER: &str = "25eb 0100 3c000000 22000000 08 00 00 68 100000000000 9c53";
@@ -36,7 +37,7 @@ fn headers_are_written_and_read(rt: HostRuntime) -> Result<(), Fail> {
         bytes: "25eb 0000 3c000000 24000000 08 00 00 00 100000000000 9deb",
         ..frames
     };
-    for row in [
+    for &row in &[
         frames,
         Row {
             flags: 0x80,
@@ -90,8 +91,8 @@ fn headers_are_written_and_read(rt: HostRuntime) -> Result<(), Fail> {
         )
         .ok_or("a header in range")?;
         let spelled = bytes(rt.alloc(), row.bytes)?;
-        assert_eq!(rt; header.encode(), spelled);
-        assert_eq!(rt; Header::decode(&spelled), Ok(header));
+        assert_same!(rt; header.encode(), spelled);
+        assert_same!(rt; Header::decode(&spelled), Ok(header));
     }
     Ok(())
 }
@@ -108,7 +109,7 @@ fn each_changed_bit_of_a_header_is_refused(rt: HostRuntime) -> Result<(), Fail> 
             } else {
                 HeaderFault::Checksum
             };
-            assert_eq!(rt;
+            assert_same!(rt;
                 Header::decode(&changed),
                 Err(fault),
                 "byte {at}, bit {bit}"
@@ -120,13 +121,13 @@ fn each_changed_bit_of_a_header_is_refused(rt: HostRuntime) -> Result<(), Fail> 
 
 #[test]
 fn a_packet_of_an_odd_frame_may_leave_its_filler_out(rt: HostRuntime) -> Result<(), Fail> {
-    for (data_len, sum) in [(34, 0x539c), (35, 0x539d), (36, 0x539e)] {
+    for &(data_len, sum) in &[(34, 0x539c), (35, 0x539d), (36, 0x539e)] {
         let header = Header::new(1, 60, data_len, 8, 0, 0, ETHERNET_DATA, 16).ok_or(
             "a header in range",
         )?;
         let spelled = header.encode();
-        assert_eq!(rt; u16::from_le_bytes([spelled[22], spelled[23]]), sum);
-        assert_eq!(rt; Header::decode(&spelled), Ok(header));
+        assert_same!(rt; u16::from_le_bytes([spelled[22], spelled[23]]), sum);
+        assert_same!(rt; Header::decode(&spelled), Ok(header));
     }
     Ok(())
 }
@@ -151,13 +152,13 @@ const CHECKED: [(u16, u32, u32, u8, u8, u64, u16); 10] = [
 
 #[test]
 fn headers_with_a_data_checksum_are_written_and_read(rt: HostRuntime) -> Result<(), Fail> {
-    for (channel, packet_len, data_len, sequence, kind, counter, sum) in CHECKED {
+    for &(channel, packet_len, data_len, sequence, kind, counter, sum) in &CHECKED {
         let header = Header::new(
             channel, packet_len, data_len, 8, sequence, 3, kind, counter,
         ).ok_or("a header in range")?;
         let spelled = header.encode();
-        assert_eq!(rt; u16::from_le_bytes([spelled[22], spelled[23]]), sum);
-        assert_eq!(rt; Header::decode(&spelled), Ok(header));
+        assert_same!(rt; u16::from_le_bytes([spelled[22], spelled[23]]), sum);
+        assert_same!(rt; Header::decode(&spelled), Ok(header));
     }
     Ok(())
 }
@@ -211,11 +212,11 @@ const NEAR_THE_END: [(&str, (u8, u32, u32), bool); 8] = [
 
 #[test]
 fn data_end_four_bytes_before_a_packet_with_a_data_checksum(rt: HostRuntime) -> Result<(), Fail> {
-    for (text, (flags, packet_len, data_len), fits) in NEAR_THE_END {
+    for &(text, (flags, packet_len, data_len), fits) in &NEAR_THE_END {
         let made = Header::new(1, packet_len, data_len, 8, 0, flags, 1, 0);
-        assert_eq!(rt; made.is_some(), fits, "{text}");
+        assert_same!(rt; made.is_some(), fits, "{text}");
         let read = Header::decode(&bytes(rt.alloc(), text)?);
-        assert_eq!(rt; read, made.ok_or(HeaderFault::Length), "{text}");
+        assert_same!(rt; read, made.ok_or(HeaderFault::Length), "{text}");
     }
     Ok(())
 }

@@ -1,5 +1,6 @@
 //! Whole packets, as they are written.
 use super::*;
+use samples::assert_same;
 
 /// The packets of a frame of 18 bytes and of one of 19, with their data checksums.
 const CHECKED: [(usize, &str); 2] = [
@@ -24,7 +25,7 @@ const PLAIN: &str = "25eb 0100 3c000000 22000000 08 00 00 68 100000000000 9c53 \
 #[test]
 fn a_packet_is_written_with_its_filler_and_its_sum(rt: HostRuntime) -> Result<(), Fail> {
     let arp: [u8; 19] = bytes(rt.alloc(), ARP)?;
-    for (len, text) in CHECKED {
+    for &(len, text) in &CHECKED {
         let frame = Frame::new(16, false, false, &arp[..len]).ok_or("a frame in range")?;
         let limit = Limit::new(MIN_LIMIT).ok_or("the least limit")?;
         let mut builder = DataBuilder::with_limit(rt.alloc(), limit, 0, 3)?;
@@ -46,8 +47,8 @@ fn a_packet_is_written_with_its_filler_and_its_sum(rt: HostRuntime) -> Result<()
         .ok_or("a header in range")?;
         let mut out = Vec::new(rt.alloc());
         let written = write_packet(&mut out, &header, body.bytes(), body.sum());
-        assert_eq!(rt; written, Ok(()));
-        assert_eq!(rt; out, all_bytes(rt.alloc(), text)?);
+        assert_same!(rt; written, Ok(()));
+        assert_same!(rt; out, all_bytes(rt.alloc(), text)?);
     }
     Ok(())
 }
@@ -57,10 +58,10 @@ fn a_packet_is_written_by_its_parts(rt: HostRuntime) -> Result<(), Fail> {
     let body: [u8; 34] = bytes(rt.alloc(), BODY)?;
     let header = Header::new(1, 60, 34, 8, 0, 0, ETHERNET_DATA, 16).ok_or("a header in range")?;
     let mut out = Vec::new(rt.alloc());
-    assert_eq!(rt;
+    assert_same!(rt;
         write_parts(&mut out, &header.encode(), &body, &[0, 0]),
         Ok(())
     );
-    assert_eq!(rt; out, all_bytes(rt.alloc(), PLAIN)?);
+    assert_same!(rt; out, all_bytes(rt.alloc(), PLAIN)?);
     Ok(())
 }

@@ -1,5 +1,6 @@
 //! The recording's own records, written and read.
 use super::*;
+use samples::assert_same;
 
 /// A program that keeps nothing, as version 0 of channel 1 from frame 0 on.
 const REJECTING: &str = "00000000 43425052 0100 0100 00000000 0000000000000000 0100 0000 \
@@ -14,33 +15,33 @@ const END: &str = "00000000 43425052 0200 0100 0200000000000000 0100000000000000
 
 #[test]
 fn records_are_written(rt: HostRuntime) -> Result<(), Fail> {
-    for (version, first, listing, text) in [
+    for &(version, first, listing, text) in &[
         (0, 0, "1,6 0 0 0,", REJECTING),
         (1, 1, "1,6 0 0 1,", ACCEPTING),
     ] {
         let program = verify(parse_listing(rt.alloc(), listing)?)?;
         let body = program_body(1, version, first, &program);
-        assert_eq!(rt; body.as_slice(), all_bytes(rt.alloc(), text)?.as_slice());
+        assert_same!(rt; body.as_slice(), all_bytes(rt.alloc(), text)?.as_slice());
     }
-    assert_eq!(rt; end_body(1, 2, 1), bytes(rt.alloc(), END)?);
+    assert_same!(rt; end_body(1, 2, 1), bytes(rt.alloc(), END)?);
     Ok(())
 }
 
 #[test]
 fn the_record_of_a_program_is_read(rt: HostRuntime) -> Result<(), Fail> {
-    for (text, number) in [(REJECTING, 0), (ACCEPTING, 1)] {
+    for &(text, number) in &[(REJECTING, 0), (ACCEPTING, 1)] {
         let body = all_bytes(rt.alloc(), text)?;
         let Some(Record::Program(program)) = decode_record(&body)? else {
-            return Err("a program's record")?;
+            return Err("a program's record".into());
         };
-        assert_eq!(rt;
+        assert_same!(rt;
             (program.channel, program.version, program.count),
             (1, number, 1)
         );
-        assert_eq!(rt; program.first, u64::from(number));
+        assert_same!(rt; program.first, u64::from(number));
         let insn = Insn::from_bytes([6, 0, 0, 0, number as u8, 0, 0, 0]);
-        assert_eq!(rt; program.insn_at(0), Some(insn));
-        assert_eq!(rt; program.insn_at(1), None);
+        assert_same!(rt; program.insn_at(0), Some(insn));
+        assert_same!(rt; program.insn_at(1), None);
     }
     Ok(())
 }
@@ -62,19 +63,19 @@ fn the_record_of_the_longest_program_is_written_and_read(rt: HostRuntime) -> Res
         insns.push(returns(k))?;
     }
     let body = program_body(1, 0, 0, &verify(insns)?);
-    assert_eq!(rt; body.len(), 32_796);
+    assert_same!(rt; body.len(), 32_796);
     let head = "00000000 43425052 0100 0100 00000000 0000000000000000 0010 0000";
     let head = all_bytes(rt.alloc(), head)?;
-    assert_eq!(rt; body.get(..28), Some(head.as_slice()));
+    assert_same!(rt; body.get(..28), Some(head.as_slice()));
     let last = "06000000 ff0f0000";
     let last = all_bytes(rt.alloc(), last)?;
-    assert_eq!(rt; body.get(32_788..), Some(last.as_slice()));
+    assert_same!(rt; body.get(32_788..), Some(last.as_slice()));
     let Some(Record::Program(program)) = decode_record(&body)? else {
-        return Err("a program's record")?;
+        return Err("a program's record".into());
     };
-    assert_eq!(rt; program.count, 4_096);
-    assert_eq!(rt; program.insn_at(4_095), Some(returns(4_095)));
-    assert_eq!(rt; program.insn_at(4_096), None);
+    assert_same!(rt; program.count, 4_096);
+    assert_same!(rt; program.insn_at(4_095), Some(returns(4_095)));
+    assert_same!(rt; program.insn_at(4_096), None);
     Ok(())
 }
 
@@ -86,13 +87,13 @@ fn a_record_of_65535_instructions_is_read(rt: HostRuntime) -> Result<(), Fail> {
         body.extend_from_slice(&returns(k).to_bytes())?;
     }
     let Some(Record::Program(program)) = decode_record(&body)? else {
-        return Err("a program's record")?;
+        return Err("a program's record".into());
     };
-    assert_eq!(rt; program.count, 65_535);
-    assert_eq!(rt; program.insn_at(65_534), Some(returns(65_534)));
-    assert_eq!(rt; program.insn_at(65_535), None);
+    assert_same!(rt; program.count, 65_535);
+    assert_same!(rt; program.insn_at(65_534), Some(returns(65_534)));
+    assert_same!(rt; program.insn_at(65_535), None);
     body.push(0)?;
-    assert_eq!(rt; decode_record(&body), Err(RecordFault::Length));
+    assert_same!(rt; decode_record(&body), Err(RecordFault::Length));
     Ok(())
 }
 
@@ -104,7 +105,7 @@ fn the_record_of_an_end_is_read(rt: HostRuntime) -> Result<(), Fail> {
         offered: 2,
         kept: 1,
     };
-    assert_eq!(rt; decode_record(&body), Ok(Some(end)));
+    assert_same!(rt; decode_record(&body), Ok(Some(end)));
     Ok(())
 }
 
@@ -115,7 +116,7 @@ fn unused_bytes_of_a_record_make_no_difference(rt: HostRuntime) -> Result<(), Fa
         let mut body: [u8; 36] = bytes(rt.alloc(), REJECTING)?;
         put(&mut body, at, 0xff);
         let said = decode_record(&rejecting);
-        assert_eq!(rt; decode_record(&body), said, "byte {at}");
+        assert_same!(rt; decode_record(&body), said, "byte {at}");
     }
     Ok(())
 }
@@ -124,14 +125,14 @@ fn unused_bytes_of_a_record_make_no_difference(rt: HostRuntime) -> Result<(), Fa
 fn bytes_without_the_tag_are_no_record(rt: HostRuntime) -> Result<(), Fail> {
     for text in ["00000000 43425053 0100 0100", "00000000 434250"] {
         let body = all_bytes(rt.alloc(), text)?;
-        assert_eq!(rt; decode_record(&body), Ok(None), "{text}");
+        assert_same!(rt; decode_record(&body), Ok(None), "{text}");
     }
     Ok(())
 }
 
 #[test]
 fn each_bad_record_has_its_fault(rt: HostRuntime) -> Result<(), Fail> {
-    for (text, fault) in [
+    for &(text, fault) in &[
         ("00000000 43425052 0300 0100", RecordFault::Kind),
         ("00000000 43425052 0100 0000", RecordFault::Channel),
         ("00000000 43425052 0300 0000", RecordFault::Kind),
@@ -151,7 +152,7 @@ fn each_bad_record_has_its_fault(rt: HostRuntime) -> Result<(), Fail> {
         ),
     ] {
         let body = all_bytes(rt.alloc(), text)?;
-        assert_eq!(rt; decode_record(&body), Err(fault), "{text}");
+        assert_same!(rt; decode_record(&body), Err(fault), "{text}");
     }
     Ok(())
 }

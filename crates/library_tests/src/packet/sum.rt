@@ -1,5 +1,6 @@
 //! The sums of data checksums.
 use super::*;
+use samples::assert_same;
 
 /// Bodies, and the four bytes of their sums.
 const SUMS: [(&str, &str); 16] = [
@@ -50,9 +51,9 @@ const SUMS: [(&str, &str); 16] = [
 
 #[test]
 fn a_sum_is_of_the_words_with_their_filler(rt: HostRuntime) -> Result<(), Fail> {
-    for (body, sum) in SUMS {
+    for &(body, sum) in &SUMS {
         let found = body_sum(all_bytes(rt.alloc(), body)?.as_slice());
-        assert_eq!(rt; found.to_le_bytes(), bytes::<4>(rt.alloc(), sum)?, "{body}");
+        assert_same!(rt; found.to_le_bytes(), bytes::<4>(rt.alloc(), sum)?, "{body}");
     }
     Ok(())
 }

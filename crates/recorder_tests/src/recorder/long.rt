@@ -10,7 +10,7 @@ use eth_frame::MAX_FRAME_LEN;
 use rec_reader::{Recording, frames_of, read_recording};
 use rec_run::*;
 use rec_writer::WriteFault;
-use samples::program;
+use samples::{assert_same, program};
 use std::alloc::Global;
 use std::sync::Arc;
 use std::test::Fail;
@@ -64,7 +64,7 @@ fn one_stage(alloc: Global, feed: Vec<u8>, needs: usize) -> Result<Vec<Stage>, F
 /// The counters of a channel's frames in a recording, in order, if each is over the one before.
 fn rising_counters(alloc: Global, bytes: &[u8], channel: u16) -> Result<Option<usize>, Fail> {
     let Ok(recording) = read_recording(alloc, bytes) else {
-        return Err("a recording that is read")?;
+        return Err("a recording that is read".into());
     };
     let frames = frames_of(alloc, &recording, channel)?;
     let mut last = None;
@@ -92,7 +92,17 @@ fn varied_frame(alloc: Global, number: u16) -> Result<Vec<u8>, Fail>
 
 /// The marks of the frame of a number, as a feed has them.
 fn varied_marks(number: u16) -> u8 {
-    u8::from(number % 5 == 0) + 2 * u8::from(number % 7 == 0)
+    marks_of(number % 5 == 0, number % 7 == 0)
+}
+
+/// The marks of a frame with or without an error of its check sequence, and another error.
+fn marks_of(crc_error: bool, frame_error: bool) -> u8 {
+    match (crc_error, frame_error) {
+        (false, false) => 0,
+        (true, false) => 1,
+        (false, true) => 2,
+        (true, true) => 3,
+    }
 }
 
 /// The feed of the frames of all numbers. A frame's counter is its number.
@@ -125,7 +135,7 @@ fn accepted_numbers(alloc: Global, listing: &str) -> Result<Vec<u16>, Fail> {
 /// Whether a frame that was read is the one of a number.
 fn is_varied(alloc: Global, read: &ReadFrame<'_>, number: u16) -> Result<bool, Fail> {
     let bytes = varied_frame(alloc, number)?;
-    let marks = u8::from(read.crc_error) + 2 * u8::from(read.frame_error);
+    let marks = marks_of(read.crc_error, read.frame_error);
     Ok(
         read.counter == u64::from(number)
             && marks == varied_marks(number)
@@ -173,12 +183,12 @@ fn many_channels_record_beside_many_changes(rt: HostRuntime) -> Result<(), Fail>
         .iter()
         .filter(|t| t.answer == Answer::VersionsFull)
         .count();
-    assert_eq!(rt; (told.len(), full), (1_100, 77));
+    assert_same!(rt; (told.len(), full), (1_100, 77));
     for report in done.report.channels.as_slice() {
         let found = rising_counters(alloc, done.out.output.bytes.as_slice(), report.channel)?;
-        assert_eq!(rt; found.map(|n| n as u64), Some(report.kept));
+        assert_same!(rt; found.map(|n| n as u64), Some(report.kept));
         let versions = if report.channel == 1 { 1_024 } else { 1 };
-        assert_eq!(rt; (report.versions.len(), report.offered), (versions, 1_000));
+        assert_same!(rt; (report.versions.len(), report.offered), (versions, 1_000));
     }
     Ok(())
 }
@@ -201,8 +211,8 @@ fn a_source_that_waits_holds_up_its_own_channel_alone(rt: HostRuntime) -> Result
     out.full_mark = WRITTEN;
     let done = recorded(&rt, alloc, jobs, 1, control, out)?;
     let bytes = done.out.output.bytes.as_slice();
-    assert_eq!(rt; rising_counters(alloc, bytes, 1)?, Some(3));
-    assert_eq!(rt; rising_counters(alloc, bytes, 2)?, Some(10_000));
+    assert_same!(rt; rising_counters(alloc, bytes, 1)?, Some(3));
+    assert_same!(rt; rising_counters(alloc, bytes, 2)?, Some(10_000));
     Ok(())
 }
 
@@ -213,7 +223,7 @@ fn each_channel_has_the_frames_that_its_filter_accepts(rt: HostRuntime) -> Resul
     let alloc = rt.alloc();
     let marks = fresh_marks(alloc)?;
     let mut jobs = Vec::new(alloc);
-    for (channel, listing) in SELECTING {
+    for &(channel, listing) in &SELECTING {
         let stages = one_stage(alloc, varied_feed(alloc)?, NONE)?;
         let source = source(Arc::try_clone(&marks)?, stages);
         jobs.push(job(alloc, channel, listing, source)?)?;
@@ -222,16 +232,16 @@ fn each_channel_has_the_frames_that_its_filter_accepts(rt: HostRuntime) -> Resul
     let out = output(alloc, marks, usize::MAX);
     let done = recorded(&rt, alloc, jobs, 1, control, out)?;
     let Ok(recording) = read_recording(alloc, done.out.output.bytes.as_slice()) else {
-        return Err("a recording that is read")?;
+        return Err("a recording that is read".into());
     };
-    assert_eq!(rt; done.report.pieces, recording.packets.len() as u64);
-    assert_eq!(rt; done.report.channels.len(), SELECTING.len());
+    assert_same!(rt; done.report.pieces, recording.packets.len() as u64);
+    assert_same!(rt; done.report.channels.len(), SELECTING.len());
     for (report, (channel, listing)) in done.report.channels.iter().zip(SELECTING) {
         let numbers = accepted_numbers(alloc, listing)?;
         let accepted = numbers.len() as u64;
         assert!(rt; (1_000..9_000).contains(&accepted), "{listing} selects");
         let counts = (report.channel, report.offered, report.kept);
-        assert_eq!(rt; counts, (channel, u64::from(VARIED), accepted));
+        assert_same!(rt; counts, (channel, u64::from(VARIED), accepted));
         assert!(rt; has_just(alloc, &recording, channel, numbers.as_slice())?);
     }
     Ok(())
@@ -248,13 +258,13 @@ fn a_failed_output_stops_the_workers(rt: HostRuntime) -> Result<(), Fail> {
     let control = fresh_script(alloc, Arc::try_clone(&marks)?, Vec::new(alloc), NONE);
     let out = output(alloc, marks, 1_000);
     if !jobs_ok(jobs.as_slice()) {
-        return Err("jobs that may be recorded")?;
+        return Err("jobs that may be recorded".into());
     }
     let Err(RunFault::Write { fault, report, .. }) = record(&rt, alloc, jobs, 1, 8, control, out)
     else {
-        return Err("a recording whose output failed")?;
+        return Err("a recording whose output failed".into());
     };
-    assert_eq!(rt;
+    assert_same!(rt;
         fault,
         WriteFault::Output {
             whole: 1,
@@ -262,6 +272,6 @@ fn a_failed_output_stops_the_workers(rt: HostRuntime) -> Result<(), Fail> {
         }
     );
     let ending = report.channels.first().map(|channel| channel.ending);
-    assert_eq!(rt; ending, Some(Ending::Stopped));
+    assert_same!(rt; ending, Some(Ending::Stopped));
     Ok(())
 }

@@ -5,7 +5,7 @@ ghost use Rattle.std.specs.Prelude.{◌≤◌};
 use super::parts::*;
 use super::runs::{plain, recorded};
 use rec_reader::{frames_of, read_recording};
-use samples::all_bytes;
+use samples::{all_bytes, assert_same};
 use std::alloc::Global;
 use std::sync::{Arc, Wait};
 use std::test::Fail;
@@ -55,7 +55,7 @@ fn fill_the_ring<R: Threads + Wait + Sync>(
     let done = recorded(rt, alloc, jobs, ring, control, out)?;
     let bytes = done.out.output.bytes.as_slice();
     let Ok(recording) = read_recording(alloc, bytes) else {
-        return Err("a recording that is read")?;
+        return Err("a recording that is read".into());
     };
     let mut frames = 0usize;
     for frame in frames_of(alloc, &recording, 1)?.as_slice() {
@@ -71,9 +71,9 @@ fn fill_the_ring<R: Threads + Wait + Sync>(
 #[test]
 fn a_ring_has_room_for_1_to_4096_pieces(rt: HostRuntime) -> Result<(), Fail> {
     let alloc = rt.alloc();
-    assert_eq!(rt; fill_the_ring(&rt, alloc, 1)?, (6, 33_048, 4));
-    assert_eq!(rt; fill_the_ring(&rt, alloc, 2)?, (7, 41_280, 5));
-    assert_eq!(rt;
+    assert_same!(rt; fill_the_ring(&rt, alloc, 1)?, (6, 33_048, 4));
+    assert_same!(rt; fill_the_ring(&rt, alloc, 2)?, (7, 41_280, 5));
+    assert_same!(rt;
         fill_the_ring(&rt, alloc, 4_096)?,
         (4_101, 33_743_088, 4_099)
     );

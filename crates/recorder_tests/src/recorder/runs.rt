@@ -9,7 +9,7 @@ use crate::writer::{Output, Then, wide};
 use eth_frame::{FeedSource, SourceFault};
 use rec_run::*;
 use rec_writer::WriteFault;
-use samples::all_bytes;
+use samples::{all_bytes, assert_same};
 use std::alloc::Global;
 use std::sync::{Arc, Wait};
 use std::test::Fail;
@@ -63,7 +63,7 @@ fn two_frames<R: Threads + Wait + Sync>(
     jobs.push(job(alloc, 1, ACCEPT, source)?)?;
     let control = fresh_script(alloc, Arc::try_clone(&marks)?, Vec::new(alloc), NONE);
     if !jobs_ok(jobs.as_slice()) {
-        return Err("jobs that may be recorded")?;
+        return Err("jobs that may be recorded".into());
     }
     match record(rt, alloc, jobs, 64, 8, control, behind_marks(output, marks)) {
         Ok(Done { report, out, .. }) => Ok((
@@ -103,13 +103,13 @@ fn a_feed_is_recorded(rt: HostRuntime) -> Result<(), Fail> {
     let alloc = rt.alloc();
     for at_once in [usize::MAX, 1] {
         let (bytes, told, fault) = two_frames(&rt, alloc, 2, wide(alloc, at_once))?;
-        assert_eq!(rt; bytes, all_bytes(alloc, TWO_FRAMES)?);
-        assert_eq!(rt; told, Some((1, 2, 2, Ending::SourceEnd)));
-        assert_eq!(rt; fault, None);
+        assert_same!(rt; bytes, all_bytes(alloc, TWO_FRAMES)?);
+        assert_same!(rt; told, Some((1, 2, 2, Ending::SourceEnd)));
+        assert_same!(rt; fault, None);
     }
     let (bytes, told, _) = two_frames(&rt, alloc, 0, wide(alloc, usize::MAX))?;
-    assert_eq!(rt; bytes, all_bytes(alloc, NO_FRAME)?);
-    assert_eq!(rt; told, Some((1, 0, 0, Ending::SourceEnd)));
+    assert_same!(rt; bytes, all_bytes(alloc, NO_FRAME)?);
+    assert_same!(rt; told, Some((1, 0, 0, Ending::SourceEnd)));
     Ok(())
 }
 
@@ -118,7 +118,7 @@ fn a_feed_is_recorded(rt: HostRuntime) -> Result<(), Fail> {
 fn an_output_that_fails_cuts_the_recording(rt: HostRuntime) -> Result<(), Fail> {
     let alloc = rt.alloc();
     let all = all_bytes(alloc, TWO_FRAMES)?;
-    for (at_once, then) in [(usize::MAX, Then::Fails), (1, Then::TakesNone)] {
+    for &(at_once, then) in &[(usize::MAX, Then::Fails), (1, Then::TakesNone)] {
         for room in 0..212usize {
             let out = Output::new(alloc, room, at_once, then);
             let (bytes, told, fault) = two_frames(&rt, alloc, 2, out)?;
@@ -160,7 +160,7 @@ pub(super) fn recorded<R: Threads + Wait + Sync>(
     requires goes_on { control.log.ended ≡ false }
 {
     if !jobs_ok(jobs.as_slice()) {
-        return Err("jobs that may be recorded")?;
+        return Err("jobs that may be recorded".into());
     }
     match record(rt, alloc, jobs, ring, 8, control, out) {
         Ok(done) if !done.control.late => Ok(done),
@@ -218,12 +218,12 @@ fn sources_control_and_output_wait_for_one_another(rt: HostRuntime) -> Result<()
     let done = recorded(&rt, alloc, jobs, 1, control, out)?;
     let reports = done.report.channels.as_slice();
     let (told, marks) = told_of(alloc, reports, 0)?;
-    assert_eq!(rt; told, (1, 1, 0, Ending::SourceEnd));
+    assert_same!(rt; told, (1, 1, 0, Ending::SourceEnd));
     assert_eq!(rt; marks.as_slice(), [0].as_slice());
     let (told, marks) = told_of(alloc, reports, 1)?;
-    assert_eq!(rt; told, (2, 1, 1, Ending::SourceEnd));
+    assert_same!(rt; told, (2, 1, 1, Ending::SourceEnd));
     assert_eq!(rt; marks.as_slice(), [0, 0].as_slice());
-    assert_eq!(rt; done.report.bytes, done.out.output.bytes.len() as u64);
+    assert_same!(rt; done.report.bytes, done.out.output.bytes.len() as u64);
     Ok(())
 }
 
@@ -247,13 +247,13 @@ fn a_change_meets_the_frames_after_it(rt: HostRuntime) -> Result<(), Fail> {
     let out = output(alloc, marks, usize::MAX);
     let done = recorded(&rt, alloc, jobs, 4, control, out)?;
     let (told, marks) = told_of(alloc, done.report.channels.as_slice(), 0)?;
-    assert_eq!(rt; told, (2, 3, 1, Ending::SourceEnd));
+    assert_same!(rt; told, (2, 3, 1, Ending::SourceEnd));
     assert_eq!(rt; marks.as_slice(), [0, 2].as_slice());
     let want = Answer::Installed {
         version: 1,
         mark: 2,
     };
-    assert_eq!(rt;
+    assert_same!(rt;
         done.control.log.told().first().map(|told| told.answer),
         Some(want)
     );
@@ -291,7 +291,7 @@ fn two_and(alloc: Global, rest: &str) -> Result<Vec<u8>, Fail> {
 #[test]
 fn a_channel_ends_as_its_source_or_at_its_count(rt: HostRuntime) -> Result<(), Fail> {
     let alloc = rt.alloc();
-    let cases = [
+    let cases = &[
         ("", 2, Ending::CountFull),
         ("", 3, Ending::SourceEnd),
         ("10", 9, Ending::SourceFault(SourceFault::Truncated)),
@@ -306,12 +306,12 @@ fn a_channel_ends_as_its_source_or_at_its_count(rt: HostRuntime) -> Result<(), F
             Ending::SourceFault(SourceFault::Marks),
         ),
     ];
-    for (rest, max, ending) in cases {
+    for &(rest, max, ending) in cases {
         let told = ending_of(&rt, alloc, two_and(alloc, rest)?, max)?;
-        assert_eq!(rt; told, Some((1, 2, 2, ending)));
+        assert_same!(rt; told, Some((1, 2, 2, ending)));
     }
     let told = ending_of(&rt, alloc, two_and(alloc, "")?, 0)?;
-    assert_eq!(rt; told, Some((1, 0, 0, Ending::CountFull)));
+    assert_same!(rt; told, Some((1, 0, 0, Ending::CountFull)));
     Ok(())
 }
 
@@ -345,19 +345,19 @@ fn beside_a_failing_reader<R: Threads + Wait + Sync>(
 #[test]
 fn a_reader_that_fails_at_any_call_ends_its_channel_alone(rt: HostRuntime) -> Result<(), Fail> {
     let alloc = rt.alloc();
-    for (most, a_record, last) in [(usize::MAX, 2usize, 4usize), (1, 27, 54)] {
+    for &(most, a_record, last) in &[(usize::MAX, 2usize, 4usize), (1, 27, 54)] {
         for calls in 0..=last {
             let ([failed, whole], bytes) = beside_a_failing_reader(&rt, alloc, most, calls)?;
             let taken = calls.checked_div(a_record).unwrap_or(0);
             let count = taken as u64;
             let ending = Ending::SourceFault(SourceFault::Device);
-            assert_eq!(rt; failed, Some((1, count, count, ending)), "{calls} calls");
-            assert_eq!(rt; whole, Some((1, 2, 2, Ending::SourceEnd)), "{calls} calls");
+            assert_same!(rt; failed, Some((1, count, count, ending)), "{calls} calls");
+            assert_same!(rt; whole, Some((1, 2, 2, Ending::SourceEnd)), "{calls} calls");
             let both = [16, 32];
             let found = counters_of(alloc, bytes.as_slice(), 1)?;
-            assert_eq!(rt; Some(found.as_slice()), both.get(..taken), "{calls} calls");
+            assert_same!(rt; Some(found.as_slice()), both.get(..taken), "{calls} calls");
             let found = counters_of(alloc, bytes.as_slice(), 2)?;
-            assert_eq!(rt; found.as_slice(), both.as_slice(), "{calls} calls");
+            assert_same!(rt; found.as_slice(), both.as_slice(), "{calls} calls");
         }
     }
     Ok(())

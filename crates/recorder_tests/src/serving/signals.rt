@@ -78,7 +78,7 @@ impl Watch {
         let over = Signals::shared(alloc, 1)?;
         let share = Arc::try_clone(&over)?;
         let Ok(thread) = thread::spawn(&rt, move || end_unless_over(&rt, &share)) else {
-            return Err("a thread that watches")?;
+            return Err("a thread that watches".into());
         };
         Ok(Watch { over, thread })
     }

@@ -138,7 +138,7 @@ fn must_take_turns<R: Threads + Wait + Sync>(
     let packet = OpenPacket::new(rt.alloc());
     let done = recorded(threads, rt.alloc(), jobs, 1, Counting { packets, packet })?;
     if !took_turns(done.report.channels.as_slice()) {
-        return Err("a packet that is written before the next frame")?;
+        return Err("a packet that is written before the next frame".into());
     }
     Ok(())
 }

@@ -7,7 +7,7 @@ use ch11_packet::{DataBuilder, Limit, MAX_LIMIT};
 use eth_frame::Frame;
 use rec_lane::{DataPiece, Piece};
 use rec_writer::Writer;
-use samples::all_bytes;
+use samples::{all_bytes, assert_same};
 use std::alloc::Global;
 use std::process::Abort;
 use std::sync::Wait;
@@ -54,7 +54,7 @@ fn push_filling(builder: &mut DataBuilder, zeros: &[u8], number: usize) -> Resul
     let bytes = zeros.get(..filling_len(number)).ok_or("a length")?;
     let frame = Frame::new(0, false, false, bytes).ok_or("a frame")?;
     if !builder.fits(bytes.len()) {
-        return Err("room for the frame")?;
+        return Err("room for the frame".into());
     }
     builder.push(&frame);
     Ok(())
@@ -69,7 +69,7 @@ fn full_piece(alloc: Global) -> Result<Piece, Fail> {
         push_filling(&mut builder, zeros.as_slice(), number)?;
     }
     if builder.is_empty() {
-        return Err("a packet of frames")?;
+        return Err("a packet of frames".into());
     }
     Ok(Piece::Data(DataPiece {
         channel: 1,
@@ -89,8 +89,8 @@ fn must_go_out(
     put(&mut writer, piece)??;
     let out = writer.out();
     let head = all_bytes(alloc, FULL)?;
-    assert_eq!(rt; out.bytes.get(..head.len()), Some(head.as_slice()));
-    assert_eq!(rt; (out.bytes.len(), out.writes), (524_288, writes));
+    assert_same!(rt; out.bytes.get(..head.len()), Some(head.as_slice()));
+    assert_same!(rt; (out.bytes.len(), out.writes), (524_288, writes));
     Ok(())
 }
 
@@ -117,13 +117,13 @@ fn full_recording<R: Threads + Wait + Sync>(
 /// The packet of the program has 64 bytes, and that of the end 56.
 #[test]
 fn a_full_packet_is_recorded(rt: HostRuntime) -> Result<(), Fail> {
-    for (at_once, writes) in [(usize::MAX, 9), (1, 524_408)] {
+    for &(at_once, writes) in &[(usize::MAX, 9), (1, 524_408)] {
         let watch = Watch::begin(rt, rt.alloc())?;
         let recording = full_recording(&rt, rt.alloc(), at_once);
         watch.end(&rt);
         let (pieces, bytes, out) = recording?;
-        assert_eq!(rt; (pieces, bytes), (3, 524_408));
-        assert_eq!(rt; (out.bytes.len(), out.writes), (524_408, writes));
+        assert_same!(rt; (pieces, bytes), (3, 524_408));
+        assert_same!(rt; (out.bytes.len(), out.writes), (524_408, writes));
     }
     Ok(())
 }

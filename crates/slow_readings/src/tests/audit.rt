@@ -15,7 +15,7 @@ use rec_channel::Slot;
 use rec_lane::{Lane, Piece};
 use rec_reader::{AuditFault, Recording, audit, read_recording};
 use rec_writer::Writer;
-use samples::{ACCEPTING, CHECKED, END, FRAMES, REJECTING, all_bytes, joined_bytes};
+use samples::{ACCEPTING, CHECKED, END, FRAMES, REJECTING, all_bytes, assert_same, joined_bytes};
 use std::alloc::Global;
 use std::process::Abort;
 use std::sync::Arc;
@@ -112,40 +112,42 @@ pub(crate) const KINDS: [Kind; 7] = [
     Kind::Counts,
 ];
 
-/// Recordings that are read to their end, and what is said of them, worked by hand.
+/// Recordings that are approved, with their lines and how many other packets they have, worked by hand.
+const APPROVED: [(&[&str], &[ChannelLine], u64); 6] = [
+    (&[REJECTING, ACCEPTING, FRAMES, END], &[WHOLE], 0),
+    (&[REJECTING, ACCEPTING, NO_FRAMES, FRAMES, END], &[WHOLE], 0),
+    (&[SECONDARY], &[], 1),
+    (&[SETUP], &[], 1),
+    (&[EMPTY_END], &[EMPTY], 0),
+    (&[], &[], 0),
+];
+
+/// Recordings that are read to their end and refused, and what is wrong with them, worked by hand.
+const DISAPPROVED: [(&[&str], Wrong); 5] = [
+    (&[LONE], Wrong::NoProgram { packet: 0 }),
+    (&[NO_FRAMES], Wrong::NoProgram { packet: 0 }),
+    (&[EMPTY_END, NO_FRAMES], Wrong::Order { packet: 1 }),
+    (&[EMPTY_END, REJECTING], Wrong::Order { packet: 1 }),
+    (
+        &[REJECTING, ACCEPTING, FRAMES, END, END],
+        Wrong::Order { packet: 4 },
+    ),
+];
+
 #[test]
 fn worked_recordings_are_answered_as_they_should(rt: HostRuntime) -> Result<(), Fail> {
-    let whole = [REJECTING, ACCEPTING, FRAMES, END];
-    let yes: [(&[&str], &[ChannelLine], u64); 6] = [
-        (&whole, &[WHOLE], 0),
-        (&[REJECTING, ACCEPTING, NO_FRAMES, FRAMES, END], &[WHOLE], 0),
-        (&[SECONDARY], &[], 1),
-        (&[SETUP], &[], 1),
-        (&[EMPTY_END], &[EMPTY], 0),
-        (&[], &[], 0),
-    ];
-    for (texts, lines, others) in yes {
+    for &(texts, lines, others) in &APPROVED {
         let bytes = joined_bytes(rt.alloc(), texts)?;
         let answer = slow_answer(&rt, rt.alloc(), bytes.as_slice())?;
         let Answer::Yes { lines: said, other } = answer else {
-            return Err("a yes")?;
+            return Err("a yes".into());
         };
-        assert_eq!(rt; (said.as_slice(), other), (lines, others), "{texts:?}");
+        assert_same!(rt; (said.as_slice(), other), (lines, others), "{texts:?}");
     }
-    let no: [(&[&str], Wrong); 5] = [
-        (&[LONE], Wrong::NoProgram { packet: 0 }),
-        (&[NO_FRAMES], Wrong::NoProgram { packet: 0 }),
-        (&[EMPTY_END, NO_FRAMES], Wrong::Order { packet: 1 }),
-        (&[EMPTY_END, REJECTING], Wrong::Order { packet: 1 }),
-        (
-            &[REJECTING, ACCEPTING, FRAMES, END, END],
-            Wrong::Order { packet: 4 },
-        ),
-    ];
-    for (texts, wrong) in no {
+    for &(texts, wrong) in &DISAPPROVED {
         let bytes = joined_bytes(rt.alloc(), texts)?;
         let answer = slow_answer(&rt, rt.alloc(), bytes.as_slice())?;
-        assert_eq!(rt; answer, Answer::No(wrong), "{texts:?}");
+        assert_same!(rt; answer, Answer::No(wrong), "{texts:?}");
     }
     Ok(())
 }
@@ -174,7 +176,7 @@ fn worked_damage_is_answered_as_it_should(rt: HostRuntime) -> Result<(), Fail> {
             *byte = value;
         }
         let answer = slow_answer(&rt, rt.alloc(), bytes.as_slice())?;
-        assert_eq!(rt; answer, Answer::No(wrong), "byte {at}");
+        assert_same!(rt; answer, Answer::No(wrong), "byte {at}");
     }
     Ok(())
 }
@@ -185,11 +187,11 @@ fn a_cut_recording_has_no_end(rt: HostRuntime) -> Result<(), Fail> {
     let bytes = joined_bytes(rt.alloc(), &[REJECTING, ACCEPTING, FRAMES, END])?;
     for len in [200, 210] {
         let Err(fault) = read_recording(rt.alloc(), bytes.get(..len).unwrap_or(&[])) else {
-            return Err("a recording that is cut")?;
+            return Err("a recording that is cut".into());
         };
         let answer = compared_answer(&rt, rt.alloc(), &fault.into_before())?;
         let wrong = Wrong::NoEnd { channel: 1 };
-        assert_eq!(rt; answer, Answer::No(wrong), "{len} bytes");
+        assert_same!(rt; answer, Answer::No(wrong), "{len} bytes");
     }
     Ok(())
 }
@@ -273,7 +275,7 @@ fn answers_agree_on_changed_recordings(rt: HostRuntime) -> Result<(), Fail> {
             kinds.push(kind)?;
         }
     }
-    for kind in KINDS {
+    for &kind in &KINDS {
         let count = count_of(kinds.as_slice(), kind);
         assert!(rt; count >= FEW, "{kind:?} came up {count} times");
     }
@@ -283,7 +285,7 @@ fn answers_agree_on_changed_recordings(rt: HostRuntime) -> Result<(), Fail> {
 /// What is said of a recording that is read to its end.
 fn slow_answer(rt: &impl Abort, alloc: Global, bytes: &[u8]) -> Result<Answer, Fail> {
     let Ok(recording) = read_recording(alloc, bytes) else {
-        return Err("a recording that is read")?;
+        return Err("a recording that is read".into());
     };
     compared_answer(rt, alloc, &recording)
 }
@@ -304,7 +306,7 @@ fn compared_answer(
     recording: &Recording<'_>,
 ) -> Result<Answer, Fail> {
     let answer = answer_of(alloc, recording.packets())?;
-    assert_eq!(rt; given_answer(alloc, recording)?, answer);
+    assert_same!(rt; given_answer(alloc, recording)?, answer);
     if let Answer::Yes { .. } = answer {
         assert!(rt; is_yes_true(alloc, recording.packets())?, "{answer:?}");
     }
@@ -380,7 +382,7 @@ fn drawn_packets(
 ) -> Result<Vec<Vec<u8>>, Fail> {
     let bytes = drawn_recording(alloc, draws, programs)?;
     let Ok(recording) = read_recording(alloc, bytes.as_slice()) else {
-        return Err("a recording that is read")?;
+        return Err("a recording that is read".into());
     };
     let mut packets = Vec::new(alloc);
     for packet in recording.packets() {
@@ -412,12 +414,12 @@ fn drawn_recording(
         };
         let piece = piece.ok_or("a piece")?;
         if !writer.knows(piece.channel()) {
-            return Err("a channel that the writer knows")?;
+            return Err("a channel that the writer knows".into());
         }
         writer.put(&piece)?;
     }
     let Ok(bytes) = writer.finish() else {
-        return Err("a finished recording")?;
+        return Err("a finished recording".into());
     };
     Ok(bytes)
 }
@@ -439,17 +441,31 @@ fn drawn_pieces(
     let mut lane = Lane::new(alloc, lane_spec(channel)?)?;
     let mut pieces = Vec::new(alloc);
     for _ in 0..draws.below(9) {
-        if draws.below(5) == 0 {
-            slot.install(drawn_program(draws, programs)?)?;
-        }
-        let len = drawn_length(draws, &LENGTHS)?.min(MAX_FRAME_LEN);
-        let frame = drawn_frame(alloc, draws, len)?;
-        let _value = offer(&mut lane, &mut slot, &frame, &mut pieces)?;
+        take_drawn(alloc, draws, programs, &mut slot, &mut lane, &mut pieces)?;
     }
     for piece in lane.end() {
         pieces.push(piece)?;
     }
     Ok(pieces)
+}
+
+/// Offers a drawn frame to a lane, one in five after a change of its filter, and keeps the pieces that
+/// it gives.
+fn take_drawn(
+    alloc: Global,
+    draws: &mut Draws,
+    programs: &[Program],
+    slot: &mut Slot,
+    lane: &mut Lane,
+    pieces: &mut Vec<Piece>,
+) -> Result<(), Fail> {
+    if draws.below(5) == 0 {
+        slot.install(drawn_program(draws, programs)?)?;
+    }
+    let len = drawn_length(draws, &LENGTHS)?.min(MAX_FRAME_LEN);
+    let frame = drawn_frame(alloc, draws, len)?;
+    let _value = offer(lane, slot, &frame, pieces)?;
+    Ok(())
 }
 
 /// Drops, doubles, exchanges or changes packets. The data checksum of a packet that was changed is
@@ -514,7 +530,7 @@ fn drawn_index(draws: &mut Draws, len: usize) -> usize
 /// Changes a field of a packet's header, and makes its checksum right again.
 fn change_header(draws: &mut Draws, packet: &mut Vec<u8>) -> Result<(), Fail> {
     let Some(bytes) = packet.as_mut_slice().get_mut(..HEADER_LEN) else {
-        return Err("a header's bytes")?;
+        return Err("a header's bytes".into());
     };
     let mut header = [0; HEADER_LEN];
     header.copy_from_slice(bytes);

@@ -8,6 +8,7 @@ use crate::shared::{drawn_frame, drawn_length, lane_spec, offer, version};
 use eth_frame::MAX_FRAME_LEN;
 use rec_channel::Slot;
 use rec_lane::{Lane, Piece};
+use samples::assert_same;
 use std::alloc::Global;
 use std::process::Abort;
 use std::sync::Arc;
@@ -53,7 +54,7 @@ fn pieces_agree_at_each_limit(rt: HostRuntime) -> Result<(), Fail> {
     for limit in [16_424, 16_427, 20_001, 65_536, 524_284] {
         let (frames, versions) = (frames.as_slice(), versions.as_slice());
         let counts = compare(&rt, alloc, channel(limit), frames, versions)?;
-        assert_eq!(rt; counts.programs, MET);
+        assert_same!(rt; counts.programs, MET);
         // one of them drops each frame
         assert!(rt; counts.packets >= MET - 1, "packets up to {limit} bytes");
     }
@@ -86,10 +87,10 @@ fn pieces_agree_at_drawn_marks(rt: HostRuntime) -> Result<(), Fail> {
 fn pieces_of_short_frames_agree(rt: HostRuntime) -> Result<(), Fail> {
     let alloc = rt.alloc();
     let versions = [version(alloc, 0, ACCEPT)?];
-    for (len, limit) in [(19, 16_424), (18, 16_438), (18, 16_439), (18, 16_440)] {
+    for &(len, limit) in &[(19, 16_424), (18, 16_438), (18, 16_439), (18, 16_440)] {
         let frames = drawn_frames(alloc, &mut Draws::from_seed(3), 600, &[len])?;
         let counts = compare(&rt, alloc, channel(limit), frames.as_slice(), &versions)?;
-        assert_eq!(rt; counts.packets, 2, "frames of {len} bytes up to {limit}");
+        assert_same!(rt; counts.packets, 2, "frames of {len} bytes up to {limit}");
     }
     Ok(())
 }
@@ -100,16 +101,16 @@ fn pieces_of_short_frames_agree(rt: HostRuntime) -> Result<(), Fail> {
 fn pieces_of_the_longest_frames_agree(rt: HostRuntime) -> Result<(), Fail> {
     let alloc = rt.alloc();
     let versions = [version(alloc, 0, ACCEPT)?];
-    let cases = [
+    let cases = &[
         (2, 16_424, 2),
         (2, 32_819, 2),
         (2, 32_820, 1),
         (63, 524_284, 3),
     ];
-    for (count, limit, packets) in cases {
+    for &(count, limit, packets) in cases {
         let frames = drawn_frames(alloc, &mut Draws::from_seed(4), count, &[MAX_FRAME_LEN])?;
         let counts = compare(&rt, alloc, channel(limit), frames.as_slice(), &versions)?;
-        assert_eq!(rt;
+        assert_same!(rt;
             counts.packets,
             packets,
             "{count} frames up to {limit} bytes"
@@ -127,7 +128,7 @@ fn more_than_257_packets_agree(rt: HostRuntime) -> Result<(), Fail> {
     let versions = ten_versions(alloc, sixteenths_of(frames.len()))?;
     let (frames, versions) = (frames.as_slice(), versions.as_slice());
     let counts = compare(&rt, alloc, channel(16_424), frames, versions)?;
-    assert_eq!(rt; counts.programs, MET);
+    assert_same!(rt; counts.programs, MET);
     assert!(rt; counts.packets > 257, "{} packets", counts.packets);
     Ok(())
 }
@@ -138,7 +139,7 @@ fn pieces_of_no_frame_agree(rt: HostRuntime) -> Result<(), Fail> {
     let alloc = rt.alloc();
     let versions = ten_versions(alloc, sixteenths_of(0))?;
     let counts = compare(&rt, alloc, channel(16_424), &[], versions.as_slice())?;
-    assert_eq!(rt; (counts.programs, counts.packets), (0, 0));
+    assert_same!(rt; (counts.programs, counts.packets), (0, 0));
     Ok(())
 }
 
@@ -216,10 +217,10 @@ fn compare(
         let before = &frames[..number + 1];
         install_at(&mut slot, versions, number)?;
         let value = offer(&mut lane, &mut slot, &frames[number], &mut given)?;
-        assert_eq!(rt; Some(value), last_value(before, versions), "frame {number}");
+        assert_same!(rt; Some(value), last_value(before, versions), "frame {number}");
         let read = pieces_so_far(alloc, channel, before, versions)?;
         let difference = first_difference(given.as_slice(), read.as_slice());
-        assert_eq!(rt; difference, None, "after frame {number}");
+        assert_same!(rt; difference, None, "after frame {number}");
     }
     install_at(&mut slot, versions, frames.len())?;
     for piece in lane.end() {
@@ -227,7 +228,7 @@ fn compare(
     }
     let read = all_pieces(alloc, channel, frames, versions)?;
     let difference = first_difference(given.as_slice(), read.as_slice());
-    assert_eq!(rt; difference, None, "at the end");
+    assert_same!(rt; difference, None, "at the end");
     Ok(counts_of(given.as_slice()))
 }
 

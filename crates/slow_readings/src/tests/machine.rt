@@ -5,6 +5,7 @@ ghost use Rattle.std.specs.Prelude.{◌≤◌, length};
 use crate::draws::Draws;
 use bpf_machine::{MAX_VIEW, Prepared, run};
 use bpf_verify::{Verified, verify};
+use samples::assert_same;
 use std::process::Abort;
 use std::test::Fail;
 
@@ -31,7 +32,7 @@ fn values_agree_on_drawn_programs(rt: HostRuntime) -> Result<(), Fail> {
         let view = front(&bytes, draws.below(9));
         if let Ok(program) = verify(program) {
             let value = value_of(&mut prepared, &program, view);
-            assert_eq!(rt; value, run(&program, view).value);
+            assert_same!(rt; value, run(&program, view).value);
             valid = valid.saturating_add(1);
             others = others.saturating_add(usize::from(value != 0));
         }

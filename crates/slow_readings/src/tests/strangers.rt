@@ -42,7 +42,7 @@ fn answers_agree_on_packets_that_no_recorder_wrote(rt: HostRuntime) -> Result<()
     let alloc = rt.alloc();
     let mut draws = Draws::from_seed(20260704);
     let mut programs = Vec::new(alloc);
-    for listing in PROGRAMS {
+    for &listing in &PROGRAMS {
         programs.push(parse_listing(alloc, listing)?)?;
     }
     let mut kinds = Vec::new(alloc);
@@ -51,7 +51,7 @@ fn answers_agree_on_packets_that_no_recorder_wrote(rt: HostRuntime) -> Result<()
         let kind = compare(&rt, alloc, bytes.as_slice())?;
         kinds.push(kind.ok_or("a recording that is read")?)?;
     }
-    for kind in KINDS {
+    for &kind in &KINDS {
         let count = count_of(kinds.as_slice(), kind);
         assert!(rt; count >= FEW, "{kind:?} came up {count} times");
     }
@@ -79,7 +79,7 @@ fn drawn_packets(
             add_drawn(alloc, draws, programs, 2, &mut other, &mut bytes)?;
         }
     }
-    for (channel, next) in [(2, other), (1, one)] {
+    for &(channel, next) in &[(2, other), (1, one)] {
         if draws.below(8) > 0 {
             add_packet(alloc, channel, drawn_end(draws, next), &mut bytes)?;
         }

@@ -3,6 +3,7 @@
 use crate::draws::Draws;
 use crate::packets::data_sum;
 use ch11_packet::body_sum;
+use samples::assert_same;
 use std::process::Abort;
 use std::test::Fail;
 
@@ -24,7 +25,7 @@ fn sums_agree_on_drawn_bytes(rt: HostRuntime) -> Result<(), Fail> {
     for len in 0..MOST {
         let summed: &[u8] = bytes.as_slice();
         if len <= EACH || len % STEP == 0 {
-            assert_eq!(rt;
+            assert_same!(rt;
                 u64::from(body_sum(summed)),
                 data_sum(summed),
                 "{len} bytes"

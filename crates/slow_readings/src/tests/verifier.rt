@@ -4,6 +4,7 @@ use crate::draws::Draws;
 use crate::search::{Kind, Verdict, all_paths, judge, unset_word};
 use bpf_insn::Insn;
 use bpf_verify::{VerifyFault, check_path, verify};
+use samples::assert_same;
 use std::alloc::{AllocError, Global};
 use std::process::Abort;
 use std::test::Fail;
@@ -27,7 +28,7 @@ fn verdicts_agree(rt: HostRuntime) -> Result<(), Fail> {
         let program = draws.program(alloc)?;
         verdicts.push(compare_verdicts(&rt, alloc, program.as_slice())?)?;
     }
-    let kinds = [
+    let kinds = &[
         Kind::Valid,
         Kind::BadOpcode,
         Kind::BadScratch,
@@ -36,7 +37,7 @@ fn verdicts_agree(rt: HostRuntime) -> Result<(), Fail> {
         Kind::NoReturn,
         Kind::Unset,
     ];
-    for kind in kinds {
+    for &kind in kinds {
         let count = count_of(verdicts.as_slice(), kind);
         assert!(rt; count >= FEW, "{kind:?} came up {count} times");
     }
@@ -47,16 +48,16 @@ fn verdicts_agree(rt: HostRuntime) -> Result<(), Fail> {
 #[test]
 fn verdicts_agree_at_the_least_and_greatest_lengths(rt: HostRuntime) -> Result<(), Fail> {
     let alloc = rt.alloc();
-    let table = [
+    let table = &[
         (0, Kind::Empty),
         (1, Kind::Valid),
         (4_096, Kind::Valid),
         (4_097, Kind::TooLong),
     ];
-    for (length, kind) in table {
+    for &(length, kind) in table {
         let program = vec![in alloc; insn(0x06, 0, 0, 0); length]?;
         let verdict = compare_verdicts(&rt, alloc, program.as_slice())?;
-        assert_eq!(rt; verdict, Verdict::of_whole(kind), "length {length}");
+        assert_same!(rt; verdict, Verdict::of_whole(kind), "length {length}");
     }
     Ok(())
 }
@@ -91,12 +92,12 @@ fn a_store_on_one_side_alone_leaves_the_word_unset(rt: HostRuntime) -> Result<()
         &[0, 2],
         &[0, 2, 3],
     ];
-    assert_eq!(rt; paths.len(), walked.len());
+    assert_same!(rt; paths.len(), walked.len());
     for path in walked {
         assert!(rt; is_among(paths.as_slice(), path), "{path:?}");
     }
     let verdict = compare_verdicts(&rt, alloc, program)?;
-    assert_eq!(rt; verdict, Verdict::of_place(Kind::Unset, 2));
+    assert_same!(rt; verdict, Verdict::of_place(Kind::Unset, 2));
     Ok(())
 }
 
@@ -157,12 +158,12 @@ fn compare_verdicts(
     let expected = judge(program, paths.as_slice());
     match verify(program.to_vec(alloc)?) {
         Ok(verified) => {
-            assert_eq!(rt; Verdict::of_whole(Kind::Valid), expected, "{program:?}");
-            assert_eq!(rt; verified.insns(), program);
+            assert_same!(rt; Verdict::of_whole(Kind::Valid), expected, "{program:?}");
+            assert_same!(rt; verified.insns(), program);
         }
         Err(refused) => {
-            assert_eq!(rt; verdict_of(&refused.fault), expected, "{program:?}");
-            assert_eq!(rt; refused.program.as_slice(), program);
+            assert_same!(rt; verdict_of(&refused.fault), expected, "{program:?}");
+            assert_same!(rt; refused.program.as_slice(), program);
             check_unset(rt, program, paths.as_slice(), &refused.fault);
         }
     }
@@ -191,8 +192,8 @@ fn check_unset(rt: &impl Abort, program: &[Insn], paths: &[Vec<u16>], fault: &Ve
     };
     let path = path.as_slice();
     assert!(rt; is_among(paths, path), "{path:?} in {program:?}");
-    assert_eq!(rt; path.last().copied(), Some(*at), "{path:?} in {program:?}");
-    assert_eq!(rt;
+    assert_same!(rt; path.last().copied(), Some(*at), "{path:?} in {program:?}");
+    assert_same!(rt;
         unset_word(program, path),
         Some(*word),
         "{path:?} in {program:?}"
@@ -221,7 +222,7 @@ fn compare_paths(rt: &impl Abort, alloc: Global, program: &[Insn]) -> Result<usi
 fn compare_list(rt: &impl Abort, program: &[Insn], list: &[u16], unset: Option<u32>) {
     for word in (0..WORDS).chain(unset) {
         let expected = unset == Some(word);
-        assert_eq!(rt;
+        assert_same!(rt;
             check_path(program, list, word),
             expected,
             "{word} {list:?} in {program:?}"

@@ -9,7 +9,7 @@ use bpf_verify::Verified;
 use eth_frame::MAX_FRAME_LEN;
 use rec_core::{ChannelSpec, CoreFault, Event, MAX_RING, Reply, Which, World, run_world, specs_ok};
 use rec_reader::read_recording;
-use samples::{CHECKED, joined_bytes, program};
+use samples::{CHECKED, assert_same, joined_bytes, program};
 use std::alloc::Global;
 use std::process::Abort;
 use std::sync::Arc;
@@ -137,7 +137,7 @@ fn two_versions_are_recorded_event_by_event(rt: HostRuntime) -> Result<(), Fail>
     world.add_channel(rt.alloc(), channel(1, 3), first, 100)?;
     answer_all(&rt, rt.alloc(), &mut world, &events)?;
     let want = joined_bytes(rt.alloc(), &CHECKED)?;
-    assert_eq!(rt; world.output(rt.alloc())?.as_slice(), want.as_slice());
+    assert_same!(rt; world.output(rt.alloc())?.as_slice(), want.as_slice());
     Ok(())
 }
 
@@ -160,7 +160,7 @@ fn refusals_come_in_their_order(rt: HostRuntime) -> Result<(), Fail> {
     let first = program(rt.alloc(), ACCEPT)?;
     world.add_channel(rt.alloc(), channel(7, 0), first, 1)?;
     answer_all(&rt, rt.alloc(), &mut world, &events)?;
-    assert_eq!(rt; world.output(rt.alloc())?.len(), 0);
+    assert_same!(rt; world.output(rt.alloc())?.len(), 0);
     Ok(())
 }
 
@@ -183,7 +183,7 @@ fn answers_and_bytes_agree_on_drawn_events(rt: HostRuntime) -> Result<(), Fail> 
             sorts.push(sort_of(answer))?;
         }
     }
-    for sort in SORTS {
+    for &sort in &SORTS {
         let count = sorts.iter().filter(|found| **found == sort).count();
         assert!(rt; count >= FEW, "{sort:?} came up {count} times");
     }
@@ -197,7 +197,7 @@ fn answers_and_bytes_agree_past_256_records(rt: HostRuntime) -> Result<(), Fail>
     let mut events = Vec::new(alloc);
     let programs = programs(alloc, &[ACCEPT, REJECT])?;
     for number in 0..130 {
-        for channel in KNOWN {
+        for &channel in &KNOWN {
             let at = usize::from(number % 16 != 0);
             let program = Arc::try_clone(programs.get(at).ok_or("a program")?)?;
             let frame = arp_frame(alloc, number)?;
@@ -212,7 +212,7 @@ fn answers_and_bytes_agree_past_256_records(rt: HostRuntime) -> Result<(), Fail>
     let ends = answers
         .iter()
         .filter(|answer| sort_of(answer) == Sort::SentEnd);
-    assert_eq!(rt; ends.count(), KNOWN.len());
+    assert_same!(rt; ends.count(), KNOWN.len());
     Ok(())
 }
 
@@ -229,7 +229,7 @@ fn answers_agree_past_1024_versions(rt: HostRuntime) -> Result<(), Fail> {
     let full = answers
         .iter()
         .filter(|answer| sort_of(answer) == Sort::VersionsFull);
-    assert_eq!(rt; full.count(), 2);
+    assert_same!(rt; full.count(), 2);
     Ok(())
 }
 
@@ -292,7 +292,7 @@ fn drawn_events(
 
 /// Adds events that close both channels, and send and write all that is left of them.
 fn add_ending(events: &mut Vec<(u16, PlainEvent)>) -> Result<(), Fail> {
-    for channel in KNOWN {
+    for &channel in &KNOWN {
         events.push((channel, PlainEvent::Close))?;
         for _ in 0..ROUNDS {
             events.push((channel, PlainEvent::Write))?;
@@ -320,13 +320,13 @@ fn compare(
         answers.push(world.step(alloc, channel, event)?)?;
     }
     let first = (0..answers.len()).find(|at| given.get(*at) != answers.get(*at));
-    assert_eq!(rt; first, None, "the first answer that differs");
-    assert_eq!(rt; given.len(), answers.len());
+    assert_same!(rt; first, None, "the first answer that differs");
+    assert_same!(rt; given.len(), answers.len());
     let bytes = world.output(alloc)?;
-    assert_eq!(rt; written.as_slice(), bytes.as_slice());
+    assert_same!(rt; written.as_slice(), bytes.as_slice());
     if world.is_written(alloc)? {
         let Ok(recording) = read_recording(alloc, bytes.as_slice()) else {
-            return Err("a recording that is read")?;
+            return Err("a recording that is read".into());
         };
         let answer = answer_of(alloc, recording.packets())?;
         assert!(rt; matches!(answer, Answer::Yes { .. }), "{answer:?}");
@@ -343,7 +343,7 @@ fn given_answers(
 ) -> Result<(Vec<PlainAnswer>, Vec<u8>), Fail> {
     let specs = specs_of(plan)?;
     if !specs_ok(&specs) || plan.ring == 0 || plan.ring > MAX_RING {
-        return Err("channels and a ring that a recorder may have")?;
+        return Err("channels and a ring that a recorder may have".into());
     }
     let mut world = World::new(alloc, &specs, plan.ring, VERSION, Vec::new(alloc))?;
     let mut given = Vec::new(alloc);
@@ -530,7 +530,7 @@ fn answer_all(
     for (channel, written, want) in events {
         let event = event_of(alloc, *written)?;
         let answer = world.step(alloc, *channel, event)?;
-        assert_eq!(rt; answer, *want, "{written:?} of {channel}");
+        assert_same!(rt; answer, *want, "{written:?} of {channel}");
     }
     Ok(())
 }
@@ -550,7 +550,7 @@ fn event_of(alloc: Global, written: Written) -> Result<PlainEvent, Fail> {
 fn arp_frame(alloc: Global, counter: u64) -> Result<PlainFrame, Fail> {
     let bytes = joined_bytes(alloc, &[ARP])?;
     if bytes.len() > MAX_FRAME_LEN {
-        return Err("a frame's bytes")?;
+        return Err("a frame's bytes".into());
     }
     Ok(PlainFrame {
         counter,
