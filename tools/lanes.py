@@ -9,8 +9,8 @@ from steps import LOGS
 # How many processes of checks run side by side, for each processor.
 LANES_PER_PROCESSOR = 1
 # How many processes one check may have, and from how many functions on it may have one more: each checks
-# some functions, and then the next one reads all libraries anew, so two take up to twice the processor time
-# of one. With fewer functions they gain nothing: cli_record, which is proved alone, takes as long by two.
+# some functions, and then the next one reads all libraries anew, so several take up to twice the processor
+# time of one. cli_record, with 29 functions and proved alone, was hardly done sooner by two.
 MOST_JOBS, FUNCTIONS_A_JOB = 2, 100
 # What a further process of a check takes, beside the memory of the first.
 MEMORY_OF_A_JOB = 0.6
