@@ -3,10 +3,16 @@
 
 #include <errno.h>
 #include <stdio.h>
+#include <stdlib.h>
 #include <string.h>
+
+#define NO_LISTING "no listing of a program: <count>,<code> <jt> <jf> <k>,.."
 
 /* What is put behind a program that returns A has three instructions. */
 enum { MOST_INSNS = 4096, TAIL_INSNS = 3, WHOLE_FRAME = 262144 };
+
+/* The longest listing, and how many numbers an instruction has in it. */
+enum { MOST_BYTES = 1048576, FIELDS = 4 };
 
 /* A program and room for its tail. */
 struct program {
@@ -20,25 +26,72 @@ static int refused(const char *path, const char *why)
     return 0;
 }
 
-/* Reads a listing. Whether it is one; the kernel judges the program. */
-static int read_listing(FILE *file, struct program *program)
+/* Reads a number of decimal digits and nothing else. Whether the word is one of 32 bits. */
+static int read_number(const char *word, unsigned long *number)
 {
-    char behind;
-    if (fscanf(file, "%u,", &program->count) != 1 || program->count == 0 || program->count > MOST_INSNS)
+    errno = 0;
+    *number = strtoul(word, NULL, 10);
+    return errno == 0 && *number <= UINT32_MAX && word[strspn(word, "0123456789")] == '\0';
+}
+
+/* Reads the numbers of a piece, between spaces or tabs, and carriage returns at its ends. How many they are, 0 of an
+ * empty piece; -1 where they are over FIELDS or something else stands there. */
+static int read_numbers(char *piece, unsigned long numbers[FIELDS])
+{
+    char *rest, *first = piece + strspn(piece, " \t\r");
+    for (size_t len = strlen(first); len > 0 && strchr(" \t\r", first[len - 1]) != NULL; len--)
+        first[len - 1] = '\0';
+    int count = 0;
+    for (char *word = strtok_r(first, " \t", &rest); word != NULL; word = strtok_r(NULL, " \t", &rest))
+        if (count == FIELDS || !read_number(word, &numbers[count++]))
+            return -1;
+    return count;
+}
+
+/* Puts an instruction behind the others. Whether there is room and each field is in its range. */
+static int add_insn(struct program *program, const unsigned long fields[FIELDS])
+{
+    if (program->count == MOST_INSNS || fields[0] > UINT16_MAX || fields[1] > UINT8_MAX || fields[2] > UINT8_MAX)
         return 0;
-    for (unsigned i = 0; i < program->count; i++) {
-        unsigned code, if_true, if_false, k;
-        int end = 0;
-        if (fscanf(file, "%u %u %u %u%n", &code, &if_true, &if_false, &k, &end) != 4 || end == 0)
+    program->insns[program->count++] =
+        (struct bpf_insn){(u_short)fields[0], (u_char)fields[1], (u_char)fields[2], (bpf_u_int32)fields[3]};
+    return 1;
+}
+
+/* Reads a listing: pieces that end at commas and line feeds, of which the first is the count of instructions and each
+ * other one an instruction. Whether it is one; the kernel judges the program. */
+static int read_listing(char *text, struct program *program)
+{
+    unsigned long numbers[FIELDS], said = 0;
+    char *rest;
+    int is_counted = 0;
+    for (char *piece = strtok_r(text, ",\n", &rest); piece != NULL; piece = strtok_r(NULL, ",\n", &rest)) {
+        int count = read_numbers(piece, numbers);
+        if (count == 1 && !is_counted)
+            said = numbers[0], is_counted = 1;
+        else if (count != 0 && (count != FIELDS || !is_counted || !add_insn(program, numbers)))
             return 0;
-        if (code > UINT16_MAX || if_true > UINT8_MAX || if_false > UINT8_MAX)
-            return 0;
-        int comma = fgetc(file);
-        if (comma != ',' && (i + 1 < program->count || (comma != '\n' && comma != EOF)))
-            return 0;
-        program->insns[i] = (struct bpf_insn){(u_short)code, (u_char)if_true, (u_char)if_false, k};
     }
-    return fscanf(file, " %c", &behind) == EOF;
+    return program->count != 0 && program->count == said;
+}
+
+/* Reads a file as a text of at most MOST_BYTES. Whether it is one; else a line has said why not. */
+static int read_text(const char *path, char text[MOST_BYTES + 1])
+{
+    FILE *file = fopen(path, "r");
+    if (file == NULL)
+        return refused(path, strerror(errno));
+    size_t len = fread(text, 1, MOST_BYTES + 1, file);
+    int fault = ferror(file) ? errno : 0;
+    fclose(file);
+    if (fault != 0)
+        return refused(path, strerror(fault));
+    if (len > MOST_BYTES)
+        return refused(path, "a listing has at most 1,048,576 bytes");
+    if (memchr(text, '\0', len) != NULL)
+        return refused(path, NO_LISTING);
+    text[len] = '\0';
+    return 1;
 }
 
 /* Lets the program return a frame whole or not at all: the kernel would cut it to as many bytes as is returned. */
@@ -68,14 +121,13 @@ static int return_whole_frames(struct program *program)
 
 int drop_by_listing(pcap_t *pcap, const char *interface, const char *path)
 {
+    static char text[MOST_BYTES + 1];
     static struct program program;
-    FILE *file = fopen(path, "r");
-    if (file == NULL)
-        return refused(path, strerror(errno));
-    int is_listing = read_listing(file, &program);
-    fclose(file);
-    if (!is_listing)
-        return refused(path, "no listing of a program: <count>,<code> <jt> <jf> <k>,..");
+    program.count = 0;
+    if (!read_text(path, text))
+        return 0;
+    if (!read_listing(text, &program))
+        return refused(path, NO_LISTING);
     if (!return_whole_frames(&program))
         return refused(path, "a program that returns A may have 4093 instructions in the kernel");
     struct bpf_program given = {program.count, program.insns};

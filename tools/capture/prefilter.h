@@ -5,7 +5,7 @@
 #include <pcap/pcap.h>
 
 /* Has the kernel drop what the program of a listing drops: `<count>,<code> <jt> <jf> <k>,..`, as `bpfrec asm`
- * prints it. Whether it could; else a line has said why not. */
+ * prints it, or one instruction a line, as `tcpdump -ddd` does. Whether it could; else a line has said why not. */
 int drop_by_listing(pcap_t *pcap, const char *interface, const char *path);
 
 #endif
