@@ -42,6 +42,7 @@ pub fn compared<'a, T: PartialEq>(
 ) -> Result<(), Differing<'a, T, &'static str>>
     ensures equal { IfOk result (λ _. T.eq left.now right.now ≡ true) }
     ensures differing { IfErr result (λ _. T.eq left.now right.now ≡ false) }
+    ensures sides { IfErr result (λ fault. fault.left ≡ left.entry × fault.right ≡ right.entry) }
 {
     compared_in(left, right, "")
 }
@@ -54,6 +55,8 @@ pub fn compared_in<'a, T: PartialEq, C: Drop>(
 ) -> Result<(), Differing<'a, T, C>>
     ensures equal { IfOk result (λ _. T.eq left.now right.now ≡ true) }
     ensures differing { IfErr result (λ _. T.eq left.now right.now ≡ false) }
+    ensures sides { IfErr result (λ fault. fault.left ≡ left.entry × fault.right ≡ right.entry) }
+    ensures case { IfErr result (λ fault. fault.case ≡ case) }
 {
     if *left == *right {
         return Ok(());

@@ -18,67 +18,73 @@ struct Row {
     bytes: &'static str,
 }
 
+/// A packet of one frame of 18 bytes at counter 16.
+const FRAMES: Row = Row {
+    channel: 1,
+    packet_len: 60,
+    data_len: 34,
+    sequence: 0,
+    flags: 0,
+    kind: ETHERNET_DATA,
+    counter: 16,
+    bytes: HEADER,
+};
+
+/// A packet of the record of a program of one instruction.
+const PROGRAM: Row = Row {
+    channel: 0,
+    data_len: 36,
+    kind: COMPUTER_GENERATED_DATA,
+    bytes: "25eb 0000 3c000000 24000000 08 00 00 00 100000000000 9deb",
+    ..FRAMES
+};
+
+const HEADERS: [Row; 8] = [
+    FRAMES,
+    Row {
+        flags: 0x80,
+        bytes: "25eb 0100 3c000000 22000000 08 00 80 68 100000000000 1c54",
+        ..FRAMES
+    },
+    Row {
+        counter: 32,
+        bytes: "25eb 0100 3c000000 22000000 08 00 00 68 200000000000 ac53",
+        ..FRAMES
+    },
+    Row {
+        packet_len: 88,
+        data_len: 64,
+        bytes: "25eb 0100 58000000 40000000 08 00 00 68 100000000000 d653",
+        ..FRAMES
+    },
+    PROGRAM,
+    Row {
+        sequence: 1,
+        counter: 32,
+        bytes: "25eb 0000 3c000000 24000000 08 01 00 00 200000000000 adec",
+        ..PROGRAM
+    },
+    Row {
+        packet_len: 52,
+        data_len: 28,
+        sequence: 2,
+        counter: 32,
+        bytes: "25eb 0000 34000000 1c000000 08 02 00 00 200000000000 9ded",
+        ..PROGRAM
+    },
+    Row {
+        packet_len: 28,
+        data_len: 4,
+        kind: 1,
+        counter: 0,
+        bytes: "25eb 0000 1c000000 04000000 08 00 00 01 000000000000 4dec",
+        ..PROGRAM
+    },
+];
+
 #[test]
 fn headers_are_written_and_read(rt: HostRuntime) -> Result<(), Fail> {
-    let frames = Row {
-        channel: 1,
-        packet_len: 60,
-        data_len: 34,
-        sequence: 0,
-        flags: 0,
-        kind: ETHERNET_DATA,
-        counter: 16,
-        bytes: HEADER,
-    };
-    let program = Row {
-        channel: 0,
-        data_len: 36,
-        kind: COMPUTER_GENERATED_DATA,
-        bytes: "25eb 0000 3c000000 24000000 08 00 00 00 100000000000 9deb",
-        ..frames
-    };
-    for &row in &[
-        frames,
-        Row {
-            flags: 0x80,
-            bytes: "25eb 0100 3c000000 22000000 08 00 80 68 100000000000 1c54",
-            ..frames
-        },
-        Row {
-            counter: 32,
-            bytes: "25eb 0100 3c000000 22000000 08 00 00 68 200000000000 ac53",
-            ..frames
-        },
-        Row {
-            packet_len: 88,
-            data_len: 64,
-            bytes: "25eb 0100 58000000 40000000 08 00 00 68 100000000000 d653",
-            ..frames
-        },
-        program,
-        Row {
-            sequence: 1,
-            counter: 32,
-            bytes: "25eb 0000 3c000000 24000000 08 01 00 00 200000000000 adec",
-            ..program
-        },
-        Row {
-            packet_len: 52,
-            data_len: 28,
-            sequence: 2,
-            counter: 32,
-            bytes: "25eb 0000 34000000 1c000000 08 02 00 00 200000000000 9ded",
-            ..program
-        },
-        Row {
-            packet_len: 28,
-            data_len: 4,
-            kind: 1,
-            counter: 0,
-            bytes: "25eb 0000 1c000000 04000000 08 00 00 01 000000000000 4dec",
-            ..program
-        },
-    ] {
+    for &row in &HEADERS {
         let header = Header::new(
             row.channel,
             row.packet_len,

@@ -1,39 +1,41 @@
 //! A control without changes.
 
-use rec_run::{Change, Control, Told};
+use rec_run::{Change, Control, ControlLog, Told};
+use std::alloc::Global;
 
 /// A control that gives no change.
 #[derive(Drop)]
 pub(super) struct NoChanges {
-    ended: bool,
+    log: ControlLog,
 }
 
 impl NoChanges {
-    ghost use Rattle.std.specs.Prelude.{◌≡◌, false};
+    ghost use Rattle.std.specs.Prelude.{◌≡◌, [], false};
 
-    /// A control that has not ended.
-    pub(super) fn new() -> NoChanges
-        ensures goes_on { result.ended ≡ false }
+    /// A control that has given and was told nothing.
+    pub(super) fn new(alloc: Global) -> NoChanges
+        ensures given { result.log.given ≡ [] }
+        ensures told { result.log.answered ≡ [] }
+        ensures goes_on { result.log.ended ≡ false }
     {
-        NoChanges { ended: false }
+        NoChanges {
+            log: ControlLog::new(alloc),
+        }
     }
 }
 
 impl Control for NoChanges {
-    ghost use Rattle.std.specs.Prelude.{[]};
+    ghost given = { λ c. c.log.given };
 
-    ghost given = { λ c. [] };
+    ghost answered = { λ c. c.log.answered };
 
-    ghost answered = { λ c. [] };
-
-    ghost ended = { λ c. c.ended };
+    ghost ended = { λ c. c.log.ended };
 
     fn next(&mut self) -> Option<Change> {
-        self.ended = true;
-        None
+        self.log.end()
     }
 
-    fn told(&mut self, _told: &Told) {
-        unreachable!()
+    fn told(&mut self, told: &Told) {
+        self.log.tell(told);
     }
 }

@@ -120,7 +120,7 @@ pub(super) fn recorded<L: Lengths + Send + Drop, W: Write + Drop, R: Threads + W
     if !jobs_ok(jobs.as_slice()) {
         return Err("jobs that may be recorded");
     }
-    match record(rt, alloc, jobs, ring, 8, NoChanges::new(), out) {
+    match record(rt, alloc, jobs, ring, 8, NoChanges::new(alloc), out) {
         Ok(done) => Ok(done),
         Err(_) => Err("a recording that ends"),
     }
