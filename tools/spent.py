@@ -29,7 +29,9 @@ class Spent(threading.Thread):
         """Keeps what a process has spent so far, where it checks a crate."""
         if "--crate-name" not in words[:-1]:
             return
-        kind = "edits" if "check" in words[:2] else "tests" if "--test" in words else "proof"
+        # a check that hands its proof on is a program's own
+        is_edit = "check" in words[:2] and "-o" not in words
+        kind = "edits" if is_edit else "tests" if "--test" in words else "proof"
         key = (words[words.index("--crate-name") + 1], kind, number, fields[19])
         self.seconds[key] = (int(fields[11]) + int(fields[12])) / TICKS
         self.megabytes[key] = peak / 1000

@@ -67,10 +67,12 @@ static int read_listing(char *text, struct program *program)
     int is_counted = 0;
     for (char *piece = strtok_r(text, ",\n", &rest); piece != NULL; piece = strtok_r(NULL, ",\n", &rest)) {
         int count = read_numbers(piece, numbers);
-        if (count == 1 && !is_counted)
-            said = numbers[0], is_counted = 1;
-        else if (count != 0 && (count != FIELDS || !is_counted || !add_insn(program, numbers)))
+        if (count == 1 && !is_counted) {
+            said = numbers[0];
+            is_counted = 1;
+        } else if (count != 0 && (count != FIELDS || !is_counted || !add_insn(program, numbers))) {
             return 0;
+        }
     }
     return program->count != 0 && program->count == said;
 }
