@@ -77,14 +77,14 @@ def line_of(name):
 @functools.lru_cache(maxsize=None)
 def hash_of(name, edits=False):
     """A sum of all that a crate's proof, or its edits, depend on: its files, its line of crates.txt, the
-    toolchain's version, and the same sums of the crates below."""
+    toolchain's version, and the sums of the proofs of the crates below, whose edits no check here reads."""
     found = hashlib.sha256(repr((line_of(name), version())).encode())
     for file in sorted((ROOT / "crates" / name).rglob("*")):
         inside = file.relative_to(ROOT / "crates" / name)
         if file.is_file() and inside.parts[0] in (*READ, *[EDITS] * edits):
             found.update(repr((str(inside), file.read_bytes())).encode())
     for it in sorted(it.name for it in crates()[name].deps):
-        found.update(hash_of(it, edits).encode())
+        found.update(hash_of(it).encode())
     return found.hexdigest()
 
 

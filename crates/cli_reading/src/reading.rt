@@ -1,5 +1,9 @@
 //! Recordings that commands read, packet by packet.
 
+ghost use Rattle.std.specs.Prelude.{◌^◌, ◌<◌, [], length, Some, IfOk, IfSome};
+ghost use Rattle.rec_reader.specs.Readers.{HasRead};
+ghost use Rattle.cli_reading.specs.Written.{GivesNext};
+
 use ch11_packet::What;
 use cli_streams::Ending;
 use rec_reader::{OwnedPacket, Packet, Reader};
@@ -61,8 +65,13 @@ pub(crate) fn counts_of<'a, R: Read>(
 pub(crate) fn next_packet<'a, R: Read>(
     file: &'a str,
     reader: &mut Reader<R>,
-) -> Result<Option<OwnedPacket>, Ending<'a>> {
-    reader.next().map_err(|end| Ending::of_reading(file, end))
+) -> Result<Option<OwnedPacket>, Ending<'a>>
+    ensures gives { IfOk result (λ taken. GivesNext taken reader.old reader.new) }
+{
+    match reader.next() {
+        Ok(taken) => Ok(taken),
+        Err(end) => Err(Ending::of_reading(file, end)),
+    }
 }
 
 /// The next packet of a recording that is read again. Where there is none, it isn't what it was, and
@@ -70,7 +79,9 @@ pub(crate) fn next_packet<'a, R: Read>(
 pub(crate) fn packet_again<'a, R: Read>(
     file: &'a str,
     reader: &mut Reader<R>,
-) -> Result<OwnedPacket, Ending<'a>> {
+) -> Result<OwnedPacket, Ending<'a>>
+    ensures gives { IfOk result (λ packet. GivesNext (Some packet) reader.old reader.new) }
+{
     match next_packet(file, reader) {
         Ok(Some(packet)) => Ok(packet),
         Ok(None) | Err(Ending::Reading(_)) => Err(Ending::File(file)),
@@ -90,7 +101,10 @@ pub(crate) fn reader_of<'a, R: AllocGlobal + Files>(
 pub(crate) fn reader_over<'a, I: Read + Drop>(
     alloc: Global,
     input: I,
-) -> Result<Reader<BufReader<I>>, Ending<'a>> {
+) -> Result<Reader<BufReader<I>>, Ending<'a>>
+    ensures begins { IfOk result (λ reader. IfSome (I.remaining input) (λ recording.
+        length recording < 2 ^ 64 → HasRead recording [] reader)) }
+{
     let input = BufReader::with_capacity(alloc, PIECE, input).map_err(|_| Ending::Memory)?;
     Ok(Reader::new(alloc, input))
 }

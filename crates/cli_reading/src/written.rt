@@ -1,11 +1,16 @@
 //! What a command writes for a recording, packet by packet, into a file.
 
+ghost use Rattle.std.specs.Prelude.{ℕ, ◌^◌, ◌<◌, List, [], length, IfOk, IfSome, OnOk};
+ghost use Rattle.rec_reader.specs.Readers.{HasRead};
+ghost use Rattle.cli_reading.specs.Written.{IsWritten, TakesWritten};
+
 use crate::output_file::{buffered_output, write_held};
 use crate::reading::{
     Counts, begin_again, counts_of, is_read_twice, next_packet, open, packet_again, reader_over,
 };
 use cli_streams::{Ending, Inputs, LockFile, STREAM};
 use rec_reader::{Packet, Reader};
+use std::alloc::Global;
 use std::io::{Read, Write};
 use std::rt::Files;
 
@@ -46,8 +51,7 @@ where
         return write_file(rt, file, &mut inputs, out, written);
     }
     inputs.refuse_output(rt, out)?;
-    let mut reader = reader_over(rt.alloc(), input)?;
-    write_once(rt, file, &inputs, out, &mut reader, written)
+    write_once(rt, file, &inputs, out, input, written)
 }
 
 /// Writes for a recording in a file.
@@ -66,8 +70,7 @@ where
     inputs.add(&recording)?;
     inputs.refuse_output(rt, out)?;
     if !is_read_twice(&recording) {
-        let mut reader = reader_over(alloc, &mut recording)?;
-        return write_once(rt, file, inputs, out, &mut reader, written);
+        return write_once(rt, file, inputs, out, &mut recording, written);
     }
     let judged = counts_of(file, &mut reader_over(alloc, &mut recording)?)?;
     begin_again(file, &mut recording)?;
@@ -85,7 +88,11 @@ fn write_again<'a, I: Read, W: Write, P: PerPacket>(
     out: &'a str,
     output: &mut W,
     written: &mut P,
-) -> Result<(), Ending<'a>> {
+) -> Result<(), Ending<'a>>
+    ensures written { OnOk result ((recording : List ℕ) → HasRead recording [] reader.old
+        → TakesWritten (P.bytes_for written.old) judged.packets recording
+        (W.contents output.old) (W.contents output.new)) }
+{
     let mut counts = Counts::NONE;
     'packets: for _ in 0..judged.packets {
         let owned = packet_again(file, reader)?;
@@ -101,28 +108,45 @@ fn write_again<'a, I: Read, W: Write, P: PerPacket>(
     output.flush().map_err(|_| Ending::File(out))
 }
 
-/// Writes for a recording that can be read only once. What is written is held until the recording is
+/// Writes for a recording that can be read only once: what is written is held until the recording is
 /// read to its end.
 fn write_once<'a, R: AllocGlobal + Files, I: Read, P: PerPacket>(
     rt: &R,
     file: &'a str,
     inputs: &Inputs,
     out: &'a str,
-    reader: &mut Reader<I>,
+    input: &mut I,
     written: &mut P,
 ) -> Result<(), Ending<'a>>
 where
     R::File: LockFile,
 {
-    let mut held = Vec::new(rt.alloc());
+    let held = held_for(rt.alloc(), file, input, written)?;
+    write_held(rt, inputs, out, held.as_slice())
+}
+
+/// What is written for the recording that an input gives, which is read to its end.
+fn held_for<'a, I: Read + Drop, P: PerPacket>(
+    alloc: Global,
+    file: &'a str,
+    input: I,
+    written: &mut P,
+) -> Result<Vec<u8>, Ending<'a>>
+    ensures written { IfOk result (λ held. IfSome (I.remaining input) (λ recording.
+        length recording < 2 ^ 64
+        → IsWritten (P.bytes_for written.old) recording held.items)) }
+{
+    let mut reader = reader_over(alloc, input)?;
+    let mut held = Vec::new(alloc);
     'packets: for _ in 0..u64::MAX {
-        let Some(owned) = next_packet(file, reader)? else {
-            break 'packets;
+        let Some(owned) = next_packet(file, &mut reader)? else {
+            return Ok(held);
         };
         // memory takes all bytes, if there is some
         if !written.write_packet(&owned.packet(), &mut held) {
             return Err(Ending::Memory);
         }
     }
-    write_held(rt, inputs, out, held.as_slice())
+    // no recording has so many packets
+    Err(Ending::Memory)
 }
