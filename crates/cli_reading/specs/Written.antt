@@ -1,10 +1,12 @@
 -- What `extract` and `upgrade` write for the packets of a recording.
-use Rattle.std.specs.Prelude.{ℕ, ◌≡◌, List, ◌++◌, length, Option, None, Ok}
+use Rattle.std.specs.Prelude.{ℕ, ◌≡◌, List, ◌++◌, Option, None, Ok}
 use Rattle.std.specs.List.{flat_map}
 use Rattle.std.specs.Io.KnownBytes.{Appends}
 use Rattle.rec_reader.specs.Packets.{PacketData, BeginsPackets}
 use Rattle.rec_reader.specs.Readers.{ReaderState, HasRead, Tells, given_by}
 use Rattle.rec_reader.specs.Reading.{Reads}
+use Rattle.cli_reading.specs.Counts.{CountsPackets}
+use Rattle.cli_reading.specs.declared.reading.Counts.{Counts}
 
 -- after the packets that a reader had given of some bytes it gives the next of them, or there is none
 abbrev pub GivesNext : Option PacketData → (old new : ReaderState) → Type 0
@@ -19,11 +21,11 @@ pub record IsWritten (bytes_for : PacketData → List ℕ) (recording written : 
   pub whole : written ≡ flat_map bytes_for packets
 
 -- an output took what is written for each of the first packets of a recording, in order and once
--- each: for so many of them
-pub record TakesWritten (bytes_for : PacketData → List ℕ) (count : ℕ) (recording : List ℕ)
+-- each: for those that have these counts
+pub record TakesWritten (bytes_for : PacketData → List ℕ) (counts : Counts) (recording : List ℕ)
     (old new : Option (List ℕ)) : Type 0 where
   pub packets : List PacketData
   pub rest : List ℕ
   pub first : BeginsPackets 0 packets recording rest
-  pub many : length packets ≡ count
+  pub counted : CountsPackets packets counts
   pub took : Appends old new (flat_map bytes_for packets)

@@ -1,7 +1,8 @@
 //! Recordings that commands read, packet by packet.
 
-ghost use Rattle.std.specs.Prelude.{◌^◌, ◌<◌, [], length, Some, IfOk, IfSome};
+ghost use Rattle.std.specs.Prelude.{ℕ, ◌^◌, ◌<◌, List, [], length, Some, IfOk, IfSome};
 ghost use Rattle.rec_reader.specs.Readers.{HasRead};
+ghost use Rattle.cli_reading.specs.Counts.{CountsOf};
 ghost use Rattle.cli_reading.specs.Written.{GivesNext};
 
 use ch11_packet::What;
@@ -28,6 +29,10 @@ pub(crate) struct Counts {
 }
 
 impl Counts {
+    ghost use Rattle.std.specs.Prelude.{◌≡◌};
+    ghost use Rattle.rec_reader.specs.Views.{packet_data};
+    ghost use Rattle.cli_reading.specs.Counts.{counts_with};
+
     /// No packets.
     pub(crate) const NONE: Counts = Counts {
         packets: 0,
@@ -36,7 +41,9 @@ impl Counts {
     };
 
     /// Counts a packet.
-    pub(crate) fn count(&mut self, packet: &Packet<'_>) {
+    pub(crate) fn count(&mut self, packet: &Packet<'_>)
+        ensures { self.new ≡ counts_with self.old (packet_data packet.now) }
+    {
         self.packets = self.packets.saturating_add(1);
         if packet.what == What::Other {
             self.others = self.others.saturating_add(1);
@@ -50,15 +57,19 @@ impl Counts {
 pub(crate) fn counts_of<'a, R: Read>(
     file: &'a str,
     reader: &mut Reader<R>,
-) -> Result<Counts, Ending<'a>> {
+) -> Result<Counts, Ending<'a>>
+    ensures all { IfOk result (λ counts. (recording : List ℕ) → HasRead recording [] reader.old
+        → CountsOf recording counts) }
+{
     let mut counts = Counts::NONE;
     'packets: for _ in 0..u64::MAX {
         let Some(owned) = next_packet(file, reader)? else {
-            break 'packets;
+            return Ok(counts);
         };
         counts.count(&owned.packet());
     }
-    Ok(counts)
+    // no recording has so many packets
+    Err(Ending::Memory)
 }
 
 /// The next packet of a recording: `None` at its end.

@@ -90,7 +90,7 @@ fn write_again<'a, I: Read, W: Write, P: PerPacket>(
     written: &mut P,
 ) -> Result<(), Ending<'a>>
     ensures written { OnOk result ((recording : List ℕ) → HasRead recording [] reader.old
-        → TakesWritten (P.bytes_for written.old) judged.packets recording
+        → TakesWritten (P.bytes_for written.old) judged recording
         (W.contents output.old) (W.contents output.new)) }
 {
     let mut counts = Counts::NONE;

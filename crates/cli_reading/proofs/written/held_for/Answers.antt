@@ -1,14 +1,17 @@
 use Rattle.std.proofs.Common.{[], Some, refl, sym, ◌∙◌, subst}
+use Rattle.std.proofs.KnownBytes.{Appends-nil}
 use Rattle.cli_reading.specs.Written.{GivesNext}
-use Rattle.cli_reading.proofs.Passes.{HasPassed, begins, goes_on, all_written}
+use Rattle.cli_reading.proofs.Passes.{WentOut, none_given, one_more_given, one_more_went_out, all_written}
 use Rattle.cli_reading.proofs.written.held_for.Goals as goal
 
 pub packets-init : goal.packets-init
 packets-init g c =
     let its = g.P.PerPacket.bytes_for c.args.written.now in (
       refl,
-      λ recording given. subst (λ items. HasPassed its 0 recording c.in_ok-reader.reader (Some []) (Some items)) (sym c.new-held.ensures.items)
-          (begins its recording c.in_ok-reader.reader (Some []) given),
+      λ recording begins. (
+        none_given recording c.in_ok-reader.reader begins,
+        subst (λ items. WentOut its [] (Some []) (Some items)) (sym c.new-held.ensures.items) (Appends-nil (Some [])),
+      ),
     )
 
 pub returns-in_default : goal.returns-in_default
@@ -20,10 +23,12 @@ returns-in_default g c =
     }
 
 pub packets-preserved : goal.packets-preserved
-packets-preserved g c = (
-  c.write_packet.ensures.same c.if-not-write_packet.false ∙ c.packets.invariant.0,
-  λ recording given. goes_on (g.P.PerPacket.bytes_for c.args.written.now) recording c.packets.counter c.packets.reader c.next_packet.new.reader (Some []) (Some c.packets.held.items)
-      (Some c.write_packet.new.out.items) _ _ (g.P.PerPacket.bytes_for c.packets.written) (c.packets.invariant.1 recording given)
-      (subst (λ taken. GivesNext taken c.packets.reader c.next_packet.new.reader) c.in-Some.is c.in_ok-owned.ensures.gives) c.packet.ensures.same c.packets.invariant.0
-      (c.write_packet.ensures.written c.if-not-write_packet.false),
-)
+packets-preserved g c =
+    let gives = subst (λ taken. GivesNext taken c.packets.reader c.next_packet.new.reader) c.in-Some.is c.in_ok-owned.ensures.gives in (
+      c.write_packet.ensures.same c.if-not-write_packet.false ∙ c.packets.invariant.0,
+      λ recording begins. (let so_far = c.packets.invariant.1 recording begins in (
+        one_more_given c.next_packet.new.reader _ so_far.0 gives,
+        one_more_went_out (g.P.PerPacket.bytes_for c.args.written.now) (g.P.PerPacket.bytes_for c.packets.written) so_far.0.packets _ _ (Some []) (Some c.packets.held.items)
+            (Some c.write_packet.new.out.items) so_far.1 c.packets.invariant.0 c.packet.ensures.same (c.write_packet.ensures.written c.if-not-write_packet.false),
+      )),
+    )

@@ -1,11 +1,13 @@
 use Rattle.std.proofs.Common.{◌≡◌, ℕ, List, []}
 use Rattle.rec_reader.specs.Readers.{HasRead}
-use Rattle.cli_reading.proofs.Passes.{HasPassed}
+use Rattle.cli_reading.specs.Counts.{CountsPackets}
+use Rattle.cli_reading.proofs.Passes.{HasGiven, WentOut}
 use Rattle.cli_reading.proofs.written.write_again.Given as goal
 
--- the output took what is written for the packets so far
+-- the output took what is written for the packets so far, and these are counted
 abbrev pub invariant-packets : goal.invariant-packets
 invariant-packets g l =
     (g.P.PerPacket.bytes_for l.written ≡ g.P.PerPacket.bytes_for l.initial.written)
     × ((recording : List ℕ) → HasRead recording [] l.initial.reader
-    → HasPassed (g.P.PerPacket.bytes_for l.initial.written) l.counter recording l.reader (g.W.Write.contents l.initial.output) (g.W.Write.contents l.output))
+    → (had : HasGiven l.counter recording l.reader)
+    × WentOut (g.P.PerPacket.bytes_for l.initial.written) had.packets (g.W.Write.contents l.initial.output) (g.W.Write.contents l.output) × CountsPackets had.packets l.counts)
