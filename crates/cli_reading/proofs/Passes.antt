@@ -1,5 +1,7 @@
 -- A pass over a recording, packet by packet, that counts packets or writes something for each.
 use Rattle.std.proofs.Common.{◌≡◌, ℕ, ◌+◌, ◌-◌, ◌^◌, ◌<◌, Bool, true, false, cond, List, [], ◌∷◌, ◌++◌, length, Option, None, Some, refl, sym, ap, subst, ◌∙◌, arith}
+use mathlib.Core.Bool.{true≢false}
+use Rattle.std.specs.Result.{is_ok}
 use Rattle.std.specs.Prelude.{◌&&◌, not, Result, Ok, Err, IfSome, OnOk}
 use lib.Dec.{eqb}
 use Rattle.std.specs.List.{flat_map}
@@ -13,7 +15,7 @@ use Rattle.rec_reader.specs.Channels.{capped}
 use Rattle.rec_reader.specs.Packets.{PacketData, packets_len}
 use Rattle.rec_reader.specs.Readers.{ReaderState, HasRead}
 use Rattle.rec_reader.proofs.Chains.{length-Begins}
-use Rattle.cli_reading.specs.Counts.{CountsPackets, CountsOf, counts_with}
+use Rattle.cli_reading.specs.Counts.{CountsPackets, CountsRecording, counts_with}
 use Rattle.cli_reading.specs.Written.{GivesNext, IsWritten, TakesWritten}
 use Rattle.cli_reading.specs.declared.reading.Counts.{Counts}
 
@@ -132,7 +134,7 @@ same_counts counts others alike =
 
 -- the counts of all packets, once there is no further one
 pub all_counted : {count : ℕ} {recording : List ℕ} {reader : ReaderState} (next : ReaderState) (counts : Counts) (had : HasGiven count recording reader) → GivesNext None reader next
-    → CountsPackets had.packets counts → CountsOf recording counts
+    → CountsPackets had.packets counts → CountsRecording recording counts
 all_counted {recording = recording} next counts had gives counted = (had.packets, (gives recording had.packets had.given).1, counted)
 
 -- what was written for packets that have these counts
@@ -146,6 +148,13 @@ is_taken bytes_for counts old held new had went keeps counted =
       counted = counted;
       took = Appends-kept old held new (flat_map bytes_for had.packets) went keeps;
     }
+
+-- what holds where a call went well holds where its answer is passed on
+pub on_ok_passed : {T D E : Type 0} (answer : Result T D) (passed : Result T E) (P : Type 0) → is_ok passed ≡ is_ok answer → OnOk answer P → OnOk passed P
+on_ok_passed (Ok x) (Ok y) P same p = p
+on_ok_passed (Ok x) (Err y) P same p = tt
+on_ok_passed (Err x) (Ok y) P same p = absurd (true≢false same)
+on_ok_passed (Err x) (Err y) P same p = tt
 
 -- what holds in any case
 pub on_ok : {T E : Type 0} (result : Result T E) (P : Type 0) → P → OnOk result P

@@ -6,19 +6,19 @@ use Rattle.rec_reader.specs.Audits.{is_other, other_count}
 use Rattle.rec_reader.specs.Reading.{Reads}
 use Rattle.cli_reading.specs.declared.reading.Counts.{Counts}
 
--- these are the counts of packets from a recording's first on: their number, that of those of no kind
--- that is read, and the place of what follows them
+-- these are the counts of packets from a recording's first on: their number, how many of them are
+-- other, and the place of what follows them
 pub record CountsPackets (packets : List PacketData) (counts : Counts) : Type 0 where
   pub packets_are : counts.packets ≡ length packets
   pub others_are : counts.others ≡ other_count packets
   pub end_is : counts.end ≡ packets_len packets
 
--- these are the counts of all packets of a recording
-abbrev pub CountsOf : (recording : List ℕ) → Counts → Type 0
-CountsOf recording counts =
+-- a recording that is read to its end has these counts of all its packets
+abbrev pub CountsRecording : (recording : List ℕ) → Counts → Type 0
+CountsRecording recording counts =
     (packets : List PacketData) × Reads recording packets None × CountsPackets packets counts
 
--- the counts with one packet more
+-- the counts with one packet more, which ends where they say; at 2^64 - 1 they stay
 abbrev pub counts_with : Counts → PacketData → Counts
 counts_with counts packet =
     record {

@@ -20,8 +20,8 @@ pub record IsWritten (bytes_for : PacketData → List ℕ) (recording written : 
   pub reads : Reads recording packets None
   pub whole : written ≡ flat_map bytes_for packets
 
--- an output took what is written for each of the first packets of a recording, in order and once
--- each: for those that have these counts
+-- an output took what is written for each of a recording's first packets, in order and once each:
+-- for as many of them as have these counts
 pub record TakesWritten (bytes_for : PacketData → List ℕ) (counts : Counts) (recording : List ℕ)
     (old new : Option (List ℕ)) : Type 0 where
   pub packets : List PacketData

@@ -2,7 +2,7 @@
 
 ghost use Rattle.std.specs.Prelude.{ℕ, ◌^◌, ◌<◌, List, [], length, Some, IfOk, IfSome};
 ghost use Rattle.rec_reader.specs.Readers.{HasRead};
-ghost use Rattle.cli_reading.specs.Counts.{CountsOf};
+ghost use Rattle.cli_reading.specs.Counts.{CountsRecording};
 ghost use Rattle.cli_reading.specs.Written.{GivesNext};
 
 use ch11_packet::What;
@@ -59,7 +59,7 @@ pub(crate) fn counts_of<'a, R: Read>(
     reader: &mut Reader<R>,
 ) -> Result<Counts, Ending<'a>>
     ensures all { IfOk result (λ counts. (recording : List ℕ) → HasRead recording [] reader.old
-        → CountsOf recording counts) }
+        → CountsRecording recording counts) }
 {
     let mut counts = Counts::NONE;
     'packets: for _ in 0..u64::MAX {
@@ -68,7 +68,7 @@ pub(crate) fn counts_of<'a, R: Read>(
         };
         counts.count(&owned.packet());
     }
-    // no recording has so many packets
+    // a recording of fewer than 2^64 bytes ends before
     Err(Ending::Memory)
 }
 

@@ -1,6 +1,7 @@
 //! What a command writes for a recording, packet by packet, into a file.
 
-ghost use Rattle.std.specs.Prelude.{ℕ, ◌^◌, ◌<◌, List, [], length, IfOk, IfSome, OnOk};
+ghost use Rattle.std.specs.Prelude.{ℕ, ◌≡◌, ◌^◌, ◌<◌, List, [], length, IfOk, IfSome, OnOk};
+ghost use Rattle.std.specs.Io.Buffered.{writer_buffer, writer_contents};
 ghost use Rattle.rec_reader.specs.Readers.{HasRead};
 ghost use Rattle.cli_reading.specs.Written.{IsWritten, TakesWritten};
 
@@ -11,7 +12,7 @@ use crate::reading::{
 use cli_streams::{Ending, Inputs, LockFile, STREAM};
 use rec_reader::{Packet, Reader};
 use std::alloc::Global;
-use std::io::{Read, Write};
+use std::io::{BufWriter, Read, Write};
 use std::rt::Files;
 
 /// What is written for each packet, and what is counted meanwhile.
@@ -79,19 +80,20 @@ where
     write_again(file, &mut reader, judged, out, &mut output, written)
 }
 
-/// Writes for a recording that was judged before. If it isn't what was judged, that is the file's
-/// fault; then some of what is written may be there.
-fn write_again<'a, I: Read, W: Write, P: PerPacket>(
+/// Writes for a recording that was judged before. If its counts aren't what they were, that is the
+/// file's fault; then some of what is written may be there.
+fn write_again<'a, I: Read, W: Write + Drop, P: PerPacket>(
     file: &'a str,
     reader: &mut Reader<I>,
     judged: Counts,
     out: &'a str,
-    output: &mut W,
+    output: &mut BufWriter<W>,
     written: &mut P,
 ) -> Result<(), Ending<'a>>
     ensures written { OnOk result ((recording : List ℕ) → HasRead recording [] reader.old
         → TakesWritten (P.bytes_for written.old) judged recording
-        (W.contents output.old) (W.contents output.new)) }
+        (writer_contents W.contents output.old) (writer_contents W.contents output.new)) }
+    ensures flushed { OnOk result (writer_buffer output.new ≡ []) }
 {
     let mut counts = Counts::NONE;
     'packets: for _ in 0..judged.packets {
@@ -125,7 +127,7 @@ where
     write_held(rt, inputs, out, held.as_slice())
 }
 
-/// What is written for the recording that an input gives, which is read to its end.
+/// What is written for the recording that an input gives. It is read to its end.
 fn held_for<'a, I: Read + Drop, P: PerPacket>(
     alloc: Global,
     file: &'a str,
@@ -147,6 +149,6 @@ fn held_for<'a, I: Read + Drop, P: PerPacket>(
             return Err(Ending::Memory);
         }
     }
-    // no recording has so many packets
+    // a recording of fewer than 2^64 bytes ends before
     Err(Ending::Memory)
 }
