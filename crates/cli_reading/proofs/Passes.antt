@@ -4,7 +4,7 @@ use mathlib.Core.Bool.{true≢false}
 use Rattle.std.specs.Result.{is_ok}
 use Rattle.std.specs.Prelude.{◌&&◌, not, Result, Ok, Err, IfSome, OnOk}
 use lib.Dec.{eqb}
-use Rattle.std.specs.List.{flat_map}
+use Rattle.std.specs.List.{flat_map, FoldsTo}
 use Rattle.std.specs.Io.KnownBytes.{Appends, Keeps}
 use Rattle.std.proofs.KnownBytes.{Appends-trans, Appends-kept}
 use Rattle.std.proofs.lemmas.Bool.{and_parts, eqb-true}
@@ -56,18 +56,28 @@ one_more_went_out bytes_for its packets packet shown old held new before is same
     subst (λ bs. Appends old new bs) (flat_map_more bytes_for [] packets packet)
     (Appends-trans old held new (flat_map bytes_for packets) (bytes_for packet) before (subst (λ bs. Appends held new bs) (ap its same ∙ ap (λ f. f packet) is) took))
 
+-- one packet more is counted
+pub one_more_step : {S : Type 0} (counts : S → PacketData → S → Type 0) (packets : List PacketData) (packet shown : PacketData) (old held new : S) → FoldsTo counts old packets held
+    → shown ≡ packet → counts held shown new → FoldsTo counts old (packets ++ packet ∷ []) new
+one_more_step counts [] packet shown old held new before same step =
+    (new, subst (λ p. counts old p new) same (subst (λ s. counts s shown new) (sym before) step), refl)
+one_more_step counts (p ∷ ps) packet shown old held new before same step =
+    (before.0, before.1, one_more_step counts ps packet shown before.0 held new before.2 same step)
+
 -- what is written for the recording that an input has left, from the reader's first packet to its last
-pub all_written : (bytes_for : PacketData → List ℕ) (left : Option (List ℕ)) (count : ℕ) (first reader next : ReaderState) (items : List ℕ)
+pub all_written : {S : Type 0} (bytes_for : PacketData → List ℕ) (counts : S → PacketData → S → Type 0) (left : Option (List ℕ)) (count : ℕ) (first reader next : ReaderState) (items : List ℕ) (old new : S)
     → IfSome left (λ recording. length recording < 2 ^ 64 → HasRead recording [] first)
-    → ((recording : List ℕ) → HasRead recording [] first → (had : HasGiven count recording reader) × WentOut bytes_for had.packets (Some []) (Some items)) → GivesNext None reader next
-    → IfSome left (λ recording. length recording < 2 ^ 64 → IsWritten bytes_for recording items)
-all_written bytes_for None count first reader next items begun passed gives = tt
-all_written bytes_for (Some recording) count first reader next items begun passed gives = λ few.
+    → ((recording : List ℕ) → HasRead recording [] first
+    → (had : HasGiven count recording reader) × WentOut bytes_for had.packets (Some []) (Some items) × FoldsTo counts old had.packets new) → GivesNext None reader next
+    → IfSome left (λ recording. length recording < 2 ^ 64 → IsWritten bytes_for counts recording items old new)
+all_written bytes_for counts None count first reader next items old new begun passed gives = tt
+all_written bytes_for counts (Some recording) count first reader next items old new begun passed gives = λ few.
     let at_end = passed recording (begun few) in
     record {
       packets = at_end.0.packets;
       reads = (gives recording at_end.0.packets at_end.0.given).1;
       whole = at_end.1;
+      each = at_end.2;
     }
 
 -- ---- what is counted
@@ -138,15 +148,17 @@ pub all_counted : {count : ℕ} {recording : List ℕ} {reader : ReaderState} (n
 all_counted {recording = recording} next counts had gives counted = (had.packets, (gives recording had.packets had.given).1, counted)
 
 -- what was written for packets that have these counts
-pub is_taken : {count : ℕ} {recording : List ℕ} {reader : ReaderState} (bytes_for : PacketData → List ℕ) (counts : Counts) (old held new : Option (List ℕ)) (had : HasGiven count recording reader)
-    → WentOut bytes_for had.packets old held → Keeps held new → CountsPackets had.packets counts → TakesWritten bytes_for counts recording old new
-is_taken bytes_for counts old held new had went keeps counted =
+pub is_taken : {S : Type 0} {count : ℕ} {recording : List ℕ} {reader : ReaderState} (bytes_for : PacketData → List ℕ) (counts : S → PacketData → S → Type 0) (judged : Counts) (old new : S)
+    (before held after : Option (List ℕ)) (had : HasGiven count recording reader) → WentOut bytes_for had.packets before held → Keeps held after → CountsPackets had.packets judged
+    → FoldsTo counts old had.packets new → TakesWritten bytes_for counts judged recording old new before after
+is_taken bytes_for counts judged old new before held after had went keeps counted each =
     record {
       packets = had.packets;
       rest = had.given.rest;
       first = had.given.held;
       counted = counted;
-      took = Appends-kept old held new (flat_map bytes_for had.packets) went keeps;
+      took = Appends-kept before held after (flat_map bytes_for had.packets) went keeps;
+      each = each;
     }
 
 -- what holds where a call went well holds where its answer is passed on

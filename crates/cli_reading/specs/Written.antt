@@ -1,6 +1,6 @@
 -- What `extract` and `upgrade` write for the packets of a recording.
 use Rattle.std.specs.Prelude.{ℕ, ◌≡◌, List, ◌++◌, Option, None, Ok}
-use Rattle.std.specs.List.{flat_map}
+use Rattle.std.specs.List.{flat_map, FoldsTo}
 use Rattle.std.specs.Io.KnownBytes.{Appends}
 use Rattle.rec_reader.specs.Packets.{PacketData, BeginsPackets}
 use Rattle.rec_reader.specs.Readers.{ReaderState, HasRead, Tells, given_by}
@@ -14,18 +14,24 @@ GivesNext taken old new =
     (bytes : List ℕ) (packets : List PacketData) → HasRead bytes packets old
     → HasRead bytes (packets ++ given_by (Ok taken)) new × Tells bytes packets (Ok taken)
 
--- what is written for each packet of a recording, in order and once each
-pub record IsWritten (bytes_for : PacketData → List ℕ) (recording written : List ℕ) : Type 0 where
+-- what is written for each packet of a recording, in order and once each, and what is counted of
+-- each meanwhile, from one state to another
+pub record IsWritten {S : Type 0} (bytes_for : PacketData → List ℕ)
+    (counts : S → PacketData → S → Type 0) (recording written : List ℕ) (old new : S)
+    : Type 0 where
   pub packets : List PacketData
   pub reads : Reads recording packets None
   pub whole : written ≡ flat_map bytes_for packets
+  pub each : FoldsTo counts old packets new
 
 -- an output took what is written for each of a recording's first packets, in order and once each:
--- for as many of them as have these counts
-pub record TakesWritten (bytes_for : PacketData → List ℕ) (counts : Counts) (recording : List ℕ)
-    (old new : Option (List ℕ)) : Type 0 where
+-- for as many of them as have the counts that were judged; and what is counted of each meanwhile
+pub record TakesWritten {S : Type 0} (bytes_for : PacketData → List ℕ)
+    (counts : S → PacketData → S → Type 0) (judged : Counts) (recording : List ℕ) (old new : S)
+    (before after : Option (List ℕ)) : Type 0 where
   pub packets : List PacketData
   pub rest : List ℕ
   pub first : BeginsPackets 0 packets recording rest
-  pub counted : CountsPackets packets counts
-  pub took : Appends old new (flat_map bytes_for packets)
+  pub counted : CountsPackets packets judged
+  pub took : Appends before after (flat_map bytes_for packets)
+  pub each : FoldsTo counts old packets new

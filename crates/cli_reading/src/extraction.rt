@@ -19,11 +19,15 @@ struct Extraction {
 }
 
 impl PerPacket for Extraction {
-    ghost use Rattle.std.specs.Prelude.{[], ◌∷◌};
+    ghost use Rattle.std.specs.Prelude.{◌≡◌, [], ◌∷◌};
     ghost use Rattle.rec_reader.specs.ChannelFrames.{channel_frames, feed_of};
+    ghost use Rattle.rec_reader.specs.Extracting.{Counts};
 
     ghost bytes_for = { λ extraction packet.
         feed_of (channel_frames extraction.channel (packet ∷ [])) };
+
+    ghost counts = { λ old packet new. (new.channel ≡ old.channel)
+        × Counts old.extracted new.extracted (channel_frames old.channel (packet ∷ [])) };
 
     fn write_packet<W: Write>(&mut self, packet: &Packet<'_>, out: &mut W) -> bool {
         extract_packet(packet, self.channel, out, &mut self.extracted).is_ok()

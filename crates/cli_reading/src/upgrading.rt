@@ -12,9 +12,12 @@ use std::io::{Read, Write};
 use std::rt::Files;
 
 impl PerPacket for Upgraded {
-    ghost use Rattle.rec_reader.specs.Upgrades.{spelling_of, upgraded};
+    ghost use Rattle.std.specs.Prelude.{◌≡◌};
+    ghost use Rattle.rec_reader.specs.Upgrades.{counted_with, spelling_of, upgraded};
 
     ghost bytes_for = { λ _ packet. spelling_of (upgraded packet) };
+
+    ghost counts = { λ old packet new. new ≡ counted_with old packet };
 
     fn write_packet<W: Write>(&mut self, packet: &Packet<'_>, out: &mut W) -> bool {
         upgrade_packet(packet, out, self).is_ok()

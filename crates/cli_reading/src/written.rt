@@ -25,10 +25,14 @@ pub(crate) trait PerPacket {
     // What is written for a packet.
     ghost bytes_for: { Self → PacketData → List ℕ };
 
+    // What is counted of a packet, from one state to the next.
+    ghost counts: { Self → PacketData → Self → Type 0 };
+
     /// Writes what is written for a packet: whether the output took it.
     fn write_packet<W: Write>(&mut self, packet: &Packet<'_>, out: &mut W) -> bool
         ensures written { result ≡ true → Appends (W.contents out.old) (W.contents out.new)
             (bytes_for self.old (packet_data packet.now)) }
+        ensures counted { result ≡ true → counts self.old (packet_data packet.now) self.new }
         ensures same { result ≡ true → bytes_for self.new ≡ bytes_for self.old };
 }
 
@@ -91,7 +95,7 @@ fn write_again<'a, I: Read, W: Write + Drop, P: PerPacket>(
     written: &mut P,
 ) -> Result<(), Ending<'a>>
     ensures written { OnOk result ((recording : List ℕ) → HasRead recording [] reader.old
-        → TakesWritten (P.bytes_for written.old) judged recording
+        → TakesWritten (P.bytes_for written.old) P.counts judged recording written.old written.new
         (writer_contents W.contents output.old) (writer_contents W.contents output.new)) }
     ensures flushed { OnOk result (writer_buffer output.new ≡ []) }
 {
@@ -135,8 +139,8 @@ fn held_for<'a, I: Read + Drop, P: PerPacket>(
     written: &mut P,
 ) -> Result<Vec<u8>, Ending<'a>>
     ensures written { IfOk result (λ held. IfSome (I.remaining input) (λ recording.
-        length recording < 2 ^ 64
-        → IsWritten (P.bytes_for written.old) recording held.items)) }
+        length recording < 2 ^ 64 → IsWritten (P.bytes_for written.old) P.counts recording
+        held.items written.old written.new)) }
 {
     let mut reader = reader_over(alloc, input)?;
     let mut held = Vec::new(alloc);
