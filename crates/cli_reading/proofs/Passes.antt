@@ -8,6 +8,7 @@ use Rattle.std.specs.List.{flat_map, FoldsTo}
 use Rattle.std.specs.Io.KnownBytes.{Appends, Keeps}
 use Rattle.std.proofs.KnownBytes.{Appends-trans, Appends-kept}
 use Rattle.std.proofs.lemmas.Bool.{and_parts, eqb-true}
+use Rattle.std.proofs.lemmas.Fn.{FoldsTo-push}
 use Rattle.std.proofs.lemmas.List.{flat_map_more, length-append}
 use Rattle.std.proofs.lemmas.List.Sums.{sum_by_push, count_by-le-length}
 use Rattle.rec_reader.specs.Audits.{is_other, other_count}
@@ -59,10 +60,8 @@ one_more_went_out bytes_for its packets packet shown old held new before is same
 -- one packet more is counted
 pub one_more_step : {S : Type 0} (counts : S → PacketData → S → Type 0) (packets : List PacketData) (packet shown : PacketData) (old held new : S) → FoldsTo counts old packets held
     → shown ≡ packet → counts held shown new → FoldsTo counts old (packets ++ packet ∷ []) new
-one_more_step counts [] packet shown old held new before same step =
-    (new, subst (λ p. counts old p new) same (subst (λ s. counts s shown new) (sym before) step), refl)
-one_more_step counts (p ∷ ps) packet shown old held new before same step =
-    (before.0, before.1, one_more_step counts ps packet shown before.0 held new before.2 same step)
+one_more_step counts packets packet shown old held new before same step =
+    FoldsTo-push counts old packets held packet new before (subst (λ p. counts held p new) same step)
 
 -- what is written for the recording that an input has left, from the reader's first packet to its last
 pub all_written : {S : Type 0} (bytes_for : PacketData → List ℕ) (counts : S → PacketData → S → Type 0) (left : Option (List ℕ)) (count : ℕ) (first reader next : ReaderState) (items : List ℕ) (old new : S)

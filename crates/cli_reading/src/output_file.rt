@@ -1,5 +1,8 @@
 //! The file that a command writes, created after its buffer.
 
+ghost use Rattle.std.specs.Prelude.{OnOk};
+ghost use Rattle.std.specs.Io.KnownBytes.{Appends};
+
 use cli_streams::{Ending, Inputs, LockFile, create_output};
 use std::io;
 use std::io::{BufWriter, ErrorKind, Write};
@@ -54,6 +57,13 @@ where
     R::File: LockFile,
 {
     let mut output = create_output(rt, inputs, out)?;
-    output.write_all(held).map_err(|_| Ending::File(out))?;
+    write_whole(out, &mut output, held)
+}
+
+/// Writes all bytes to an output, and flushes it.
+fn write_whole<'a, W: Write>(out: &'a str, output: &mut W, bytes: &[u8]) -> Result<(), Ending<'a>>
+    ensures { OnOk result (Appends (W.contents output.old) (W.contents output.new) bytes.now) }
+{
+    output.write_all(bytes).map_err(|_| Ending::File(out))?;
     output.flush().map_err(|_| Ending::File(out))
 }
