@@ -78,7 +78,7 @@ def commands(work, buffer=BUFFER_MIB):
         (work / name).write_text(FILTERS[name])
         (work / f"{name}.toml").write_text(f'[[channel]]\nid = 1\nfilter = "{work / name}"\n')
         expression = EXPRESSIONS[name]
-        live = [LIVE, "--quiet", "--buffer", buffer, work / f"{name}.toml", work / "out", "rx0=1"]
+        live = [LIVE, "--force", "--quiet", "--buffer", buffer, work / f"{name}.toml", work / "out", "rx0=1"]
         dumpcap = ["dumpcap", "-q", "-i", "rx0", "-B", buffer, *(["-f", *expression] if expression else []), "-w", work / "out"]
         tcpdump = ["tcpdump", "-Z", "root", "-n", "-i", "rx0", "-B", buffer * 1024, "-w", work / "out", *expression]
         made["tools/live", name] = live, "origin"

@@ -47,6 +47,10 @@ complete -c bpfrec -n '__bpfrec_at help 1' -a version
 complete -c bpfrec -n __fish_use_subcommand -a help -d 'Prints help for a command'
 complete -c bpfrec-live -l every
 complete -c bpfrec-live -l size
+complete -c bpfrec-live -l sync
+complete -c bpfrec-live -l force
+complete -c bpfrec-live -l no-audit
+complete -c bpfrec-live -l strict
 complete -c bpfrec-live -l prefilter
 complete -c bpfrec-live -l origin
 complete -c bpfrec-live -l buffer
@@ -67,6 +71,10 @@ complete -c bpfrec-capture -l clock
 complete -c bpfrec-capture -l check-sequence
 complete -c bpfrec-capture -l interface
 complete -c bpfrec-capture -l quiet
+complete -c bpfrec-capture -l strict
+complete -c bpfrec-capture -l hold
+complete -c bpfrec-capture -l events
+complete -c bpfrec-capture -l parent
 complete -c bpfrec-capture -l help
 complete -c bpfrec-feed -n __fish_use_subcommand -a from-pcap
 complete -c bpfrec-feed -n __fish_use_subcommand -a to-pcap

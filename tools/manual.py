@@ -40,11 +40,11 @@ class Tool(NamedTuple):
 
 TOOLS = {
     "live": Tool("records network interfaces, and audits the recording", "SETTINGS OUT INTERFACE=CHANNEL..",
-                 ["--every", "--size", "--prefilter", "--origin", "--buffer", "--direction", "--no-promiscuous", "--clock",
-                  "--check-sequence", "--quiet", "--help"], ["toml", "ch11"]),
+                 ["--every", "--size", "--sync", "--force", "--no-audit", "--strict", "--prefilter", "--origin", "--buffer",
+                  "--direction", "--no-promiscuous", "--clock", "--check-sequence", "--quiet", "--help"], ["toml", "ch11"]),
     "capture": Tool("makes feeds of interfaces, as their frames come, and of captures", "INTERFACE=PIPE..",
                     ["-r", "--origin", "--buffer", "--direction", "--prefilter", "--no-promiscuous", "--clock",
-                     "--check-sequence", "--interface", "--quiet", "--help"], []),
+                     "--check-sequence", "--interface", "--quiet", "--strict", "--hold", "--events", "--parent", "--help"], []),
     "feed": Tool("makes feeds from captures and back, and shows their records", "from-pcap|to-pcap|show|make ..",
                  ["from-pcap", "to-pcap", "show", "make", "--origin", "--interface", "--drop-check-sequence", "--help"], []),
     "info": Tool("tells what is in a recording, as a text, as JSON or as a page", "[--json] [--html FILE] RECORDING",

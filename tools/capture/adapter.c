@@ -1,5 +1,8 @@
+#define _GNU_SOURCE
 #include "adapter.h"
+#include "words.h"
 
+#include <inttypes.h>
 #include <linux/ethtool.h>
 #include <linux/sockios.h>
 #include <net/if.h>
@@ -10,9 +13,12 @@
 #include <string.h>
 #include <sys/ioctl.h>
 #include <sys/socket.h>
+#include <sys/stat.h>
+#include <sys/timex.h>
+#include <time.h>
 #include <unistd.h>
 
-enum { FEATURES_A_BLOCK = 32 };
+enum { FEATURES_A_BLOCK = 32, TAI_AHEAD_SECONDS = 37 };
 
 static const char *const JOINING[] = {"rx-gro", "rx-lro", "rx-gro-hw", "tx-generic-segmentation", "tx-tcp-segmentation"};
 
@@ -78,4 +84,52 @@ void ask_adapter(const char *interface, struct adapter *adapter)
     if (count > 0)
         ask_features(socket_fd, interface, count, adapter);
     close(socket_fd);
+}
+
+int is_interface_up(const char *name)
+{
+    int socket_fd = socket(AF_INET, SOCK_DGRAM | SOCK_CLOEXEC, 0);
+    struct ifreq request = {0};
+    if (socket_fd < 0)
+        return 0;
+    snprintf(request.ifr_name, sizeof request.ifr_name, "%s", name);
+    int is_up = ioctl(socket_fd, SIOCGIFFLAGS, &request) == 0 && (request.ifr_flags & IFF_UP) != 0;
+    close(socket_fd);
+    return is_up;
+}
+
+uint64_t ring_len(int socket)
+{
+    char line[512], name[64];
+    struct stat kind;
+    uint64_t begin, end, len = 0;
+    FILE *maps = fopen("/proc/self/maps", "r");
+    if (maps == NULL)
+        return 0;
+    int is_known = fstat(socket, &kind) == 0;
+    snprintf(name, sizeof name, "socket:[%" PRIu64 "]", is_known ? (uint64_t)kind.st_ino : 0);
+    while (is_known && fgets(line, sizeof line, maps) != NULL)
+        if (strstr(line, name) != NULL && sscanf(line, "%" SCNx64 "-%" SCNx64, &begin, &end) == 2)
+            len += end - begin;
+    fclose(maps);
+    return len;
+}
+
+/* How far TAI is ahead of UTC, in seconds: as the kernel was told, or as it has been since 2017. */
+static int tai_ahead(void)
+{
+    struct timex times = {0};
+    return adjtimex(&times) >= 0 && times.tai != 0 ? times.tai : TAI_AHEAD_SECONDS;
+}
+
+void tell_adapter_clock(const char *interface, nanoseconds stamp)
+{
+    struct timespec now;
+    clock_gettime(CLOCK_REALTIME, &now);
+    nanoseconds wall = (nanoseconds)now.tv_sec * NANOSECONDS_PER_SECOND + now.tv_nsec;
+    double ahead = (double)(stamp - wall) / NANOSECONDS_PER_SECOND, tai = tai_ahead();
+    if (ahead > tai - 1 && ahead < tai + 1)
+        tell("%s: the adapter's clock runs TAI, %.0f s ahead of UTC, and so do the times of its frames", interface, tai);
+    else if (ahead > 1 || ahead < -1)
+        tell("%s: the adapter's clock is %+.3f s ahead of the host's, and so are the times of its frames", interface, ahead);
 }

@@ -2,6 +2,8 @@
 #ifndef ADAPTER_H
 #define ADAPTER_H
 
+#include "moment.h"
+
 enum { JOINING_LEN = 128 };
 
 struct adapter {
@@ -11,5 +13,14 @@ struct adapter {
 
 /* Asks the kernel, which knows nothing of some interfaces. */
 void ask_adapter(const char *interface, struct adapter *adapter);
+
+/* Whether there is an interface of this name, and it is up. */
+int is_interface_up(const char *name);
+
+/* How many bytes of memory the kernel has for the frames of a packet socket; 0 where it doesn't say. */
+uint64_t ring_len(int socket);
+
+/* Tells where an adapter's own clock isn't the host's, by a frame that comes now: in which scale it runs. */
+void tell_adapter_clock(const char *interface, nanoseconds stamp);
 
 #endif

@@ -42,10 +42,17 @@ void write_beside(struct feed *feed)
 int flush_feed(struct feed *feed)
 {
     size_t len = feed->len;
+    uint64_t taken = feed->output.taken, waiting = feed->waiting;
     feed->len = 0;
+    feed->waiting = 0;
     if (feed->writer.is_started)
         return hand_over(&feed->writer, &feed->bytes, len);
-    return write_all(&feed->output, feed->bytes, len);
+    int goes_on = write_all(&feed->output, feed->bytes, len);
+    if (!goes_on && feed->output.taken == taken) {
+        feed->len = len;
+        feed->waiting = waiting;
+    }
+    return goes_on;
 }
 
 int flush_old(struct feed *feed)
@@ -125,6 +132,7 @@ int put_frame(struct feed *feed, uint64_t counter, const struct captured *captur
     put_head(record, counter, marks, len);
     feed->len += RECORD_HEAD_LEN + len;
     feed->frames++;
+    feed->waiting++;
     feed->frame_bytes += len;
     return 1;
 }

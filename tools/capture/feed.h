@@ -17,6 +17,7 @@ struct feed {
     size_t len, room;
     int64_t since; /* when the first of the waiting bytes came */
     uint64_t frames, frame_bytes, passed;
+    uint64_t waiting; /* of the frames, those that wait to be written */
 };
 
 /* A frame as it was captured. */
@@ -43,7 +44,8 @@ int put_frame(struct feed *feed, uint64_t counter, const struct captured *captur
  * one of them. Else it goes on as before. */
 enum switching switch_feed(struct feed *feed);
 
-/* Writes what waits, or hands it to the thread. Whether the feed is still open. */
+/* Writes what waits, or hands it to the thread. Whether the feed is still open. Where its reader has left before it took
+ * any of it, it waits for another feed. */
 int flush_feed(struct feed *feed);
 
 /* Writes what has waited for a millisecond. Whether the feed is still open. */

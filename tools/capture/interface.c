@@ -1,5 +1,6 @@
 #define _GNU_SOURCE
 #include "interface.h"
+#include "adapter.h"
 #include "stop.h"
 
 #include <errno.h>
@@ -19,32 +20,6 @@ enum {
     SWITCH_PAUSE_MS = 2,
 };
 
-static const int64_t BETWEEN_LINES = NANOSECONDS_PER_SECOND;
-
-/* ---- counts */
-
-static void tell_counts(struct interface *interface)
-{
-    const struct feed *feed = &interface->feed;
-    pcap_stats(interface->pcap, &interface->drops);
-    tell("%s frames %" PRIu64 " bytes %" PRIu64 " dropped %u missed %u passed %" PRIu64 " waited %" PRId64, interface->name,
-         feed->frames, feed->frame_bytes, interface->drops.ps_drop, interface->drops.ps_ifdrop, feed->passed,
-         feed->output.waited / (NANOSECONDS_PER_SECOND / 1000));
-}
-
-/* Tells the counts where a second has gone by. */
-static void tell_in_time(void *it)
-{
-    struct interface *interface = it;
-    int64_t now = steady_now();
-    if (interface->words->is_quiet || now < interface->next_told)
-        return;
-    interface->next_told += BETWEEN_LINES;
-    if (interface->next_told < now)
-        interface->next_told = now + BETWEEN_LINES;
-    tell_counts(interface);
-}
-
 /* ---- frames */
 
 static void take_frame(unsigned char *it, const struct pcap_pkthdr *head, const unsigned char *bytes)
@@ -57,6 +32,12 @@ static void take_frame(unsigned char *it, const struct pcap_pkthdr *head, const 
         interface->is_down = 0;
         tell("%s: it is up again", interface->name);
     }
+    if (interface->is_clock_of_its_own) {
+        interface->is_clock_of_its_own = 0;
+        tell_adapter_clock(interface->name, moment);
+    }
+    if (!interface->words->uses_adapter_clock)
+        moment = steady_moment(&interface->clock, moment);
     put_frame(&interface->feed, counter_at(moment, &interface->words->origin), &captured);
 }
 
@@ -69,23 +50,59 @@ static void detach(struct interface *interface)
     interface->is_detached = 1;
 }
 
-/* Whether an interface that failed is still there, and only down. */
-static int is_only_down(struct interface *interface)
+/* ---- interfaces that go and come */
+
+static void close_pcap(struct interface *interface)
 {
-    interface->is_gone = if_nametoindex(interface->name) != interface->number;
-    if (interface->is_gone)
-        return 0;
-    if (!interface->is_down)
+    if (interface->pcap != NULL)
+        pcap_close(interface->pcap);
+    interface->pcap = NULL;
+}
+
+static void lose_interface(struct interface *interface)
+{
+    count_drops(interface);
+    close_pcap(interface);
+    interface->is_down = 0;
+    interface->is_gone = 1;
+    tell("%s: the interface is gone, and is taken again once it is back", interface->name);
+}
+
+/* Sees whether an interface that failed is only down, or gone. One that was renamed while it was down fails whenever it
+ * has no frames, since libpcap goes by its name; there is nothing to do then. */
+static void look_at_interface(struct interface *interface)
+{
+    char name[IF_NAMESIZE];
+    if (if_indextoname(interface->number, name) == NULL) {
+        lose_interface(interface);
+    } else if (!interface->is_down && !is_interface_up(name)) {
         tell("%s: it is down, and is recorded on once it is up", interface->name);
-    interface->is_down = 1;
+        interface->is_down = 1;
+    }
+}
+
+/* Waits a moment for an interface that is gone. Whether the run goes on. */
+static int wait_until_back(struct interface *interface)
+{
+    struct pollfd stop = {.fd = stop_fd};
+    if (!flush_feed(&interface->feed) || is_stopping())
+        return 0;
+    tell_in_time(interface);
+    poll(&stop, 1, interface->switched != switches_asked() ? SWITCH_PAUSE_MS : MOST_PAUSE_MS);
+    if (is_interface_up(interface->name) && open_again(interface)) {
+        interface->is_gone = 0;
+        tell("%s: it is back", interface->name);
+    }
     return 1;
 }
 
-/* Keeps that a switch was done, or can't be. */
-static void note_switch(struct interface *interface, int asked, enum switching switching)
+/* ---- other feeds */
+
+/* Keeps that a switch was done, or can't be, by this error. */
+static void note_switch(struct interface *interface, int asked, enum switching switching, int error)
 {
     if (switching == SWITCH_FAILED)
-        tell("%s: %s: %s, and it goes on as before", interface->name, interface->path, strerror(errno));
+        tell("%s: %s: %s, and it goes on as before", interface->name, interface->way->to, strerror(error));
     if (switching != SWITCH_LATER)
         interface->switched = asked;
 }
@@ -94,14 +111,62 @@ static void note_switch(struct interface *interface, int asked, enum switching s
 static void follow_switches(struct interface *interface)
 {
     int asked = switches_asked();
-    if (asked != interface->switched)
-        note_switch(interface, asked, switch_feed(&interface->feed));
+    if (asked == interface->switched)
+        return;
+    enum switching switching = switch_feed(&interface->feed);
+    int error = errno;
+    if (switching != SWITCH_LATER)
+        note_counts(interface);
+    note_switch(interface, asked, switching, error);
 }
+
+static void count_lost_frame(unsigned char *it, const struct pcap_pkthdr *head, const unsigned char *bytes)
+{
+    (void)head;
+    (void)bytes;
+    ((struct interface *)it)->counts.dropped++;
+}
+
+/* Counts the frames as dropped that wait for a feed that never came. */
+static void drop_waiting(struct interface *interface)
+{
+    interface->counts.dropped += interface->feed.waiting;
+    interface->feed.frames -= interface->feed.waiting;
+    interface->feed.waiting = interface->feed.len = 0;
+    if (interface->is_gone)
+        return;
+    detach(interface);
+    while (pcap_dispatch(interface->pcap, -1, count_lost_frame, (unsigned char *)interface) > 0)
+        ;
+}
+
+/* Waits, where the reader of the feed has left or failed, for word that the next feed is to go on, and for that feed.
+ * Whether it goes on. Meanwhile the kernel keeps the frames. */
+static int wait_for_next_feed(struct interface *interface)
+{
+    const struct output *output = &interface->feed.output;
+    if (output->state != OUTPUT_LEFT && !is_held(interface->switched))
+        return 0;
+    int64_t until = steady_now() + interface->words->hold_seconds * (int64_t)NANOSECONDS_PER_SECOND;
+    while (!is_stopping() && (is_held(interface->switched) || (!is_open(output) && steady_now() < until))) {
+        struct pollfd stop = {.fd = stop_fd};
+        poll(&stop, 1, SWITCH_PAUSE_MS);
+        tell_in_time(interface);
+        if (is_held(interface->switched))
+            follow_switches(interface);
+    }
+    if (!is_held(interface->switched))
+        return is_open(output);
+    drop_waiting(interface);
+    return 0;
+}
+
+/* ---- turns */
 
 /* How long to wait for frames, in milliseconds. */
 static int pause_of(const struct interface *interface)
 {
-    int64_t left = (interface->next_told - steady_now()) / 1000000 + 1;
+    int64_t left = (interface->counts.next_line - steady_now()) / 1000000 + 1;
     if (interface->switched != switches_asked())
         return SWITCH_PAUSE_MS;
     if (interface->words->is_quiet || left > MOST_PAUSE_MS)
@@ -130,26 +195,31 @@ static void wait_for_frames(struct interface *interface)
     struct pollfd waits[2] = {{.fd = pcap_get_selectable_fd(interface->pcap), .events = POLLIN}, {.fd = stop_fd}};
     /* libpcap says nothing of an interface that is only down. */
     if (poll(waits, 2, pause_of(interface)) > 0 && (waits[0].revents & (POLLERR | POLLHUP)) != 0)
-        is_only_down(interface);
+        look_at_interface(interface);
 }
 
 /* Takes what the kernel has. Whether there is more to come. */
 static int turn(struct interface *interface)
 {
+    follow_switches(interface);
+    if (is_held(interface->switched))
+        return 0;
+    if (interface->is_gone)
+        return wait_until_back(interface);
     if (is_stopping() && !interface->is_detached)
         detach(interface);
-    follow_switches(interface);
     int count = pcap_dispatch(interface->pcap, FRAMES_A_TURN, take_frame, (unsigned char *)interface);
-    if (count < 0 && !is_only_down(interface))
-        return 0;
     tell_in_time(interface);
     if (count > 0) {
         interface->taken += count;
         return flush_old(&interface->feed);
     }
-    if (!flush_feed(&interface->feed) || interface->is_detached || interface->is_gone || is_hurried())
+    if (count < 0)
+        look_at_interface(interface);
+    if (!flush_feed(&interface->feed) || interface->is_detached || is_hurried())
         return 0;
-    wait_for_frames(interface);
+    if (!interface->is_gone)
+        wait_for_frames(interface);
     return 1;
 }
 
@@ -158,30 +228,35 @@ void run_interface(struct interface *interface)
     struct feed *feed = &interface->feed;
     feed->output.while_waiting = tell_in_time;
     feed->output.told = interface;
-    interface->next_told = steady_now() + BETWEEN_LINES;
-    if (open_feed(feed, interface->path))
-        while (turn(interface))
-            ;
+    begin_counts(interface);
+    if (open_feed(feed, interface->way->to))
+        do
+            while (turn(interface))
+                ;
+        while (wait_for_next_feed(interface));
     flush_feed(feed);
     if (interface->is_gone)
         tell("%s: the interface is gone", interface->name);
     int was_open = is_open(&feed->output);
     if (!was_open)
-        tell("%s: %s %s", interface->name, interface->path, output_fault(&feed->output));
+        tell("%s: %s %s", interface->name, interface->way->to, output_fault(&feed->output));
     /* Before the pipe is closed, so that the counts come ahead of what its reader tells then. */
     tell_counts(interface);
+    note_counts(interface);
     close_feed(feed);
     if (was_open && !is_open(&feed->output))
-        tell("%s: %s %s", interface->name, interface->path, output_fault(&feed->output));
-    pcap_close(interface->pcap);
+        tell("%s: %s %s", interface->name, interface->way->to, output_fault(&feed->output));
+    close_pcap(interface);
 }
 
 void pass_later_feeds(struct interface *interface, const atomic_int *running)
 {
     while (atomic_load(running) > 0 && !is_stopping()) {
         int asked = switches_asked();
-        if (asked != interface->switched)
-            note_switch(interface, asked, pass_next(&interface->feed.output));
+        if (asked != interface->switched) {
+            enum switching switching = pass_next(&interface->feed.output);
+            note_switch(interface, asked, switching, errno);
+        }
         struct pollfd stop = {.fd = stop_fd};
         poll(&stop, 1, asked != interface->switched ? SWITCH_PAUSE_MS : MOST_PAUSE_MS);
     }

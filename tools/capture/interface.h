@@ -2,6 +2,8 @@
 #ifndef INTERFACE_H
 #define INTERFACE_H
 
+#include "clock.h"
+#include "counts.h"
 #include "feed.h"
 #include "moment.h"
 #include "words.h"
@@ -11,15 +13,16 @@
 
 struct interface {
     const char *name;
-    const char *path;
+    const struct way *way;
     const struct words *words;
-    pcap_t *pcap;
+    pcap_t *pcap;    /* NULL once it is closed */
     unsigned number; /* the kernel's */
     int has_check_sequences;
     int nanoseconds_per_unit;
+    int is_clock_of_its_own; /* frames have the adapter's time, which the host doesn't set; until that was told */
+    struct frame_clock clock;
     struct feed feed;
-    struct pcap_stat drops;
-    int64_t next_told;
+    struct counts counts;
     int64_t last_wait; /* when it began */
     int taken; /* frames since then */
     int switched; /* how many switches of the feed were done */
@@ -32,7 +35,10 @@ struct interface {
  * else a line has said why not. */
 int open_interface(struct interface *interface, const struct way *way, const struct words *words);
 
-/* Writes the frames into the feed until the run is stopped or the feed or the interface is gone, and tells the counts. */
+/* The same of an interface that was gone, where one of its name is there and up. */
+int open_again(struct interface *interface);
+
+/* Writes the frames into the feed until the run is stopped or the feed is gone, and tells the counts. */
 void run_interface(struct interface *interface);
 
 /* What an interface does once it has ended, until all have or the run is stopped: whatever its path names later gets

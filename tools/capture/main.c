@@ -3,20 +3,26 @@
  * Nothing of it is proved. Each interface or file has a thread of its own, so that none waits for another's pipe. */
 #define _GNU_SOURCE
 #include "check_sequence.h"
+#include "clock.h"
 #include "conversion.h"
+#include "events.h"
 #include "interface.h"
+#include "privileges.h"
 #include "stop.h"
 #include "words.h"
 
 #include <errno.h>
+#include <fcntl.h>
 #include <pthread.h>
+#include <signal.h>
 #include <stdatomic.h>
 #include <stdlib.h>
 #include <string.h>
+#include <sys/prctl.h>
 #include <sys/stat.h>
 #include <unistd.h>
 
-enum { WELL = 0, FAILED = 1, NOT_BEGUN = 3 };
+enum { WELL = 0, FAILED = 1, NOT_BEGUN = 3, LOST = 5 };
 
 /* One interface or file, and its thread. */
 struct work {
@@ -83,7 +89,24 @@ static int open_all(struct work *works, const struct words *words)
     return 1;
 }
 
-static int run_all(struct work *works, int count)
+/* Tells what interfaces have lost. Whether one has. */
+static int tell_all_lost(const struct work *works, const struct words *words)
+{
+    int has_lost = 0;
+    for (int i = 0; i < words->count && !words->are_files; i++)
+        has_lost |= tell_lost(&works[i].interface);
+    return has_lost;
+}
+
+/* What goes beside the threads: the clock that may be set. */
+static void follow_settings(void)
+{
+    follow_clock();
+    tell_settings(0);
+}
+
+/* Runs all to their ends; `beside` is called now and then, where it isn't NULL. The status. */
+static int run_all(struct work *works, int count, void (*beside)(void))
 {
     int ended[2], started = 0;
     if (pipe(ended) != 0)
@@ -96,7 +119,7 @@ static int run_all(struct work *works, int count)
         tell("no thread: %s", strerror(errno));
         return FAILED;
     }
-    serve_signals(ended[0]);
+    serve_signals(ended[0], beside);
     int is_all_well = 1;
     for (int i = 0; i < count; i++) {
         pthread_join(works[i].thread, NULL);
@@ -105,9 +128,57 @@ static int run_all(struct work *works, int count)
     return is_all_well ? WELL : FAILED;
 }
 
+/* Puts something in the place of a standard stream that is closed, where a file of ours would stand else: reads of it
+ * and writes to it fail. */
+static int fill_streams(void)
+{
+    for (int fd = STDIN_FILENO; fd <= STDERR_FILENO; fd++)
+        if (fcntl(fd, F_GETFD) < 0 && open("/dev/null", fd == STDIN_FILENO ? O_WRONLY : O_RDONLY) != fd)
+            return 0;
+    return 1;
+}
+
+/* Has the kernel end the run once the process has died that started it; at once, where it has by now. */
+static void follow_parent(pid_t parent)
+{
+    if (parent == 0)
+        return;
+    prctl(PR_SET_PDEATHSIG, SIGTERM);
+    if (getppid() != parent && kill(parent, 0) != 0 && errno == ESRCH)
+        kill(getpid(), SIGTERM);
+}
+
+/* Begins what interfaces want beside their frames: facts, counters, no privileges. Whether it could. */
+static int begin_live(const struct words *words)
+{
+    char text[SECONDS_TEXT_LEN];
+    drop_privileges();
+    follow_parent(words->parent);
+    share_pipes(words->count);
+    if (words->events != NULL && !open_events(words->events))
+        return 0;
+    print_seconds(words->origin.at, text);
+    tell("origin %s", text);
+    tell_event("{\"origin\": \"%s\", \"counter\": 0}", text);
+    return 1;
+}
+
+/* Records interfaces. The status. */
+static int run_live(struct work *works, const struct words *words)
+{
+    if (!begin_live(words))
+        return NOT_BEGUN;
+    int status = run_all(works, words->count, words->uses_adapter_clock ? NULL : follow_settings);
+    tell_settings(1);
+    int has_lost = tell_all_lost(works, words);
+    return status == WELL && has_lost && words->is_strict ? LOST : status;
+}
+
 int main(int argc, char **argv)
 {
     struct words words;
+    if (!fill_streams())
+        return NOT_BEGUN;
     int is_done, status = read_words(argc, argv, &words, &is_done);
     if (status != 0 || is_done)
         return status;
@@ -118,13 +189,12 @@ int main(int argc, char **argv)
     }
     struct work *works = calloc((size_t)words.count, sizeof *works);
     prepare_check_sequences();
-    if (works == NULL || !prepare_stop() || !find_origin(&words) || !open_all(works, &words))
+    if (works == NULL || !prepare_stop() || !find_origin(&words))
         return NOT_BEGUN;
-    char origin[ORIGIN_TEXT_LEN];
-    print_origin(&words.origin, origin);
-    if (!words.are_files)
-        tell("origin %s", origin);
-    status = run_all(works, words.count);
+    start_clock(&words.origin);
+    if (!open_all(works, &words))
+        return NOT_BEGUN;
+    status = words.are_files ? run_all(works, words.count, NULL) : run_live(works, &words);
     free(works);
     free(words.ways);
     free(words.prefilters);

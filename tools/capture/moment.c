@@ -106,11 +106,11 @@ uint64_t counter_at(nanoseconds moment, const struct origin *origin)
     return (uint64_t)ticks & MASK;
 }
 
-void print_origin(const struct origin *origin, char *text)
+void print_seconds(nanoseconds time, char *text)
 {
-    int64_t seconds = (int64_t)(origin->at / NANOSECONDS_PER_SECOND);
-    int64_t rest = (int64_t)(origin->at % NANOSECONDS_PER_SECOND);
-    snprintf(text, ORIGIN_TEXT_LEN, "%" PRId64 ".%09" PRId64, seconds, rest);
+    nanoseconds size = time < 0 ? -time : time;
+    int64_t seconds = (int64_t)(size / NANOSECONDS_PER_SECOND), rest = (int64_t)(size % NANOSECONDS_PER_SECOND);
+    snprintf(text, SECONDS_TEXT_LEN, "%s%" PRId64 ".%09" PRId64, time < 0 ? "-" : "", seconds, rest);
 }
 
 int64_t steady_now(void)

@@ -21,9 +21,9 @@ int origin_of(const char *word, struct origin *origin);
 /* The 48 bits of the 10 MHz relative time counter at a moment. */
 uint64_t counter_at(nanoseconds moment, const struct origin *origin);
 
-/* An origin as `origin_of` reads it, in seconds; `text` has room for ORIGIN_TEXT_LEN bytes. */
-enum { ORIGIN_TEXT_LEN = 48 };
-void print_origin(const struct origin *origin, char *text);
+/* A moment or a time in seconds with nine digits behind the point; `text` has room for SECONDS_TEXT_LEN bytes. */
+enum { SECONDS_TEXT_LEN = 48 };
+void print_seconds(nanoseconds time, char *text);
 
 /* A clock that never goes back, in nanoseconds. */
 int64_t steady_now(void);

@@ -2,8 +2,11 @@
 #include "adapter.h"
 #include "interface.h"
 #include "prefilter.h"
+#include "privileges.h"
 
+#include <inttypes.h>
 #include <net/if.h>
+#include <pthread.h>
 
 enum {
     /* Longer than any frame of a feed, so that a longer one is seen to be cut. */
@@ -23,7 +26,7 @@ static int refused_by(pcap_t *pcap, const char *name, int status)
     switch (status) {
     case PCAP_ERROR_PERM_DENIED:
     case PCAP_ERROR_PROMISC_PERM_DENIED:
-        return refused(name, "no permission to capture: be root, or once setcap cap_net_raw,cap_net_admin=ep bin/capture");
+        return refused(name, "no permission to capture: be root, or once setcap cap_net_raw=ep bin/capture");
     case PCAP_ERROR_NO_SUCH_DEVICE:
         return refused(name, "no such interface");
     case PCAP_ERROR_IFACE_NOT_UP:
@@ -35,27 +38,32 @@ static int refused_by(pcap_t *pcap, const char *name, int status)
     }
 }
 
-/* The adapter's clock, where it is set by the host's, and else as it is. */
-static int use_adapter_clock(pcap_t *pcap)
+/* Takes the adapter's clock, where it is disciplined to the host's, and else as it runs. Whether there is one. */
+static int use_adapter_clock(struct interface *interface)
 {
     static const int CLOCKS[] = {PCAP_TSTAMP_ADAPTER, PCAP_TSTAMP_ADAPTER_UNSYNCED};
-    int *known, count = pcap_list_tstamp_types(pcap, &known), is_set = 0;
-    for (size_t clock = 0; clock < sizeof CLOCKS / sizeof *CLOCKS; clock++)
-        for (int i = 0; i < count && !is_set; i++)
-            is_set = known[i] == CLOCKS[clock] && pcap_set_tstamp_type(pcap, known[i]) == 0;
+    int *known, count = pcap_list_tstamp_types(interface->pcap, &known), is_set = 0;
+    for (size_t clock = 0; clock < sizeof CLOCKS / sizeof *CLOCKS && !is_set; clock++)
+        for (int i = 0; i < count && !is_set; i++) {
+            is_set = known[i] == CLOCKS[clock] && pcap_set_tstamp_type(interface->pcap, known[i]) == 0;
+            interface->is_clock_of_its_own = is_set && known[i] == PCAP_TSTAMP_ADAPTER_UNSYNCED;
+        }
     if (count > 0)
         pcap_free_tstamp_types(known);
     return is_set;
 }
 
-static int set_up(pcap_t *pcap, const char *name, const struct words *words)
+static int set_up(struct interface *interface)
 {
+    pcap_t *pcap = interface->pcap;
+    const char *name = interface->name;
+    const struct words *words = interface->words;
     pcap_set_snaplen(pcap, MOST_CAPTURED);
     pcap_set_promisc(pcap, words->is_promiscuous);
     pcap_set_immediate_mode(pcap, 1);
     pcap_set_buffer_size(pcap, words->buffer_mib * BYTES_A_MIB);
     pcap_set_tstamp_precision(pcap, PCAP_TSTAMP_PRECISION_NANO);
-    if (words->uses_adapter_clock && !use_adapter_clock(pcap))
+    if (words->uses_adapter_clock && !use_adapter_clock(interface))
         return refused(name, "its adapter gives no times");
     int status = pcap_activate(pcap);
     if (status < 0)
@@ -87,23 +95,55 @@ static void note_adapter(struct interface *interface)
              interface->name, adapter.joining, interface->name);
 }
 
-int open_interface(struct interface *interface, const struct way *way, const struct words *words)
+/* How much the kernel really keeps: it has room for as many frames as slots of the longest fit. */
+static void tell_buffer(const struct interface *interface)
+{
+    uint64_t len = ring_len(pcap_fileno(interface->pcap));
+    if (len > 0)
+        tell("%s buffer %" PRIu64 " MiB", interface->name, len / BYTES_A_MIB);
+}
+
+/* Opens an interface that is there by now, as it was asked for. */
+static int open_pcap(struct interface *interface)
 {
     char error[PCAP_ERRBUF_SIZE];
-    const char *name = way->from;
-    *interface = (struct interface){.name = name, .path = way->to, .words = words, .feed = {.output.fd = -1}};
+    const char *name = interface->name, *prefilter = interface->way->prefilter;
     interface->number = if_nametoindex(name);
     interface->pcap = pcap_create(name, error);
     if (interface->pcap == NULL)
         return refused(name, error);
-    if (!set_up(interface->pcap, name, words) || !set_direction(interface->pcap, name, words->direction))
+    if (!set_up(interface) || !set_direction(interface->pcap, name, interface->words->direction))
         return 0;
-    if (way->prefilter != NULL && !drop_by_listing(interface->pcap, name, way->prefilter))
+    if (prefilter != NULL && !drop_by_listing(interface->pcap, name, prefilter))
         return 0;
     if (pcap_setnonblock(interface->pcap, 1, error) != 0)
         return refused(name, error);
     int is_nano = pcap_get_tstamp_precision(interface->pcap) == PCAP_TSTAMP_PRECISION_NANO;
     interface->nanoseconds_per_unit = is_nano ? 1 : 1000;
+    interface->counts.seen = (struct pcap_stat){0};
     note_adapter(interface);
+    tell_buffer(interface);
     return 1;
+}
+
+int open_interface(struct interface *interface, const struct way *way, const struct words *words)
+{
+    *interface = (struct interface){.name = way->from, .way = way, .words = words, .feed = {.output.fd = -1}};
+    return open_pcap(interface);
+}
+
+int open_again(struct interface *interface)
+{
+    /* A listing is read into room that all interfaces share. */
+    static pthread_mutex_t opening = PTHREAD_MUTEX_INITIALIZER;
+    pthread_mutex_lock(&opening);
+    begin_to_open();
+    int is_open = open_pcap(interface);
+    end_to_open();
+    pthread_mutex_unlock(&opening);
+    if (!is_open && interface->pcap != NULL) {
+        pcap_close(interface->pcap);
+        interface->pcap = NULL;
+    }
+    return is_open;
 }

@@ -10,7 +10,9 @@
 #include <sys/stat.h>
 #include <unistd.h>
 
-enum { PIPE_LEN = 1 << 20, READER_PAUSE_MS = 5, FULL_PAUSE_MS = 200 };
+enum { PIPE_LEN = 1 << 20, PIPES_LEN = 1 << 25, READER_PAUSE_MS = 5, FULL_PAUSE_MS = 200 };
+
+static int pipe_len = PIPE_LEN;
 
 static int ended(struct output *output, enum output_state state, int error)
 {
@@ -55,10 +57,15 @@ static int open_path(struct output *output, const char *path)
     }
 }
 
+void share_pipes(int count)
+{
+    pipe_len = PIPES_LEN / count < PIPE_LEN ? PIPES_LEN / count : PIPE_LEN;
+}
+
 /* Makes a pipe longer, where the system allows it; it is only quicker. */
 static void lengthen(int fd)
 {
-    (void)!fcntl(fd, F_SETPIPE_SZ, PIPE_LEN);
+    (void)!fcntl(fd, F_SETPIPE_SZ, pipe_len);
 }
 
 int open_output(struct output *output, const char *path)
@@ -91,6 +98,7 @@ int write_all(struct output *output, const unsigned char *bytes, size_t len)
         if (count >= 0) {
             bytes += count;
             len -= (size_t)count;
+            output->taken += (uint64_t)count;
         } else if (errno == EAGAIN) {
             wait_for_room(output);
         } else if (errno == EPIPE) {
@@ -145,6 +153,7 @@ void go_over(struct output *output, int fd)
     lengthen(fd);
     close(output->fd);
     output->fd = fd;
+    output->state = OUTPUT_OPEN;
 }
 
 enum switching pass_next(const struct output *output)

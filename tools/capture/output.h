@@ -18,9 +18,14 @@ struct output {
     enum output_state state;
     int error;
     int64_t waited; /* nanoseconds for which the pipe was full */
+    uint64_t taken; /* bytes that went out */
     void (*while_waiting)(void *); /* called now and then while the pipe is full */
     void *told;
 };
+
+/* Says how many outputs there are: a user may have pipes of 64 MiB in all, and there are twice as many while feeds
+ * go over to others. */
+void share_pipes(int count);
 
 /* Opens what is at `path`, where `-` is standard output. A named pipe is waited for until it has a reader. Whether it is
  * open; else `state` says why not. */
@@ -44,7 +49,7 @@ enum switching {
 /* Opens what the path names by now. Where that is something else, `fd` is of it, and else -1. */
 enum switching open_next(const struct output *output, int *fd);
 
-/* Goes over to what was opened so. */
+/* Goes over to what was opened so, also where the reader of the output before has left. */
 void go_over(struct output *output, int fd);
 
 /* Opens what the path names by now and closes it, for an output that has ended. */

@@ -2,22 +2,23 @@
 #include "words.h"
 
 #include <errno.h>
+#include <linux/filter.h>
 #include <stdio.h>
 #include <stdlib.h>
 #include <string.h>
 
 #define NO_LISTING "no listing of a program: <count>,<code> <jt> <jf> <k>,.."
 
-/* What is put behind a program that returns A has three instructions. */
-enum { MOST_INSNS = 4096, TAIL_INSNS = 3, WHOLE_FRAME = 262144 };
+/* What is put ahead of a program has six instructions, and what is put behind one that returns A three. */
+enum { MOST_INSNS = 4096, HEAD_INSNS = 6, TAIL_INSNS = 3, WHOLE_FRAME = 262144, LEAST_WIRE_LEN = 60 };
 
 /* The longest listing, and how many numbers an instruction has in it. */
 enum { MOST_BYTES = 1048576, FIELDS = 4 };
 
-/* A program and room for its tail. */
+/* A program and room for its head and its tail. */
 struct program {
     unsigned count;
-    struct bpf_insn insns[MOST_INSNS + TAIL_INSNS];
+    struct bpf_insn insns[HEAD_INSNS + MOST_INSNS + TAIL_INSNS];
 };
 
 static int refused(const char *path, const char *why)
@@ -97,7 +98,7 @@ static int read_text(const char *path, char text[MOST_BYTES + 1])
 }
 
 /* Lets the program return a frame whole or not at all: the kernel would cut it to as many bytes as is returned. */
-static int return_whole_frames(struct program *program)
+static void return_whole_frames(struct program *program)
 {
     static const struct bpf_insn TAIL[TAIL_INSNS] = {
         BPF_JUMP(BPF_JMP | BPF_JEQ | BPF_K, 0, 1, 0),
@@ -115,10 +116,28 @@ static int return_whole_frames(struct program *program)
         }
     }
     if (returns == 0)
-        return 1;
+        return;
     memcpy(program->insns + count, TAIL, sizeof TAIL);
     program->count += TAIL_INSNS;
-    return program->count <= MOST_INSNS;
+}
+
+/* Lets through what the kernel sees otherwise than the recorder will: a frame whose VLAN tag the kernel has taken out,
+ * as it does with each tagged frame that it receives whatever the adapter's settings are, and a frame that will be
+ * padded. The recorder judges these itself. A is 0 again where the program begins. The presence of the tag is loaded as
+ * a byte: libpcap runs the program on the first frames by itself, and knows no other form of it. */
+static void pass_what_differs(struct program *program)
+{
+    static const struct bpf_insn HEAD[HEAD_INSNS] = {
+        BPF_STMT(BPF_LD | BPF_B | BPF_ABS, (bpf_u_int32)(SKF_AD_OFF + SKF_AD_VLAN_TAG_PRESENT)),
+        BPF_JUMP(BPF_JMP | BPF_JEQ | BPF_K, 0, 0, 2),
+        BPF_STMT(BPF_LD | BPF_W | BPF_LEN, 0),
+        BPF_JUMP(BPF_JMP | BPF_JGE | BPF_K, LEAST_WIRE_LEN, 1, 0),
+        BPF_STMT(BPF_RET | BPF_K, WHOLE_FRAME),
+        BPF_STMT(BPF_LD | BPF_IMM, 0),
+    };
+    memmove(program->insns + HEAD_INSNS, program->insns, program->count * sizeof *program->insns);
+    memcpy(program->insns, HEAD, sizeof HEAD);
+    program->count += HEAD_INSNS;
 }
 
 int drop_by_listing(pcap_t *pcap, const char *interface, const char *path)
@@ -130,8 +149,12 @@ int drop_by_listing(pcap_t *pcap, const char *interface, const char *path)
         return 0;
     if (!read_listing(text, &program))
         return refused(path, NO_LISTING);
-    if (!return_whole_frames(&program))
-        return refused(path, "a program that returns A may have 4093 instructions in the kernel");
+    return_whole_frames(&program);
+    pass_what_differs(&program);
+    if (program.count > MOST_INSNS) {
+        tell("%s: %s: too long for the kernel: the recorder alone runs it", interface, path);
+        return 1;
+    }
     struct bpf_program given = {program.count, program.insns};
     if (pcap_setfilter(pcap, &given) != 0) {
         tell("%s: %s: %s", interface, path, pcap_geterr(pcap));

@@ -12,7 +12,8 @@
 int stop_fd = -1, hurry_fd = -1;
 
 static int stop_writer = -1, hurry_writer = -1, signals = -1;
-static atomic_int stopping, hurried, switches;
+static atomic_int stopping, hurried, switches, held = -1;
+enum { PAUSE_MS = 20 };
 /* A signal that comes twice within this time is one: a terminal and a script may send the same. */
 static const int64_t ONE_SIGNAL = NANOSECONDS_PER_SECOND;
 
@@ -31,6 +32,18 @@ int switches_asked(void)
     return atomic_load_explicit(&switches, memory_order_relaxed);
 }
 
+int is_held(int switched)
+{
+    return atomic_load_explicit(&held, memory_order_relaxed) == switched;
+}
+
+/* Whether HUP was ignored when the program was started. */
+static int is_hang_up_ignored(void)
+{
+    struct sigaction given;
+    return sigaction(SIGHUP, NULL, &given) == 0 && given.sa_handler == SIG_IGN;
+}
+
 int prepare_stop(void)
 {
     sigset_t set;
@@ -38,13 +51,14 @@ int prepare_stop(void)
     sigemptyset(&set);
     sigaddset(&set, SIGINT);
     sigaddset(&set, SIGTERM);
-    sigaddset(&set, SIGHUP);
+    if (!is_hang_up_ignored())
+        sigaddset(&set, SIGHUP);
     sigaddset(&set, SIGUSR1);
+    sigaddset(&set, SIGUSR2);
     signal(SIGPIPE, SIG_IGN);
     /* A job in the background may have been started with one of them ignored. */
     signal(SIGINT, SIG_DFL);
     signal(SIGTERM, SIG_DFL);
-    signal(SIGHUP, SIG_DFL);
     if (pthread_sigmask(SIG_BLOCK, &set, NULL) != 0 || pipe(stop) != 0 || pipe(hurry) != 0)
         return 0;
     stop_fd = stop[0];
@@ -55,23 +69,33 @@ int prepare_stop(void)
     return signals >= 0;
 }
 
-void serve_signals(int ended_fd)
+/* Does what a signal asks for; `first` is when the first came that ends the run. */
+static void serve(int signal, int64_t *first)
+{
+    if (signal == SIGUSR1) {
+        atomic_fetch_add(&switches, 1);
+    } else if (signal == SIGUSR2) {
+        atomic_store(&held, atomic_load(&switches));
+    } else if (!is_stopping()) {
+        *first = steady_now();
+        atomic_store(&stopping, 1);
+        close(stop_writer);
+    } else if (!is_hurried() && steady_now() - *first > ONE_SIGNAL) {
+        atomic_store(&hurried, 1);
+        close(hurry_writer);
+    }
+}
+
+void serve_signals(int ended_fd, void (*now_and_then)(void))
 {
     struct pollfd waits[2] = {{.fd = signals, .events = POLLIN}, {.fd = ended_fd}};
     int64_t first = 0;
     while (waits[1].revents == 0) {
         struct signalfd_siginfo told;
-        if (poll(waits, 2, -1) <= 0 || waits[0].revents == 0 || read(signals, &told, sizeof told) <= 0)
-            continue;
-        if (told.ssi_signo == SIGUSR1) {
-            atomic_fetch_add(&switches, 1);
-        } else if (!is_stopping()) {
-            first = steady_now();
-            atomic_store(&stopping, 1);
-            close(stop_writer);
-        } else if (!is_hurried() && steady_now() - first > ONE_SIGNAL) {
-            atomic_store(&hurried, 1);
-            close(hurry_writer);
-        }
+        int ready = poll(waits, 2, now_and_then != NULL ? PAUSE_MS : -1);
+        if (now_and_then != NULL)
+            now_and_then();
+        if (ready > 0 && waits[0].revents != 0 && read(signals, &told, sizeof told) > 0)
+            serve((int)told.ssi_signo, &first);
     }
 }

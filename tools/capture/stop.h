@@ -5,7 +5,8 @@
 /* Ends that can be polled: each is readable (hung up) once the run is to end, or to end at once. */
 extern int stop_fd, hurry_fd;
 
-/* Makes these ends and keeps INT, TERM, HUP and USR1 from all threads that start later; whether it could. */
+/* Makes these ends and keeps INT, TERM, HUP, USR1 and USR2 from all threads that start later; whether it could. HUP is
+ * ignored where it was, as nohup does it. */
 int prepare_stop(void);
 
 int is_stopping(void);
@@ -14,7 +15,12 @@ int is_hurried(void);
 /* How many times the feeds were asked, by USR1, to go over to what their paths name by then. */
 int switches_asked(void);
 
-/* Serves the signals until `ended_fd` is hung up, which the last thread closes. */
-void serve_signals(int ended_fd);
+/* Whether it was said, by USR2, that feeds whose readers leave are to go on with the next ones; `switched` is how many
+ * switches a feed has done. */
+int is_held(int switched);
+
+/* Serves the signals until `ended_fd` is hung up, which the last thread closes, and calls `now_and_then` every 20 ms,
+ * where it isn't NULL. */
+void serve_signals(int ended_fd, void (*now_and_then)(void));
 
 #endif

@@ -3,6 +3,9 @@
 #include "file.h"
 
 #include <getopt.h>
+#include <limits.h>
+#include <poll.h>
+#include <pthread.h>
 #include <stdarg.h>
 #include <stdio.h>
 #include <stdlib.h>
@@ -13,7 +16,10 @@ enum {
     LEAST_BUFFER = 1,
     USUAL_BUFFER = 256,
     MOST_BUFFER = 2047,
-    BUFFERS_IN_MEMORY = 16,
+    BUFFERS_IN_MEMORY = 4,
+    /* The kernel makes up to so many times as much of a buffer as is asked for. */
+    BUFFER_FOLD = 2,
+    MOST_HOLD = 60,
     BYTES_A_MIB = 1 << 20,
     MOST_INTERFACE = 65535,
     LINE_LEN = 512,
@@ -29,31 +35,47 @@ static const char USAGE[] =
     "signal, a second later or more, ends it at once. USR1 has each interface's feed go over, between two\n"
     "records, to what its path names by then; to a named pipe once that has a reader.\n"
     "\n"
+    "Counters run on where the host's clock is set: a line tells the origin from then on, by which frames have\n"
+    "their times. An interface that is taken away is taken again once it is back. Once all are open the program\n"
+    "gives up its privileges, root's too: a feed has to be where its user may write.\n"
+    "\n"
     "  --origin WHEN          the moment at which counters are 0: now (of interfaces, by itself), zero\n"
     "                         (1970-01-01), first (of files, by itself: their first frame), or a time, as\n"
     "                         1764590400.25 or 2025-12-01T12:00:00.25Z\n"
-    "  --buffer MIB           what the kernel keeps of an interface's frames at most: 1 to 2047, by itself 256,\n"
-    "                         or a sixteenth of the memory where that is less\n"
+    "  --buffer MIB           what the kernel keeps of an interface's frames: 1 to 2047, by itself 256, or less\n"
+    "                         so that all have a quarter of the memory at most. The kernel makes up to twice as\n"
+    "                         much of it; a line tells what it has\n"
     "  --direction WHICH      both (by itself), in, or out: the frames that the host sends\n"
     "  --prefilter INTERFACE=LISTING\n"
     "                         frames that the listed program drops don't leave the kernel: they are neither\n"
     "                         counted nor offered to the recorder. A listing is what `bpfrec asm` or\n"
-    "                         `tcpdump -ddd` prints\n"
+    "                         `tcpdump -ddd` prints. Frames that the kernel sees otherwise than the recorder\n"
+    "                         does, with a VLAN tag or of fewer than 60 bytes, always leave it\n"
     "  --no-promiscuous       only frames that are meant for the host\n"
-    "  --clock WHICH          host (by itself) or adapter: whose time frames have\n"
+    "  --clock WHICH          host (by itself) or adapter: whose time frames have. An adapter's clock may run\n"
+    "                         TAI, as by PTP, which is told; it may want cap_net_admin too\n"
     "  --check-sequence WHICH given, missing, or adapter (by itself): whether frames come with their check\n"
     "                         sequences. Missing ones are computed, wrong ones marked\n"
     "  --interface N          of a pcapng file the frames of each section's interface N, from 0 on\n"
     "  --quiet                no lines each second\n"
+    "  --strict               status 5 where an interface lost frames\n"
+    "  --hold SECONDS         how long an interface whose reader has left waits for USR2 (0 by itself, to 60): by\n"
+    "                         that it goes on with the next feed, and the kernel keeps its frames until then\n"
+    "  --events FILE          notes origins, losses and counts behind what FILE has, as lines of JSON, and tells\n"
+    "                         no losses at the end\n"
+    "  --parent PID           ends, as by TERM, once the process has died that started it\n"
     "\n"
     "Once a second and at the end a line on standard error for each interface: the frames and bytes of its\n"
     "feed, the frames that the kernel dropped and that the interface missed, those that were passed (cut\n"
-    "short, or of no length that a feed takes), and the milliseconds that the pipe was full.\n"
+    "short, or of no length that a feed takes), and the milliseconds that the pipe was full. At the very end a\n"
+    "line for each interface that lost frames: eth0 LOST 16801 dropped 322 skipped (by the kernel, and passed).\n"
+    "Lines that standard error has no room for are left out and counted.\n"
     "\n"
     "Status: 0 it ended as it was told to or its readers left, 1 an interface, a file or a feed failed,\n"
-    "2 the words are wrong, 3 an interface can't be opened and nothing was begun.\n";
+    "2 the words are wrong, 3 an interface can't be opened and nothing was begun, 5 frames were lost (--strict).\n";
 
-enum { FIRST_LONG = 256, ORIGIN, BUFFER, DIRECTION, PREFILTER, NO_PROMISCUOUS, CLOCK, CHECK_SEQUENCE, INTERFACE, QUIET, HELP };
+enum { FIRST_LONG = 256, ORIGIN, BUFFER, DIRECTION, PREFILTER, NO_PROMISCUOUS, CLOCK, CHECK_SEQUENCE, INTERFACE, QUIET,
+       STRICT, HOLD, EVENTS, PARENT, HELP };
 
 static const struct option OPTIONS[] = {
     {"origin", required_argument, NULL, ORIGIN},
@@ -65,20 +87,41 @@ static const struct option OPTIONS[] = {
     {"check-sequence", required_argument, NULL, CHECK_SEQUENCE},
     {"interface", required_argument, NULL, INTERFACE},
     {"quiet", no_argument, NULL, QUIET},
+    {"strict", no_argument, NULL, STRICT},
+    {"hold", required_argument, NULL, HOLD},
+    {"events", required_argument, NULL, EVENTS},
+    {"parent", required_argument, NULL, PARENT},
     {"help", no_argument, NULL, HELP},
     {NULL, 0, NULL, 0},
 };
 
+/* Writes a line, where standard error has room for it. */
+static int write_line(const char *line)
+{
+    struct pollfd error = {.fd = STDERR_FILENO, .events = POLLOUT};
+    if (poll(&error, 1, 0) <= 0 || (error.revents & POLLOUT) == 0)
+        return 0;
+    (void)!write(STDERR_FILENO, line, strlen(line));
+    return 1;
+}
+
 void tell(const char *format, ...)
 {
-    char line[LINE_LEN] = "capture: ";
+    static pthread_mutex_t lock = PTHREAD_MUTEX_INITIALIZER;
+    static unsigned left_out;
+    char line[LINE_LEN] = "capture: ", count_line[LINE_LEN];
     size_t begin = strlen(line);
     va_list values;
     va_start(values, format);
     vsnprintf(line + begin, sizeof line - begin - 1, format, values);
     va_end(values);
     strcat(line, "\n");
-    (void)!write(STDERR_FILENO, line, strlen(line));
+    pthread_mutex_lock(&lock);
+    snprintf(count_line, sizeof count_line, "capture: %u lines were left out: standard error had no room\n", left_out);
+    if (left_out > 0 && write_line(count_line))
+        left_out = 0;
+    left_out += left_out > 0 || !write_line(line);
+    pthread_mutex_unlock(&lock);
 }
 
 /* Reads a number in a range; whether it is one. */
@@ -124,8 +167,18 @@ static int take_option(int option, const char *value, struct words *words)
         is_right = choice_of(value, CHECK_SEQUENCES, &choice);
         words->check_sequences = (enum check_sequences)choice;
         return is_right;
+    case HOLD:
+        return number_of(value, 0, MOST_HOLD, &words->hold_seconds);
+    case PARENT:
+        return number_of(value, 1, INT_MAX, &words->parent);
+    case EVENTS:
+        words->events = value;
+        return 1;
     case NO_PROMISCUOUS:
         words->is_promiscuous = 0;
+        return 1;
+    case STRICT:
+        words->is_strict = 1;
         return 1;
     default:
         words->is_quiet = 1;
@@ -188,18 +241,18 @@ static int read_ways(int count, char **given, struct words *words)
     return status == 0 ? place_prefilters(words) : status;
 }
 
-/* The kernel's buffer in MiB, where no other is given. */
-static int usual_buffer(void)
+/* The kernel's buffer for each of so many interfaces, in MiB, where no other is given. */
+static int usual_buffer(int count)
 {
     int64_t pages = sysconf(_SC_PHYS_PAGES), page_len = sysconf(_SC_PAGESIZE);
-    int64_t share = pages * page_len / BYTES_A_MIB / BUFFERS_IN_MEMORY;
+    int64_t share = pages * page_len / BYTES_A_MIB / BUFFERS_IN_MEMORY / BUFFER_FOLD / count;
     return share >= USUAL_BUFFER ? USUAL_BUFFER : share > LEAST_BUFFER ? (int)share : LEAST_BUFFER;
 }
 
 int read_words(int argc, char **argv, struct words *words, int *is_done)
 {
     int option, has_origin = 0, status = 0;
-    *words = (struct words){.buffer_mib = usual_buffer(), .interface = EVERY_INTERFACE, .is_promiscuous = 1};
+    *words = (struct words){.interface = EVERY_INTERFACE, .is_promiscuous = 1};
     *is_done = 0;
     words->ways = calloc((size_t)argc, sizeof *words->ways);
     words->prefilters = calloc((size_t)argc, sizeof *words->prefilters);
@@ -223,5 +276,9 @@ int read_words(int argc, char **argv, struct words *words, int *is_done)
         origin_of(words->are_files ? "first" : "now", &words->origin);
     if (status == 0 && words->origin.is_first_frame && !words->are_files)
         return wrong("of interfaces the first frame isn't known: --origin first", "");
-    return status == 0 ? read_ways(argc - optind, argv + optind, words) : status;
+    if (status == 0)
+        status = read_ways(argc - optind, argv + optind, words);
+    if (status == 0 && words->buffer_mib == 0)
+        words->buffer_mib = usual_buffer(words->count);
+    return status;
 }

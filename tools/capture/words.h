@@ -21,7 +21,11 @@ struct words {
     int interface;
     int is_promiscuous;
     int is_quiet;
+    int is_strict;
     int uses_adapter_clock;
+    int hold_seconds; /* how long a feed whose reader has left waits for word that the next one is to go on */
+    int parent;       /* the process whose end ends the run too; 0 where there is none */
+    const char *events; /* the file in which the facts of the run are noted; NULL where there is none */
     enum direction direction;
     enum check_sequences check_sequences;
     struct origin origin;
@@ -34,7 +38,8 @@ struct words {
 /* Reads the words. 0, or the status with which to end: 0 is for help too, so `is_done` says which. */
 int read_words(int argc, char **argv, struct words *words, int *is_done);
 
-/* A line on standard error, written at once: `capture: ` and what the format makes. */
+/* A line on standard error, written at once: `capture: ` and what the format makes. A line that finds no room is left
+ * out and counted, so that nobody waits for whoever reads it. */
 void tell(const char *format, ...) __attribute__((format(printf, 1, 2)));
 
 #endif

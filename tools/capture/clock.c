@@ -1,0 +1,202 @@
+#define _GNU_SOURCE
+#include "clock.h"
+#include "events.h"
+#include "words.h"
+
+#include <inttypes.h>
+#include <pthread.h>
+#include <stdatomic.h>
+#include <time.h>
+
+/* A wall clock that was set. Nothing else moves it against the one that runs on: both are slewed alike. */
+static const int64_t LEAST_STEP = NANOSECONDS_PER_SECOND / 2000;
+/* Frames that come so soon one after the other show no setting that the next look wouldn't. */
+static const int64_t SOON = NANOSECONDS_PER_SECOND / 1000;
+/* How long frames are waited for that show when a setting was. */
+static const int64_t BEFORE_TOLD = NANOSECONDS_PER_SECOND / 10;
+
+/* Of more settings than this only the last are known; a frame that waited for longer has the time of a later one. */
+enum { KEPT_SETTINGS = 1024, LOOKS = 3 };
+
+/* A setting of the wall clock. Moments are by the clock that runs on. The first is the beginning. */
+struct setting {
+    int64_t ahead;             /* how far the wall clock is ahead from then on */
+    int64_t after, before;     /* it was between these: when its look before and the one that saw it were */
+    _Atomic int64_t first_new; /* the first frame that was stamped by it */
+};
+
+/* A look at both clocks. */
+struct look {
+    int64_t steady, ahead, took;
+};
+
+static struct setting settings[KEPT_SETTINGS];
+static int64_t first_ahead;      /* how far the wall clock was ahead at the beginning */
+static atomic_uint newest;       /* the number of the last setting */
+static _Atomic int64_t last_look; /* which saw no setting */
+static unsigned told;            /* the number of the last setting that was told */
+static struct origin origin;
+static pthread_mutex_t lock = PTHREAD_MUTEX_INITIALIZER;
+
+static struct setting *setting_of(unsigned number)
+{
+    return &settings[number % KEPT_SETTINGS];
+}
+
+/* How far the wall clock was set since the beginning, by a setting. */
+static int64_t set_by(unsigned number)
+{
+    return setting_of(number)->ahead - first_ahead;
+}
+
+/* Looks a few times, and takes the quickest look: another program may have run in between. */
+static struct look look_at_clocks(void)
+{
+    struct look best = {.took = INT64_MAX};
+    for (int turn = 0; turn < LOOKS; turn++) {
+        struct timespec wall;
+        int64_t begin = steady_now();
+        clock_gettime(CLOCK_REALTIME, &wall);
+        int64_t took = steady_now() - begin;
+        if (took < best.took) {
+            int64_t at = (int64_t)wall.tv_sec * NANOSECONDS_PER_SECOND + wall.tv_nsec;
+            best = (struct look){begin, at - begin - took / 2, took};
+        }
+    }
+    return best;
+}
+
+static int shows_setting(const struct look *look)
+{
+    int64_t step = look->ahead - setting_of(atomic_load(&newest))->ahead, least = LEAST_STEP + look->took;
+    return step > least || step < -least;
+}
+
+void start_clock(const struct origin *first)
+{
+    struct look look = look_at_clocks();
+    origin = *first;
+    first_ahead = look.ahead;
+    settings[0] = (struct setting){look.ahead, INT64_MIN, look.steady, INT64_MAX};
+    atomic_store(&last_look, look.steady);
+}
+
+void follow_clock(void)
+{
+    struct look look = look_at_clocks();
+    if (!shows_setting(&look)) {
+        atomic_store(&last_look, look.steady);
+        return;
+    }
+    pthread_mutex_lock(&lock);
+    /* Another thread may have seen it since. */
+    look = look_at_clocks();
+    if (shows_setting(&look)) {
+        unsigned number = atomic_load(&newest) + 1;
+        struct setting *setting = setting_of(number);
+        setting->ahead = look.ahead;
+        setting->after = atomic_load(&last_look);
+        setting->before = look.steady;
+        atomic_store(&setting->first_new, INT64_MAX);
+        atomic_store(&newest, number);
+    }
+    pthread_mutex_unlock(&lock);
+}
+
+/* ---- what is told */
+
+/* The counter at a moment of the clock that runs on. */
+static uint64_t counter_of(int64_t steady)
+{
+    return counter_at((nanoseconds)steady + first_ahead, &origin);
+}
+
+uint64_t counter_now(void)
+{
+    return counter_of(steady_now());
+}
+
+/* Tells a setting, from the first frame on that was stamped by it, where that came before it was seen. */
+static void tell_setting(unsigned number)
+{
+    struct setting *setting = setting_of(number);
+    int64_t first_new = atomic_load(&setting->first_new);
+    uint64_t counter = counter_of(first_new < setting->before ? first_new : setting->before);
+    int64_t by = setting->ahead - setting_of(number - 1)->ahead;
+    char text[SECONDS_TEXT_LEN], by_text[SECONDS_TEXT_LEN];
+    print_seconds(origin.at + set_by(number), text);
+    print_seconds(by, by_text);
+    tell("origin %s from counter %" PRIu64 " on: the clock was set by %s%s s", text, counter, by < 0 ? "" : "+", by_text);
+    tell_event("{\"origin\": \"%s\", \"counter\": %" PRIu64 ", \"set_by\": \"%s\"}", text, counter, by_text);
+}
+
+void tell_settings(int is_end)
+{
+    while (told != atomic_load(&newest)) {
+        if (!is_end && steady_now() - setting_of(told + 1)->before < BEFORE_TOLD)
+            return;
+        tell_setting(++told);
+    }
+}
+
+/* ---- frames */
+
+/* Whether a frame may have come at a moment that is by a setting: in its time, and not before the frame before. */
+static int could_be(unsigned number, unsigned last, int64_t moment, int64_t frame_before)
+{
+    int64_t end = number == last ? steady_now() : setting_of(number + 1)->before;
+    return moment >= setting_of(number)->after && moment <= end + LEAST_STEP && moment >= frame_before - LEAST_STEP;
+}
+
+/* Notes that a frame came at this moment after each of these settings. */
+static void note_new(unsigned first, unsigned last, int64_t moment)
+{
+    for (unsigned number = first; number <= last; number++) {
+        _Atomic int64_t *earliest = &setting_of(number)->first_new;
+        int64_t known = atomic_load(earliest);
+        while (moment < known && !atomic_compare_exchange_weak(earliest, &known, moment))
+            ;
+    }
+}
+
+/* By which setting a frame was stamped. One that waited while the clock was set has its time by the old one: of the
+ * moments that fit the first is right, since between two frames less time goes by than by which a clock is set. */
+static unsigned setting_by_which(const struct frame_clock *clock, nanoseconds stamp)
+{
+    unsigned last = atomic_load(&newest), found = last;
+    unsigned first = last - clock->setting < KEPT_SETTINGS ? clock->setting : last;
+    int64_t earliest = INT64_MAX, frame_before = (int64_t)(clock->last - first_ahead);
+    for (unsigned number = first; number - first <= last - first; number++) {
+        int64_t moment = (int64_t)(stamp - setting_of(number)->ahead);
+        if (moment < earliest && could_be(number, last, moment, frame_before)) {
+            earliest = moment;
+            found = number;
+        }
+    }
+    return found;
+}
+
+/* The same where a frame doesn't follow the one before closely, or the clock was set. */
+static nanoseconds judged_moment(struct frame_clock *clock, nanoseconds stamp)
+{
+    follow_clock();
+    unsigned before = clock->setting;
+    clock->setting = setting_by_which(clock, stamp);
+    if (clock->setting != before)
+        note_new(before + 1, clock->setting, (int64_t)(stamp - setting_of(clock->setting)->ahead));
+    return stamp - set_by(clock->setting);
+}
+
+nanoseconds steady_moment(struct frame_clock *clock, nanoseconds stamp)
+{
+    nanoseconds moment = stamp - set_by(clock->setting), since = moment - clock->last;
+    if (since < 0 || since > SOON || clock->setting != atomic_load_explicit(&newest, memory_order_relaxed)) {
+        moment = judged_moment(clock, stamp);
+        since = moment - clock->last;
+        /* A setting is known to a part of a millisecond, by which no counter steps back. */
+        if (clock->setting != 0 && since < 0 && since > -SOON)
+            moment = clock->last;
+    }
+    clock->last = moment;
+    return moment;
+}

@@ -1,0 +1,55 @@
+#define _GNU_SOURCE
+#include "events.h"
+#include "words.h"
+
+#include <errno.h>
+#include <fcntl.h>
+#include <stdarg.h>
+#include <stdio.h>
+#include <string.h>
+#include <unistd.h>
+
+enum { EVENT_LEN = 512, ESCAPE_LEN = 6 };
+
+static int events = -1;
+
+int open_events(const char *path)
+{
+    events = open(path, O_WRONLY | O_APPEND | O_CREAT | O_CLOEXEC, 0666);
+    if (events < 0)
+        tell("%s: %s", path, strerror(errno));
+    return events >= 0;
+}
+
+int has_events(void)
+{
+    return events >= 0;
+}
+
+void tell_event(const char *format, ...)
+{
+    char line[EVENT_LEN];
+    va_list values;
+    if (events < 0)
+        return;
+    va_start(values, format);
+    int len = vsnprintf(line, sizeof line, format, values);
+    va_end(values);
+    if (len < 0 || len >= EVENT_LEN)
+        return;
+    line[len] = '\n';
+    (void)!write(events, line, (size_t)len + 1);
+}
+
+void print_json_name(const char *name, char text[JSON_NAME_LEN])
+{
+    size_t len = 0;
+    for (; *name != '\0' && len + ESCAPE_LEN < JSON_NAME_LEN; name++) {
+        unsigned char byte = (unsigned char)*name;
+        if (byte == '"' || byte == '\\' || byte < ' ')
+            len += (size_t)snprintf(text + len, ESCAPE_LEN + 1, "\\u%04x", byte);
+        else
+            text[len++] = (char)byte;
+    }
+    text[len] = '\0';
+}
