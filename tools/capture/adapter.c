@@ -102,15 +102,18 @@ uint64_t ring_len(int socket)
 {
     char line[512], name[64];
     struct stat kind;
-    uint64_t begin, end, len = 0;
+    uint64_t len = 0;
     FILE *maps = fopen("/proc/self/maps", "r");
     if (maps == NULL)
         return 0;
     int is_known = fstat(socket, &kind) == 0;
     snprintf(name, sizeof name, "socket:[%" PRIu64 "]", is_known ? (uint64_t)kind.st_ino : 0);
     while (is_known && fgets(line, sizeof line, maps) != NULL)
-        if (strstr(line, name) != NULL && sscanf(line, "%" SCNx64 "-%" SCNx64, &begin, &end) == 2)
-            len += end - begin;
+        if (strstr(line, name) != NULL) {
+            char *behind;
+            uint64_t begin = strtoull(line, &behind, 16);
+            len += strtoull(behind + 1, NULL, 16) - begin;
+        }
     fclose(maps);
     return len;
 }

@@ -174,6 +174,18 @@ static int run_live(struct work *works, const struct words *words)
     return status == WELL && has_lost && words->is_strict ? LOST : status;
 }
 
+/* Does what the words say. The status. */
+static int run_words(struct work *works, struct words *words)
+{
+    prepare_check_sequences();
+    if (!prepare_stop() || !find_origin(words))
+        return NOT_BEGUN;
+    start_clock(&words->origin);
+    if (!open_all(works, words))
+        return NOT_BEGUN;
+    return words->are_files ? run_all(works, words->count, NULL) : run_live(works, words);
+}
+
 int main(int argc, char **argv)
 {
     struct words words;
@@ -188,13 +200,7 @@ int main(int argc, char **argv)
         return NOT_BEGUN;
     }
     struct work *works = calloc((size_t)words.count, sizeof *works);
-    prepare_check_sequences();
-    if (works == NULL || !prepare_stop() || !find_origin(&words))
-        return NOT_BEGUN;
-    start_clock(&words.origin);
-    if (!open_all(works, &words))
-        return NOT_BEGUN;
-    status = words.are_files ? run_all(works, words.count, NULL) : run_live(works, &words);
+    status = works != NULL ? run_words(works, &words) : NOT_BEGUN;
     free(works);
     free(words.ways);
     free(words.prefilters);

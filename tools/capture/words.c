@@ -109,13 +109,14 @@ void tell(const char *format, ...)
 {
     static pthread_mutex_t lock = PTHREAD_MUTEX_INITIALIZER;
     static unsigned left_out;
+    /* with zeros behind it */
     char line[LINE_LEN] = "capture: ", count_line[LINE_LEN];
     size_t begin = strlen(line);
     va_list values;
     va_start(values, format);
     vsnprintf(line + begin, sizeof line - begin - 1, format, values);
     va_end(values);
-    strcat(line, "\n");
+    line[strlen(line)] = '\n';
     pthread_mutex_lock(&lock);
     snprintf(count_line, sizeof count_line, "capture: %u lines were left out: standard error had no room\n", left_out);
     if (left_out > 0 && write_line(count_line))
