@@ -249,8 +249,17 @@ class Clock:
 
     def set_by(self, nanoseconds: int) -> None:
         """Sets it within some milliseconds, and returns some later."""
+        self.set_at(time.time_ns() + self.SOON, (self.settings[-1][1] if self.settings else 0) + nanoseconds)
+
+    def set_to(self, wall: int) -> int:
+        """Sets it to a time, and returns by how much it was set."""
         moment = time.time_ns() + self.SOON
-        self.settings.append((moment, (self.settings[-1][1] if self.settings else 0) + nanoseconds))
+        before = self.ahead_at(moment)
+        self.set_at(moment, wall - moment)
+        return self.ahead_at(moment) - before
+
+    def set_at(self, moment: int, ahead: int) -> None:
+        self.settings.append((moment, ahead))
         self.write()
         while time.time_ns() < moment + self.SOON:
             time.sleep(0.001)
