@@ -22,7 +22,7 @@ enum { KEPT_SETTINGS = 1024, LOOKS = 3 };
 struct setting {
     int64_t ahead;             /* how far the wall clock is ahead from then on */
     int64_t after, before;     /* it was between these: when its look before and the one that saw it were */
-    _Atomic int64_t first_new; /* the first frame that was stamped by it */
+    _Atomic int64_t last_old, first_new; /* the last frame that was stamped before it, and the first after it */
 };
 
 /* A look at both clocks. */
@@ -77,7 +77,7 @@ void start_clock(const struct origin *first)
     struct look look = look_at_clocks();
     origin = *first;
     first_ahead = look.ahead;
-    settings[0] = (struct setting){look.ahead, INT64_MIN, look.steady, INT64_MAX};
+    settings[0] = (struct setting){look.ahead, INT64_MIN, look.steady, INT64_MIN, INT64_MAX};
     atomic_store(&last_look, look.steady);
 }
 
@@ -97,6 +97,7 @@ void follow_clock(void)
         setting->ahead = look.ahead;
         setting->after = atomic_load(&last_look);
         setting->before = look.steady;
+        atomic_store(&setting->last_old, INT64_MIN);
         atomic_store(&setting->first_new, INT64_MAX);
         atomic_store(&newest, number);
     }
@@ -116,12 +117,29 @@ uint64_t counter_now(void)
     return counter_of(steady_now());
 }
 
-/* Tells a setting, from the first frame on that was stamped by it, where that came before it was seen. */
+static int64_t least(int64_t one, int64_t other)
+{
+    return one < other ? one : other;
+}
+
+static int64_t greatest(int64_t one, int64_t other)
+{
+    return one > other ? one : other;
+}
+
+/* From when on a setting is told to hold: a moment before the first frame that is known to come after it, since others
+ * may wait that came a little sooner, and after the last that is known to come before it. */
+static int64_t told_from(const struct setting *setting)
+{
+    int64_t known = least(atomic_load(&setting->first_new), setting->before);
+    int64_t unknown = greatest(atomic_load(&setting->last_old) + NANOSECONDS_PER_TICK, setting->after);
+    return greatest(known - SOON, least(unknown, known));
+}
+
 static void tell_setting(unsigned number)
 {
     struct setting *setting = setting_of(number);
-    int64_t first_new = atomic_load(&setting->first_new);
-    uint64_t counter = counter_of(first_new < setting->before ? first_new : setting->before);
+    uint64_t counter = counter_of(told_from(setting));
     int64_t by = setting->ahead - setting_of(number - 1)->ahead;
     char text[SECONDS_TEXT_LEN], by_text[SECONDS_TEXT_LEN];
     print_seconds(origin.at + set_by(number), text);
@@ -148,13 +166,21 @@ static int could_be(unsigned number, unsigned last, int64_t moment, int64_t fram
     return moment >= setting_of(number)->after && moment <= end + LEAST_STEP && moment >= frame_before - LEAST_STEP;
 }
 
-/* Notes that a frame came at this moment after each of these settings. */
-static void note_new(unsigned first, unsigned last, int64_t moment)
+/* A moment that is counted from the beginning's wall clock, by the clock that runs on. */
+static int64_t steady_of(nanoseconds moment)
+{
+    return (int64_t)(moment - first_ahead);
+}
+
+/* Notes that a frame came at this moment after each of these settings, and the one before it before them. */
+static void note_frames(unsigned first, unsigned last, int64_t before, int64_t moment)
 {
     for (unsigned number = first; number <= last; number++) {
-        _Atomic int64_t *earliest = &setting_of(number)->first_new;
-        int64_t known = atomic_load(earliest);
-        while (moment < known && !atomic_compare_exchange_weak(earliest, &known, moment))
+        struct setting *setting = setting_of(number);
+        int64_t earliest = atomic_load(&setting->first_new), latest = atomic_load(&setting->last_old);
+        while (moment < earliest && !atomic_compare_exchange_weak(&setting->first_new, &earliest, moment))
+            ;
+        while (before > latest && !atomic_compare_exchange_weak(&setting->last_old, &latest, before))
             ;
     }
 }
@@ -165,7 +191,7 @@ static unsigned setting_by_which(const struct frame_clock *clock, nanoseconds st
 {
     unsigned last = atomic_load(&newest), found = last;
     unsigned first = last - clock->setting < KEPT_SETTINGS ? clock->setting : last;
-    int64_t earliest = INT64_MAX, frame_before = (int64_t)(clock->last - first_ahead);
+    int64_t earliest = INT64_MAX, frame_before = steady_of(clock->last);
     for (unsigned number = first; number - first <= last - first; number++) {
         int64_t moment = (int64_t)(stamp - setting_of(number)->ahead);
         if (moment < earliest && could_be(number, last, moment, frame_before)) {
@@ -182,9 +208,10 @@ static nanoseconds judged_moment(struct frame_clock *clock, nanoseconds stamp)
     follow_clock();
     unsigned before = clock->setting;
     clock->setting = setting_by_which(clock, stamp);
+    nanoseconds moment = stamp - set_by(clock->setting);
     if (clock->setting != before)
-        note_new(before + 1, clock->setting, (int64_t)(stamp - setting_of(clock->setting)->ahead));
-    return stamp - set_by(clock->setting);
+        note_frames(before + 1, clock->setting, steady_of(clock->last), steady_of(moment));
+    return moment;
 }
 
 nanoseconds steady_moment(struct frame_clock *clock, nanoseconds stamp)

@@ -35,7 +35,10 @@ struct interface {
  * else a line has said why not. */
 int open_interface(struct interface *interface, const struct way *way, const struct words *words);
 
-/* The same of an interface that was gone, where one of its name is there and up. */
+/* Tells how much the kernel really keeps of it: it has room for as many frames as slots of the longest fit. */
+void tell_buffer(const struct interface *interface);
+
+/* Opens an interface again that was gone, where one of its name is there and up. */
 int open_again(struct interface *interface);
 
 /* Writes the frames into the feed until the run is stopped or the feed is gone, and tells the counts. */

@@ -138,20 +138,22 @@ static int fill_streams(void)
     return 1;
 }
 
-/* Has the kernel end the run once the process has died that started it; at once, where it has by now. */
+/* Has the kernel end the run once the process has died that started it, also where that was before this program ran, or
+ * another one lies between. */
 static void follow_parent(pid_t parent)
 {
     if (parent == 0)
         return;
     prctl(PR_SET_PDEATHSIG, SIGTERM);
-    if (getppid() != parent && kill(parent, 0) != 0 && errno == ESRCH)
-        kill(getpid(), SIGTERM);
+    follow_process(parent);
 }
 
 /* Begins what interfaces want beside their frames: facts, counters, no privileges. Whether it could. */
-static int begin_live(const struct words *words)
+static int begin_live(const struct work *works, const struct words *words)
 {
     char text[SECONDS_TEXT_LEN];
+    for (int i = 0; i < words->count; i++)
+        tell_buffer(&works[i].interface);
     drop_privileges();
     follow_parent(words->parent);
     share_pipes(words->count);
@@ -166,7 +168,7 @@ static int begin_live(const struct words *words)
 /* Records interfaces. The status. */
 static int run_live(struct work *works, const struct words *words)
 {
-    if (!begin_live(words))
+    if (!begin_live(works, words))
         return NOT_BEGUN;
     int status = run_all(works, words->count, words->uses_adapter_clock ? NULL : follow_settings);
     tell_settings(1);

@@ -95,8 +95,7 @@ static void note_adapter(struct interface *interface)
              interface->name, adapter.joining, interface->name);
 }
 
-/* How much the kernel really keeps: it has room for as many frames as slots of the longest fit. */
-static void tell_buffer(const struct interface *interface)
+void tell_buffer(const struct interface *interface)
 {
     uint64_t len = ring_len(pcap_fileno(interface->pcap));
     if (len > 0)
@@ -122,7 +121,6 @@ static int open_pcap(struct interface *interface)
     interface->nanoseconds_per_unit = is_nano ? 1 : 1000;
     interface->counts.seen = (struct pcap_stat){0};
     note_adapter(interface);
-    tell_buffer(interface);
     return 1;
 }
 
@@ -141,7 +139,9 @@ int open_again(struct interface *interface)
     int is_open = open_pcap(interface);
     end_to_open();
     pthread_mutex_unlock(&opening);
-    if (!is_open && interface->pcap != NULL) {
+    if (is_open) {
+        tell_buffer(interface);
+    } else if (interface->pcap != NULL) {
         pcap_close(interface->pcap);
         interface->pcap = NULL;
     }

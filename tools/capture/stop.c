@@ -2,16 +2,18 @@
 #include "stop.h"
 #include "moment.h"
 
+#include <errno.h>
 #include <poll.h>
 #include <pthread.h>
 #include <signal.h>
 #include <stdatomic.h>
 #include <sys/signalfd.h>
+#include <sys/syscall.h>
 #include <unistd.h>
 
 int stop_fd = -1, hurry_fd = -1;
 
-static int stop_writer = -1, hurry_writer = -1, signals = -1;
+static int stop_writer = -1, hurry_writer = -1, signals = -1, followed = -1;
 static atomic_int stopping, hurried, switches, held = -1;
 enum { PAUSE_MS = 20 };
 /* A signal that comes twice within this time is one: a terminal and a script may send the same. */
@@ -69,6 +71,13 @@ int prepare_stop(void)
     return signals >= 0;
 }
 
+void follow_process(int process)
+{
+    followed = (int)syscall(SYS_pidfd_open, process, 0);
+    if (followed < 0 && errno == ESRCH)
+        kill(getpid(), SIGTERM);
+}
+
 /* Does what a signal asks for; `first` is when the first came that ends the run. */
 static void serve(int signal, int64_t *first)
 {
@@ -88,14 +97,18 @@ static void serve(int signal, int64_t *first)
 
 void serve_signals(int ended_fd, void (*now_and_then)(void))
 {
-    struct pollfd waits[2] = {{.fd = signals, .events = POLLIN}, {.fd = ended_fd}};
+    struct pollfd waits[] = {{.fd = signals, .events = POLLIN}, {.fd = ended_fd}, {.fd = followed, .events = POLLIN}};
     int64_t first = 0;
     while (waits[1].revents == 0) {
         struct signalfd_siginfo told;
-        int ready = poll(waits, 2, now_and_then != NULL ? PAUSE_MS : -1);
+        int ready = poll(waits, sizeof waits / sizeof *waits, now_and_then != NULL ? PAUSE_MS : -1);
         if (now_and_then != NULL)
             now_and_then();
         if (ready > 0 && waits[0].revents != 0 && read(signals, &told, sizeof told) > 0)
             serve((int)told.ssi_signo, &first);
+        if (ready > 0 && waits[2].revents != 0) {
+            waits[2].fd = -1;
+            serve(SIGTERM, &first);
+        }
     }
 }

@@ -19,6 +19,9 @@ int switches_asked(void);
  * switches a feed has done. */
 int is_held(int switched);
 
+/* Ends the run, as TERM does, once a process has ended; at once where there is none by now. */
+void follow_process(int process);
+
 /* Serves the signals until `ended_fd` is hung up, which the last thread closes, and calls `now_and_then` every 20 ms,
  * where it isn't NULL. */
 void serve_signals(int ended_fd, void (*now_and_then)(void));
