@@ -81,6 +81,7 @@ complete -c bpfrec-feed -n __fish_use_subcommand -a to-pcap
 complete -c bpfrec-feed -n __fish_use_subcommand -a show
 complete -c bpfrec-feed -n __fish_use_subcommand -a make
 complete -c bpfrec-feed -l origin
+complete -c bpfrec-feed -l facts
 complete -c bpfrec-feed -l interface
 complete -c bpfrec-feed -l drop-check-sequence
 complete -c bpfrec-feed -l help

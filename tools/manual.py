@@ -46,7 +46,7 @@ TOOLS = {
                     ["-r", "--origin", "--buffer", "--direction", "--prefilter", "--no-promiscuous", "--clock",
                      "--check-sequence", "--interface", "--quiet", "--strict", "--hold", "--events", "--parent", "--help"], []),
     "feed": Tool("makes feeds from captures and back, and shows their records", "from-pcap|to-pcap|show|make ..",
-                 ["from-pcap", "to-pcap", "show", "make", "--origin", "--interface", "--drop-check-sequence", "--help"], []),
+                 ["from-pcap", "to-pcap", "show", "make", "--origin", "--facts", "--interface", "--drop-check-sequence", "--help"], []),
     "info": Tool("tells what is in a recording, as a text, as JSON or as a page", "[--json] [--html FILE] RECORDING",
                  ["--json", "--html", "--help"], ["ch11"]),
     "salvage": Tool("copies what is left of a damaged recording", "DAMAGED OUT", ["--help"], ["ch11"]),
