@@ -5,10 +5,11 @@ usage: bench/upgrade.py BPFREC [MEGABYTES]
 
 BPFREC is the program that `make build` leaves in bin/. The recording has MEGABYTES (1,024) of packets of 64,288
 bytes that are full of frames of 1,518 bytes, in a temporary folder (TMPDIR). `cp --reflink=never`, since a
-shared copy reads and writes nothing, and `upgrade` run ROUNDS times each, in turn, and what they wrote is
-removed in between. It prints the median of each with the least and the greatest time, how many times as long
-`upgrade` takes by the medians, and the most memory that it takes, beside that of one packet alone. The status
-is 1 if it takes over 1.6 times as long, or over a megabyte more than for one packet.
+shared copy reads and writes nothing, with `sync` of the copy, since `upgrade` forces its file to the disk, and
+`upgrade` run ROUNDS times each, in turn, and what they wrote is removed in between. It prints the median of each
+with the least and the greatest time, how many times as long `upgrade` takes by the medians, and the most memory
+that it takes, beside that of one packet alone. The status is 1 if it takes over 1.6 times as long, or over a
+megabyte more than for one packet.
 """
 import os
 import statistics
@@ -68,7 +69,8 @@ def main():
             with open(path, "wb") as recording:
                 for _ in range(packets):
                     recording.write(content)
-        runs = {"cp": ["cp", "--reflink=never", old, out], "upgrade": [bpfrec, "upgrade", old, out]}
+        copy = ["sh", "-c", 'cp --reflink=never "$0" "$1" && sync "$1"', old, out]
+        runs = {"cp": copy, "upgrade": [bpfrec, "upgrade", old, out]}
         times = {name: [] for name in runs}
         for _ in range(ROUNDS):
             for name, words in runs.items():

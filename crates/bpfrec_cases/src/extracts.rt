@@ -10,8 +10,8 @@ pub(crate) struct ExtractCase {
 }
 
 /// Recordings with their channels; recordings that aren't read to their end, for which no feed is
-/// created; words that are no channel; and feeds that can't be created.
-pub(crate) static EXTRACTS: [ExtractCase; 21] = [
+/// created, nor tried to be; words that are no channel; and feeds that can't be created.
+pub(crate) static EXTRACTS: [ExtractCase; 24] = [
     ExtractCase {
         recording: "recordings/two_versions.ch11",
         channel: "1",
@@ -74,6 +74,11 @@ pub(crate) static EXTRACTS: [ExtractCase; 21] = [
         feed: "feed_sum",
     },
     ExtractCase {
+        recording: "recordings/cut_to_210.ch11",
+        channel: "1",
+        feed: "arp/feed",
+    },
+    ExtractCase {
         recording: "nowhere",
         channel: "1",
         feed: "feed_nowhere",
@@ -108,6 +113,11 @@ pub(crate) static EXTRACTS: [ExtractCase; 21] = [
     ExtractCase {
         recording: "recordings/two_versions.ch11",
         channel: "1",
+        feed: "arp/feed",
+    },
+    ExtractCase {
+        recording: "recordings/two_versions.ch11",
+        channel: "1",
         feed: "",
     },
     // the recording itself, which keeps its bytes
@@ -120,5 +130,11 @@ pub(crate) static EXTRACTS: [ExtractCase; 21] = [
         recording: "recordings/two_versions.ch11",
         channel: "1",
         feed: "./recordings/two_versions.ch11",
+    },
+    // also a damaged one, which is refused before it is read
+    ExtractCase {
+        recording: "recordings/cut_to_210.ch11",
+        channel: "1",
+        feed: "recordings/cut_to_210.ch11",
     },
 ];

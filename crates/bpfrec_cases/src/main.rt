@@ -297,6 +297,16 @@ where
             &["extract", "-", "1", "feed_cut"],
         ),
         ("recordings/cut_to_210.ch11", &["upgrade", "-", "new_cut"]),
+        (
+            "recordings/cut_to_210.ch11",
+            &["extract", "-", "1", "arp/feed"],
+        ),
+        ("recordings/cut_to_210.ch11", &["upgrade", "-", "arp/new"]),
+        (
+            "recordings/two_versions.ch11",
+            &["extract", "-", "1", "arp/feed"],
+        ),
+        ("recordings/two_versions.ch11", &["upgrade", "-", "arp/new"]),
         ("not_utf8", &["asm", "-"]),
     ] {
         let input = fs::read(rt, file)?;

@@ -9,8 +9,9 @@ pub(crate) struct UpgradeCase {
 }
 
 /// Recordings without data checksums, with them and with some; packets of other kinds; recordings that
-/// aren't read to their end, for which no file is created; and files that can't be created.
-pub(crate) static UPGRADES: [UpgradeCase; 16] = [
+/// aren't read to their end, for which no file is created, nor tried to be; and files that can't be
+/// created.
+pub(crate) static UPGRADES: [UpgradeCase; 19] = [
     UpgradeCase {
         recording: "recordings/two_versions.ch11",
         out: "new_two_versions",
@@ -57,6 +58,10 @@ pub(crate) static UPGRADES: [UpgradeCase; 16] = [
         out: "new_bad_sum",
     },
     UpgradeCase {
+        recording: "recordings/cut_to_210.ch11",
+        out: "arp/new",
+    },
+    UpgradeCase {
         recording: "nowhere",
         out: "new_nowhere",
     },
@@ -64,6 +69,10 @@ pub(crate) static UPGRADES: [UpgradeCase; 16] = [
     UpgradeCase {
         recording: "recordings/two_versions.ch11",
         out: "nowhere/new",
+    },
+    UpgradeCase {
+        recording: "recordings/two_versions.ch11",
+        out: "arp/new",
     },
     UpgradeCase {
         recording: "recordings/two_versions.ch11",
@@ -77,5 +86,10 @@ pub(crate) static UPGRADES: [UpgradeCase; 16] = [
     UpgradeCase {
         recording: "recordings/two_versions.ch11",
         out: "./recordings/two_versions.ch11",
+    },
+    // also a damaged one, which is refused before it is read
+    UpgradeCase {
+        recording: "recordings/cut_to_210.ch11",
+        out: "recordings/cut_to_210.ch11",
     },
 ];

@@ -1,9 +1,11 @@
 //! The file that a command writes, created after its buffer.
 
-ghost use Rattle.std.specs.Prelude.{OnOk};
+ghost use Rattle.std.specs.Prelude.{◌≡◌, IfErr, OnOk};
 ghost use Rattle.std.specs.Io.KnownBytes.{Appends};
+ghost use Rattle.cli_streams.specs.declared.ending.Ending.TheVariants.{File};
 
-use cli_streams::{Ending, Inputs, LockFile, create_output};
+use cli_streams::{Ending, Inputs, LockFile, create_output, force_to_disk};
+use std::fs::OpenFile;
 use std::io;
 use std::io::{BufWriter, ErrorKind, Write};
 use std::rt::Files;
@@ -13,6 +15,18 @@ use std::rt::Files;
 #[derive(Drop)]
 pub(crate) struct OutputFile<F> {
     file: Option<F>,
+}
+
+impl<F: OpenFile> OutputFile<F> {
+    /// Forces what went out to its disk, if it has one.
+    pub(crate) fn keep<'a>(&self, out: &'a str) -> Result<(), Ending<'a>>
+        ensures named { IfErr result (λ ending. ending ≡ File out.entry) }
+    {
+        match &self.file {
+            Some(file) => force_to_disk(file).map_err(|_| Ending::File(out)),
+            None => Ok(()),
+        }
+    }
 }
 
 impl<F: Write> Write for OutputFile<F> {
@@ -46,7 +60,7 @@ where
     Ok(output)
 }
 
-/// Writes to an output's file what was held in memory.
+/// Writes to an output's file what was held in memory, and forces it to its disk.
 pub(crate) fn write_held<'a, R: AllocGlobal + Files>(
     rt: &R,
     inputs: &Inputs,
@@ -56,8 +70,12 @@ pub(crate) fn write_held<'a, R: AllocGlobal + Files>(
 where
     R::File: LockFile,
 {
-    let mut output = create_output(rt, inputs, out)?;
-    write_whole(out, &mut output, held)
+    let created = create_output(rt, inputs, out)?;
+    let mut output = OutputFile {
+        file: Some(created),
+    };
+    write_whole(out, &mut output, held)?;
+    output.keep(out)
 }
 
 /// Writes all bytes to an output, and flushes it.

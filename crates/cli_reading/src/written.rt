@@ -36,10 +36,10 @@ pub(crate) trait PerPacket {
         ensures same { result ≡ true → bytes_for self.new ≡ bytes_for self.old };
 }
 
-/// Writes the file OUT for the recording FILE. OUT is created only if the recording is read to its
-/// end: a file is read once to see that it is, and once more to write, with one packet at a time; of
-/// what can't be read twice, what is written is held in memory. An OUT that is the recording itself
-/// is refused.
+/// Writes the file OUT for the recording FILE, and forces it to its disk. OUT is created only if the
+/// recording is read to its end: a file is read once to see that it is, and once more to write, with
+/// one packet at a time; of what can't be read twice, what is written is held in memory. An OUT that
+/// is the recording itself is refused before anything is read; one that can't be created, after.
 pub(crate) fn write_recording<'a, R: AllocGlobal + Files, I: Read, P: PerPacket>(
     rt: &R,
     file: &'a str,
@@ -55,7 +55,7 @@ where
     if file != STREAM {
         return write_file(rt, file, &mut inputs, out, written);
     }
-    inputs.refuse_output(rt, out)?;
+    inputs.refuse_input(rt, out)?;
     write_once(rt, file, &inputs, out, input, written)
 }
 
@@ -73,7 +73,7 @@ where
     let alloc = rt.alloc();
     let mut recording = open(rt, file)?;
     inputs.add(&recording)?;
-    inputs.refuse_output(rt, out)?;
+    inputs.refuse_input(rt, out)?;
     if !is_read_twice(&recording) {
         return write_once(rt, file, inputs, out, &mut recording, written);
     }
@@ -81,7 +81,8 @@ where
     begin_again(file, &mut recording)?;
     let mut reader = reader_over(alloc, &mut recording)?;
     let mut output = buffered_output(rt, inputs, out)?;
-    write_again(file, &mut reader, judged, out, &mut output, written)
+    write_again(file, &mut reader, judged, out, &mut output, written)?;
+    output.get_ref().keep(out)
 }
 
 /// Writes for a recording that was judged before. If its counts aren't what they were, that is the

@@ -1,10 +1,11 @@
 //! The output of a recording, whose failure is told at the moment when it fails.
 
-ghost use Rattle.std.specs.Prelude.{◌≡◌, ◌≢◌, Some};
+ghost use Rattle.std.specs.Prelude.{◌≡◌, ◌≢◌, Some, IfErr};
+ghost use Rattle.std.specs.IoError.{error_kind};
 ghost use Rattle.cli_streams.specs.declared.ending.Ending.TheVariants.{Told, Recording};
 
 use crate::errors::print_error;
-use cli_streams::{Ending, RecordingFault};
+use cli_streams::{Ending, RecordingFault, force_to_disk};
 use std::fs::OpenFile;
 use std::io::{self, ErrorKind, Write};
 use std::sync::{Mutex, Wait};
@@ -104,16 +105,15 @@ impl<'r, R: Wait, W: Write + Drop, E: Write + Drop> AnnouncedOutput<'r, R, W, E>
 }
 
 impl<'r, R, W: OpenFile + Drop, E: Drop> AnnouncedOutput<'r, R, W, E> {
-    /// Forces what went out to its disk. A pipe or a device has none, and says that it can't be.
+    /// Forces what went out to its disk, if it has one.
     ///
     /// # Errors
     ///
     /// That of the disk.
-    pub fn keep(&self) -> io::Result<()> {
-        match self.out.sync_all() {
-            Err(error) if error.kind() != ErrorKind::InvalidInput => Err(error),
-            _ => Ok(()),
-        }
+    pub fn keep(&self) -> io::Result<()>
+        ensures passed { IfErr result (λ error. error_kind error ≢ ErrorKind.InvalidInput) }
+    {
+        force_to_disk(&self.out)
     }
 }
 

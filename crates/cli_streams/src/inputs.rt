@@ -1,5 +1,8 @@
 //! The files that a command reads, by which it tells that its output is one of them.
 
+ghost use Rattle.std.specs.Prelude.{◌≡◌, IfErr};
+ghost use Rattle.cli_streams.specs.declared.ending.Ending.TheVariants.{File};
+
 use crate::ending::Ending;
 use std::alloc::{AllocError, Global};
 use std::fs::{Metadata, OpenFile};
@@ -54,7 +57,18 @@ impl Inputs {
 
     /// Refuses an output that is one of these files, by whatever name: a regular file would be
     /// emptied, and what goes into a pipe would come out of it again. A device has nothing to lose.
-    /// An output that may be there, and can't be looked at, is refused too.
+    /// An output that can't be looked at is passed over: `create_output` looks at it once more.
+    pub fn refuse_input<'a, R: Files>(&self, rt: &R, out: &'a str) -> Result<(), Ending<'a>>
+        ensures named { IfErr result (λ ending. ending ≡ File out.entry) }
+    {
+        match rt.metadata(out) {
+            Ok(found) if self.is_spoiled(&found) => Err(Ending::File(out)),
+            Ok(_) | Err(_) => Ok(()),
+        }
+    }
+
+    /// Refuses an output as [`Inputs::refuse_input`] does, and one that may be there, and can't be
+    /// looked at.
     pub fn refuse_output<'a, R: Files>(&self, rt: &R, out: &'a str) -> Result<(), Ending<'a>> {
         match rt.metadata(out) {
             Ok(found) if self.is_spoiled(&found) => Err(Ending::File(out)),

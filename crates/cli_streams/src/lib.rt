@@ -5,6 +5,7 @@
 mod channel_word;
 mod created;
 mod ending;
+mod forced;
 mod input;
 mod inputs;
 mod listed;
@@ -15,6 +16,7 @@ mod view;
 pub use channel_word::channel_in;
 pub use created::{LockFile, create_output};
 pub use ending::{ANSWERED, Ending, STREAM};
+pub use forced::force_to_disk;
 pub use input::{MAX_LISTING, MAX_TEXT, bounded_text, text_in, whole_text};
 pub use inputs::Inputs;
 pub use listed::{ListedFault, listed_program};
