@@ -6,10 +6,14 @@ PREFIX ?= /usr/local
 DESTDIR ?=
 export PREFIX DESTDIR
 
-.PHONY: help demo build capture quick crate test gate install uninstall deb refused-growth fuzz bench clean
+.PHONY: help try demo build capture quick crate test trials gate install uninstall deb refused-growth fuzz bench clean
 
 help: ## lists the targets
 	@grep -E '^[a-z-]+:.*## ' Makefile | sed -E 's/:[^#]*## /\t/' | expand -t 18
+
+try: ## in some two minutes: a program that is checked as it runs and NOT proved, and the recording of make demo by it
+	tools/try
+	UNPROVED=1 tools/demo
 
 demo: build ## builds the program, and shows a recording from filter to extracted frames
 	tools/demo
@@ -26,8 +30,11 @@ quick: ## all tests, compiled with checks and run, with no proof: minutes, also 
 crate: ## one crate: its proof, its edits that must fail, its tests; as make crate C=rec_lane
 	@tools/crate $(C)
 
+trials: ## what runs the built program, its tools, interfaces and disks: make trials, or tools/trials NAME..
+	@tools/trials
+
 test: ## all proofs, all tests and stored runs, over kept work, and the edits of what changed
-	@tools/test
+	@tools/test $(if $(EDITS_WITHIN),--edits-within $(EDITS_WITHIN))
 
 gate: ## everything from nothing by the toolchain's gate: proofs, every edit, tests, two compilers
 	@tools/gate

@@ -43,16 +43,13 @@ class Progress:
 
     def left(self, running):
         """How long the rest is likely to take, by the measured costs and by this machine's pace."""
-        worked = [(it.cost.seconds, it.spent.seconds) for it in self.steps if it.spent]
         share = lambda it: it.functions()[0] / max(it.functions()[1], 1)
-        wanted = sum(it for it, _ in worked)
-        if wanted < LEAST_WORK:
+        if sum(it.cost.seconds for it in self.steps if it.spent) < LEAST_WORK:
             return "some time left"
-        pace = sum(it for _, it in worked) / wanted
         rest = [it for it in self.steps if it.status is None]
         work = sum(it.cost.seconds * (1 - share(it) * bool(it.process)) for it in rest)
         chain = max((it.behind for it in rest), default=0) / 2
-        return f"about {minutes(pace * max(work / processors(), chain))} left"
+        return f"about {minutes(pace(self.steps) * max(work / processors(), chain))} left"
 
     def say(self, text=None):
         """Prints a line that stays, or how far the run is."""
@@ -71,15 +68,24 @@ def minutes(seconds):
     return f"{seconds:.0f} s" if seconds < 100 else f"{seconds / 60:.0f} min"
 
 
+def pace(steps):
+    """How long this machine takes for what was measured in a second, by the steps that have ended."""
+    ended = [it for it in steps if it.spent]
+    measured = sum(it.cost.seconds for it in ended)
+    return sum(it.spent.seconds for it in ended) / measured if measured >= LEAST_WORK else 1
+
+
 def processors():
     """How many processors there are to use."""
     return int(os.environ.get("RT_JOBS") or toolchain().processors())
 
 
-def in_lanes(steps, every=()):
+def in_lanes(steps, every=(), until=None):
     """Does the steps side by side, each once those that it waits for are done, first those with the
-    longest way to the end behind them. Steps that an earlier run did are passed over, but for those of
-    the kinds `every`. Returns those that failed; what waits for one isn't done."""
+    longest way to the end behind them, and those that have a turn after all others, in its order. Steps that
+    an earlier run did are passed over, but for those of the kinds `every`. Of those that may be left none is
+    begun that isn't likely to end when the clock is at `until`. Returns those that failed; what waits for one
+    isn't done."""
     LOGS.mkdir(parents=True, exist_ok=True)
     steps = [it for it in steps if it.kind in every or not it.is_done()]
     by_key = {it.key: it for it in steps}
@@ -90,9 +96,11 @@ def in_lanes(steps, every=()):
         for key in it.waits:
             by_key[key].behind = max(by_key[key].behind, it.behind)
     progress, running, failed = Progress(steps), [], []
-    waiting = sorted(steps, key=lambda it: -it.behind)
+    waiting = sorted(steps, key=lambda it: (it.turn, -it.behind))
     memory = 0.85 * toolchain().free() / 1e6
     while running or any(is_ready(it, by_key) for it in waiting):
+        if until is not None:
+            waiting = [it for it in waiting if not it.may_be_left or time.monotonic() + it.cost.seconds * pace(steps) < until]
         start_ready(waiting, running, by_key, memory)
         pause(running)
         for it in [it for it in running if it.ended()]:
@@ -132,6 +140,8 @@ def start_ready(waiting, running, by_key, memory):
     for at, it in enumerate(ready):
         idle = lanes - sum(other.jobs for other in running)
         room = memory - sum(memory_of(other, other.jobs) for other in running)
+        if it.turn and any(not other.turn and other.process is None for other in ready):
+            return  # no room for what goes first, and it would have less
         if idle < 1 or running and memory_of(it, 1) > room:
             continue
         jobs = max(idle - (len(ready) - 1 - at), 1)

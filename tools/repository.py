@@ -15,9 +15,8 @@ sys.dont_write_bytecode = True
 
 ROOT = Path(__file__).resolve().parent.parent
 RT = shlex.split(os.environ.get("RT", "rt"))
-SEEN = ROOT / "tools" / "edits_seen.txt"
 # What is checked beside the crates.
-CHECKS = ("check_links", "check_examples", "check_uses", "check_man", "unused")
+CHECKS = ("check_links", "check_examples", "check_uses", "check_man", "check_packages", "unused")
 # What is checked of the program once it is built, and where it stands then.
 MEMORY, PROGRAM = "check_memory", Path("crates/bpfrec/out/bpfrec")
 # The files and folders of a crate that a step reads, and the folder that steps of edits read too.
@@ -104,18 +103,6 @@ def libraries():
 
 def is_program(name):
     return crates()[name].is_program
-
-
-def seen():
-    """The crates whose edits were all seen refused, with the sum of what they depend on."""
-    return {name: row[0] for name, row in table_in(SEEN).items()}
-
-
-def write_seen(sums):
-    """Writes these crates' sums beside those of the others, and drops crates that are gone."""
-    kept = {name: found for name, found in {**seen(), **sums}.items() if name in crates()}
-    head = "# written by tools/test and tools/gate alone: crates whose edits were all seen refused, by hash\n"
-    SEEN.write_text(head + "".join(f"{name} {kept[name]}\n" for name in sorted(kept)))
 
 
 def files():

@@ -20,7 +20,7 @@ EDITS_A_STEP = 16
 # How much of a step that doesn't tell its functions may seem to be done before it has ended.
 MOST_OF_A_STEP = 0.95
 # A first guess of what a crate costs that tools/costs.txt doesn't have.
-SECONDS_A_LINE, MEGABYTES = 0.15, 3000
+SECONDS_A_LINE, SECONDS_AN_EDIT, MEGABYTES = 0.15, 40, 3000
 
 
 def seconds_of(process):
@@ -43,11 +43,13 @@ class Cost:
     functions: int = 0
 
 
-def cost_of(key, name):
-    """What a step cost when it was measured, or a guess by the crate's length."""
+def cost_of(key, name, edits=()):
+    """What a step cost when it was measured, or a guess by the number of its edits or by the crate's length."""
     row = table_in(COSTS).get(key)
     if row:
         return Cost(float(row[0]), int(row[1]), int(row[2]))
+    if edits:
+        return Cost(SECONDS_AN_EDIT * len(edits), cost_of(f"library-{name}", name).megabytes, len(edits))
     return Cost(SECONDS_A_LINE * crates()[name].count(rb"\n"), MEGABYTES)
 
 
@@ -61,10 +63,13 @@ class Step:
     waits: list = field(default_factory=list)
     # whether a library's proof is to be kept function by function, as its edits want it
     keeps: bool = False
+    # its place behind what goes first, from 1 on, and whether a run that is short of time may leave it
+    turn: int = 0
+    may_be_left: bool = False
 
     def __post_init__(self):
         self.key = "-".join([self.kind, self.crate, *[it.replace("/", "_") for it in self.words]])
-        self.cost = cost_of(self.key, self.crate)
+        self.cost = cost_of(self.key, self.crate, self.edits() if self.kind == "edits" else ())
         self.log = LOGS / f"{self.key}.log"
         self.done = Path(crates()[self.crate].folder) / "out" / f"{self.key}.done"
         self.jobs, self.status, self.process, self.spent = 0, None, None, None
@@ -140,11 +145,14 @@ def all_steps(kept):
     return [*steps_for(libraries(), kept), *(Step(kind(it), it, waits=waits(it)) for it in others)]
 
 
-def edit_steps(name):
+def edit_steps(name, turn, may_be_left=False):
     """Steps that try all edits of a library, some at a time."""
     count = len(edits_of(name)[0])
     parts = max(-(-count // EDITS_A_STEP), 1)
-    return [Step("edits", name, [f"{at}/{parts}"], [f"library-{name}"]) for at in range(1, parts + 1)]
+    steps = [Step("edits", name, [f"{at}/{parts}"], [f"library-{name}"]) for at in range(1, parts + 1)]
+    for it in steps:
+        it.turn, it.may_be_left = turn, may_be_left
+    return steps
 
 
 def counts_of(steps):
