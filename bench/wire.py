@@ -1,7 +1,7 @@
 #!/usr/bin/env python3
 """Times recordings from an interface beside dumpcap and tcpdump, and feeds that are made of a capture file.
 
-usage: bench/wire.py [--frames N] [--rounds N] [--part wire|files]
+usage: bench/wire.py [--frames N] [--rounds N] [--part wire|files] [--before CHECKOUT]
 
 It makes a network namespace with a pair of virtual interfaces, sends frames of 64, 300 and 1,500 bytes into
 one of them as fast as bin/send_frames can, and records what the other receives: by tools/live, with a filter
@@ -71,19 +71,24 @@ def make_pair():
 # ---- recordings
 
 
-def commands(work, buffer=BUFFER_MIB):
-    """What records, by the name of the program and of the filter: its words, and what it says once it is ready."""
+def commands(work, buffer, before):
+    """What records, by the name of the program and of the filter: its words, and what it says once it is ready. With
+    another checkout its tools/live and ours, in turn, and no other program."""
     made = {}
     for name in FILTERS:
         (work / name).write_text(FILTERS[name])
         (work / f"{name}.toml").write_text(f'[[channel]]\nid = 1\nfilter = "{work / name}"\n')
         expression = EXPRESSIONS[name]
-        live = [LIVE, "--force", "--quiet", "--buffer", buffer, work / f"{name}.toml", work / "out", "rx0=1"]
+        live = [LIVE, "--quiet", "--buffer", buffer, work / f"{name}.toml", work / "out", "rx0=1"]
         dumpcap = ["dumpcap", "-q", "-i", "rx0", "-B", buffer, *(["-f", *expression] if expression else []), "-w", work / "out"]
         tcpdump = ["tcpdump", "-Z", "root", "-n", "-i", "rx0", "-B", buffer * 1024, "-w", work / "out", *expression]
-        made["tools/live", name] = live, "origin"
-        if expression:
-            made["tools/live --prefilter", name] = [LIVE, "--prefilter", *live[1:]], "origin"
+        for program, tree in {"tools/live, before": before, "tools/live": ROOT}.items():
+            if tree and not (before and expression):
+                made[program, name] = [tree / "tools/live", *live[1:]], "origin"
+            if tree and expression:
+                made[program.replace("live", "live --prefilter"), name] = [tree / "tools/live", "--prefilter", *live[1:]], "origin"
+        if before:
+            continue
         made["dumpcap", name] = dumpcap, "File: "
         made["tcpdump", name] = tcpdump, "listening on"
     return made
@@ -110,6 +115,8 @@ def go_ahead():
 
 def record_once(work, program, words, ready, length, frames, is_ahead=False):
     """A recording: seconds of the sender, seconds until all was recorded, of processors, frames kept and dropped."""
+    for path in work.glob("out*"):
+        path.unlink()
     with open(work / "told", "w+") as told, open(work / "printed", "w+") as printed:
         recorder = subprocess.Popen([str(it) for it in words], stdin=subprocess.DEVNULL, stdout=printed, stderr=told,
                                     start_new_session=True, preexec_fn=go_ahead if is_ahead else None)
@@ -131,15 +138,25 @@ def record_once(work, program, words, ready, length, frames, is_ahead=False):
     return sending, spent, used.ru_utime + used.ru_stime, kept, dropped
 
 
-def time_wire(work, frames, rounds, buffer, is_ahead):
-    made = commands(work, buffer)
+def tell_changes(length, runs, frames):
+    """What the other checkout took, and what ours does: medians over the rounds, in which the two went in turn."""
+    for before, after in [(key, (key[0].replace(", before", ""), key[1])) for key in runs if ", before" in key[0]]:
+        rates = [one[0] / other[0] for one, other in zip(runs[before], runs[after])]
+        spent = [1e9 * (other[2] - one[2]) / frames for one, other in zip(runs[before], runs[after])]
+        print(f"{length} bytes, {after[0]}: {statistics.median(rates):.3f} times as many frames a second "
+              f"({min(rates):.2f} to {max(rates):.2f}), {statistics.median(spent):+.0f} ns of processors a frame", flush=True)
+
+
+def time_wire(work, words):
+    frames, rounds = words.frames, words.rounds
+    made = commands(work, words.buffer, words.before)
     print("| Bytes | Program | Keeps | Frames sent a second | Taken a second | Dropped by the kernel | least, greatest "
           "| Processor, ns a frame |\n|---|---|---|---|---|---|---|---|")
     for length in LENGTHS:
         runs = {key: [] for key in made}
-        for _ in range(rounds):
-            for key, (words, ready) in made.items():
-                runs[key].append(record_once(work, key[0], words, ready, length, frames, is_ahead))
+        for turn in range(rounds):
+            for key, (command, ready) in list(made.items())[:: 1 if turn % 2 == 0 else -1]:
+                runs[key].append(record_once(work, key[0], command, ready, length, frames, words.ahead))
         for (program, name), done in runs.items():
             sent = statistics.median(frames / it[0] for it in done)
             taken = statistics.median((frames - it[4]) / it[0] for it in done)
@@ -147,6 +164,7 @@ def time_wire(work, frames, rounds, buffer, is_ahead):
             processors = statistics.median(1e9 * it[2] / frames for it in done)
             print(f"| {length} | {program} | {KEPT_SHARE[name]} | {sent:,.0f} | {taken:,.0f} | {statistics.median(drops):,.0f} "
                   f"| {min(drops):,}, {max(drops):,} | {processors:,.0f} |", flush=True)
+        tell_changes(length, runs, frames)
     print(f"\nLoad: {os.getloadavg()[0]:.1f} on {os.cpu_count()} processors")
 
 
@@ -202,6 +220,7 @@ def main():
     parser.add_argument("--rounds", type=int, default=5)
     parser.add_argument("--part", choices=["wire", "files"])
     parser.add_argument("--buffer", type=int, default=BUFFER_MIB, help="MiB of the kernel's buffer for each program")
+    parser.add_argument("--before", type=Path, metavar="CHECKOUT", help="times tools/live of that checkout and ours in turn alone")
     parser.add_argument("--ahead", action="store_true", help="put what is timed ahead of the machine's other work")
     words = parser.parse_args()
     if not os.environ.get(INSIDE):
@@ -220,8 +239,8 @@ def main():
     with tempfile.TemporaryDirectory() as folder:
         if words.part in (None, "wire"):
             make_pair()
-            time_wire(Path(folder), words.frames, words.rounds, words.buffer, words.ahead)
-        if words.part in (None, "files"):
+            time_wire(Path(folder), words)
+        if words.part in (None, "files") and not words.before:
             time_files(Path(folder), words.frames, words.rounds)
     return 0
 

@@ -21,7 +21,9 @@ import threading
 import time
 
 ROOT = pathlib.Path(__file__).resolve().parent.parent
-BPFREC, CAPTURE, LIVE, FEED = (ROOT / name for name in ["bin/bpfrec", "bin/capture", "tools/live", "tools/feed"])
+BPFREC, LIVE, FEED = (ROOT / name for name in ["bin/bpfrec", "tools/live", "tools/feed"])
+# Another build of it, as under a sanitizer, is tried by the variable CAPTURE, by which tools/live finds it too.
+CAPTURE = pathlib.Path(os.environ.get("CAPTURE") or ROOT / "bin/capture")
 # The folder to work in, for the process that is in the namespace.
 INSIDE = "BPFREC_TRIAL_INSIDE"
 HEAD = bytes.fromhex("020000000002 020000000001 88b5")
@@ -339,7 +341,7 @@ def turn_offloads_off(name: str) -> None:
 
 def missing(wanted: dict) -> list:
     """What is not here of the programs and of these, each with its package."""
-    found = [f"{path.relative_to(ROOT)} (make build)" for path in (BPFREC, CAPTURE) if not path.exists()]
+    found = [f"{path} (make build)" for path in (BPFREC, CAPTURE) if not path.exists()]
     packages = sorted({package for program, package in wanted.items() if not shutil.which(program)})
     found += [f"apt-get install {' '.join(packages)}"] if packages else []
     return found + (["root"] if os.geteuid() != 0 else [])
