@@ -128,12 +128,13 @@ static int64_t greatest(int64_t one, int64_t other)
 }
 
 /* From when on a setting is told to hold: a moment before the first frame that is known to come after it, since others
- * may wait that came a little sooner, and after the last that is known to come before it. */
+ * may wait that came a little sooner, but not before the last look that didn't see it, nor before the last frame that is
+ * known to come before it. */
 static int64_t told_from(const struct setting *setting)
 {
-    int64_t known = least(atomic_load(&setting->first_new), setting->before);
-    int64_t unknown = greatest(atomic_load(&setting->last_old) + NANOSECONDS_PER_TICK, setting->after);
-    return greatest(known - SOON, least(unknown, known));
+    int64_t new = least(atomic_load(&setting->first_new), setting->before);
+    int64_t old = greatest(atomic_load(&setting->last_old) + NANOSECONDS_PER_TICK, setting->after);
+    return greatest(setting->after, least(new, greatest(new - SOON, old)));
 }
 
 static void tell_setting(unsigned number)
