@@ -98,10 +98,9 @@ def in_lanes(steps, every=(), until=None):
     progress, running, failed = Progress(steps), [], []
     waiting = sorted(steps, key=lambda it: (it.turn, -it.behind))
     memory = 0.85 * toolchain().free() / 1e6
-    while running or any(is_ready(it, by_key) for it in waiting):
-        if until is not None:
-            waiting = [it for it in waiting if not it.may_be_left or time.monotonic() + it.cost.seconds * pace(steps) < until]
-        start_ready(waiting, running, by_key, memory)
+    may_begin = lambda it: is_ready(it, by_key) and has_time(it, until, pace(steps))
+    while running or any(may_begin(it) for it in waiting):
+        start_ready(waiting, running, may_begin, memory)
         pause(running)
         for it in [it for it in running if it.ended()]:
             running.remove(it)
@@ -132,16 +131,21 @@ def is_ready(step, by_key):
     return step.process is None and all(by_key[it].status == 0 for it in step.waits)
 
 
-def start_ready(waiting, running, by_key, memory):
+def has_time(step, until, pace):
+    """Whether a step must be done, or is likely to end before the clock is at `until`."""
+    return until is None or not step.may_be_left or time.monotonic() + step.cost.seconds * pace < until
+
+
+def start_ready(waiting, running, may_begin, memory):
     """Starts what can be started: each step gets a lane, and those with the longest way behind them get
     the lanes that the others leave."""
     lanes = max(int(LANES_PER_PROCESSOR * processors()), 1)
-    ready = [it for it in waiting if is_ready(it, by_key)]
+    ready = [it for it in waiting if may_begin(it)]
     for at, it in enumerate(ready):
         idle = lanes - sum(other.jobs for other in running)
         room = memory - sum(memory_of(other, other.jobs) for other in running)
-        if it.turn and any(not other.turn and other.process is None for other in ready):
-            return  # no room for what goes first, and it would have less
+        if it.turn and any(not other.turn for other in waiting):
+            return  # what goes first has not begun, or it may lack the room
         if idle < 1 or running and memory_of(it, 1) > room:
             continue
         jobs = max(idle - (len(ready) - 1 - at), 1)
