@@ -235,6 +235,8 @@ void run_interface(struct interface *interface)
                 ;
         while (wait_for_next_feed(interface));
     flush_feed(feed);
+    if (feed->output.state == OUTPUT_ABANDONED)
+        drop_waiting(interface);
     if (interface->is_gone)
         tell("%s: the interface is gone", interface->name);
     int was_open = is_open(&feed->output);

@@ -12,6 +12,9 @@
 
 enum { PIPE_LEN = 1 << 20, PIPES_LEN = 1 << 25, READER_PAUSE_MS = 5, FULL_PAUSE_MS = 200 };
 
+/* How long a run that is to end waits for the reader of a pipe, who may be about to come. */
+static const int64_t LAST_WAIT = 2 * (int64_t)NANOSECONDS_PER_SECOND;
+
 static int pipe_len = PIPE_LEN;
 
 static int ended(struct output *output, enum output_state state, int error)
@@ -44,13 +47,16 @@ static int open_path(struct output *output, const char *path)
 {
     if (strcmp(path, "-") == 0)
         return open_standard_output();
-    for (;;) {
+    for (int64_t end = 0;;) {
         int fd = open(path, O_WRONLY | O_NONBLOCK | O_CREAT | O_TRUNC | O_CLOEXEC, 0666);
         /* ENXIO: a pipe without a reader. */
         if (fd >= 0 || errno != ENXIO)
             return fd;
-        struct pollfd stop = {.fd = stop_fd};
-        if (poll(&stop, 1, READER_PAUSE_MS) > 0)
+        struct pollfd stop = {.fd = is_stopping() ? hurry_fd : stop_fd};
+        poll(&stop, 1, READER_PAUSE_MS);
+        if (is_stopping() && end == 0)
+            end = steady_now() + LAST_WAIT;
+        if (is_hurried() || (end != 0 && steady_now() > end))
             return -1;
         if (output->while_waiting)
             output->while_waiting(output->told);
