@@ -11,7 +11,7 @@ export PREFIX DESTDIR
 help: ## lists the targets
 	@grep -E '^[a-z-]+:.*## ' Makefile | sed -E 's/:[^#]*## /\t/' | expand -t 18
 
-try: ## in some two minutes: a program that is checked as it runs and NOT proved, and the recording of make demo by it
+try: ## in a minute: a program that is checked as it runs and NOT proved, and the recording of make demo by it
 	tools/try
 	UNPROVED=1 tools/demo
 
