@@ -12,53 +12,53 @@ help: ## lists the targets
 	@grep -E '^[a-z-]+:.*## ' Makefile | sed -E 's/:[^#]*## /\t/' | expand -t 18
 
 try: ## in a minute: a program that is checked as it runs and NOT proved, and the recording of make demo by it
-	tools/try
-	UNPROVED=1 tools/demo
+	dev/build/unproved.py
+	UNPROVED=1 dev/build/demo.sh
 
 demo: build ## builds the program, and shows a recording from filter to extracted frames
-	tools/demo
+	dev/build/demo.sh
 
 build: ## proves the program and all that it stands on: bin/bpfrec, and bin/capture where libpcap-dev is
-	@tools/build $(if $(KEEP_COSTS),--keep-costs)
+	@dev/build/build.py $(if $(KEEP_COSTS),--keep-costs)
 
 capture: ## bin/capture alone, which makes feeds of interfaces; it wants libpcap-dev
-	@tools/build_capture
+	@capture/build.sh
 
 quick: ## all tests, compiled with checks and run, with no proof: minutes, also on a fresh checkout
-	@tools/quick
+	@dev/build/quick.py
 
 crate: ## one crate: its proof, its edits that must fail, its tests; as make crate C=rec_lane
-	@tools/crate $(C)
+	@dev/build/crate.py $(C)
 
-trials: ## what runs the built program, its tools, interfaces and disks: make trials, or tools/trials NAME..
-	@tools/trials
+trials: ## what runs the built program, its tools, interfaces and disks: make trials, or dev/trials/run.py NAME..
+	@dev/trials/run.py
 
 test: ## all proofs, all tests and stored runs, over kept work, and the edits of what changed
-	@tools/test $(if $(EDITS_WITHIN),--edits-within $(EDITS_WITHIN))
+	@dev/build/test.py $(if $(EDITS_WITHIN),--edits-within $(EDITS_WITHIN))
 
 gate: ## everything from nothing by the toolchain's gate: proofs, every edit, tests, two compilers
-	@tools/gate
+	@dev/build/gate.py
 
 install: ## installs what make build has made, with the tools and the page: PREFIX=/usr/local DESTDIR=..
-	@tools/install
+	@dev/package/install.sh
 
 uninstall: ## removes what make install has installed
-	@tools/install --uninstall
+	@dev/package/install.sh --uninstall
 
 deb: ## a Debian package of the same: bin/bpfrec_<version>_<architecture>.deb
-	@tools/make_deb
+	@dev/package/make_deb.sh
 
 refused-growth: build ## refuses each growth of memory of each command, and of calls beside them, in turn
 	cd crates/recorder_tests && $(RT) test -- without_memory
 	cd crates/reading_tests && $(RT) test -- without_memory
-	tools/refused_growth
+	dev/trials/refused_growth.py
 
 fuzz: build ## drawn and damaged inputs for an hour; SECONDS=60 for a minute, SEED=2 for others
-	tools/fuzz --seed $(or $(SEED),1) --seconds $(or $(SECONDS),3600)
+	dev/trials/fuzz.py --seed $(or $(SEED),1) --seconds $(or $(SECONDS),3600)
 
 bench: build bin/pcap_filter bin/record_feed ## times the filter machine and the whole recorder beside libpcap's
 	@command -v python3 || { echo "make bench wants libpcap-dev, python3 and cc: python3 is missing"; exit 1; }
-	tools/build bench
+	dev/build/build.py bench
 	bench/compare.py bin/bench bin/pcap_filter bin/bench_work bin/bpfrec
 	bench/record.py bin/bpfrec bin/record_feed
 

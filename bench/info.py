@@ -1,11 +1,11 @@
 #!/usr/bin/env python3
-"""Times tools/info and tools/salvage on recordings of frames of several lengths.
+"""Times host/bin/info and host/bin/salvage on recordings of frames of several lengths.
 
 usage: bench/info.py [--megabytes N] [--rounds N]
 
 It makes feeds of 64, 60 to 80, 300 and 1,500 bytes a frame, records them with a filter that keeps all, and reads each
-recording by tools/info with the audit (of which data checksums need no summing) and without a program, and by
-tools/salvage into /dev/null. It prints a table for RESULTS.md: megabytes a second by the clock and of processor time
+recording by host/bin/info with the audit (of which data checksums need no summing) and without a program, and by
+host/bin/salvage into /dev/null. It prints a table for RESULTS.md: megabytes a second by the clock and of processor time
 (the audit's included), medians, and the most memory. It wants bin/bpfrec (make build); files go to TMPDIR: in memory
 (TMPDIR=/dev/shm) no disk is measured with it.
 """
@@ -19,7 +19,7 @@ import time
 from pathlib import Path
 
 ROOT = Path(__file__).resolve().parent.parent
-BPFREC, INFO, SALVAGE = (ROOT / it for it in ("bin/bpfrec", "tools/info", "tools/salvage"))
+BPFREC, INFO, SALVAGE = (ROOT / it for it in ("bin/bpfrec", "host/bin/info", "host/bin/salvage"))
 LENGTHS = {"64": (64, 64), "60 to 80": (60, 80), "300": (300, 300), "1,500": (1_500, 1_500)}
 HEAD = bytes.fromhex("020000000002 020000000001 88b5")
 

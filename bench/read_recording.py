@@ -4,7 +4,7 @@ one with a data checksum in each packet, beside `cat` of the same file.
 
 usage: bench/read_recording.py BPFREC BENCH [LENGTH [MEGABYTES]]
 
-BPFREC and BENCH are the programs that `tools/build` and `tools/build bench` leave in bin/. BENCH makes
+BPFREC and BENCH are the programs that `dev/build/build.py` and `dev/build/build.py bench` leave in bin/. BENCH makes
 a recording of MEGABYTES (100) of packets that are full of frames of LENGTH (1518) bytes, in a
 temporary folder. Each command runs nine times, in turn with the others, with its output to a file there.
 It prints, for each, the best time and the median in milliseconds, and the memory of a further run by

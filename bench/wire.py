@@ -4,10 +4,10 @@
 usage: bench/wire.py [--frames N] [--rounds N] [--part wire|files] [--before CHECKOUT]
 
 It makes a network namespace with a pair of virtual interfaces, sends frames of 64, 300 and 1,500 bytes into
-one of them as fast as bin/send_frames can, and records what the other receives: by tools/live, with a filter
+one of them as fast as bin/send_frames can, and records what the other receives: by host/bin/live, with a filter
 that keeps all and one that keeps a 32nd, which the kernel runs too with --prefilter, and by `dumpcap -w` and `tcpdump -w`, which take all or have the
 kernel drop what the same filter drops. Each has 64 MiB of the kernel's buffer. Then it makes a feed of a
-capture of as many frames, by tools/feed and by `capture -r`.
+capture of as many frames, by host/bin/convert and by `capture -r`.
 
 It prints tables for RESULTS.md, with the machine's load. It wants root, bin/bpfrec and bin/capture (make
 build), bin/send_frames (make bin/send_frames), and Debian's iproute2, tcpdump and wireshark-common. Files go
@@ -30,7 +30,7 @@ import time
 from pathlib import Path
 
 ROOT = Path(__file__).resolve().parent.parent
-LIVE, FEED, CAPTURE, SENDER = (ROOT / it for it in ("tools/live", "tools/feed", "bin/capture", "bin/send_frames"))
+LIVE, FEED, CAPTURE, SENDER = (ROOT / it for it in ("host/bin/live", "host/bin/convert", "bin/capture", "bin/send_frames"))
 WANTED = {"ip": "iproute2", "tcpdump": "tcpdump", "dumpcap": "wireshark-common"}
 INSIDE = "BPFREC_WIRE_INSIDE"
 LENGTHS = (64, 300, 1_500)
@@ -73,7 +73,7 @@ def make_pair():
 
 def commands(work, buffer, before):
     """What records, by the name of the program and of the filter: its words, and what it says once it is ready. With
-    another checkout its tools/live and ours, in turn, and no other program."""
+    another checkout its host/bin/live and ours, in turn, and no other program."""
     made = {}
     for name in FILTERS:
         (work / name).write_text(FILTERS[name])
@@ -82,11 +82,11 @@ def commands(work, buffer, before):
         live = [LIVE, "--quiet", "--buffer", buffer, work / f"{name}.toml", work / "out", "rx0=1"]
         dumpcap = ["dumpcap", "-q", "-i", "rx0", "-B", buffer, *(["-f", *expression] if expression else []), "-w", work / "out"]
         tcpdump = ["tcpdump", "-Z", "root", "-n", "-i", "rx0", "-B", buffer * 1024, "-w", work / "out", *expression]
-        for program, tree in {"tools/live, before": before, "tools/live": ROOT}.items():
+        for program, tree in {"host/bin/live, before": before, "host/bin/live": ROOT}.items():
             if tree and not (before and expression):
-                made[program, name] = [tree / "tools/live", *live[1:]], "origin"
+                made[program, name] = [tree / "host/bin/live", *live[1:]], "origin"
             if tree and expression:
-                made[program.replace("live", "live --prefilter"), name] = [tree / "tools/live", "--prefilter", *live[1:]], "origin"
+                made[program.replace("live", "live --prefilter"), name] = [tree / "host/bin/live", "--prefilter", *live[1:]], "origin"
         if before:
             continue
         made["dumpcap", name] = dumpcap, "File: "
@@ -96,7 +96,7 @@ def commands(work, buffer, before):
 
 def counts_of(program, told, printed):
     """How many frames a program recorded, and how many the kernel dropped, by its own words."""
-    if program.startswith("tools/live"):
+    if program.startswith("host/bin/live"):
         dropped = re.search(r"rx0 frames \d+ bytes \d+ dropped (\d+)", told)
         kept = re.search(r"channel 1 versions 1 offered \d+ kept (\d+)", printed)
     elif program == "dumpcap":
@@ -127,7 +127,7 @@ def record_once(work, program, words, ready, length, frames, is_ahead=False):
         begin = time.monotonic()
         sending = float(run(SENDER, "tx0", length, frames).split()[1])
         # dumpcap and tcpdump leave what the kernel holds when they are told to end, so they get time to take it.
-        if not program.startswith("tools/live"):
+        if not program.startswith("host/bin/live"):
             time.sleep(1)
         os.killpg(recorder.pid, signal.SIGINT)
         _, status, used = os.wait4(recorder.pid, 0)
@@ -186,7 +186,7 @@ def time_files(work, frames, rounds):
     for length in LENGTHS:
         capture, feed = work / "capture.pcap", work / "made.feed"
         write_capture(capture, length, frames)
-        programs = {"capture -r": [CAPTURE, "-r", f"{capture}={feed}"], "tools/feed": [FEED, "from-pcap", capture, feed],
+        programs = {"capture -r": [CAPTURE, "-r", f"{capture}={feed}"], "host/bin/convert": [FEED, "from-pcap", capture, feed],
                     "cp": ["cp", capture, feed]}
         runs = {name: [] for name in programs}
         for _ in range(rounds):
@@ -220,7 +220,7 @@ def main():
     parser.add_argument("--rounds", type=int, default=5)
     parser.add_argument("--part", choices=["wire", "files"])
     parser.add_argument("--buffer", type=int, default=BUFFER_MIB, help="MiB of the kernel's buffer for each program")
-    parser.add_argument("--before", type=Path, metavar="CHECKOUT", help="times tools/live of that checkout and ours in turn alone")
+    parser.add_argument("--before", type=Path, metavar="CHECKOUT", help="times host/bin/live of that checkout and ours in turn alone")
     parser.add_argument("--ahead", action="store_true", help="put what is timed ahead of the machine's other work")
     words = parser.parse_args()
     if not os.environ.get(INSIDE):

@@ -1,4 +1,4 @@
-# bash completion for bpfrec and its tools; made by tools/make_man of the program's help.
+# bash completion for bpfrec and its tools; made by dev/package/make_man.py of the program's help.
 
 # _bpfrec_files KIND: files that end so, and folders; all files where there are none
 _bpfrec_files() {
@@ -45,12 +45,12 @@ _bpfrec_tool() {
     case $1 in
         bpfrec-live) options='--every --size --sync --force --no-audit --strict --prefilter --origin --buffer --direction --no-promiscuous --clock --check-sequence --quiet --help' kind=toml ;;
         bpfrec-capture) options='-r --origin --buffer --direction --prefilter --no-promiscuous --clock --check-sequence --interface --quiet --strict --hold --events --parent --help' kind='*' ;;
-        bpfrec-feed) options='from-pcap to-pcap show make --origin --facts --interface --drop-check-sequence --help' kind='*' ;;
+        bpfrec-convert) options='from-pcap to-pcap show make --origin --facts --interface --drop-check-sequence --help' kind='*' ;;
         bpfrec-info) options='--json --html --help' kind=ch11 ;;
         bpfrec-salvage) options='--help' kind=ch11 ;;
         bpfrec-preflight) options='--out --capture --help' kind=toml ;;
     esac
-    if [[ ${COMP_WORDS[COMP_CWORD]} == -* || $1 == bpfrec-feed && $COMP_CWORD == 1 ]]; then
+    if [[ ${COMP_WORDS[COMP_CWORD]} == -* || $1 == bpfrec-convert && $COMP_CWORD == 1 ]]; then
         _bpfrec_words "$options"
     else
         _bpfrec_files "$kind"
@@ -58,4 +58,4 @@ _bpfrec_tool() {
 }
 
 complete -F _bpfrec bpfrec
-complete -F _bpfrec_tool bpfrec-live bpfrec-capture bpfrec-feed bpfrec-info bpfrec-salvage bpfrec-preflight
+complete -F _bpfrec_tool bpfrec-live bpfrec-capture bpfrec-convert bpfrec-info bpfrec-salvage bpfrec-preflight

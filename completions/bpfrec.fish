@@ -1,4 +1,4 @@
-# fish completion for bpfrec and its tools; made by tools/make_man of the program's help.
+# fish completion for bpfrec and its tools; made by dev/package/make_man.py of the program's help.
 
 # __bpfrec_at COMMAND N: whether the Nth word behind that command comes next
 function __bpfrec_at
@@ -76,15 +76,15 @@ complete -c bpfrec-capture -l hold
 complete -c bpfrec-capture -l events
 complete -c bpfrec-capture -l parent
 complete -c bpfrec-capture -l help
-complete -c bpfrec-feed -n __fish_use_subcommand -a from-pcap
-complete -c bpfrec-feed -n __fish_use_subcommand -a to-pcap
-complete -c bpfrec-feed -n __fish_use_subcommand -a show
-complete -c bpfrec-feed -n __fish_use_subcommand -a make
-complete -c bpfrec-feed -l origin
-complete -c bpfrec-feed -l facts
-complete -c bpfrec-feed -l interface
-complete -c bpfrec-feed -l drop-check-sequence
-complete -c bpfrec-feed -l help
+complete -c bpfrec-convert -n __fish_use_subcommand -a from-pcap
+complete -c bpfrec-convert -n __fish_use_subcommand -a to-pcap
+complete -c bpfrec-convert -n __fish_use_subcommand -a show
+complete -c bpfrec-convert -n __fish_use_subcommand -a make
+complete -c bpfrec-convert -l origin
+complete -c bpfrec-convert -l facts
+complete -c bpfrec-convert -l interface
+complete -c bpfrec-convert -l drop-check-sequence
+complete -c bpfrec-convert -l help
 complete -c bpfrec-info -l json
 complete -c bpfrec-info -l html
 complete -c bpfrec-info -l help

@@ -1,0 +1,57 @@
+/* A feed that is written: the records of frames, by docs/user/FORMATS.md. */
+#ifndef FEED_H
+#define FEED_H
+
+#include "output.h"
+#include "writer.h"
+
+#include <stddef.h>
+#include <stdint.h>
+
+enum { MARK_CHECK_SEQUENCE = 1, MARK_OTHER_FAULT = 2 };
+
+struct feed {
+    struct output output;
+    struct writer writer; /* where it is started, it writes */
+    unsigned char *bytes;
+    size_t len, room;
+    int64_t since; /* when the first of the waiting bytes came */
+    uint64_t frames, frame_bytes, passed;
+    uint64_t waiting; /* of the frames, those that wait to be written */
+};
+
+/* A frame as it was captured. */
+struct captured {
+    const unsigned char *bytes;
+    size_t len;
+    int is_whole;
+    int has_check_sequence;
+    unsigned marks;
+};
+
+/* Opens the feed at `path`, as `open_output` does. Whether it is open. */
+int open_feed(struct feed *feed, const char *path);
+
+/* Has a thread of its own write what is full, for a feed whose frames come as fast as they are taken. */
+void write_beside(struct feed *feed);
+
+/* Puts the record of a frame behind the others: padded to the least length on the wire and with its check sequence
+ * where it came without, marked where that is wrong. A frame that was cut short, or has a length that no feed takes,
+ * is counted as passed. 0 where the feed was found to be open no more. */
+int put_frame(struct feed *feed, uint64_t counter, const struct captured *captured);
+
+/* Goes over to what the path names by now: what waits is written to the file or pipe before, so each record is whole in
+ * one of them. Else it goes on as before. */
+enum switching switch_feed(struct feed *feed);
+
+/* Writes what waits, or hands it to the thread. Whether the feed is still open. Where its reader has left before it took
+ * any of it, it waits for another feed. */
+int flush_feed(struct feed *feed);
+
+/* Writes what has waited for a millisecond. Whether the feed is still open. */
+int flush_old(struct feed *feed);
+
+/* Closes it once all that was flushed is written. */
+void close_feed(struct feed *feed);
+
+#endif

@@ -1,0 +1,184 @@
+#!/usr/bin/env python3
+"""Checks that what the documents name in backticks exists.
+
+usage: dev/checks/links.py [DOCUMENT..]
+
+Without a document it reads each *.md of the repository. It looks at each word in backticks:
+- a path, which contains a / or ends in .rt, .antt, .md, .edit or .txt, must exist, from the root or
+  from the document's folder;
+- a name as `crate::item` or `crate::Type::method`, of a crate of this repository, must be declared
+  `pub` in that crate's src/;
+- a name right before its file, as "`name` (`path`)", must be declared in that file;
+- the target of a link, as `[text](path)`, must exist, from the document's folder;
+- on a crate's page, in a table with the column "Call, clause" or "Clause", each call must be a
+  function of the crate, and each word after it a clause of that function, or another function.
+Passed over are blocks of code, commands, patterns, what a build makes (bin/, out/, /tmp/), and the
+folders that each crate has (specs/, proofs/, src/, must-fail/, data/). In docs/dev/STYLE.md, whose names
+of files are examples, only names of items are checked.
+It prints each broken link as FILE:LINE: TEXT, and the status is 1 where there is one.
+"""
+import re
+import sys
+from pathlib import Path
+
+ROOT = Path(__file__).resolve().parents[2]
+CRATES = {it.name for it in (ROOT / "crates").iterdir() if (it / "src").is_dir()}
+ENDINGS = (".rt", ".antt", ".md", ".edit", ".txt")
+MADE = re.compile(r"(^|/)(bin|out)(/|$)|^/tmp/")
+NO_PATH = re.compile(r"[\s*?<>{}()|$'\"=;,…]|\.\.|://|^[-~@#]|^/(usr|opt|dev|proc)/")
+ITEM = re.compile(r"(\w+)((?:::\w+)+)")
+CRATE_FOLDERS = {"specs/", "proofs/", "src/", "must-fail/", "data/"}
+EXAMPLES = {ROOT / "docs/dev/STYLE.md"}
+KINDS = r"(?:fn|struct|enum|trait|const|static|type|mod)"
+# A name with the file that has it; the columns of a crate's page that name clauses.
+IN_FILE = re.compile(r"`([\w:]+)` \(`([\w/.]+\.(?:rt|antt))`")
+CLAUSES = ("Call, clause", "Clause")
+
+
+def documents():
+    """Each document of the repository, but for what a build or a tool keeps."""
+    skipped = {"out", "bin", ".git", "node_modules"}
+    return sorted(it for it in ROOT.rglob("*.md") if not skipped & set(it.relative_to(ROOT).parts))
+
+
+def words_of(text):
+    """Each word in backticks with its line's number, outside of blocks of code."""
+    is_code = False
+    for number, line in enumerate(text.split("\n"), 1):
+        if line.lstrip().startswith("```"):
+            is_code = not is_code
+        elif not is_code:
+            for word in re.findall(r"``(.+?)``|`([^`]+)`", line):
+                yield number, word[0] or word[1]
+
+
+def is_path(word):
+    """Whether a word looks like a path that the repository keeps."""
+    if NO_PATH.search(word) or MADE.search(word) or "::" in word or word in CRATE_FOLDERS:
+        return False
+    return word.endswith(ENDINGS) or "/" in word.strip("/") or word.endswith("/")
+
+
+def source_of(crate):
+    """The code of a crate, without its comments and its tests."""
+    files = sorted((ROOT / "crates" / crate / "src").rglob("*.rt"))
+    kept = [it.read_text() for it in files if "tests" not in it.with_suffix("").parts]
+    return "\n".join(re.sub(r"(?m)^\s*//.*$", "", it) for it in kept)
+
+
+def is_declared(source, name):
+    """Whether the code declares the name `pub`, or as a variant, or as what a trait has."""
+    if re.search(rf"pub (?:const |unsafe )?{KINDS} {name}\b", source):
+        return True
+    open_to_all = "\n".join(re.findall(r"(?ms)^pub (?:enum|trait) .*?^}", source))
+    return re.search(rf"(?m)^\s+(?:{name}\b\s*[,({{=]|(?:fn|const|type) {name}\b)", open_to_all)
+
+
+def is_item(word):
+    """Whether `crate::item`, or `crate::Type::method`, names what the crate has."""
+    crate, names = ITEM.fullmatch(word).groups()
+    source = source_of(crate)
+    first, *inner = names.strip(":").split("::")
+    top = rf"pub (?:const |unsafe )?{KINDS} {first}\b|pub use [^;]*\b{first}\b|(?m:^mod {first};)"
+    return re.search(top, source) and all(is_declared(source, name) for name in inner)
+
+
+def declares(file, name):
+    """Whether a file of code or of definitions declares a name, or the last part of `Type::method`."""
+    last = re.escape(name.split("::")[-1])
+    if file.suffix == ".antt":
+        return re.search(rf"(?m)^\s*(?:pub |abbrev |unfoldable |record |data |ruleset )*{last}\b", file.read_text())
+    return re.search(rf"(?m)\b(?:{KINDS}|macro_rules!) {last}\b|^\s+{last}\b\s*[,({{]", file.read_text())
+
+
+def misplaced_in(document):
+    """Each name that stands before a file which doesn't declare it."""
+    for number, line in enumerate(document.read_text().split("\n"), 1):
+        for name, path in IN_FILE.findall(line):
+            found = [it / path for it in (ROOT, document.parent) if (it / path).exists()]
+            if found and not declares(found[0], name):
+                yield number, f"`{name}`: {path} declares no such name"
+
+
+def contracts_of(crate):
+    """The functions and types of a crate's code, each with the names of its clauses or of its laws; a name
+    may stand for several."""
+    source = source_of(crate)
+    names = {*re.findall(rf"\b{KINDS} (\w+)", source), *re.findall(r"(?m)^impl.* (\w+)(?:<.*>)? for ", source)}
+    laws = set(re.findall(r"(?m)^\s+ghost (\w+)(?:: | = )\{", source))
+    found = {it: set(laws) for it in names}
+    for part in re.split(r"(?m)^(?=[ \t]*(?:pub(?:\([\w ]+\))? )?(?:const )?fn \w)", source)[1:]:
+        name = re.search(r"fn (\w+)", part)[1]
+        clauses = re.findall(r"(?:ensures|requires) (\w+) \{", part)
+        found.setdefault(name, set()).update(clauses)
+    return found
+
+
+def rows_of(document):
+    """The rows of a page's tables that name clauses: the line's number, the first cell and the named one."""
+    column = None
+    for number, line in enumerate(document.read_text().split("\n"), 1):
+        cells = [it.strip() for it in line.strip().strip("|").split(" | ")] if line.startswith("|") else []
+        if not cells:
+            column = None
+        elif column is None:
+            column = next((at for at, it in enumerate(cells) if it in CLAUSES), -1)
+        elif 0 <= column < len(cells):
+            yield number, cells[0], cells[column]
+
+
+def unclaused_in(document):
+    """Each word of a crate's page that is to be a call or a clause, and is none."""
+    crate = document.parent.name
+    if document.parent.parent != ROOT / "crates" or crate not in CRATES:
+        return
+    contracts = contracts_of(crate)
+    for number, first, cell in rows_of(document):
+        known = of_row = set().union(*(contracts.get(it, set()) for it in re.findall(r"(\w+)`", first)))
+        for word in re.findall(r"`([\w:]+)`", re.sub(r"\([^)]*\)|`\w+` of `\w+`", "", cell)):
+            name = word.split("::")[-1]
+            if name in contracts and (name not in known or "::" in word):
+                known = contracts[name]
+            elif name not in known | of_row:
+                yield number, f"`{word}`: no function of {crate}, and no clause of the call before it"
+
+
+def lost_links_in(document):
+    """Each link of a document that leads to no file, with its line's number and a reason."""
+    for number, line in enumerate(document.read_text().split("\n"), 1):
+        for target in re.findall(r"\]\(([^)\s#]+)(?:#[^)\s]*)?\)", line):
+            if "://" not in target and not (document.parent / target).exists():
+                yield number, f"`{target}`: the link leads to no file or folder"
+
+
+def broken_in(document):
+    """Each word of a document that names nothing, with its line's number and a reason."""
+    yield from lost_links_in(document)
+    yield from misplaced_in(document)
+    yield from unclaused_in(document)
+    for number, word in words_of(document.read_text()):
+        name = word.split("(")[0]
+        match = ITEM.fullmatch(name)
+        if match and match[1] in CRATES:
+            if not is_item(name):
+                yield number, f"`{word}`: the crate {match[1]} has no such pub item"
+        elif is_path(word) and document not in EXAMPLES:
+            if not any((it / word).exists() for it in (ROOT, document.parent)):
+                yield number, f"`{word}`: no such file or folder"
+
+
+def main():
+    if any(it in ("-h", "--help") for it in sys.argv[1:]):
+        print(__doc__.strip())
+        return 0
+    chosen = [Path(it).resolve() for it in sys.argv[1:]] or documents()
+    broken = 0
+    for document in chosen:
+        for number, reason in broken_in(document):
+            print(f"{document.relative_to(ROOT)}:{number}: {reason}")
+            broken += 1
+    print(f"{len(chosen)} documents, {broken} broken links")
+    return 1 if broken else 0
+
+
+sys.exit(main())

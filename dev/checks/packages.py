@@ -1,0 +1,57 @@
+#!/usr/bin/env python3
+"""Compares the packages that the README and the trials name with dev/package/packages.txt; --write writes the README's table.
+
+usage: dev/checks/packages.py [--write]
+
+Each package that a script of dev/trials/ names in its table WANTED must be in the list.
+"""
+import re
+import sys
+from pathlib import Path
+
+ROOT = Path(__file__).resolve().parents[2]
+LIST, README = ROOT / "dev" / "package" / "packages.txt", ROOT / "README.md"
+BEGIN, END = "<!-- dev/package/packages.txt -->\n", "<!-- end -->\n"
+PARTS = {"build": "to build", "use": "to record interfaces", "trials": "for `make trials` alone"}
+
+
+def listed():
+    """The packages, each with its part and what wants it."""
+    rows = [line for line in LIST.read_text().splitlines() if line and line[0] != "#"]
+    return [tuple(line.split(": ", 2)) for line in rows]
+
+
+def table(packages):
+    rows = "".join(f"| `{name}` | {PARTS[part]} | {what} |\n" for name, part, what in packages)
+    return f"| Package | Wanted | What for |\n|---|---|---|\n{rows}"
+
+
+def wanted():
+    """Each package that a script wants, with the script."""
+    for file in sorted((ROOT / "dev" / "trials").iterdir()):
+        text = file.read_text(errors="replace") if file.is_file() else ""
+        found = re.search(r"^WANTED = \{(.*?)\}", text, re.MULTILINE | re.DOTALL)
+        for package in re.findall(r': "([a-z0-9.+-]+)"', found[1]) if found else []:
+            yield package, file.name
+
+
+def main():
+    if sys.argv[1:] not in ([], ["--write"]):
+        print(__doc__.strip())
+        return 0 if {"-h", "--help"} & set(sys.argv) else 2
+    packages, text = listed(), README.read_text()
+    before, _, rest = text.partition(BEGIN)
+    _, _, after = rest.partition(END)
+    right = f"{before}{BEGIN}{table(packages)}{END}{after}"
+    if sys.argv[1:]:
+        README.write_text(right)
+        return 0
+    faults = [] if right == text else ["README.md: its packages aren't those of dev/package/packages.txt: dev/checks/packages.py --write"]
+    names = {name for name, _, _ in packages}
+    faults += [f"dev/trials/{script}: {it} isn't in dev/package/packages.txt" for it, script in wanted() if it not in names]
+    print("\n".join(faults) or f"{len(packages)} packages, as README.md and the trials have them")
+    return 1 if faults else 0
+
+
+if __name__ == "__main__":
+    sys.exit(main())

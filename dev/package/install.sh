@@ -1,0 +1,105 @@
+#!/usr/bin/env bash
+# Installs the program and what stands around it, or removes it again; `make install` and `make uninstall` call it.
+set -euo pipefail
+
+usage='usage: PREFIX=.. DESTDIR=.. dev/package/install.sh [--uninstall]
+
+Installs bin/bpfrec, which make build makes, and bin/capture, where it is built, below PREFIX (/usr/local by
+itself): programs in bin/, the tools in libexec/bpfrec/ with links in bin/ (bpfrec-convert, bpfrec-info and so on),
+the page bpfrec(1), completions for bash, zsh and fish, examples and documents in share/doc/bpfrec/, and a unit
+for systemd in lib/systemd/system/. What stands in DESTDIR, if it is set, is put ahead of PREFIX.
+With --uninstall all of it is removed, and the folders that only it has. ZSH names another folder than
+share/zsh/site-functions.
+
+Status: 0 done, 2 wrong words, 3 something to install is missing or not proved, else that of the command that
+failed.'
+
+cd "$(dirname "$0")/../.."
+PREFIX=${PREFIX:-/usr/local} DESTDIR=${DESTDIR:-} ZSH=${ZSH:-share/zsh/site-functions}
+to=$DESTDIR$PREFIX
+tools=(convert info live preflight salvage)
+names=(capture "${tools[@]}")
+
+# Each file, as its mode, where it stands here, and where it goes.
+files() {
+    local tool file
+    echo "755 bin/bpfrec bin/bpfrec"
+    echo "755 bin/capture libexec/bpfrec/bpfrec-capture"
+    for tool in "${tools[@]}"; do
+        echo "755 host/bin/$tool libexec/bpfrec/bpfrec-$tool"
+    done
+    for file in ch11.py facts.py; do
+        echo "644 host/bin/$file libexec/bpfrec/$file"
+    done
+    echo "644 man/bpfrec.1 share/man/man1/bpfrec.1"
+    echo "644 completions/bpfrec.bash share/bash-completion/completions/bpfrec"
+    echo "644 completions/_bpfrec $ZSH/_bpfrec"
+    echo "644 completions/bpfrec.fish share/fish/vendor_completions.d/bpfrec.fish"
+    for file in README.md docs/user/FORMATS.md docs/user/USING.md docs/user/info.png; do
+        echo "644 $file share/doc/bpfrec/${file##*/}"
+    done
+    find examples -type f ! -name bpfrec.service | sort | while read -r file; do
+        echo "644 $file share/doc/bpfrec/$file"
+    done
+    echo "644 examples/bpfrec.service lib/systemd/system/bpfrec.service"
+}
+
+# Each link, as where it leads and where it stands.
+links() {
+    local name
+    for name in "${names[@]}"; do
+        echo "../libexec/bpfrec/bpfrec-$name bin/bpfrec-$name"
+        echo "bpfrec.1 share/man/man1/bpfrec-$name.1"
+        echo "bpfrec share/bash-completion/completions/bpfrec-$name"
+        echo "bpfrec.fish share/fish/vendor_completions.d/bpfrec-$name.fish"
+    done
+}
+
+# Whether a program was built from its proof, which the compiler notes in the section .comment.
+is_proved() {
+    tr '\0' '\n' < "$1" | LC_ALL=C grep -ax 'rattle logic=[0-9a-f]\{64\}' > /dev/null
+}
+
+install_all() {
+    local mode from at
+    if [[ ! -x bin/bpfrec ]]; then
+        echo "bin/bpfrec is missing: make build makes it" >&2
+        exit 3
+    elif ! is_proved bin/bpfrec; then
+        echo "bin/bpfrec wasn't built from its proof, so it isn't installed: make build makes one that was" >&2
+        exit 3
+    fi
+    while read -r mode from at; do
+        if [[ $from == bin/capture && ! -x $from ]]; then
+            echo "bin/capture isn't built, so bpfrec-capture isn't installed and bpfrec-live can't record interfaces"
+            continue
+        fi
+        install -D -m "$mode" "$from" "$to/$at"
+    done < <(files)
+    # The unit runs what is installed.
+    sed -i "s|/opt/bpfrec/host/bin/live|$PREFIX/bin/bpfrec-live|; s|^# It takes the repository at .* and settings at|# It takes settings at|" \
+        "$to/lib/systemd/system/bpfrec.service"
+    while read -r from at; do
+        [[ $from == */bpfrec-capture && ! -e $to/libexec/bpfrec/bpfrec-capture ]] || ln -sfn "$from" "$to/$at"
+    done < <(links)
+}
+
+uninstall_all() {
+    local mode from at
+    while read -r mode from at; do
+        rm -f "$to/$at"
+    done < <(files)
+    while read -r from at; do
+        rm -f "$to/$at"
+    done < <(links)
+    for at in share/doc/bpfrec/examples/{filters,feeds} share/doc/bpfrec/examples share/doc/bpfrec libexec/bpfrec; do
+        [[ ! -d $to/$at ]] || rmdir --ignore-fail-on-non-empty "$to/$at"
+    done
+}
+
+case ${*:-} in
+    '') install_all ;;
+    --uninstall) uninstall_all ;;
+    -h | --help) echo "$usage" ;;
+    *) echo "$usage" >&2; exit 2 ;;
+esac

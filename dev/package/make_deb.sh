@@ -1,0 +1,68 @@
+#!/usr/bin/env bash
+# Makes a Debian package of the program and what stands around it; `make deb` calls it.
+set -euo pipefail
+
+usage='usage: dev/package/make_deb.sh
+
+Makes bin/bpfrec_<version>_<architecture>.deb by dpkg-deb, of what dev/package/install.sh installs. It wants bin/bpfrec
+(make build) and Debian'"'"'s dpkg; bin/capture is in it where it is built. The recorder needs the C library
+alone; the tools recommend python3, and bpfrec-capture the package that libpcap is of here.
+
+Status: 0 made, 2 wrong words, 3 something is missing.'
+
+case ${*:-} in
+    '') ;;
+    -h | --help) echo "$usage"; exit 0 ;;
+    *) echo "$usage" >&2; exit 2 ;;
+esac
+cd "$(dirname "$0")/../.."
+if ! command -v dpkg-deb > /dev/null; then
+    echo "make deb wants dpkg-deb: it is Debian's dpkg" >&2
+    exit 3
+fi
+version=$(sed -n 's/^pub const VERSION: &str = "\(.*\)";$/\1/p' crates/rec_words/src/command_line.rt)
+architecture=$(dpkg --print-architecture)
+root=$(mktemp -d)
+trap 'rm -rf "$root"' EXIT
+chmod 755 "$root"
+
+# The newest symbols of the C library that the programs want.
+libc_version() {
+    grep -aoh 'GLIBC_2\.[0-9]*' "$@" | sed 's/GLIBC_//' | sort -Vu | tail -n 1
+}
+
+# The package of the libpcap that bin/capture runs with.
+pcap_package() {
+    local library
+    [[ -x bin/capture ]] || return 0
+    library=$(ldd bin/capture | sed -n 's/.*libpcap[^ ]* => \([^ ]*\) .*/\1/p')
+    # A file of /usr/lib may be known as one of /lib.
+    { dpkg -S "*/${library##*/}" 2> /dev/null || true; } | sed -n 's/:.*//p' | head -n 1
+}
+
+DESTDIR=$root PREFIX=/usr ZSH=share/zsh/vendor-completions dev/package/install.sh
+gzip -9n "$root/usr/share/man/man1/bpfrec.1"
+for link in "$root"/usr/share/man/man1/bpfrec-*.1; do
+    rm "$link"
+    ln -s bpfrec.1.gz "$link.gz"
+done
+package=$(pcap_package)
+mkdir "$root/DEBIAN"
+cat > "$root/DEBIAN/control" << END
+Package: bpfrec
+Version: $version
+Architecture: $architecture
+Maintainer: bpfrec <root@localhost>
+Installed-Size: $(du -sk --exclude DEBIAN "$root" | cut -f 1)
+Depends: libc6 (>= $(libc_version bin/bpfrec))
+Recommends: python3 (>= 3.8)${package:+, $package}
+Suggests: tcpdump, wireshark
+Section: net
+Priority: optional
+Description: recorder of Ethernet channels with classic BPF filters
+ Records Ethernet channels through filters that are verified, as packets in a
+ profile of IRIG 106-17 Chapter 11, and reads, judges and extracts recordings.
+END
+made=bin/bpfrec_${version}_$architecture.deb
+dpkg-deb --root-owner-group --build "$root" "$made" > /dev/null
+echo "$made"

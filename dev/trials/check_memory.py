@@ -1,0 +1,329 @@
+#!/usr/bin/env python3
+"""Refuses memory and threads to the built program, and counts what it takes.
+
+usage: dev/trials/check_memory.py [PROGRAM]
+PROGRAM: bin/bpfrec, which `make build` makes
+
+By a malloc that is preloaded (dev/trials/failing_malloc.c, with cc):
+
+- a recording of 100,000 frames asks for no memory from the first bytes of its feed until it has ended, also
+  where each growth would be refused
+- nor do its worker and its writer while its filter is changed a hundred times: what they have in hand does;
+  `list`, `audit` and `extract` find what was fed, from the file and from standard input
+- a hundred changes that are installed take memory as often as a hundred for a channel that there isn't
+- a line of standard input that gets no memory ends the lines, and the recording goes on to its end
+- recordings of 1,000 and of 100,000 frames take memory equally often
+- a filter runs once on a frame: a recording with the greatest filter takes less than 1.4 times the
+  processor's time of its audit, which runs the filter once on each frame (0.8 to 1.1 as measured, and twice
+  that where it ran twice), by the least of three rounds or more
+- 64 channels are recorded from pipes whose paths have over 90 bytes
+- where a thread can't be started, whichever, those that run are stopped, no line of standard input is read,
+  nothing is written, and the program ends as out of memory
+
+And under a limit of addresses: `list`, `audit` and `extract` of a header that claims four gigabytes, which
+ask for 65,536 bytes at once at most.
+
+It takes some seconds, and dev/build/test.py and dev/build/gate.py run it. The status is 1 where something else happens.
+"""
+import contextlib
+import errno
+import os
+import resource
+import struct
+import subprocess
+import sys
+import tempfile
+import threading
+import time
+from pathlib import Path
+
+ROOT = Path(__file__).resolve().parents[2]
+FRAMES, FEW, CHANGES = 100_000, 1_000, 100
+MOST_CHANNELS = 64
+MOST_INSNS = 4_096
+FILTERED, FEWEST_ROUNDS, MOST_ROUNDS, MOST_RATIO = 20_000, 3, 10, 1.4
+SECONDS = 100
+# A header that claims a packet of four gigabytes, and how much memory its readers may have.
+CLAIM = bytes.fromhex("25eb0100 fcffffff 00000000 08000001 00000000 000029ec")
+ADDRESSES = 64_000_000
+MOST_AT_ONCE = 65_536
+KEEPS, DROPS = "1,6 0 0 1,", "1,6 0 0 0,"
+# A line that is answered at once: whoever gets the answer knows that the control waits for lines.
+NO_LINE, NO_LINE_ANSWER = b"x\n", b"refused 0 Line\n"
+COUNTS = ("growths", "recording", "late", "refused", "largest", "started", "running", "left")
+# A folder whose name alone is longer than most paths.
+PREFIX = "bpfrec-memory-" + 12 * "longer-"
+
+
+def frames_of(count, first=0):
+    """The feed of so many frames of 64 bytes, whose counters are their numbers."""
+    body = bytes(range(64))
+    return b"".join(i.to_bytes(6, "little") + b"\0\x40\0" + body for i in range(first, first + count))
+
+
+class Checks:
+    """The checks, each of which says what it saw."""
+
+    def __init__(self, program, work):
+        self.program, self.work, self.wrong = str(program), work, 0
+        self.library, self.counts = work / "failing_malloc.so", work / "counts"
+        words = ["cc", "-O2", "-Wall", "-shared", "-fPIC", "-o", self.library, ROOT / "dev/trials/failing_malloc.c", "-ldl"]
+        subprocess.run(words, check=True)
+        (work / "keeps").write_text(KEEPS)
+        (work / "drops").write_text(DROPS)
+
+    def judge(self, what, holds, seen=""):
+        print(f"{'ok' if holds else 'WRONG'}: {what}{'' if holds else f': {seen}'}", flush=True)
+        self.wrong += not holds
+
+    def counted(self):
+        """What the preloaded library counted in the last run."""
+        return dict(zip(COUNTS, struct.unpack(f"={len(COUNTS)}q", self.counts.read_bytes())))
+
+    def settings(self, channels):
+        """Settings of so many channels, each with a pipe of its own, which keep all frames."""
+        text = ""
+        for channel in range(1, channels + 1):
+            feed = self.work / f"feed_{channel}"
+            feed.unlink(missing_ok=True)
+            os.mkfifo(feed)
+            text += f'[[channel]]\nid = {channel}\nfeed = "{feed}"\nfilter = "{self.work / "keeps"}"\n'
+        (self.work / "settings.toml").write_text(text)
+        return self.work / "feed_1"
+
+    def start(self, out, stdin, **more):
+        """Starts a recording under the preloaded library."""
+        env = {"LD_PRELOAD": str(self.library), "GROWTHS": str(self.counts), **more}
+        words = [self.program, "record", str(self.work / "settings.toml"), str(self.work / out)]
+        running = subprocess.Popen(words, stdin=stdin, stdout=subprocess.PIPE, stderr=subprocess.PIPE, env=env)
+        limit = threading.Timer(SECONDS, running.kill)
+        limit.daemon = True
+        limit.start()
+        return running
+
+    def wait_for_control(self, running):
+        """Waits until the control's thread reads standard input: the room for its first answer is taken then."""
+        running.stdin.write(NO_LINE)
+        running.stdin.flush()
+        return running.stderr.readline()
+
+    def recorded(self, out, count, lines=b"", **more):
+        """Records so many frames from a pipe, amid these lines: status, printed lines, errors, bytes."""
+        feed = self.settings(1)
+        if "REFUSED_FROM" in more:
+            more["REFUSED_FROM"] = str(feed)
+        running = self.start(out, subprocess.PIPE, **more)
+        with pipe_to(running, feed) as pipe:
+            answer, frames = self.wait_for_control(running), frames_of(count)
+            pipe.write(frames[: len(frames) // 2])
+            pipe.flush()
+            if lines:
+                running.stdin.write(lines)
+                running.stdin.flush()
+            pipe.write(frames[len(frames) // 2 :])
+        output, errors = running.communicate(timeout=SECONDS)
+        return running.returncode, output, answer + errors, (self.work / out).read_bytes()
+
+    def no_growth(self):
+        plain = self.recorded("plain.ch11", FRAMES)
+        self.judge(f"{FRAMES} frames are recorded", plain[:1] == (0,) and f"offered {FRAMES} kept {FRAMES}".encode() in plain[1], plain[:3])
+        refused = self.recorded("refused.ch11", FRAMES, REFUSED_FROM="feed")
+        self.judge("where each growth is refused from the first frame on, the same is recorded", refused == plain, refused[:3])
+        late = self.counted()["late"]
+        self.judge("and no growth was asked for", late == 0, f"{late} growths")
+        lines = f"set 1 {self.work / 'drops'}\n".encode() * 3
+        status, output, errors, recording = self.recorded("lines.ch11", FRAMES, lines, REFUSED_FROM="feed")
+        as_ever = (output, recording) == (plain[1], plain[3])
+        self.judge("a line without memory ends the lines, and the same is recorded", as_ever and (status, errors) == (4, NO_LINE_ANSWER + b"memory\n"), (status, output, errors))
+
+    def changes(self):
+        """A hundred changes, each after a thousand more frames were written; the control alone may take memory."""
+        feed, many = self.settings(1), FRAMES // CHANGES
+        running = self.start("changes.ch11", subprocess.PIPE, REFUSED_FROM=str(feed), SPARED_INPUT="1")
+        marks = [0]
+        with pipe_to(running, feed) as pipe:
+            self.wait_for_control(running)
+            for change in range(CHANGES):
+                pipe.write(frames_of(many, change * many))
+                pipe.flush()
+                name = "keeps" if change % 2 else "drops"
+                running.stdin.write(f"set 1 {self.work / name}\n".encode())
+                running.stdin.flush()
+                answer = running.stderr.readline().split()
+                if answer[:3] != [b"installed", b"1", b"%d" % (change + 1)]:
+                    break
+                marks.append(int(answer[3]))
+        output, errors = running.communicate(timeout=SECONDS)
+        self.judge(f"{CHANGES} changes are answered", len(marks) == CHANGES + 1 and (running.returncode, errors) == (0, b""), (len(marks), output, errors))
+        refused = self.counted()["refused"]
+        self.judge("and no growth was asked for by the worker or the writer", refused == 0, f"{refused} growths")
+        ends = [*marks[1:], FRAMES]
+        kept = [it for version, (mark, end) in enumerate(zip(marks, ends)) if version % 2 == 0 for it in range(mark, end)]
+        met = len({mark for mark in ends if mark > 0})
+        self.judge("half of them meet a frame at least", met > CHANGES // 2, met)
+        self.read_again(kept)
+
+    def read_again(self, kept):
+        """Reads the recording of the changes by each command, as a file and as a stream."""
+        path = self.work / "changes.ch11"
+        for file in (str(path), "-"):
+            again, new = self.work / "again.feed", self.work / "again.ch11"
+            again.unlink(missing_ok=True)
+            new.unlink(missing_ok=True)
+            writes = (["extract", file, "1", str(again)], ["upgrade", file, str(new)])
+            ran = [self.run_on(path, *words) for words in (["list", file], ["audit", file], *writes)]
+            listed = [line.split() for line in ran[0].stdout.splitlines()]
+            counts = [int(line[-1]) for line in listed if line[-2] == b"frames"]
+            feed = again.read_bytes()
+            found = [int.from_bytes(feed[at : at + 6], "little") for at in range(0, len(feed), 73)]
+            seen = ([it.returncode for it in ran], len(listed) - 1, sum(counts), len(found), ran[2].stdout, ran[3].stdout)
+            holds = seen[0] == [0, 0, 0, 0] and listed[-1][1] == b"%d" % seen[1] and sum(counts) == len(kept) and found == kept
+            holds = holds and seen[5] == b"upgraded 0 copied %d\n" % seen[1] and new.read_bytes() == path.read_bytes()
+            by = f"`list`, `audit`, `extract` and `upgrade` of {'the stream' if file == '-' else 'the file'}"
+            self.judge(f"and each meets the frames from its mark on, by {by}", holds, seen)
+
+    def run_on(self, path, *words):
+        """Runs a command with this file as its standard input."""
+        with open(path, "rb") as stream:
+            return subprocess.run([self.program, *words], stdin=stream, capture_output=True, timeout=SECONDS)
+
+    def installs(self):
+        counts = []
+        for channel, answer in ((1, b"installed 1 "), (2, b"refused 2 NoChannel\n")):
+            lines = f"set {channel} {self.work / 'drops'}\n".encode() * CHANGES
+            errors = self.recorded("installs.ch11", FEW, lines)[2]
+            counts.append((errors.count(answer), self.counted()["recording"]))
+        self.judge(f"{CHANGES} changes take memory equally often for a channel and for none", counts[0] == counts[1] and counts[0][0] == CHANGES, counts)
+
+    def once(self):
+        """A recording that runs the filter on each frame, beside the audit of it."""
+        (self.work / "greatest").write_text(f"{MOST_INSNS}," + "0 0 0 1," * (MOST_INSNS - 1) + "6 0 0 1,")
+        (self.work / "once.feed").write_bytes(frames_of(FILTERED))
+        (self.work / "once.toml").write_text('[[channel]]\nid = 1\nfeed = "once.feed"\nfilter = "greatest"\n')
+        recorded, audited = [], []
+        for done in range(1, MOST_ROUNDS + 1):
+            recorded.append(self.seconds_of("record", "once.toml", "once.ch11"))
+            audited.append(self.seconds_of("audit", "once.ch11"))
+            ratio = min(recorded) / min(audited)
+            if done >= FEWEST_ROUNDS and ratio < MOST_RATIO:
+                break
+        self.judge("a filter runs once on a frame", ratio < MOST_RATIO, f"{ratio:.2f} times the audit's time, {recorded} beside {audited}")
+
+    def seconds_of(self, *words):
+        """The seconds of a processor that a command takes for itself."""
+        before = seconds_of_children()
+        subprocess.run([self.program, *words], cwd=self.work, stdin=subprocess.DEVNULL, capture_output=True, check=True, timeout=SECONDS)
+        return seconds_of_children() - before
+
+    def channels(self):
+        """Records as many channels as there may be, each from a pipe of its own."""
+        self.settings(MOST_CHANNELS)
+        frames = frames_of(FEW)
+        for channel in range(1, MOST_CHANNELS + 1):
+            threading.Thread(target=feed_once, args=(self.work / f"feed_{channel}", frames), daemon=True).start()
+        output, errors = self.start("channels.ch11", subprocess.DEVNULL).communicate(timeout=SECONDS)
+        want = [f"channel {channel} versions 1 offered {FEW} kept {FEW} SourceEnd" for channel in range(1, MOST_CHANNELS + 1)]
+        seen = output.decode().splitlines()[:-1]
+        self.judge(f"{MOST_CHANNELS} channels are recorded", (seen, errors) == (want, b""), (seen[:3], errors))
+
+    def same_number(self):
+        counts = []
+        for count in (FEW, FRAMES):
+            self.recorded("counted.ch11", count)
+            counts.append(self.counted()["recording"])
+        self.judge(f"{FEW} and {FRAMES} frames take memory equally often", counts[0] == counts[1] > 0, counts)
+        print(f"    {counts[0]} times")
+
+    def threads(self):
+        """Refuses each thread of three channels and the control; their feeds go on for as long as they are read."""
+        channels = 3
+        for refused in range(1, channels + 2):
+            self.settings(channels)
+            for channel in range(1, channels + 1):
+                threading.Thread(target=feed_on, args=(self.work / f"feed_{channel}",), daemon=True).start()
+            out = self.work / "threads.ch11"
+            out.unlink(missing_ok=True)
+            read, write = os.pipe()
+            line = f"set 1 {self.work / 'drops'}\n".encode()
+            os.write(write, line)
+            running = self.start(out.name, read, REFUSED_THREAD=str(refused))
+            try:
+                output, errors = running.communicate(timeout=SECONDS)
+            except subprocess.TimeoutExpired:
+                running.kill()
+                output, errors = running.communicate()
+            os.close(write)
+            left, counts = os.read(read, len(line)), self.counted()
+            os.close(read)
+            seen = (running.returncode, output, errors, out.stat().st_size, left == line, counts["started"], counts["left"])
+            self.judge(f"thread {refused} can't be started: all end, and nothing was read or written", seen == (4, b"", b"memory\n", 0, True, refused - 1, 0), seen)
+
+    def claims(self):
+        (self.work / "claim.ch11").write_bytes(CLAIM)
+        limit = lambda: resource.setrlimit(resource.RLIMIT_AS, (ADDRESSES, ADDRESSES))
+        for words in (["list"], ["audit"], ["extract", "1", "claim.feed"], ["upgrade", "claim.new"]):
+            words = [self.program, words[0], "claim.ch11", *words[1:]]
+            env = {"LD_PRELOAD": str(self.library), "GROWTHS": str(self.counts)}
+            ran = subprocess.run(words, cwd=self.work, env=env, capture_output=True, preexec_fn=limit, timeout=SECONDS)
+            seen = (ran.returncode, ran.stdout, ran.stderr, self.counted()["largest"])
+            holds = seen[0] == 1 and b"read 1 Truncated 0" in seen[1] + seen[2] and seen[3] <= MOST_AT_ONCE
+            self.judge(f"`{words[1]}` of a header that claims four gigabytes", holds, seen)
+
+
+def seconds_of_children():
+    """The seconds of a processor that the programs took which have ended."""
+    used = resource.getrusage(resource.RUSAGE_CHILDREN)
+    return used.ru_utime + used.ru_stime
+
+
+def pipe_to(running, path):
+    """Opens a pipe as soon as a recording reads it; an error where the recording ends before."""
+    while True:
+        try:
+            pipe = os.open(path, os.O_WRONLY | os.O_NONBLOCK)
+            os.set_blocking(pipe, True)
+            return os.fdopen(pipe, "wb")
+        except OSError as error:
+            if error.errno != errno.ENXIO or running.poll() is not None:
+                raise
+        time.sleep(0.001)
+
+
+def feed_once(path, frames):
+    """Writes these frames into a pipe, as far as its reader takes them."""
+    with contextlib.suppress(BrokenPipeError), open(path, "wb") as pipe:
+        pipe.write(frames)
+
+
+def feed_on(path):
+    """Writes frames into a pipe until its reader has closed it."""
+    frames = frames_of(100)
+    try:
+        with open(path, "wb", buffering=0) as pipe:
+            while True:
+                pipe.write(frames)
+    except BrokenPipeError:
+        pass
+
+
+def main():
+    words = sys.argv[1:]
+    if len(words) > 1 or words in (["-h"], ["--help"]):
+        print(__doc__.strip())
+        return 0 if words in (["-h"], ["--help"]) else 2
+    program = Path(words[0] if words else ROOT / "bin/bpfrec").resolve()
+    if not os.access(program, os.X_OK):
+        print(f"{program} is not there: run `make build` first")
+        return 2
+    with tempfile.TemporaryDirectory(prefix=PREFIX) as work:
+        checks = Checks(program, Path(work))
+        for check in (checks.no_growth, checks.changes, checks.installs, checks.same_number, checks.once, checks.channels, checks.threads, checks.claims):
+            try:
+                check()
+            except (OSError, LookupError, ValueError, subprocess.SubprocessError) as error:
+                checks.judge(f"{check.__name__} goes to its end", False, repr(error))
+    return 1 if checks.wrong else 0
+
+
+if __name__ == "__main__":
+    sys.exit(main())

@@ -1,0 +1,197 @@
+#!/usr/bin/env python3
+"""Tries that a recording is the same with and without host/bin/live --prefilter; outside the gate.
+
+usage: dev/trials/check_prefilter.py [CHECK..]
+
+Each listing has an interface of its own, over which mixed frames come in and go out. Two recordings run over all of these
+interfaces at once, one of them with --prefilter, and what they kept is compared frame for frame. A scratch word that is read
+before it is set is refused when a program is verified, so no listing of these has one. It wants root, bin/bpfrec and bin/capture
+(make build), and Debian's iproute2 and tcpdump, and says what is missing. It takes about ten seconds. A CHECK runs alone;
+--help names them.
+"""
+
+import re
+import subprocess
+import sys
+import time
+from collections import Counter
+from pathlib import Path
+
+import support
+from support import BPFREC, LIVE, Running, extracted, judge, judge_quietly, records, run, send, wait_for
+
+WANTED = {"ip": "iproute2", "tcpdump": "tcpdump"}
+EXPRESSIONS = {
+    "tcpdump: udp port 53": "udp port 53",
+    "tcpdump: vlan": "vlan",
+    "tcpdump: vlan 100": "vlan 100",
+    "tcpdump: vlan 100 and vlan 5": "vlan 100 and vlan 5",
+    "tcpdump: vlan and udp port 53": "vlan and udp port 53",
+    "tcpdump: not vlan": "not vlan",
+    "tcpdump: less 62": "less 62",
+    "tcpdump: ip6 or arp": "ip6 or arp",
+}
+KEEP_OR_DROP = "keep: ret #1\ndrop: ret #0\n"
+TEXTS = {
+    "an outer tag 0x8100": f"ldh [12]\njeq #0x8100,keep,drop\n{KEEP_OR_DROP}",
+    "an outer tag 0x88a8": f"ldh [12]\njeq #0x88a8,keep,drop\n{KEEP_OR_DROP}",
+    "an inner tag 0x8100": f"ldh [16]\njeq #0x8100,keep,drop\n{KEEP_OR_DROP}",
+    "the priority of a tag": f"ldh [12]\njne #0x8100,drop\nldb [14]\nrsh #5\njeq #5,keep,drop\n{KEEP_OR_DROP}",
+    "a length of 60 or more": f"ld len\njge #60,keep,drop\n{KEEP_OR_DROP}",
+    "another length than 64, by ret a": "ld len\nsub #64\nret a\n",
+    "a byte behind short frames": f"ldb [59]\njeq #0,keep,drop\n{KEEP_OR_DROP}",
+    "a byte behind short frames and a tag": "ldb [61]\nld len\nsub #1514\nret a\n",
+    "bytes by ret a": "ldh [12]\nxor #0x0800\nret a\n",
+    "A and X before they are set": f"add #12\nadd x\ntax\nldh [x + 0]\njeq #0x8100,keep,drop\n{KEEP_OR_DROP}",
+    "A as it begins, by ret a": "jeq #0,L1,L2\nL1: txa\nadd #0\njeq #0,L3,L2\nL2: ret #0\nL3: ldb [11]\nand #1\nret a\n",
+    "scratch words": "ld len\nst M[15]\nldx M[15]\nstx M[0]\nldh [12]\nst M[7]\nld M[0]\nsub #60\ntax\nld M[7]\nsub x\n"
+    "and #2\nret a\n",
+}
+# What the kernel runs ahead of a program, and behind one that returns A.
+AHEAD, BEHIND, MOST = 6, 3, 4_096
+TOO_LONG = "too long for the kernel: the recorder alone runs it"
+SAID_TOO_LONG = {"4,096 instructions", "4,091 instructions", "4,088 instructions with ret a"}
+
+
+def long_text(count: int, returns_a: bool = False) -> str:
+    """A program of so many instructions, which keeps every other frame by its number."""
+    lines = ["ldb [11]", "and #1", *["add #2"] * (count - (4 if returns_a else 5))]
+    return "\n".join(lines + (["and #1", "ret a"] if returns_a else ["jset #1,keep,drop", KEEP_OR_DROP]))
+
+
+LONG = {
+    "4,096 instructions": long_text(MOST),
+    "4,090 instructions": long_text(MOST - AHEAD),
+    "4,091 instructions": long_text(MOST - AHEAD + 1),
+    "4,087 instructions with ret a": long_text(MOST - AHEAD - BEHIND, True),
+    "4,088 instructions with ret a": long_text(MOST - AHEAD - BEHIND + 1, True),
+}
+
+
+# ---- frames
+
+
+def ipv4(port: int, protocol: int = 17) -> bytes:
+    head = bytes.fromhex("45000024 00010000 40") + bytes([protocol]) + bytes.fromhex("0000 0a000001 0a000002")
+    return head + port.to_bytes(2, "big") + (4_000).to_bytes(2, "big") + bytes.fromhex("00100000")
+
+
+def payloads() -> list:
+    """What follows the addresses: with and without tags."""
+    plain = [
+        b"\x08\x00" + ipv4(53), b"\x08\x00" + ipv4(54), b"\x08\x00" + ipv4(53, 6), b"\x08\x06" + bytes(28),
+        b"\x88\xb5" + bytes(range(30)),
+        b"\x86\xdd" + bytes.fromhex("60000000 0008 11 40") + bytes(32) + bytes.fromhex("0035 0fa0 0008 0000"),
+    ]
+    tags = [
+        b"", b"\x81\x00\x00\x64", b"\x81\x00\x00\x05", b"\x81\x00\xa0\x00", b"\x88\xa8\x00\x64",
+        b"\x88\xa8\x00\x64\x81\x00\x00\x05", b"\x81\x00\x00\x64\x81\x00\x00\x05",
+        b"\x88\xa8\x00\x05\x88\xa8\x00\x64\x81\x00\xa0\x64",
+    ]
+    return [tag + data for data in plain for tag in tags]
+
+
+def mixed_frames() -> list:
+    """Frames of all these kinds, cut or padded to many lengths, with their numbers in their senders' addresses."""
+    kinds = payloads()
+    lengths = [60, 61, 62, 63, 64, 68, 100, 1_514]
+    shaped = [(kinds[1], 0), *[(kind, length) for kind in kinds for length in lengths]]
+    # Of a tagged frame of fewer bytes than its head and tag the kernel shows nothing.
+    shaped += [(kinds[at % len(kinds)], length) for length in range(14, 60) for at in range(length, length + 5)]
+    shaped += [(kinds[at], length) for at in (0, 8, 16, 24, 32) for length in range(14, 60)]
+    frames = []
+    for number, (kind, length) in enumerate(shaped):
+        addresses = bytes.fromhex("020000000002 0200") + number.to_bytes(4, "big")
+        whole = addresses + kind
+        frames.append(whole if length == 0 else whole[:length].ljust(length, b"\0"))
+    return frames
+
+
+# ---- the recordings
+
+
+def make_listings(work: Path) -> dict:
+    """The paths of the listings, by their names."""
+    made = {}
+    for name, expression in EXPRESSIONS.items():
+        made[name] = run("tcpdump", "-y", "EN10MB", "-ddd", expression)
+    for name, text in {**TEXTS, **LONG}.items():
+        (work / "text").write_text(text)
+        made[name] = run(BPFREC, "asm", work / "text")
+    paths = {}
+    for at, (name, listing) in enumerate(made.items()):
+        paths[name] = work / f"listing_{at}"
+        paths[name].write_text(listing)
+        judge_quietly(f"{name} is valid", run(BPFREC, "verify", paths[name]).startswith("valid"))
+    return paths
+
+
+def check_unset(work: Path) -> None:
+    """A scratch word that is read before it is set isn't 0, but a fault that is told before anything is recorded."""
+    (work / "text").write_text("ld M[3]\nadd #1\nret a\n")
+    (work / "unset").write_text(run(BPFREC, "asm", work / "text"))
+    done = subprocess.run([BPFREC, "verify", work / "unset"], capture_output=True, text=True, timeout=support.SECONDS)
+    judge("a scratch word that is read before it is set is refused", done.stdout.startswith("refused 8 Unset"), done.stdout)
+    (work / "live.toml").write_text(f'[[channel]]\nid = 1\nfilter = "{work}/unset"\n')
+    running = Running(work, LIVE, "--quiet", "--prefilter", work / "live.toml", work / "unset.ch11", "rx0=1")
+    judge("by a recording too", running.ended()[0] in (1, 3) and not (work / "unset.ch11").exists(), running.told())
+
+
+def record(work: Path, name: str, paths: dict, words: list) -> tuple:
+    """Begins a recording of all interfaces; gives what runs and its OUT."""
+    here, out = work / name, work / f"{name}.ch11"
+    (here / "private").mkdir(parents=True)
+    settings = here / "live.toml"
+    channels = [f'[[channel]]\nid = {at + 1}\nfilter = "{path}"\n' for at, path in enumerate(paths.values())]
+    settings.write_text("limit = 65536\n" + "".join(channels))
+    ways = [f"fx{at}={at + 1}" for at in range(len(paths))]
+    running = Running(here, LIVE, "--quiet", "--buffer", 4, *words, settings, out, *ways)
+    wait_for(lambda: f"{name}: it records: {running.told()}", lambda: out.exists() or running.process.poll() is not None)
+    return running, out
+
+
+def ended(running: Running, name: str) -> tuple:
+    """What it told, and how many frames were offered to each channel."""
+    running.interrupt()
+    status, printed = running.ended()
+    judge(f"{name}: status 0, and the audit says yes", status == 0 and printed.endswith("yes other 0\n"))
+    return running.told(), [int(it) for it in re.findall(r"channel \d+ versions 1 offered (\d+) ", printed)]
+
+
+def check_same(work: Path) -> None:
+    """What is recorded is the same with and without --prefilter."""
+    paths, frames = make_listings(work), mixed_frames()
+    support.make_many_pairs("fy", "fx", len(paths))
+    for at in range(len(paths)):
+        wait_for("the pair is up", lambda: "LOWER_UP" in run("ip", "link", "show", f"fx{at}"))
+    alone, its_out = record(work, "alone", paths, [])
+    both, other_out = record(work, "prefiltered", paths, ["--prefilter"])
+    for at in range(len(paths)):
+        for way in ("fy", "fx"):
+            send(f"{way}{at}", frames)
+    time.sleep(0.5)
+    _, offered_alone = ended(alone, "without --prefilter")
+    told, offered = ended(both, "with --prefilter")
+    for at, name in enumerate(paths):
+        kept, too = ([it[2] for it in records(extracted(work, out, at + 1))] for out in (its_out, other_out))
+        lost = (Counter(kept) - Counter(too)).total()
+        judge(f"{name}: {len(too)} frames of {2 * len(frames)} with --prefilter, {len(kept)} without, {lost} of which are lost, "
+              f"and {offered_alone[at] - offered[at]} stayed in the kernel", kept == too and len(kept) > 0)
+    judge("the kernel drops some", sum(offered) < sum(offered_alone) * 9 // 10)
+    judge_long(told, paths, offered, offered_alone)
+
+
+def judge_long(told: str, paths: dict, offered: list, offered_alone: list) -> None:
+    """A program that has no room in the kernel runs in the recorder alone, and that is said."""
+    said = re.findall(rf"capture: fx(\d+): (\S+): {TOO_LONG}\n", told)
+    names = list(paths)
+    judge("what is too long for the kernel is said", sorted(names[int(at)] for at, _ in said) == sorted(SAID_TOO_LONG), told)
+    for at, name in enumerate(names):
+        judge_quietly(f"{name} runs {'in the recorder alone' if name in SAID_TOO_LONG else 'in the kernel'}",
+                      (offered[at] == offered_alone[at]) == (name in SAID_TOO_LONG) or name not in LONG)
+
+
+CHECKS = [check_unset, check_same]
+
+if __name__ == "__main__":
+    sys.exit(support.main(__doc__, CHECKS, WANTED))

@@ -1,0 +1,592 @@
+#!/usr/bin/env python3
+"""Runs the built program on drawn and damaged inputs of every kind, and keeps each case that it
+answers in a way that docs/user/FORMATS.md doesn't have.
+
+usage: dev/trials/fuzz.py [--seed N] [--seconds N] [--files N] [--keep FOLDER] [PROGRAM]
+
+PROGRAM is bin/bpfrec, which `make build` makes. Without --seconds it runs for 60 seconds, with --files
+until that many different inputs were drawn and run, without --seed from seed 1; a case with its answer
+goes to FOLDER (bin/fuzz), and the status is 1 if there is one.
+Each run has an address space of a gibibyte and 20 seconds. A case is kept where the program
+
+- is ended by a signal, or takes longer;
+- answers a status, or a line on one of its two outputs, that its command doesn't have;
+- takes over two megabytes more memory than on an empty file; a recording than of the same settings with
+  empty feeds;
+- disagrees with itself: `asm` and `dis` of a program, `verify` and `run`, `list` with `extract`, with
+  `audit` and with `upgrade`, `record` and `simulate` of the same frames.
+
+It wants `prlimit` and GNU `time`.
+"""
+import argparse
+import os
+import random
+import re
+import subprocess
+import sys
+import tempfile
+import time
+from dataclasses import dataclass, field
+from pathlib import Path
+
+ROOT = Path(__file__).resolve().parents[2]
+DATA = ROOT / "crates/bpfrec_cases/data"
+ADDRESS_SPACE = 2**30
+SECONDS_A_RUN = 20
+MOST_MEMORY_KIB = 2_048
+
+# ---- what each command may answer: for each status, what stands on standard output and error
+
+NAMES = r"(BadOpcode|BadScratch|ZeroDivisor|JumpOut) \d+"
+REFUSED = rf"refused (1 Empty|2 TooLong|[3-6] {NAMES}|7 NoReturn|8 Unset \d+ \d+( \d+)+)\n"
+LISTING = r"listing (1 Syntax \d+|2 Count \d+ \d+|3 Range \d+)\n"
+READ = r"read (1 Truncated|2 Sync|3 Checksum|4 Length|5 Body|8 DataChecksum) \d+\n"
+ASM_FAULTS = r"Syntax|Number|UnknownMnemonic|OperandNotAllowed|LabelMissing|LabelTwice|Backward|TooFar"
+ASM = rf"asm ([1-8] ({ASM_FAULTS}) line \d+|9 TooLong)\n"
+DIS = r"dis (1 NoForm|2 JumpOut) \d+\n"
+SETTINGS = r"settings (1 Syntax|2 Unknown .*|3 Missing \w+|4 Value \w+|5 Channels|6 SameChannel \d+)\n"
+INSN = r"\d+ \d+ \d+ \d+,"
+WHAT = r"frames \d+|program \d+ \d+ \d+ \d+|end \d+ \d+ \d+|other"
+PACKETS = rf"(\d+ \d+ [0-9a-f]{{2}} \d+ \d+ \d+ \d+ ({WHAT})\n)*packets \d+ other \d+\n"
+NO = r"no (1 NoProgram \d+|2 BadProgram \d+|3 NotAccepted \d+ \d+|4 Order \d+|5 NoEnd \d+|6 Counts \d+)\n"
+YES = r"(channel \d+ programs \d+ frames \d+ offered \d+\n)*yes other \d+\n"
+ENDING = r"SourceEnd|CountFull|SourceFault (Truncated|Length|Marks|Device)"
+REPORT = rf"(channel \d+ versions \d+ offered \d+ kept \d+ ({ENDING})\n)+wrote \d+ \d+\n"
+ANSWERS = r"(installed \d+ \d+ \d+\n|refused \d+ (Line|File|Listing|Program|NoChannel|VersionsFull)\n)*"
+REFUSALS = r"NoChannel|Closed|RingFull|NothingToSend|NothingToWrite|VersionsFull|CountFull"
+EVENT = (r"took \d+ \d+ \d+|installed \d+ \d+|sent (program \d+|frames \d+|end)|wrote [0-9a-f]+|"
+         rf"closed \d+ \d+|refused [1-7] ({REFUSALS})")
+EVENTS = rf"(({EVENT})\n)*"
+FILE = (3, "", r"file .*\n")
+ALLOWED = {
+    "asm": [(0, rf"\d+,({INSN})*\n", ""), (1, "", ASM), FILE],
+    "dis": [(0, r"([^\n]+\n)*", ""), (1, "", LISTING), (1, "", DIS), FILE],
+    "verify": [(0, r"valid \d+\n", ""), (1, REFUSED, ""), (1, "", LISTING), FILE],
+    "run": [(0, r"\d+ \d+\n", ""), (1, REFUSED, ""), (1, "", LISTING), (1, "", r"view\n"), FILE],
+    "": [(0, r"\d+ \d+\n", ""), (1, REFUSED, ""), (1, "", LISTING), (1, "", r"view\n"), FILE],
+    "list": [(0, PACKETS, ""), (1, "", READ), FILE],
+    "audit": [(0, YES, ""), (1, NO, ""), (1, "", READ), FILE],
+    "extract": [(0, r"frames \d+ passed \d+\n", ""), (1, "", READ), (2, "", r"(.*\n)+"), FILE],
+    "upgrade": [(0, r"upgraded \d+ copied \d+\n", ""), (1, "", READ), FILE],
+    # the rings of some settings don't fit the address space
+    "record": [(0, REPORT, ANSWERS), (1, "", LISTING), (1, REFUSED, ""), (2, "", SETTINGS), FILE, (4, "", "memory\n")],
+    "simulate": [(0, EVENTS, ""), (1, EVENTS, r"script line \d+\n"), FILE],
+}
+
+# ---- cases
+
+
+@dataclass
+class Case:
+    """The words of a run, the files that lie where it runs, and its standard input."""
+
+    words: list
+    files: dict = field(default_factory=dict)
+    input: bytes = b""
+
+    def command(self):
+        return self.words[0] if self.words else ""
+
+
+@dataclass
+class Answer:
+    """What a run answered, and the files that it left."""
+
+    status: int
+    output: str
+    errors: str
+    folder: Path
+
+    def file(self, name):
+        path = self.folder / name
+        return path.read_bytes() if path.exists() else None
+
+
+class Wrong(Exception):
+    """A case that was answered as it must not be."""
+
+
+class Runner:
+    """Runs cases of the program, each in the same folder, and remembers what memory they took."""
+
+    def __init__(self, program, folder):
+        self.folder, self.peak_file = folder / "run", folder / "peak"
+        self.folder.mkdir()
+        self.words = ["prlimit", f"--as={ADDRESS_SPACE}", "time", "-f", "%M", "-o", self.peak_file, program]
+        self.inputs = set()
+        self.empty, self.over = {}, {}
+
+    def answer(self, case):
+        """Runs a case, and judges the form of its answer and the memory that it took."""
+        empty = self.peak_of_empty(case)
+        self.inputs.add(hash((tuple(sorted(case.files.items())), case.input)))
+        ran, peak = self.run(case)
+        command = case.command()
+        self.over[command] = max(self.over.get(command, 0), peak - empty)
+        if peak > empty + MOST_MEMORY_KIB:
+            raise Wrong(f"{peak} KiB of memory, {empty} on an empty file")
+        output, errors = ran.stdout.decode(errors="replace"), ran.stderr.decode(errors="replace")
+        for status, on_output, on_errors in ALLOWED[command]:
+            if ran.returncode == status and re.fullmatch(on_output, output) and re.fullmatch(on_errors, errors):
+                return Answer(ran.returncode, output, errors, self.folder)
+        raise Wrong(f"status {ran.returncode}\n-- output\n{output[:2000]}\n-- errors\n{errors[:2000]}")
+
+    def run(self, case):
+        """Runs a case in a fresh folder: how it ended, and the most memory that it took, in KiB."""
+        for old in self.folder.iterdir():
+            old.unlink()
+        for name, content in case.files.items():
+            (self.folder / name).write_bytes(content)
+        try:
+            ran = subprocess.run([*self.words, *case.words], input=case.input, capture_output=True, cwd=self.folder,
+                                 timeout=SECONDS_A_RUN)
+        except subprocess.TimeoutExpired:
+            raise Wrong(f"no answer within {SECONDS_A_RUN} seconds") from None
+        return ran, int(self.peak_file.read_text().split()[-1])
+
+    def peak_of_empty(self, case):
+        """The memory that the command takes on an empty file, and `record` on empty feeds."""
+        files = {name: b"" if name in ("in", "feed", "one.feed") and case.words[1] != name else content
+                 for name, content in case.files.items()}
+        key = hash(tuple(sorted(files.items())))
+        if case.command() != "record":
+            files, key = dict.fromkeys(case.files, b""), case.command()
+        if key not in self.empty:
+            self.empty[key] = self.run(Case(case.words, files))[1]
+        return self.empty[key]
+
+
+# ---- inputs, drawn and damaged
+
+CODES = [0x00, 0x01, 0x02, 0x03, 0x04, 0x05, 0x06, 0x07, 0x0C, 0x14, 0x15, 0x16, 0x1D, 0x20, 0x24, 0x25, 0x28,
+         0x2C, 0x30, 0x34, 0x35, 0x3C, 0x40, 0x44, 0x45, 0x48, 0x50, 0x54, 0x5C, 0x60, 0x61, 0x64, 0x6C, 0x74,
+         0x80, 0x81, 0x84, 0x87, 0x94, 0x9C, 0xA4, 0xAC, 0xB1]
+WORDS = [0, 1, 2, 4, 12, 14, 15, 16, 31, 32, 254, 255, 256, 2048, 2054, 65535, 2**31, 2**32 - 1]
+TOKENS = [b"ldh", b"ld", b"ldb", b"ldx", b"ldxb", b"st", b"stx", b"jmp", b"ja", b"jeq", b"jne", b"jlt", b"jle",
+          b"jgt", b"jge", b"jset", b"add", b"sub", b"mul", b"div", b"mod", b"neg", b"and", b"or", b"xor", b"lsh",
+          b"rsh", b"tax", b"txa", b"ret", b"[12]", b"[x + 1]", b"M[0]", b"M[15]", b"#0x806", b"#1", b"#-1", b"x",
+          b"a", b"len", b"#len", b"4*([14]&0xf)", b",", b":", b"drop", b"yes", b"no", b"\n", b";", b"/*", b"*/",
+          b"0", b"08", b"4294967296", b"%x"]
+
+
+def drawn_program(draw):
+    """Instructions most of which have a legal code and a target in the program."""
+    count = draw.choice([0, 1, 2, 3, 5, 8, 20, draw.randrange(1, 60)])
+    insns = []
+    for at in range(count):
+        code = draw.choice(CODES) if draw.random() < 0.98 else draw.randrange(0x200)
+        left = max(count - at - 2, 0)
+        k = draw.randrange(left + 1) if code == 5 and draw.random() < 0.95 else draw.choice(WORDS)
+        if code in (2, 3, 0x60, 0x61) and draw.random() < 0.95:
+            k %= 16
+        test = code & 7 == 5 and code != 5
+        jump = [draw.randrange(min(left, 255) + 1) if test else 0 for _ in range(2)]
+        insns.append([code, *jump, k])
+    if insns and draw.random() < 0.9:
+        insns[-1] = draw.choice([[6, 0, 0, 0], [6, 0, 0, 2**32 - 1], [0x16, 0, 0, 0]])
+    return insns
+
+
+def listing_of(insns):
+    return (",".join([str(len(insns)), *(" ".join(map(str, insn)) for insn in insns)]) + ",").encode()
+
+
+def damaged(draw, content):
+    """Some bytes set, taken out, put in twice or cut off."""
+    content = bytearray(content)
+    for _ in range(draw.choice([1, 1, 2, 5])):
+        at = draw.randrange(len(content) + 1)
+        match draw.randrange(5):
+            case 0 if at < len(content):
+                content[at] = draw.choice([0, 1, 9, 10, 32, 44, 45, 48, 57, 127, 128, 255, draw.randrange(256)])
+            case 1:
+                del content[at:at + draw.choice([1, 2, 4, 60])]
+            case 2:
+                content[at:at] = content[at:at + draw.choice([1, 8, 60, 300])]
+            case 3:
+                content[at:at] = bytes(draw.choice([b"\n", b",", b" ", b"\r", b"-", b"99999999999", b"\xff", b"#"]))
+            case _ if draw.random() < 0.3:
+                del content[at:]
+    return bytes(content)
+
+
+def drawn_frames(draw):
+    """Frames as (counter, marks, bytes)."""
+    count = draw.choice([0, 1, 2, 7, 40])
+    lengths = [18, 19, 60, 300, 1518, 16383]
+    return [(draw.choice([0, 16, 2**48 - 1, draw.randrange(2**48)]), draw.randrange(4),
+             draw.choice([b"\xff", b"\x00", bytes([draw.randrange(256)])]) * 12
+             + draw.choice([b"\x08\x06", b"\x08\x00", b"\x86\xdd"])
+             + draw.randbytes(draw.choice(lengths) - 14)) for _ in range(count)]
+
+
+def feed_of(frames):
+    return b"".join(counter.to_bytes(6, "little") + bytes([marks]) + len(content).to_bytes(2, "little") + content
+                    for counter, marks, content in frames)
+
+
+class Corpus:
+    """The samples of the repository, by kind."""
+
+    def __init__(self):
+        def read(*patterns):
+            return [path.read_bytes() for pattern in patterns for path in sorted(DATA.glob(pattern)) if path.is_file()]
+
+        self.texts = read("filters/*.bpf", "texts/*.bpf")
+        self.listings = read("*")
+        self.recordings = read("recordings/*.ch11")
+        self.scripts = read("scripts/*.script") + [
+            path.read_bytes() for path in sorted((ROOT / "examples").glob("*.script"))]
+        self.settings = read("records/*.toml")
+
+
+# ---- what two answers must agree on
+
+
+def texts(run, draw, corpus):
+    """A text; and where it is assembled, its program's own text is assembled to the same program."""
+    text = draw.choice(corpus.texts)
+    if draw.random() < 0.4:
+        text = b" ".join(draw.choice(TOKENS) for _ in range(draw.randrange(40)))
+    elif draw.random() < 0.9:
+        text = damaged(draw, text)
+    listing = run(Case(["asm", "in"], {"in": text}))
+    if listing.status == 0:
+        programs(run, draw, listing.output.encode(), assembled=True)
+
+
+def listings(run, draw, corpus):
+    """A listing, drawn or damaged."""
+    listing = listing_of(drawn_program(draw))
+    if draw.random() < 0.4:
+        listing = damaged(draw, draw.choice(corpus.listings) if draw.random() < 0.5 else listing)
+    programs(run, draw, listing)
+
+
+def programs(run, draw, listing, assembled=False):
+    """The commands on one listing: `dis` and back, `verify` and `run`."""
+    text = run(Case(["dis", "in"], {"in": listing}))
+    if assembled and text.status != 0:
+        raise Wrong("asm made a program that has no text")
+    if text.status == 0:
+        again = run(Case(["asm", "in"], {"in": text.output.encode()}))
+        if again.status == 0:
+            numbers = [int(it) for it in re.findall(rb"\d+", listing)]
+            if [int(it) for it in re.findall(r"\d+", again.output)] != numbers:
+                raise Wrong(f"dis and asm gave another program: {again.output}")
+        elif not again.errors.startswith("asm 9"):
+            few = int(re.match(rb"\s*,*\s*(\d+)", listing)[1]) if re.match(rb"\s*,*\s*(\d+)", listing) else 0
+            if few > 0:
+                raise Wrong(f"asm refuses the text of dis: {again.errors}")
+    verdict = run(Case(["verify", "in"], {"in": listing}))
+    view = draw.randbytes(draw.choice([0, 1, 14, 60])).hex()
+    ran = run(Case(["run", "in", view], {"in": listing}))
+    if verdict.status == 0:
+        steps = int(ran.output.split()[1]) if ran.status == 0 else None
+        if steps is None or not 1 <= steps <= int(verdict.output.split()[1]):
+            raise Wrong(f"a valid program ran: {ran.output}{ran.errors}")
+    elif (ran.status, ran.output, ran.errors) != (verdict.status, verdict.output, verdict.errors):
+        raise Wrong(f"verify and run disagree: {ran.output}{ran.errors}")
+    line = b" ".join(listing.split(b"\n"))
+    piped = run(Case([], input=line + b"\n" + view.encode() + b"\n"))
+    if b"\n" not in listing and (piped.status, piped.output) != (ran.status, ran.output):
+        raise Wrong(f"run by words and by lines disagree: {piped.output}{piped.errors}")
+
+
+def recordings(run, draw, corpus):
+    """A recording, whole or damaged: `list`, `audit`, `extract` of each channel, and `upgrade`."""
+    recording = draw.choice(corpus.recordings)
+    if draw.random() < 0.9:
+        recording = with_sums(draw, damaged(draw, recording))
+    readings(run, recording)
+
+
+def with_sums(draw, recording):
+    """The same, mostly with the right checksums in each packet that still begins with the sync pattern."""
+    recording, at = bytearray(recording), 0
+    while draw.random() < 0.98 and recording[at:at + 2] == b"\x25\xeb" and len(recording) >= at + 24:
+        recording[at + 22:at + 24] = sum_of(recording[at:at + 22], 2)
+        end = at + max(int.from_bytes(recording[at + 4:at + 8], "little"), 24)
+        if draw.random() < 0.9:
+            set_data_sum(recording, at, end)
+        at = end
+    return bytes(recording)
+
+
+def sum_of(data, width):
+    """The sum of the words of so many bytes, as such a word."""
+    words = (int.from_bytes(data[at:at + width], "little") for at in range(0, len(data), width))
+    return (sum(words) % 256**width).to_bytes(width, "little")
+
+
+def set_data_sum(recording, at, end):
+    """Makes the data checksum of a packet right, where it has one and is whole."""
+    if recording[at + 14] & 3 == 3 and at + 28 <= end <= len(recording):
+        recording[end - 4:end] = sum_of(recording[at + 24:end - 4], 4)
+
+
+def readings(run, recording):
+    files = {"in": recording}
+    listed = run(Case(["list", "in"], files))
+    audited = run(Case(["audit", "in"], files))
+    piped = run(Case(["list", "-"], input=recording))
+    if (piped.status, piped.output, piped.errors) != (listed.status, listed.output, listed.errors):
+        raise Wrong("list of a file and of standard input disagree")
+    if listed.status != 0:
+        if (audited.status, audited.errors) != (listed.status, listed.errors):
+            raise Wrong("list and audit disagree")
+        extracted = run(Case(["extract", "in", "1", "out"], files))
+        if extracted.errors != listed.errors or extracted.file("out") is not None:
+            raise Wrong("list and extract disagree")
+        upgraded = run(Case(["upgrade", "in", "out"], files))
+        if upgraded.errors != listed.errors or upgraded.file("out") is not None:
+            raise Wrong("list and upgrade disagree")
+        return
+    frames, programs_of = {}, {}
+    for line in listed.output.splitlines()[:-1]:
+        words = line.split()
+        if words[7] == "frames":
+            frames[words[1]] = frames.get(words[1], 0) + int(words[8])
+        if words[7] == "program":
+            programs_of[words[8]] = programs_of.get(words[8], 0) + 1
+    if audited.status == 0:
+        for line in audited.output.splitlines()[:-1]:
+            _, channel, _, programs_said, _, frames_said, _, _ = line.split()
+            if (int(programs_said), int(frames_said)) != (programs_of.get(channel, 0), frames.get(channel, 0)):
+                raise Wrong("list and audit count otherwise")
+        if audited.output.split()[-1] != listed.output.split()[-1]:
+            raise Wrong("list and audit count other packets otherwise")
+    refused_output(run, ["extract", "in", "1"], "in", files)
+    for channel in {*frames, "1"}:
+        extracted = run(Case(["extract", "in", channel, "out"], files))
+        _, written, _, passed = extracted.output.split()
+        if int(written) + int(passed) != frames.get(channel, 0):
+            raise Wrong("list and extract count otherwise")
+    upgrades(run, recording, listed, audited)
+
+
+def upgrades(run, recording, listed, audited):
+    """What is listed is upgraded, says the same then, and is its own upgrade."""
+    refused_output(run, ["upgrade", "in"], "in", {"in": recording})
+    upgraded = run(Case(["upgrade", "in", "out"], {"in": recording}))
+    new = upgraded.file("out")
+    given, copied = (int(upgraded.output.split()[at]) for at in (1, 3))
+    if given + copied != len(listed.output.splitlines()) - 1:
+        raise Wrong("list and upgrade count otherwise")
+    again = run(Case(["list", "in"], {"in": new}))
+    if [said_of(line) for line in again.output.splitlines()] != [said_of(line) for line in listed.output.splitlines()]:
+        raise Wrong("an upgrade is listed otherwise")
+    judged = run(Case(["audit", "in"], {"in": new}))
+    if (judged.status, judged.output) != (audited.status, audited.output):
+        raise Wrong("an upgrade is judged otherwise")
+    feeds_of = [run(Case(["extract", "in", "1", "out"], {"in": it})).file("out") for it in (recording, new)]
+    if feeds_of[0] != feeds_of[1]:
+        raise Wrong("an upgrade has other frames")
+    twice = run(Case(["upgrade", "in", "out"], {"in": new}))
+    if twice.file("out") != new or twice.output != f"upgraded 0 copied {given + copied}\n":
+        raise Wrong("an upgrade is upgraded once more")
+
+
+def said_of(line):
+    """A line of `list` without the places and lengths of packets."""
+    words = line.split()
+    return [*words[1:4], *words[5:]] if len(words) > 7 else words
+
+
+def feeds(run, draw, corpus):
+    """A recording of one channel and a script of the same frames write the same bytes."""
+    program = drawn_program(draw)
+    if not program or draw.random() < 0.5:
+        program = draw.choice([[[6, 0, 0, 1]], [[0x28, 0, 0, 12], [0x15, 0, 1, 2054], [6, 0, 0, 1], [6, 0, 0, 0]]])
+    frames = drawn_frames(draw)
+    feed = feed_of(frames)
+    if draw.random() < 0.3:
+        feed = damaged(draw, feed)
+    net, speed, most = draw.randrange(256), draw.randrange(16), draw.choice([0, 1, 5, 1000])
+    limit, version = draw.choice([16424, 20000, 65536, 524284]), draw.randrange(256)
+    listing = listing_of(program)
+    settings = (f'limit = {limit}\nring = {draw.choice([1, 4, 64])}\nversion = {version}\n[[channel]]\nid = 7\n'
+                f'feed = "feed"\nfilter = "filter"\nnet = {net}\nspeed = {speed}\nmax = {most}\n')
+    files = {"settings": settings.encode(), "feed": feed, "filter": listing}
+    lines = draw.choice([b"", b"x\n", b"set 9 filter\n", b"set 7 nowhere\nset 7 feed\n", b"set 7 /dev/zero\nset 7 .\n"])
+    recorded = run(Case(["record", "settings", "out"], files, lines))
+    verdict = run(Case(["verify", "in"], {"in": listing}))
+    if (recorded.status == 0) != (verdict.status == 0):
+        raise Wrong("record and verify disagree")
+    if recorded.status != 0:
+        return
+    refused_output(run, ["record", "settings"], draw.choice(["settings", "feed", "./feed", "filter"]), files)
+    recorded = run(Case(["record", "settings", "out"], files, lines))
+    recording = recorded.file("out")
+    readings(run, recording)
+    audited = run(Case(["audit", "in"], {"in": recording}))
+    if audited.status != 0:
+        raise Wrong(f"a recording isn't approved: {audited.output}")
+    offered = int(recorded.output.split()[5])
+    taken = [read_frame for read_frame in frames_in(feed)][:offered]
+    script = [f"recorder {limit} 4096 {version}", f"channel 7 {net} {speed} {most} {listing.decode()}"]
+    script += [f"take 7 {counter} {marks} {content.hex()}" for counter, marks, content in taken]
+    pieces = int(recorded.output.split()[-2])
+    script += ["close 7", *["send 7", "write 7"] * pieces]
+    simulated = run(Case(["simulate", "in"], {"in": "\n".join(script).encode()}))
+    wrote = "".join(re.findall(r"wrote (\w+)", simulated.output))
+    if bytes.fromhex(wrote) != recording:
+        raise Wrong("record and simulate wrote other bytes")
+
+
+def refused_output(run, words, out, files):
+    """An output that is an input: it is refused and keeps its bytes."""
+    refused = run(Case([*words, out], files))
+    if refused.errors != f"file {out}\n" or any(refused.file(name) != content for name, content in files.items()):
+        raise Wrong(f"an output that is the input {out} isn't refused, or was changed")
+
+
+def frames_in(feed):
+    """The frames of a feed, up to its first fault."""
+    at = 0
+    while len(feed) - at >= 9:
+        counter, marks = int.from_bytes(feed[at:at + 6], "little"), feed[at + 6]
+        length = int.from_bytes(feed[at + 7:at + 9], "little")
+        if not 18 <= length <= 16383 or marks > 3 or len(feed) - at - 9 < length:
+            return
+        yield counter, marks, feed[at + 9:at + 9 + length]
+        at += 9 + length
+
+
+def scripts(run, draw, corpus):
+    """A script, damaged or drawn."""
+    script = damaged(draw, draw.choice(corpus.scripts))
+    if draw.random() < 0.5:
+        program, frame = listing_of([[6, 0, 0, 1]]).decode(), "00" * 18
+        events = [f"take 1 5 0 {frame}", f"install 1 {program}", "send 1", "write 1", "close 1", "send 2", "take 1 5 4 00"]
+        script = "\n".join(["recorder 16424 2 8", f"channel 1 0 0 9 {program}",
+                            *draw.choices(events, [9, 3, 6, 6, 1, 1, 0.1], k=draw.randrange(60))]).encode()
+    run(Case(["simulate", "in"], {"in": script}))
+
+
+def settings(run, draw, corpus):
+    """Settings, damaged, beside a feed and a filter; the lines of standard input are damaged too."""
+    content = damaged(draw, draw.choice(corpus.settings))
+    files = {"in": content.replace(b"records/", b""), "keeps": b"1,6 0 0 1,", "one.feed": feed_of(drawn_frames(draw))}
+    lines = damaged(draw, b"set 1 keeps\nset 9 keeps\nset 1 nowhere\nset 1 in\n")
+    run(Case(["record", "in", "out"], files, lines))
+
+
+KINDS = [texts, listings, recordings, feeds, scripts, settings]
+
+# ---- what is tried first, always the same
+
+# a header that claims four gigabytes, with nothing behind it
+LONE_HEADER = bytes.fromhex("25eb0100 fcffffff 00000000 08000001 00000000 000029ec")
+FRAME = bytes.fromhex("ffffffffffff0200000000010806a1b2c3d4")
+SETTINGS_TEXT = (b'limit = 16424\n[[channel]]\nid = 1\nfeed = "feed"\nfilter = "filter"\nspeed = 3\n')
+
+
+def expect(what, answer, *printed):
+    if answer.output + answer.errors not in printed:
+        raise Wrong(f"{what}: {answer.output}{answer.errors}")
+
+
+def fixed(run, _, corpus):
+    """Lengths and counts that nothing follows; each beginning of a text, of settings, of a feed's record and
+    of a recording, and each byte of the recording at its ends."""
+    expect("a lone header", run(Case(["list", "in"], {"in": LONE_HEADER})), "read 1 Truncated 0\n")
+    readings(run, LONE_HEADER)
+    expect("a count alone", run(Case(["verify", "in"], {"in": b"65535,"})), "listing 2 Count 65535 0\n")
+    text = (DATA / "filters/arp.bpf").read_bytes()
+    for cut in range(len(text) + 1):
+        run(Case(["asm", "in"], {"in": text[:cut]}))
+    files = {"settings": SETTINGS_TEXT, "filter": b"1,6 0 0 1,", "feed": feed_of([(16, 0, FRAME)])}
+    for cut in range(len(SETTINGS_TEXT)):
+        run(Case(["record", "settings", "out"], {**files, "settings": SETTINGS_TEXT[:cut]}))
+    for cut in range(len(files["feed"]) + 1):
+        recorded = run(Case(["record", "settings", "out"], {**files, "feed": files["feed"][:cut]}))
+        ending = "SourceEnd" if cut in (0, len(files["feed"])) else "SourceFault Truncated"
+        if recorded.output.splitlines()[0].split(" ", 8)[8] != ending:
+            raise Wrong(f"a feed cut to {cut} bytes")
+    cut_and_changed(run, (DATA / "recordings/two_versions.ch11").read_bytes(), [0, 60, 120, 180, 232])
+    checked = (DATA / "recordings/two_versions_checked.ch11").read_bytes()
+    cut_and_changed(run, checked, [0, 64, 128, 192, 248])
+    changed_with_sums(run, checked, [0, 64, 128, 192, 248])
+
+
+def changed_with_sums(run, recording, places):
+    """Each byte after a header at its ends, with the data checksum made right again."""
+    for begin, end in zip(places, places[1:]):
+        for at in range(begin + 24, end - 4):
+            for value in (0x00, 0xFF):
+                changed = bytearray(recording)
+                changed[at] = value
+                set_data_sum(changed, begin, end)
+                readings(run, bytes(changed))
+
+
+def cut_and_changed(run, recording, places):
+    for cut in range(len(recording) + 1):
+        readings(run, recording[:cut])
+        if cut not in places:
+            place = max(it for it in places if it < cut)
+            listed = run(Case(["list", "in"], {"in": recording[:cut]}))
+            expect(f"cut to {cut} bytes", listed, f"read 1 Truncated {place}\n")
+    for at in range(len(recording)):
+        for value in (b"\x00", b"\xff"):
+            readings(run, recording[:at] + value + recording[at + 1:])
+
+
+# ---- the search
+
+
+def search(words):
+    """Draws cases until the time is over, or as many inputs as are wanted were run; how many runs of each
+    kind, and how many cases were kept."""
+    corpus, draw = Corpus(), random.Random(words.seed)
+    first = [] if words.files else [fixed]
+    runs, kept, end = dict.fromkeys((kind.__name__ for kind in [*first, *KINDS]), 0), 0, time.monotonic() + words.seconds
+    with tempfile.TemporaryDirectory() as name:
+        runner = Runner(str(Path(words.program).resolve()), Path(name))
+        while len(runner.inputs) < words.files if words.files else time.monotonic() < end:
+            kind, last = first.pop() if first else draw.choice(KINDS), []
+
+            def run(case):
+                last[:] = [case]
+                runs[kind.__name__] += 1
+                return runner.answer(case)
+
+            try:
+                kind(run, draw, corpus)
+            except Wrong as wrong:
+                kept += 1
+                keep_case(words.keep / f"{words.seed}_{kept}", last[0], str(wrong))
+                print(f"{kind.__name__}: {' '.join(last[0].words)}: {str(wrong).splitlines()[0]}", flush=True)
+        over = ", ".join(f"{command or 'no words'} {kib}" for command, kib in sorted(runner.over.items()))
+        print(f"{len(runner.inputs)} inputs; KiB of memory over those on an empty file, at most: {over}")
+    return runs, kept
+
+
+def keep_case(folder, case, said):
+    folder.mkdir(parents=True, exist_ok=True)
+    (folder / "answer").write_text(f"{' '.join(['bpfrec', *case.words])}\n{said}\n")
+    (folder / "input").write_bytes(case.input)
+    for name, content in case.files.items():
+        (folder / f"file_{name}").write_bytes(content)
+
+
+def main():
+    parser = argparse.ArgumentParser(description=__doc__, formatter_class=argparse.RawDescriptionHelpFormatter)
+    parser.add_argument("--seed", type=int, default=1)
+    parser.add_argument("--seconds", type=int, default=60)
+    parser.add_argument("--files", type=int, default=0)
+    parser.add_argument("--keep", type=Path, default=ROOT / "bin/fuzz")
+    parser.add_argument("program", nargs="?", default=str(ROOT / "bin/bpfrec"))
+    words = parser.parse_args()
+    if not os.access(words.program, os.X_OK):
+        sys.exit(f"{words.program} is not there: run `make build` first")
+    runs, kept = search(words)
+    told = ", ".join(f"{name} {count}" for name, count in runs.items())
+    until = f"{words.files} inputs" if words.files else f"{words.seconds} seconds"
+    print(f"seed {words.seed}, {until}, {sum(runs.values())} runs ({told}), {kept} kept")
+    sys.exit(1 if kept else 0)
+
+
+if __name__ == "__main__":
+    main()

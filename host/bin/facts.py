@@ -1,0 +1,156 @@
+"""The facts beside a recording, RECORDING.json by docs/user/FORMATS.md: at what times its counters stand, and what was lost.
+
+host/bin/info and `host/bin/convert to-pcap --facts` stand on it. What a file claims is judged before it is used.
+"""
+import json
+import re
+from bisect import bisect_right
+from datetime import datetime, timedelta
+from typing import NamedTuple, Optional
+
+NANOSECONDS_A_TICK, NANOSECONDS_A_SECOND = 100, 1_000_000_000
+MOST_COUNTER, MOST_COUNT = (1 << 48) - 1, (1 << 63) - 1
+MOST_BYTES, MOST_HOST = 64 << 20, 255
+SECONDS = re.compile(r"(-?)([0-9]{1,12})\.([0-9]{9})")
+# Of origins: the years 1 to 9998, so that each counter's time has a year of four digits.
+FIRST_MOMENT, END_MOMENT = (it * NANOSECONDS_A_SECOND for it in (-62_135_596_800, 253_370_764_800))
+EPOCH = datetime(1970, 1, 1)
+# The longest number that may be a count.
+MOST_DIGITS = len(str(MOST_COUNT))
+# Stands for each number that is no whole number, or too long a one.
+OTHER_NUMBER = float("nan")
+LOST = ("dropped", "missed", "skipped")
+
+
+class NoFacts(Exception):
+    """Why a file has no facts of a recording."""
+
+
+class Origin(NamedTuple):
+    """The moment of counter 0, in nanoseconds since 1970, as it holds from a counter on; by how many seconds the clock
+    was set, where it was."""
+
+    text: str
+    moment: int
+    counter: int
+    set_by: Optional[str]
+
+
+class Facts:
+    """What the facts say of times and losses."""
+
+    def __init__(self, told):
+        if not isinstance(told, dict) or not is_number(told.get("facts"), 1, 1):
+            raise NoFacts("facts isn't 1")
+        self.host = told.get("host")
+        if not isinstance(self.host, str) or len(self.host) > MOST_HOST:
+            raise NoFacts(f"host is no text of at most {MOST_HOST} characters")
+        self.origins = origins_in(told.get("origins"))
+        self.losses = losses_in(told.get("losses"))
+        self.holding = holding(self.origins)
+        self.counters = [it.counter for it in self.holding]
+
+    def moment_of(self, counter):
+        """The moment of a frame with this counter, in nanoseconds since 1970, by the last origin whose counter is at
+        most this one; None where there is none."""
+        at = bisect_right(self.counters, counter) - 1
+        return None if at < 0 else self.holding[at].moment + counter * NANOSECONDS_A_TICK
+
+
+def is_number(value, least, most):
+    """Whether a value is a whole number of this range; true and false are none."""
+    return type(value) is int and least <= value <= most
+
+
+def nanoseconds_of(text):
+    """The nanoseconds of seconds with nine digits behind the point; None where a value is something else."""
+    found = SECONDS.fullmatch(text) if isinstance(text, str) else None
+    if not found:
+        return None
+    count = int(found[2]) * NANOSECONDS_A_SECOND + int(found[3])
+    return -count if found[1] else count
+
+
+def origins_in(told):
+    """The origins of the facts, in order."""
+    if not isinstance(told, list) or not told:
+        raise NoFacts("origins is no list with an origin")
+    return [origin_in(it, f"origin {at} of {len(told)}") for at, it in enumerate(told, 1)]
+
+
+def origin_in(told, name):
+    if not isinstance(told, dict):
+        raise NoFacts(f"{name}: it is no object")
+    moment, counter, set_by = nanoseconds_of(told.get("origin")), told.get("counter"), told.get("set_by")
+    if moment is None:
+        raise NoFacts(f"{name}: origin isn't seconds with nine digits behind the point, as 1764590400.250000000")
+    if not FIRST_MOMENT <= moment < END_MOMENT:
+        raise NoFacts(f"{name}: origin is of no year from 1 to 9998")
+    if not is_number(counter, 0, MOST_COUNTER):
+        raise NoFacts(f"{name}: counter is no number from 0 to {MOST_COUNTER}")
+    if set_by is not None and nanoseconds_of(set_by) is None:
+        raise NoFacts(f"{name}: set_by isn't seconds with nine digits behind the point")
+    return Origin(told["origin"], moment, counter, set_by)
+
+
+def holding(origins):
+    """The origins that hold for some counter, by rising counters: a later one takes the place of each that holds from
+    the same counter on, or from a higher one."""
+    found = []
+    for it in origins:
+        while found and found[-1].counter >= it.counter:
+            found.pop()
+        found.append(it)
+    return found
+
+
+def losses_in(told):
+    """How many frames were lost in all, by the way in which they were."""
+    if not isinstance(told, list):
+        raise NoFacts("losses is no list")
+    sums = dict.fromkeys(LOST, 0)
+    for at, it in enumerate(told, 1):
+        for name in LOST:
+            count = it.get(name) if isinstance(it, dict) else None
+            if not is_number(count, 0, MOST_COUNT):
+                raise NoFacts(f"loss {at} of {len(told)}: {name} is no number from 0 to {MOST_COUNT}")
+            sums[name] += count
+    return sums
+
+
+def read(path):
+    """The facts that a file has; `path` may be a descriptor too."""
+    with open(path, "rb") as file:
+        data = file.read(MOST_BYTES + 1)
+    if len(data) > MOST_BYTES:
+        raise NoFacts(f"it has more than {MOST_BYTES >> 20} MiB")
+    try:
+        told = json.loads(data.decode(errors="replace"), parse_int=whole_number, parse_float=other_number, parse_constant=no_constant)
+    except (ValueError, RecursionError, MemoryError):
+        raise NoFacts("it is no JSON that can be read") from None
+    return Facts(told)
+
+
+def whole_number(digits):
+    """A number of JSON; one that is longer than any that is used isn't computed, since Python takes long for those."""
+    return int(digits) if len(digits) <= MOST_DIGITS else OTHER_NUMBER
+
+
+def other_number(_):
+    """A number of JSON with a fraction or an exponent, of which none is used."""
+    return OTHER_NUMBER
+
+
+def no_constant(name):
+    raise ValueError(f"{name} is no JSON")
+
+
+def utc_of(moment):
+    """A moment as UTC, to the nanosecond."""
+    seconds, rest = divmod(moment, NANOSECONDS_A_SECOND)
+    return f"{(EPOCH + timedelta(seconds=seconds)).isoformat()}.{rest:09d}Z"
+
+
+def tick_of(moment):
+    """A moment as UTC, to the tick of 100 ns, rounded down."""
+    return utc_of(moment)[:-3] + "Z"
