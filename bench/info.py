@@ -47,7 +47,12 @@ def record(work, least, most, size):
     os.waitpid(process, 0)
     (work / "all").write_text("1,6 0 0 1,")
     (work / "toml").write_text(f'[[channel]]\nid = 1\nfeed = "{work}/feed"\nfilter = "{work}/all"\n')
-    subprocess.run([BPFREC, "record", work / "toml", work / "ch11"], check=True, stdin=subprocess.DEVNULL, stdout=subprocess.DEVNULL)
+    subprocess.run(
+        [BPFREC, "record", work / "toml", work / "ch11"],
+        check=True,
+        stdin=subprocess.DEVNULL,
+        stdout=subprocess.DEVNULL,
+    )
     (work / "feed").unlink()
     return work / "ch11"
 
@@ -72,12 +77,18 @@ def main():
         with tempfile.TemporaryDirectory() as folder:
             recording = record(Path(folder), least, most, words.megabytes * 1_000_000)
             size = recording.stat().st_size / 1e6
-            programs = {"info": ([INFO, recording], None), "info without audit": ([INFO, recording], without),
-                        "salvage": ([SALVAGE, recording, "/dev/null"], None)}
+            programs = {
+                "info": ([INFO, recording], None),
+                "info without audit": ([INFO, recording], without),
+                "salvage": ([SALVAGE, recording, "/dev/null"], None),
+            }
             for program, (command, env) in programs.items():
                 runs = [timed(command, env) for _ in range(words.rounds)]
                 clock, processor = (statistics.median(size / it[at] for it in runs) for at in (0, 1))
-                print(f"| {name} | {program} | {clock:,.0f} | {processor:,.0f} | {max(it[2] for it in runs):,} |", flush=True)
+                print(
+                    f"| {name} | {program} | {clock:,.0f} | {processor:,.0f} | {max(it[2] for it in runs):,} |",
+                    flush=True,
+                )
     print(f"\nLoad: {os.getloadavg()[0]:.1f} on {os.cpu_count()} processors")
 
 

@@ -1,16 +1,15 @@
 /* Times libpcap's interpreter on the programs and frames of compare.py: the other side of `bench machine`,
  * with the same words after `machine`, and the same lines of output but that of the steps. */
-#include <sys/types.h>
-#include <pcap/bpf.h>
 #include <inttypes.h>
+#include <pcap/bpf.h>
 #include <stdint.h>
 #include <stdio.h>
 #include <stdlib.h>
 #include <string.h>
+#include <sys/types.h>
 #include <time.h>
 
-static unsigned char *contents(const char *path, size_t *length)
-{
+static unsigned char *contents(const char *path, size_t *length) {
     FILE *file = fopen(path, "rb");
     if (file == NULL || fseek(file, 0, SEEK_END) != 0)
         exit(3);
@@ -24,8 +23,7 @@ static unsigned char *contents(const char *path, size_t *length)
     return bytes;
 }
 
-static struct bpf_insn *program_of(const char *path)
-{
+static struct bpf_insn *program_of(const char *path) {
     size_t length;
     char *text = (char *)contents(path, &length);
     unsigned long count = strtoul(text, &text, 10);
@@ -40,8 +38,7 @@ static struct bpf_insn *program_of(const char *path)
     return program;
 }
 
-int main(int argc, char **argv)
-{
+int main(int argc, char **argv) {
     if (argc < 5)
         return 2;
     size_t bytes;

@@ -80,7 +80,7 @@ def main():
         print(__doc__.strip())
         return 2
     bpfrec, bench = (os.path.abspath(it) for it in sys.argv[1:3])
-    length, megabytes = [*sys.argv[3:], *["1518", "100"][len(sys.argv) - 3:]]
+    length, megabytes = [*sys.argv[3:], *["1518", "100"][len(sys.argv) - 3 :]]
     with tempfile.TemporaryDirectory() as work:
         made, recording, checked = (f"{work}/{it}.ch11" for it in ("made", "recording", "checked"))
         subprocess.run([bench, "recording", made, length, megabytes], check=True)
@@ -104,7 +104,9 @@ def main():
         print(f"a recording of {size:,} bytes, frames of {length}")
         memory = {name: memory_of(words) for name, words in commands.items()}
         for name, times in runs.items():
-            print(f"{name:14} best {min(times):7.1f} ms  median {statistics.median(times):7.1f} ms  memory {memory[name]:6.1f} MB")
+            print(
+                f"{name:14} best {min(times):7.1f} ms  median {statistics.median(times):7.1f} ms  memory {memory[name]:6.1f} MB"
+            )
         count = int(open(f"{work}/audit.out").read().split()[5])
         alone = filter_runs(bench, work, int(length), count)
         print(f"filter         {count:,} runs by themselves {alone:7.1f} ms")
@@ -115,7 +117,9 @@ def main():
             times = min(runs[name]) / (min(runs["cat"]) + alone)
             well = memory[name] < MOST_MEMORY and times <= MOST_TIMES
             within = within and well
-            print(f"{name:14} {times:.2f} times cat and the filter, {memory[name]:.1f} MB: {'as it should' if well else 'TOO MUCH'}")
+            print(
+                f"{name:14} {times:.2f} times cat and the filter, {memory[name]:.1f} MB: {'as it should' if well else 'TOO MUCH'}"
+            )
     return 0 if within else 1
 
 

@@ -40,8 +40,19 @@ HOSTS = 31  # a list of so many hosts is a filter of about a hundred instruction
 def ethernet_frame(draw, length, port):
     """A UDP datagram in a frame of this many bytes, its check sequence included."""
     udp = struct.pack(">HHHH", 40_000, port, length - 38, 0)
-    ip = struct.pack(">BBHHHBBH4s4s", 0x45, 0, length - 18, 0, 0, 64, 17, 0,
-                     bytes([10, 0, 0, draw.randrange(1, 255)]), bytes([10, 0, 1, draw.randrange(1, 255)]))
+    ip = struct.pack(
+        ">BBHHHBBH4s4s",
+        0x45,
+        0,
+        length - 18,
+        0,
+        0,
+        64,
+        17,
+        0,
+        bytes([10, 0, 0, draw.randrange(1, 255)]),
+        bytes([10, 0, 1, draw.randrange(1, 255)]),
+    )
     view = bytes([2, 0, 0, 0, 0, 1, 2, 0, 0, 0, 0, 2, 8, 0]) + ip + udp + draw.randbytes(length - 46)
     return view + zlib.crc32(view).to_bytes(4, "little")
 
@@ -131,20 +142,27 @@ def run_in_turn(commands, rounds, work):
 
 def print_runs(title, done, frames, size, beside):
     """A table of the runs, with the ratio of the first command's median to each other one's."""
-    print(f"\n{title}\n\n| Command | ns a frame | Least, greatest | Million frames a second | MB/s "
-          f"| Processor, ns a frame | Memory, KiB | {beside} beside it |\n|---|---|---|---|---|---|---|---|")
+    print(
+        f"\n{title}\n\n| Command | ns a frame | Least, greatest | Million frames a second | MB/s "
+        f"| Processor, ns a frame | Memory, KiB | {beside} beside it |\n|---|---|---|---|---|---|---|---|"
+    )
     own = statistics.median(done[beside].seconds)
     for name, runs in done.items():
         median = statistics.median(runs.seconds)
         least, most = (1e9 * it / frames for it in (min(runs.seconds), max(runs.seconds)))
-        print(f"| {name} | {1e9 * median / frames:.0f} | {least:.0f}, {most:.0f} | {frames / median / 1e6:.2f} "
-              f"| {size / median / 1e6:.0f} | {1e9 * statistics.median(runs.processors) / frames:.0f} "
-              f"| {runs.kilobytes:,} | {own / median:.2f} |", flush=True)
+        print(
+            f"| {name} | {1e9 * median / frames:.0f} | {least:.0f}, {most:.0f} | {frames / median / 1e6:.2f} "
+            f"| {size / median / 1e6:.0f} | {1e9 * statistics.median(runs.processors) / frames:.0f} "
+            f"| {runs.kilobytes:,} | {own / median:.2f} |",
+            flush=True,
+        )
 
 
 def write_settings(path, feeds, filters, limit=65_536):
-    tables = [f'[[channel]]\nid = {id}\nfeed = "{feed}"\nfilter = "{filter}"\n'
-              for id, (feed, filter) in enumerate(zip(feeds, filters), 1)]
+    tables = [
+        f'[[channel]]\nid = {id}\nfeed = "{feed}"\nfilter = "{filter}"\n'
+        for id, (feed, filter) in enumerate(zip(feeds, filters), 1)
+    ]
     path.write_text(f"limit = {limit}\n" + "".join(tables))
     return path
 
@@ -218,8 +236,14 @@ def time_growth(words, work):
     """The time a frame and the memory: at more frames, more versions and more channels."""
     print("\n| Frames | Versions | Channels | ns a frame | Least, greatest | Memory, KiB |\n|---|---|---|---|---|---|")
     changes = work / "changes"
-    for frames, versions, channels in [(10_000, 1, 1), (100_000, 1, 1), (1_000_000, 1, 1), (10_000_000, 1, 1),
-                                       (1_000_000, 1_000, 1), (1_000_000, 1, 64)]:
+    for frames, versions, channels in [
+        (10_000, 1, 1),
+        (100_000, 1, 1),
+        (1_000_000, 1, 1),
+        (10_000_000, 1, 1),
+        (1_000_000, 1_000, 1),
+        (1_000_000, 1, 64),
+    ]:
         write_feed(work / "feed", frames_of(LENGTHS["300"], frames // channels))
         settings = write_settings(work / "settings", [work / "feed"] * channels, [work / "all"] * channels)
         changes.write_text(f"set 1 {work / 'all'}\n" * (versions - 1))
@@ -228,8 +252,11 @@ def time_growth(words, work):
             with open(changes) as stdin:
                 taken.append(run_once([words.bpfrec, "record", settings, work / "recording"], work / "printed", stdin))
         times = [1e9 * seconds / frames for seconds, _, _ in taken]
-        print(f"| {frames:,} | {versions:,} | {channels} | {statistics.median(times):.0f} "
-              f"| {min(times):.0f}, {max(times):.0f} | {max(it[2] for it in taken):,} |", flush=True)
+        print(
+            f"| {frames:,} | {versions:,} | {channels} | {statistics.median(times):.0f} "
+            f"| {min(times):.0f}, {max(times):.0f} | {max(it[2] for it in taken):,} |",
+            flush=True,
+        )
 
 
 def time_reading(words, work, lengths_name):

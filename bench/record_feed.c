@@ -5,7 +5,6 @@
  *
  * With `shared` each frame takes the filter as one that may be replaced meanwhile: under a mutex, with a
  * reference that is counted. It prints how many frames it read and kept. */
-#include <sys/types.h>
 #include <pcap/bpf.h>
 #include <pthread.h>
 #include <stdatomic.h>
@@ -13,6 +12,7 @@
 #include <stdio.h>
 #include <stdlib.h>
 #include <string.h>
+#include <sys/types.h>
 
 enum { HEAD = 9, LEAST = 18, MOST = 16383, CHECK_SEQUENCE = 4, BUFFER = 1 << 16 };
 
@@ -25,8 +25,7 @@ struct filter {
 static pthread_mutex_t lock = PTHREAD_MUTEX_INITIALIZER;
 static struct filter *in_force;
 
-static struct bpf_insn *program_of(const char *path)
-{
+static struct bpf_insn *program_of(const char *path) {
     FILE *file = fopen(path, "r");
     unsigned count, code, jt, jf, k;
     if (file == NULL || fscanf(file, "%u", &count) != 1)
@@ -41,8 +40,7 @@ static struct bpf_insn *program_of(const char *path)
     return program;
 }
 
-static struct filter *take_filter(void)
-{
+static struct filter *take_filter(void) {
     pthread_mutex_lock(&lock);
     struct filter *filter = in_force;
     atomic_fetch_add(&filter->holders, 1);
@@ -50,22 +48,19 @@ static struct filter *take_filter(void)
     return filter;
 }
 
-static void let_go(struct filter *filter)
-{
+static void let_go(struct filter *filter) {
     if (atomic_fetch_sub(&filter->holders, 1) == 1)
         free(filter);
 }
 
-static FILE *opened(const char *path, const char *mode)
-{
+static FILE *opened(const char *path, const char *mode) {
     FILE *file = fopen(path, mode);
     if (file == NULL || setvbuf(file, NULL, _IOFBF, BUFFER) != 0)
         exit(3);
     return file;
 }
 
-int main(int argc, char **argv)
-{
+int main(int argc, char **argv) {
     if (argc < 4)
         return 2;
     int shared = argc > 4 && strcmp(argv[4], "shared") == 0;

@@ -32,21 +32,18 @@ struct sender {
     struct mmsghdr messages[BATCH];
 };
 
-static void fail(const char *what)
-{
+static void fail(const char *what) {
     fprintf(stderr, "send_frames: %s: %s\n", what, strerror(errno));
     exit(1);
 }
 
-static double now(void)
-{
+static double now(void) {
     struct timespec time;
     clock_gettime(CLOCK_MONOTONIC, &time);
     return (double)time.tv_sec + (double)time.tv_nsec / 1e9;
 }
 
-static int socket_into(const char *interface)
-{
+static int socket_into(const char *interface) {
     int one = 1, fd = socket(AF_PACKET, SOCK_RAW, 0);
     struct sockaddr_ll address = {.sll_family = AF_PACKET, .sll_protocol = htons(ETH_P_ALL)};
     address.sll_ifindex = (int)if_nametoindex(interface);
@@ -58,14 +55,12 @@ static int socket_into(const char *interface)
     return fd;
 }
 
-static void put(unsigned char *at, int bytes, uint64_t value)
-{
+static void put(unsigned char *at, int bytes, uint64_t value) {
     for (int i = 0; i < bytes; i++)
         at[i] = (unsigned char)(value >> 8 * (bytes - 1 - i));
 }
 
-static void make_frame(unsigned char *frame, size_t len)
-{
+static void make_frame(unsigned char *frame, size_t len) {
     static const unsigned char head[] = {2, 0, 0, 0, 0, 2, 2, 0, 0, 0, 0, 1, 8, 0, 0x45};
     memset(frame, 0, len);
     memcpy(frame, head, sizeof head);
@@ -82,15 +77,13 @@ static void make_frame(unsigned char *frame, size_t len)
     put(frame + 38, 2, len - 34);
 }
 
-static void number_frame(unsigned char *frame, size_t len, uint64_t number)
-{
+static void number_frame(unsigned char *frame, size_t len, uint64_t number) {
     put(frame + 36, 2, number % ONE_IN == 0 ? PORT : 1024 + number % 1000);
     put(frame + len - NUMBER_LEN, NUMBER_LEN, number);
 }
 
 /* Sends the first frames of the batch into one interface, and waits where it takes none. */
-static void send_batch(struct sender *sender, int fd, unsigned count)
-{
+static void send_batch(struct sender *sender, int fd, unsigned count) {
     for (unsigned done = 0; done < count;) {
         int sent = sendmmsg(fd, sender->messages + done, count - done, 0);
         if (sent > 0)
@@ -102,8 +95,7 @@ static void send_batch(struct sender *sender, int fd, unsigned count)
     }
 }
 
-static void prepare(struct sender *sender)
-{
+static void prepare(struct sender *sender) {
     for (int i = 0; i < BATCH; i++) {
         make_frame(sender->frames[i], sender->len);
         sender->parts[i] = (struct iovec){sender->frames[i], sender->len};
@@ -112,15 +104,13 @@ static void prepare(struct sender *sender)
 }
 
 /* Waits until a frame's time has come, at so many frames a second. */
-static void pace(double begin, uint64_t number, double rate)
-{
+static void pace(double begin, uint64_t number, double rate) {
     double early = begin + (double)number / rate - now();
     if (rate > 0 && early > 0)
         nanosleep(&(struct timespec){(time_t)early, (long)((early - (double)(time_t)early) * 1e9)}, NULL);
 }
 
-int main(int argc, char **argv)
-{
+int main(int argc, char **argv) {
     static struct sender sender;
     if (argc < 4) {
         fprintf(stderr, "usage: send_frames INTERFACE[,INTERFACE..] LENGTH COUNT [FRAMES_A_SECOND]\n");

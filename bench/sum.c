@@ -9,8 +9,7 @@
 #include <string.h>
 #include <time.h>
 
-static uint32_t body_sum(const unsigned char *bytes, size_t len)
-{
+static uint32_t body_sum(const unsigned char *bytes, size_t len) {
     uint32_t sum = 0, word;
     for (size_t at = 0; at + 4 <= len; at += 4) {
         memcpy(&word, bytes + at, 4);
@@ -19,15 +18,13 @@ static uint32_t body_sum(const unsigned char *bytes, size_t len)
     return sum;
 }
 
-static double now(void)
-{
+static double now(void) {
     struct timespec moment;
     clock_gettime(CLOCK_MONOTONIC, &moment);
     return 1e9 * (double)moment.tv_sec + (double)moment.tv_nsec;
 }
 
-static void time_one(size_t len, uint64_t count, int copies)
-{
+static void time_one(size_t len, uint64_t count, int copies) {
     unsigned char *body = malloc(len), *copy = malloc(len);
     uint64_t total = 0;
     if (body == NULL || copy == NULL)
@@ -43,13 +40,13 @@ static void time_one(size_t len, uint64_t count, int copies)
             total += body_sum(body, len);
         }
     }
-    printf("%s %zu %.3f %llu\n", copies ? "memcpy" : "sum", len, (now() - begin) / (double)count, (unsigned long long)total);
+    printf("%s %zu %.3f %llu\n", copies ? "memcpy" : "sum", len, (now() - begin) / (double)count,
+           (unsigned long long)total);
     free(body);
     free(copy);
 }
 
-int main(int argc, char **argv)
-{
+int main(int argc, char **argv) {
     static const size_t LENGTHS[] = {1500, 16400, 65512, 524260};
     if (argc != 2) {
         fputs("usage: sum GIGABYTES\n", stderr);

@@ -34,8 +34,13 @@ def packet():
     body = FRAMES.to_bytes(4, "little") + frame * FRAMES
     filler = bytes(-len(body) % 4)
     lengths = [24 + len(body) + len(filler), len(body)]
-    header = bytes.fromhex("25eb0100") + b"".join(it.to_bytes(4, "little") for it in lengths) + bytes.fromhex("08000068") + bytes(6)
-    total = sum(int.from_bytes(header[at:at + 2], "little") for at in range(0, 22, 2))
+    header = (
+        bytes.fromhex("25eb0100")
+        + b"".join(it.to_bytes(4, "little") for it in lengths)
+        + bytes.fromhex("08000068")
+        + bytes(6)
+    )
+    total = sum(int.from_bytes(header[at : at + 2], "little") for at in range(0, 22, 2))
     return header + (total % 2**16).to_bytes(2, "little") + body + filler
 
 
@@ -52,7 +57,9 @@ def seconds_of(words, out):
 
 def memory_of(words):
     """The most memory of a run in megabytes. A child of this script would have the script's own."""
-    ran = subprocess.run(["/usr/bin/time", "-f", "%M", *words], stdout=subprocess.DEVNULL, stderr=subprocess.PIPE, text=True, check=True)
+    ran = subprocess.run(
+        ["/usr/bin/time", "-f", "%M", *words], stdout=subprocess.DEVNULL, stderr=subprocess.PIPE, text=True, check=True
+    )
     return int(ran.stderr.split()[-1]) * 1024 / 1e6
 
 

@@ -30,7 +30,9 @@ import time
 from pathlib import Path
 
 ROOT = Path(__file__).resolve().parent.parent
-LIVE, FEED, CAPTURE, SENDER = (ROOT / it for it in ("host/bin/live", "host/bin/convert", "bin/capture", "bin/send_frames"))
+LIVE, FEED, CAPTURE, SENDER = (
+    ROOT / it for it in ("host/bin/live", "host/bin/convert", "bin/capture", "bin/send_frames")
+)
 WANTED = {"ip": "iproute2", "tcpdump": "tcpdump", "dumpcap": "wireshark-common"}
 INSIDE = "BPFREC_WIRE_INSIDE"
 LENGTHS = (64, 300, 1_500)
@@ -80,13 +82,27 @@ def commands(work, buffer, before):
         (work / f"{name}.toml").write_text(f'[[channel]]\nid = 1\nfilter = "{work / name}"\n')
         expression = EXPRESSIONS[name]
         live = [LIVE, "--quiet", "--buffer", buffer, work / f"{name}.toml", work / "out", "rx0=1"]
-        dumpcap = ["dumpcap", "-q", "-i", "rx0", "-B", buffer, *(["-f", *expression] if expression else []), "-w", work / "out"]
+        dumpcap = [
+            "dumpcap",
+            "-q",
+            "-i",
+            "rx0",
+            "-B",
+            buffer,
+            *(["-f", *expression] if expression else []),
+            "-w",
+            work / "out",
+        ]
         tcpdump = ["tcpdump", "-Z", "root", "-n", "-i", "rx0", "-B", buffer * 1024, "-w", work / "out", *expression]
         for program, tree in {"host/bin/live, before": before, "host/bin/live": ROOT}.items():
             if tree and not (before and expression):
                 made[program, name] = [tree / "host/bin/live", *live[1:]], "origin"
             if tree and expression:
-                made[program.replace("live", "live --prefilter"), name] = [tree / "host/bin/live", "--prefilter", *live[1:]], "origin"
+                made[program.replace("live", "live --prefilter"), name] = [
+                    tree / "host/bin/live",
+                    "--prefilter",
+                    *live[1:],
+                ], "origin"
         if before:
             continue
         made["dumpcap", name] = dumpcap, "File: "
@@ -102,7 +118,9 @@ def counts_of(program, told, printed):
     elif program == "dumpcap":
         kept, dropped = re.search(r"Packets captured: (\d+)", told), re.search(r"on interface '.*': \d+/(\d+)", told)
     else:
-        kept, dropped = re.search(r"(\d+) packets? captured", told), re.search(r"(\d+) packets? dropped by kernel", told)
+        kept, dropped = re.search(r"(\d+) packets? captured", told), re.search(
+            r"(\d+) packets? dropped by kernel", told
+        )
     if not kept or not dropped:
         sys.exit(f"{program} told {told}{printed}")
     return int(kept[1]), int(dropped[1])
@@ -118,8 +136,14 @@ def record_once(work, program, words, ready, length, frames, is_ahead=False):
     for path in work.glob("out*"):
         path.unlink()
     with open(work / "told", "w+") as told, open(work / "printed", "w+") as printed:
-        recorder = subprocess.Popen([str(it) for it in words], stdin=subprocess.DEVNULL, stdout=printed, stderr=told,
-                                    start_new_session=True, preexec_fn=go_ahead if is_ahead else None)
+        recorder = subprocess.Popen(
+            [str(it) for it in words],
+            stdin=subprocess.DEVNULL,
+            stdout=printed,
+            stderr=told,
+            start_new_session=True,
+            preexec_fn=go_ahead if is_ahead else None,
+        )
         end = time.monotonic() + PATIENCE
         while ready not in (work / "told").read_text() and time.monotonic() < end:
             time.sleep(0.01)
@@ -143,15 +167,20 @@ def tell_changes(length, runs, frames):
     for before, after in [(key, (key[0].replace(", before", ""), key[1])) for key in runs if ", before" in key[0]]:
         rates = [one[0] / other[0] for one, other in zip(runs[before], runs[after])]
         spent = [1e9 * (other[2] - one[2]) / frames for one, other in zip(runs[before], runs[after])]
-        print(f"{length} bytes, {after[0]}: {statistics.median(rates):.3f} times as many frames a second "
-              f"({min(rates):.2f} to {max(rates):.2f}), {statistics.median(spent):+.0f} ns of processors a frame", flush=True)
+        print(
+            f"{length} bytes, {after[0]}: {statistics.median(rates):.3f} times as many frames a second "
+            f"({min(rates):.2f} to {max(rates):.2f}), {statistics.median(spent):+.0f} ns of processors a frame",
+            flush=True,
+        )
 
 
 def time_wire(work, words):
     frames, rounds = words.frames, words.rounds
     made = commands(work, words.buffer, words.before)
-    print("| Bytes | Program | Keeps | Frames sent a second | Taken a second | Dropped by the kernel | least, greatest "
-          "| Processor, ns a frame |\n|---|---|---|---|---|---|---|---|")
+    print(
+        "| Bytes | Program | Keeps | Frames sent a second | Taken a second | Dropped by the kernel | least, greatest "
+        "| Processor, ns a frame |\n|---|---|---|---|---|---|---|---|"
+    )
     for length in LENGTHS:
         runs = {key: [] for key in made}
         for turn in range(rounds):
@@ -162,8 +191,11 @@ def time_wire(work, words):
             taken = statistics.median((frames - it[4]) / it[0] for it in done)
             drops = [it[4] for it in done]
             processors = statistics.median(1e9 * it[2] / frames for it in done)
-            print(f"| {length} | {program} | {KEPT_SHARE[name]} | {sent:,.0f} | {taken:,.0f} | {statistics.median(drops):,.0f} "
-                  f"| {min(drops):,}, {max(drops):,} | {processors:,.0f} |", flush=True)
+            print(
+                f"| {length} | {program} | {KEPT_SHARE[name]} | {sent:,.0f} | {taken:,.0f} | {statistics.median(drops):,.0f} "
+                f"| {min(drops):,}, {max(drops):,} | {processors:,.0f} |",
+                flush=True,
+            )
         tell_changes(length, runs, frames)
     print(f"\nLoad: {os.getloadavg()[0]:.1f} on {os.cpu_count()} processors")
 
@@ -178,7 +210,9 @@ def write_capture(path, length, frames):
         capture.write(struct.pack("<IHHiIII", 0xA1B23C4D, 2, 4, 0, 0, 262_144, 1))
         for number in range(frames):
             frame = head + number.to_bytes(8, "big") + bytes(length - 4 - 22)
-            capture.write(struct.pack("<IIII", number // 1_000_000, number % 1_000_000 * 1_000, len(frame), len(frame)) + frame)
+            capture.write(
+                struct.pack("<IIII", number // 1_000_000, number % 1_000_000 * 1_000, len(frame), len(frame)) + frame
+            )
 
 
 def time_files(work, frames, rounds):
@@ -186,8 +220,11 @@ def time_files(work, frames, rounds):
     for length in LENGTHS:
         capture, feed = work / "capture.pcap", work / "made.feed"
         write_capture(capture, length, frames)
-        programs = {"capture -r": [CAPTURE, "-r", f"{capture}={feed}"], "host/bin/convert": [FEED, "from-pcap", capture, feed],
-                    "cp": ["cp", capture, feed]}
+        programs = {
+            "capture -r": [CAPTURE, "-r", f"{capture}={feed}"],
+            "host/bin/convert": [FEED, "from-pcap", capture, feed],
+            "cp": ["cp", capture, feed],
+        }
         runs = {name: [] for name in programs}
         for _ in range(rounds):
             for name, words in programs.items():
@@ -199,8 +236,11 @@ def time_files(work, frames, rounds):
                 runs[name].append((time.monotonic() - begin, used.ru_utime + used.ru_stime))
         for name, done in runs.items():
             seconds, processors = (statistics.median(it[at] for it in done) for at in (0, 1))
-            print(f"| {length} | {name} | {frames / seconds:,.0f} | {1e9 * processors / frames:,.0f} "
-                  f"| {capture.stat().st_size / seconds / 1e6:,.0f} |", flush=True)
+            print(
+                f"| {length} | {name} | {frames / seconds:,.0f} | {1e9 * processors / frames:,.0f} "
+                f"| {capture.stat().st_size / seconds / 1e6:,.0f} |",
+                flush=True,
+            )
     print(f"\nLoad: {os.getloadavg()[0]:.1f} on {os.cpu_count()} processors")
 
 
@@ -220,7 +260,9 @@ def main():
     parser.add_argument("--rounds", type=int, default=5)
     parser.add_argument("--part", choices=["wire", "files"])
     parser.add_argument("--buffer", type=int, default=BUFFER_MIB, help="MiB of the kernel's buffer for each program")
-    parser.add_argument("--before", type=Path, metavar="CHECKOUT", help="times host/bin/live of that checkout and ours in turn alone")
+    parser.add_argument(
+        "--before", type=Path, metavar="CHECKOUT", help="times host/bin/live of that checkout and ours in turn alone"
+    )
     parser.add_argument("--ahead", action="store_true", help="put what is timed ahead of the machine's other work")
     words = parser.parse_args()
     if not os.environ.get(INSIDE):

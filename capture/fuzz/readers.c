@@ -1,4 +1,5 @@
-/* Gives drawn bytes to the readers of capture files, as libFuzzer asks for it; dev/trials/check_sanitized.py builds and runs it. */
+/* Gives drawn bytes to the readers of capture files, as libFuzzer asks for it; dev/trials/check_sanitized.py builds and
+ * runs it. */
 #define _GNU_SOURCE
 #include "../feed.h"
 #include "../file.h"
@@ -13,8 +14,7 @@ enum { PATH_LEN = 32 };
 int LLVMFuzzerTestOneInput(const unsigned char *bytes, size_t len);
 
 /* Makes the records of all frames that a file gives. */
-static void read_frames(const char *path)
-{
+static void read_frames(const char *path) {
     struct file file = {.input.fd = -1};
     struct feed feed = {.output.fd = -1};
     struct found found;
@@ -26,8 +26,7 @@ static void read_frames(const char *path)
     close_file(&file);
 }
 
-int LLVMFuzzerTestOneInput(const unsigned char *bytes, size_t len)
-{
+int LLVMFuzzerTestOneInput(const unsigned char *bytes, size_t len) {
     char path[PATH_LEN];
     int fd = memfd_create("drawn", MFD_CLOEXEC);
     if (fd < 0 || write(fd, bytes, len) != (ssize_t)len)

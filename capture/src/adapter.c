@@ -20,10 +20,10 @@
 
 enum { FEATURES_A_BLOCK = 32, TAI_AHEAD_SECONDS = 37 };
 
-static const char *const JOINING[] = {"rx-gro", "rx-lro", "rx-gro-hw", "tx-generic-segmentation", "tx-tcp-segmentation"};
+static const char *const JOINING[] = {"rx-gro", "rx-lro", "rx-gro-hw", "tx-generic-segmentation",
+                                      "tx-tcp-segmentation"};
 
-static int ask(int socket, const char *interface, void *question)
-{
+static int ask(int socket, const char *interface, void *question) {
     struct ifreq request = {0};
     snprintf(request.ifr_name, sizeof request.ifr_name, "%s", interface);
     request.ifr_data = question;
@@ -31,8 +31,7 @@ static int ask(int socket, const char *interface, void *question)
 }
 
 /* How many features the kernel knows. */
-static uint32_t count_features(int socket, const char *interface)
-{
+static uint32_t count_features(int socket, const char *interface) {
     union {
         struct ethtool_sset_info info;
         unsigned char room[sizeof(struct ethtool_sset_info) + sizeof(uint32_t)];
@@ -43,8 +42,7 @@ static uint32_t count_features(int socket, const char *interface)
     return count;
 }
 
-static void note(struct adapter *adapter, const char *name)
-{
+static void note(struct adapter *adapter, const char *name) {
     if (strcmp(name, "rx-fcs") == 0)
         adapter->gives_check_sequences = 1;
     for (size_t i = 0; i < sizeof JOINING / sizeof *JOINING; i++) {
@@ -54,8 +52,7 @@ static void note(struct adapter *adapter, const char *name)
     }
 }
 
-static void ask_features(int socket, const char *interface, uint32_t count, struct adapter *adapter)
-{
+static void ask_features(int socket, const char *interface, uint32_t count, struct adapter *adapter) {
     uint32_t blocks = (count + FEATURES_A_BLOCK - 1) / FEATURES_A_BLOCK;
     struct ethtool_gstrings *names = calloc(1, sizeof *names + (size_t)count * ETH_GSTRING_LEN);
     struct ethtool_gfeatures *features = calloc(1, sizeof *features + blocks * sizeof features->features[0]);
@@ -74,8 +71,7 @@ static void ask_features(int socket, const char *interface, uint32_t count, stru
     free(features);
 }
 
-void ask_adapter(const char *interface, struct adapter *adapter)
-{
+void ask_adapter(const char *interface, struct adapter *adapter) {
     int socket_fd = socket(AF_INET, SOCK_DGRAM | SOCK_CLOEXEC, 0);
     *adapter = (struct adapter){0};
     if (socket_fd < 0)
@@ -86,8 +82,7 @@ void ask_adapter(const char *interface, struct adapter *adapter)
     close(socket_fd);
 }
 
-int is_interface_up(const char *name)
-{
+int is_interface_up(const char *name) {
     int socket_fd = socket(AF_INET, SOCK_DGRAM | SOCK_CLOEXEC, 0);
     struct ifreq request = {0};
     if (socket_fd < 0)
@@ -98,8 +93,7 @@ int is_interface_up(const char *name)
     return is_up;
 }
 
-uint64_t ring_len(int socket)
-{
+uint64_t ring_len(int socket) {
     char line[512], name[64];
     struct stat kind;
     uint64_t len = 0;
@@ -119,20 +113,20 @@ uint64_t ring_len(int socket)
 }
 
 /* How far TAI is ahead of UTC, in seconds: as the kernel was told, or as it has been since 2017. */
-static int tai_ahead(void)
-{
+static int tai_ahead(void) {
     struct timex times = {0};
     return adjtimex(&times) >= 0 && times.tai != 0 ? times.tai : TAI_AHEAD_SECONDS;
 }
 
-void tell_adapter_clock(const char *interface, nanoseconds stamp)
-{
+void tell_adapter_clock(const char *interface, nanoseconds stamp) {
     struct timespec now;
     clock_gettime(CLOCK_REALTIME, &now);
     nanoseconds wall = (nanoseconds)now.tv_sec * NANOSECONDS_PER_SECOND + now.tv_nsec;
     double ahead = (double)(stamp - wall) / NANOSECONDS_PER_SECOND, tai = tai_ahead();
     if (ahead > tai - 1 && ahead < tai + 1)
-        tell("%s: the adapter's clock runs TAI, %.0f s ahead of UTC, and so do the times of its frames", interface, tai);
+        tell("%s: the adapter's clock runs TAI, %.0f s ahead of UTC, and so do the times of its frames", interface,
+             tai);
     else if (ahead > 1 || ahead < -1)
-        tell("%s: the adapter's clock is %+.3f s ahead of the host's, and so are the times of its frames", interface, ahead);
+        tell("%s: the adapter's clock is %+.3f s ahead of the host's, and so are the times of its frames", interface,
+             ahead);
 }

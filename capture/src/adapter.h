@@ -7,8 +7,8 @@
 enum { JOINING_LEN = 128 };
 
 struct adapter {
-    int gives_check_sequences;  /* frames come with their check sequences */
-    char joining[JOINING_LEN];  /* the features by which frames are joined to longer ones, as `ethtool -k` names them */
+    int gives_check_sequences; /* frames come with their check sequences */
+    char joining[JOINING_LEN]; /* the features by which frames are joined to longer ones, as `ethtool -k` names them */
 };
 
 /* Asks the kernel, which knows nothing of some interfaces. */

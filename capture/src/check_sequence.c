@@ -6,8 +6,7 @@ static const uint32_t POLYNOMIAL = 0xEDB88320;
 static uint32_t tables[SLICES][256];
 
 /* By eight tables, eight bytes at a time. */
-static uint32_t by_tables(const unsigned char *bytes, size_t len, uint32_t crc)
-{
+static uint32_t by_tables(const unsigned char *bytes, size_t len, uint32_t crc) {
     for (; len >= SLICES; bytes += SLICES, len -= SLICES) {
         crc ^= (uint32_t)bytes[0] | (uint32_t)bytes[1] << 8 | (uint32_t)bytes[2] << 16 | (uint32_t)bytes[3] << 24;
         crc = tables[7][crc & 0xFF] ^ tables[6][crc >> 8 & 0xFF] ^ tables[5][crc >> 16 & 0xFF] ^ tables[4][crc >> 24] ^
@@ -26,16 +25,14 @@ static int can_fold;
 #define FOLDING __attribute__((target("pclmul,sse4.1")))
 
 /* Moves what was folded on by the distance that the two constants stand for, and adds the bytes there. */
-FOLDING static inline __m128i folded(__m128i sum, __m128i constants, __m128i bytes)
-{
+FOLDING static inline __m128i folded(__m128i sum, __m128i constants, __m128i bytes) {
     __m128i low = _mm_clmulepi64_si128(sum, constants, 0x00);
     __m128i high = _mm_clmulepi64_si128(sum, constants, 0x11);
     return _mm_xor_si128(_mm_xor_si128(low, high), bytes);
 }
 
 /* The remainder of 128 bits, by Barrett's reduction. */
-FOLDING static uint32_t reduced(__m128i sum)
-{
+FOLDING static uint32_t reduced(__m128i sum) {
     const __m128i by_96 = _mm_set_epi64x(0x0ccaa009e, 0x1751997d0), by_64 = _mm_set_epi64x(0, 0x163cd6124);
     const __m128i quotient = _mm_set_epi64x(0x1f7011641, 0x1db710641), low_words = _mm_setr_epi32(~0, 0, ~0, 0);
     sum = _mm_xor_si128(_mm_srli_si128(sum, 8), _mm_clmulepi64_si128(sum, by_96, 0x10));
@@ -48,8 +45,7 @@ FOLDING static uint32_t reduced(__m128i sum)
 
 /* By products without carries: V. Gopal and others, "Fast CRC Computation for Generic Polynomials Using
  * PCLMULQDQ Instruction" (Intel, 2009), on a multiple of 16 bytes, 16 at least. */
-FOLDING static uint32_t by_folding(const unsigned char *bytes, size_t len, uint32_t crc)
-{
+FOLDING static uint32_t by_folding(const unsigned char *bytes, size_t len, uint32_t crc) {
     const __m128i by_512 = _mm_set_epi64x(0x1c6e41596, 0x154442bd4);
     const __m128i by_128 = _mm_set_epi64x(0x0ccaa009e, 0x1751997d0);
     const __m128i *at = (const __m128i *)bytes;
@@ -70,8 +66,7 @@ FOLDING static uint32_t by_folding(const unsigned char *bytes, size_t len, uint3
     return reduced(sum);
 }
 
-static uint32_t remainder_of(const unsigned char *bytes, size_t len, uint32_t crc)
-{
+static uint32_t remainder_of(const unsigned char *bytes, size_t len, uint32_t crc) {
     if (can_fold && len >= LEAST_FOLDED) {
         size_t whole = len & ~(size_t)15;
         crc = by_folding(bytes, whole, crc);
@@ -81,19 +76,16 @@ static uint32_t remainder_of(const unsigned char *bytes, size_t len, uint32_t cr
     return by_tables(bytes, len, crc);
 }
 
-static void look_for_folding(void)
-{
+static void look_for_folding(void) {
     can_fold = __builtin_cpu_supports("pclmul") && __builtin_cpu_supports("sse4.1");
 }
 #else
 #define remainder_of by_tables
-static void look_for_folding(void)
-{
+static void look_for_folding(void) {
 }
 #endif
 
-void prepare_check_sequences(void)
-{
+void prepare_check_sequences(void) {
     for (uint32_t byte = 0; byte < 256; byte++) {
         uint32_t crc = byte;
         for (int bit = 0; bit < 8; bit++)
@@ -108,7 +100,6 @@ void prepare_check_sequences(void)
     look_for_folding();
 }
 
-uint32_t check_sequence(const unsigned char *frame, size_t len)
-{
+uint32_t check_sequence(const unsigned char *frame, size_t len) {
     return ~remainder_of(frame, len, ~(uint32_t)0);
 }

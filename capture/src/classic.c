@@ -9,8 +9,7 @@ enum { HEAD_LEN = 24, RECORD_LEN = 16 };
 static const uint32_t MICROSECOND_MAGIC = 0xA1B2C3D4, NANOSECOND_MAGIC = 0xA1B23C4D;
 static const uint32_t HAS_CHECK_SEQUENCE = 1 << 26;
 
-int is_classic(struct file *file)
-{
+int is_classic(struct file *file) {
     struct input *input = &file->input;
     for (input->is_big_endian = 0; input->is_big_endian < 2; input->is_big_endian++) {
         uint32_t magic = word(input, next_bytes(input));
@@ -21,8 +20,7 @@ int is_classic(struct file *file)
     return 0;
 }
 
-int open_classic(struct file *file)
-{
+int open_classic(struct file *file) {
     struct input *input = &file->input;
     if (want(input, HEAD_LEN) < 0)
         return -1;
@@ -39,8 +37,7 @@ int open_classic(struct file *file)
     return judge_interface(file, 0) < 0 ? -1 : judge_check_sequence(file, it->check_sequence_len);
 }
 
-int next_classic(struct file *file, struct found *found)
-{
+int next_classic(struct file *file, struct found *found) {
     struct input *input = &file->input;
     int more = have(input, RECORD_LEN);
     if (more <= 0)

@@ -20,8 +20,8 @@ enum { KEPT_SETTINGS = 1024, LOOKS = 3 };
 
 /* A setting of the wall clock. Moments are by the clock that runs on. The first is the beginning. */
 struct setting {
-    int64_t ahead;             /* how far the wall clock is ahead from then on */
-    int64_t after, before;     /* it was between these: when its look before and the one that saw it were */
+    int64_t ahead;                       /* how far the wall clock is ahead from then on */
+    int64_t after, before;               /* it was between these: when its look before and the one that saw it were */
     _Atomic int64_t last_old, first_new; /* the last frame that was stamped before it, and the first after it */
 };
 
@@ -31,27 +31,24 @@ struct look {
 };
 
 static struct setting settings[KEPT_SETTINGS];
-static int64_t first_ahead;      /* how far the wall clock was ahead at the beginning */
-static atomic_uint newest;       /* the number of the last setting */
+static int64_t first_ahead;       /* how far the wall clock was ahead at the beginning */
+static atomic_uint newest;        /* the number of the last setting */
 static _Atomic int64_t last_look; /* which saw no setting */
-static unsigned told;            /* the number of the last setting that was told */
+static unsigned told;             /* the number of the last setting that was told */
 static struct origin origin;
 static pthread_mutex_t lock = PTHREAD_MUTEX_INITIALIZER;
 
-static struct setting *setting_of(unsigned number)
-{
+static struct setting *setting_of(unsigned number) {
     return &settings[number % KEPT_SETTINGS];
 }
 
 /* How far the wall clock was set since the beginning, by a setting. */
-static int64_t set_by(unsigned number)
-{
+static int64_t set_by(unsigned number) {
     return setting_of(number)->ahead - first_ahead;
 }
 
 /* Looks a few times, and takes the quickest look: another program may have run in between. */
-static struct look look_at_clocks(void)
-{
+static struct look look_at_clocks(void) {
     struct look best = {.took = INT64_MAX};
     for (int turn = 0; turn < LOOKS; turn++) {
         struct timespec wall;
@@ -66,14 +63,12 @@ static struct look look_at_clocks(void)
     return best;
 }
 
-static int shows_setting(const struct look *look)
-{
+static int shows_setting(const struct look *look) {
     int64_t step = look->ahead - setting_of(atomic_load(&newest))->ahead, least = LEAST_STEP + look->took;
     return step > least || step < -least;
 }
 
-void start_clock(const struct origin *first)
-{
+void start_clock(const struct origin *first) {
     struct look look = look_at_clocks();
     origin = *first;
     first_ahead = look.ahead;
@@ -81,8 +76,7 @@ void start_clock(const struct origin *first)
     atomic_store(&last_look, look.steady);
 }
 
-void follow_clock(void)
-{
+void follow_clock(void) {
     struct look look = look_at_clocks();
     if (!shows_setting(&look)) {
         atomic_store(&last_look, look.steady);
@@ -107,50 +101,44 @@ void follow_clock(void)
 /* ---- what is told */
 
 /* The counter at a moment of the clock that runs on. */
-static uint64_t counter_of(int64_t steady)
-{
+static uint64_t counter_of(int64_t steady) {
     return counter_at((nanoseconds)steady + first_ahead, &origin);
 }
 
-uint64_t counter_now(void)
-{
+uint64_t counter_now(void) {
     return counter_of(steady_now());
 }
 
-static int64_t least(int64_t one, int64_t other)
-{
+static int64_t least(int64_t one, int64_t other) {
     return one < other ? one : other;
 }
 
-static int64_t greatest(int64_t one, int64_t other)
-{
+static int64_t greatest(int64_t one, int64_t other) {
     return one > other ? one : other;
 }
 
 /* From when on a setting is told to hold: a moment before the first frame that is known to come after it, since others
- * may wait that came a little sooner, but not before the last look that didn't see it, nor before the last frame that is
- * known to come before it. */
-static int64_t told_from(const struct setting *setting)
-{
+ * may wait that came a little sooner, but not before the last look that didn't see it, nor before the last frame that
+ * is known to come before it. */
+static int64_t told_from(const struct setting *setting) {
     int64_t new = least(atomic_load(&setting->first_new), setting->before);
     int64_t old = greatest(atomic_load(&setting->last_old) + NANOSECONDS_PER_TICK, setting->after);
     return greatest(setting->after, least(new, greatest(new - SOON, old)));
 }
 
-static void tell_setting(unsigned number)
-{
+static void tell_setting(unsigned number) {
     struct setting *setting = setting_of(number);
     uint64_t counter = counter_of(told_from(setting));
     int64_t by = setting->ahead - setting_of(number - 1)->ahead;
     char text[SECONDS_TEXT_LEN], by_text[SECONDS_TEXT_LEN];
     print_seconds(origin.at + set_by(number), text);
     print_seconds(by, by_text);
-    tell("origin %s from counter %" PRIu64 " on: the clock was set by %s%s s", text, counter, by < 0 ? "" : "+", by_text);
+    tell("origin %s from counter %" PRIu64 " on: the clock was set by %s%s s", text, counter, by < 0 ? "" : "+",
+         by_text);
     tell_event("{\"origin\": \"%s\", \"counter\": %" PRIu64 ", \"set_by\": \"%s\"}", text, counter, by_text);
 }
 
-void tell_settings(int is_end)
-{
+void tell_settings(int is_end) {
     while (told != atomic_load(&newest)) {
         if (!is_end && steady_now() - setting_of(told + 1)->before < BEFORE_TOLD)
             return;
@@ -161,21 +149,18 @@ void tell_settings(int is_end)
 /* ---- frames */
 
 /* Whether a frame may have come at a moment that is by a setting: in its time, and not before the frame before. */
-static int could_be(unsigned number, unsigned last, int64_t moment, int64_t frame_before)
-{
+static int could_be(unsigned number, unsigned last, int64_t moment, int64_t frame_before) {
     int64_t end = number == last ? steady_now() : setting_of(number + 1)->before;
     return moment >= setting_of(number)->after && moment <= end + LEAST_STEP && moment >= frame_before - LEAST_STEP;
 }
 
 /* A moment that is counted from the beginning's wall clock, by the clock that runs on. */
-static int64_t steady_of(nanoseconds moment)
-{
+static int64_t steady_of(nanoseconds moment) {
     return (int64_t)(moment - first_ahead);
 }
 
 /* Notes that a frame came at this moment after each of these settings, and the one before it before them. */
-static void note_frames(unsigned first, unsigned last, int64_t before, int64_t moment)
-{
+static void note_frames(unsigned first, unsigned last, int64_t before, int64_t moment) {
     for (unsigned number = first; number <= last; number++) {
         struct setting *setting = setting_of(number);
         int64_t earliest = atomic_load(&setting->first_new), latest = atomic_load(&setting->last_old);
@@ -188,8 +173,7 @@ static void note_frames(unsigned first, unsigned last, int64_t before, int64_t m
 
 /* By which setting a frame was stamped. One that waited while the clock was set has its time by the old one: of the
  * moments that fit the first is right, since between two frames less time goes by than by which a clock is set. */
-static unsigned setting_by_which(const struct frame_clock *clock, nanoseconds stamp)
-{
+static unsigned setting_by_which(const struct frame_clock *clock, nanoseconds stamp) {
     unsigned last = atomic_load(&newest), found = last;
     unsigned first = last - clock->setting < KEPT_SETTINGS ? clock->setting : last;
     int64_t earliest = INT64_MAX, frame_before = steady_of(clock->last);
@@ -204,8 +188,7 @@ static unsigned setting_by_which(const struct frame_clock *clock, nanoseconds st
 }
 
 /* The same where a frame doesn't follow the one before closely, or the clock was set. */
-static nanoseconds judged_moment(struct frame_clock *clock, nanoseconds stamp)
-{
+static nanoseconds judged_moment(struct frame_clock *clock, nanoseconds stamp) {
     follow_clock();
     unsigned before = clock->setting;
     clock->setting = setting_by_which(clock, stamp);
@@ -215,8 +198,7 @@ static nanoseconds judged_moment(struct frame_clock *clock, nanoseconds stamp)
     return moment;
 }
 
-nanoseconds steady_moment(struct frame_clock *clock, nanoseconds stamp)
-{
+nanoseconds steady_moment(struct frame_clock *clock, nanoseconds stamp) {
     nanoseconds moment = stamp - set_by(clock->setting), since = moment - clock->last;
     if (since < 0 || since > SOON || clock->setting != atomic_load_explicit(&newest, memory_order_relaxed)) {
         moment = judged_moment(clock, stamp);

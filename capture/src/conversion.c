@@ -6,16 +6,14 @@
 #include <string.h>
 #include <sys/stat.h>
 
-static int is_regular(const char *path)
-{
+static int is_regular(const char *path) {
     struct stat kind;
     return strcmp(path, "-") != 0 && stat(path, &kind) == 0 && S_ISREG(kind.st_mode);
 }
 
 /* The moment of a file's first frame that has one: 1, or 0 where none has, which is told where the file is unreadable
  * once it is converted. */
-static int first_moment(const struct words *words, const char *path, nanoseconds *moment)
-{
+static int first_moment(const struct words *words, const char *path, nanoseconds *moment) {
     struct file file = {.input.fd = -1};
     struct found found = {0};
     if (open_file(&file, path, words->interface))
@@ -26,8 +24,7 @@ static int first_moment(const struct words *words, const char *path, nanoseconds
     return found.has_time;
 }
 
-int find_origin(struct words *words)
-{
+int find_origin(struct words *words) {
     if (!words->origin.is_first_frame || words->count < 2)
         return 1;
     for (int i = 0; i < words->count; i++) {
@@ -45,15 +42,13 @@ int find_origin(struct words *words)
     return 1;
 }
 
-static void flush_before_waiting(void *it)
-{
+static void flush_before_waiting(void *it) {
     struct conversion *conversion = it;
     flush_feed(&conversion->feed);
 }
 
 /* The counter of a frame; one without a time has that of the frame before. */
-static uint64_t counter_of(struct conversion *conversion, const struct found *found)
-{
+static uint64_t counter_of(struct conversion *conversion, const struct found *found) {
     if (!found->has_time)
         return conversion->counter;
     if (conversion->origin.is_first_frame)
@@ -63,13 +58,11 @@ static uint64_t counter_of(struct conversion *conversion, const struct found *fo
 }
 
 /* Whether a run that is stopped leaves the rest of a file: of a pipe it still takes what has come. */
-static int is_left(const struct file *file)
-{
+static int is_left(const struct file *file) {
     return is_hurried() || (is_stopping() && !file->input.waits);
 }
 
-static void convert(struct conversion *conversion)
-{
+static void convert(struct conversion *conversion) {
     struct found found;
     int more = 1;
     if (!conversion->file.input.waits)
@@ -81,8 +74,7 @@ static void convert(struct conversion *conversion)
     conversion->is_well = more >= 0;
 }
 
-void run_conversion(struct conversion *conversion)
-{
+void run_conversion(struct conversion *conversion) {
     struct file *file = &conversion->file;
     struct feed *feed = &conversion->feed;
     struct output *output = &feed->output;

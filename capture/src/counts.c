@@ -11,20 +11,17 @@ static const int64_t BETWEEN_LINES = NANOSECONDS_PER_SECOND;
 /* Losses are noted each second, and after so many notes half as often, and so on: the facts stay short. */
 enum { NOTES = 1000, MOST_HALVINGS = 16 };
 
-static int64_t milliseconds(int64_t time)
-{
+static int64_t milliseconds(int64_t time) {
     return time / (NANOSECONDS_PER_SECOND / 1000);
 }
 
-void begin_counts(struct interface *interface)
-{
+void begin_counts(struct interface *interface) {
     struct counts *counts = &interface->counts;
     counts->next_line = counts->next_note = steady_now() + BETWEEN_LINES;
     counts->noted.counter = counter_now();
 }
 
-void count_drops(struct interface *interface)
-{
+void count_drops(struct interface *interface) {
     struct counts *counts = &interface->counts;
     struct pcap_stat now = counts->seen;
     if (interface->pcap == NULL || pcap_stats(interface->pcap, &now) != 0)
@@ -36,12 +33,12 @@ void count_drops(struct interface *interface)
     counts->seen = now;
 }
 
-void tell_counts(struct interface *interface)
-{
+void tell_counts(struct interface *interface) {
     const struct feed *feed = &interface->feed;
     const struct counts *counts = &interface->counts;
     count_drops(interface);
-    tell("%s frames %" PRIu64 " bytes %" PRIu64 " dropped %" PRIu64 " missed %" PRIu64 " passed %" PRIu64 " waited %" PRId64,
+    tell("%s frames %" PRIu64 " bytes %" PRIu64 " dropped %" PRIu64 " missed %" PRIu64 " passed %" PRIu64
+         " waited %" PRId64,
          interface->name, feed->frames, feed->frame_bytes, counts->dropped, counts->missed, feed->passed,
          milliseconds(feed->output.waited));
 }
@@ -49,8 +46,7 @@ void tell_counts(struct interface *interface)
 /* ---- facts */
 
 /* Notes what was lost since it was noted last. */
-static void note_losses(struct interface *interface)
-{
+static void note_losses(struct interface *interface) {
     struct counts *counts = &interface->counts;
     uint64_t counter = counter_now(), skipped = interface->feed.passed;
     uint64_t dropped_now = counts->dropped - counts->noted.dropped, missed_now = counts->missed - counts->noted.missed;
@@ -69,8 +65,7 @@ static void note_losses(struct interface *interface)
     counts->noted.skipped = skipped;
 }
 
-void note_counts(struct interface *interface)
-{
+void note_counts(struct interface *interface) {
     const struct feed *feed = &interface->feed;
     char name[JSON_NAME_LEN];
     if (!has_events())
@@ -88,8 +83,7 @@ void note_counts(struct interface *interface)
 /* ---- in time */
 
 /* Whether a moment has come; then the next one is so much later. */
-static int is_due(int64_t *next, int64_t between)
-{
+static int is_due(int64_t *next, int64_t between) {
     int64_t now = steady_now();
     if (now < *next)
         return 0;
@@ -97,14 +91,12 @@ static int is_due(int64_t *next, int64_t between)
     return 1;
 }
 
-static int64_t between_notes(const struct counts *counts)
-{
+static int64_t between_notes(const struct counts *counts) {
     unsigned halvings = counts->notes / NOTES;
     return BETWEEN_LINES << (halvings < MOST_HALVINGS ? halvings : MOST_HALVINGS);
 }
 
-void tell_in_time(void *it)
-{
+void tell_in_time(void *it) {
     struct interface *interface = it;
     struct counts *counts = &interface->counts;
     if (!interface->words->is_quiet && is_due(&counts->next_line, BETWEEN_LINES))
@@ -117,8 +109,7 @@ void tell_in_time(void *it)
 
 /* ---- the end */
 
-int tell_lost(const struct interface *interface)
-{
+int tell_lost(const struct interface *interface) {
     uint64_t dropped = interface->counts.dropped, missed = interface->counts.missed, skipped = interface->feed.passed;
     char name[JSON_NAME_LEN], missed_text[64] = "";
     if (dropped + missed + skipped == 0)
@@ -127,7 +118,8 @@ int tell_lost(const struct interface *interface)
         snprintf(missed_text, sizeof missed_text, " %" PRIu64 " missed", missed);
     if (has_events()) {
         print_json_name(interface->name, name);
-        tell_event("{\"lost_in_all\": \"%s LOST %" PRIu64 " dropped %" PRIu64 " skipped%s\"}", name, dropped, skipped, missed_text);
+        tell_event("{\"lost_in_all\": \"%s LOST %" PRIu64 " dropped %" PRIu64 " skipped%s\"}", name, dropped, skipped,
+                   missed_text);
     } else {
         tell("%s LOST %" PRIu64 " dropped %" PRIu64 " skipped%s", interface->name, dropped, skipped, missed_text);
     }

@@ -8,14 +8,14 @@
 struct interface;
 
 struct counts {
-    uint64_t dropped, missed;   /* by the kernel, and by the interface; of all times that it was open */
-    struct pcap_stat seen;      /* what libpcap said last, since it was opened */
+    uint64_t dropped, missed; /* by the kernel, and by the interface; of all times that it was open */
+    struct pcap_stat seen;    /* what libpcap said last, since it was opened */
     int64_t next_line;
     int64_t next_note;
     unsigned notes;
     struct {
         uint64_t counter, dropped, missed, skipped;
-    } noted;                    /* up to then losses are noted */
+    } noted; /* up to then losses are noted */
 };
 
 /* Begins to count, now. */

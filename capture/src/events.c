@@ -13,21 +13,18 @@ enum { EVENT_LEN = 512, ESCAPE_LEN = 6 };
 
 static int events = -1;
 
-int open_events(const char *path)
-{
+int open_events(const char *path) {
     events = open(path, O_WRONLY | O_APPEND | O_CREAT | O_CLOEXEC, 0666);
     if (events < 0)
         tell("%s: %s", path, strerror(errno));
     return events >= 0;
 }
 
-int has_events(void)
-{
+int has_events(void) {
     return events >= 0;
 }
 
-void tell_event(const char *format, ...)
-{
+void tell_event(const char *format, ...) {
     char line[EVENT_LEN];
     va_list values;
     if (events < 0)
@@ -41,8 +38,7 @@ void tell_event(const char *format, ...)
     (void)!write(events, line, (size_t)len + 1);
 }
 
-void print_json_name(const char *name, char text[JSON_NAME_LEN])
-{
+void print_json_name(const char *name, char text[JSON_NAME_LEN]) {
     size_t len = 0;
     for (; *name != '\0' && len + ESCAPE_LEN < JSON_NAME_LEN; name++) {
         unsigned char byte = (unsigned char)*name;

@@ -20,8 +20,7 @@ enum {
 
 static const int64_t OLD = 1000000;
 
-int open_feed(struct feed *feed, const char *path)
-{
+int open_feed(struct feed *feed, const char *path) {
     feed->room = FIRST_ROOM;
     feed->bytes = malloc(feed->room);
     if (feed->bytes == NULL)
@@ -29,8 +28,7 @@ int open_feed(struct feed *feed, const char *path)
     return open_output(&feed->output, path);
 }
 
-void write_beside(struct feed *feed)
-{
+void write_beside(struct feed *feed) {
     unsigned char *more = realloc(feed->bytes, ROOM_BESIDE);
     if (more == NULL)
         return;
@@ -39,8 +37,7 @@ void write_beside(struct feed *feed)
     start_writer(&feed->writer, &feed->output, feed->room);
 }
 
-int flush_feed(struct feed *feed)
-{
+int flush_feed(struct feed *feed) {
     size_t len = feed->len;
     uint64_t taken = feed->output.taken, waiting = feed->waiting;
     feed->len = 0;
@@ -55,15 +52,13 @@ int flush_feed(struct feed *feed)
     return goes_on;
 }
 
-int flush_old(struct feed *feed)
-{
+int flush_old(struct feed *feed) {
     if (feed->len > 0 && steady_now() - feed->since > OLD)
         return flush_feed(feed);
     return is_open(&feed->output);
 }
 
-enum switching switch_feed(struct feed *feed)
-{
+enum switching switch_feed(struct feed *feed) {
     int fd;
     enum switching switching = open_next(&feed->output, &fd);
     if (fd >= 0) {
@@ -74,22 +69,19 @@ enum switching switch_feed(struct feed *feed)
 }
 
 /* Writes a check sequence in its order on the wire. */
-static void put_check_sequence(unsigned char *at, uint32_t value)
-{
+static void put_check_sequence(unsigned char *at, uint32_t value) {
     for (int i = 0; i < CHECK_SEQUENCE_LEN; i++)
         at[i] = (unsigned char)(value >> 8 * i);
 }
 
-static int is_check_sequence_wrong(const unsigned char *frame, size_t len)
-{
+static int is_check_sequence_wrong(const unsigned char *frame, size_t len) {
     unsigned char right[CHECK_SEQUENCE_LEN];
     put_check_sequence(right, check_sequence(frame, len - CHECK_SEQUENCE_LEN));
     return memcmp(right, frame + len - CHECK_SEQUENCE_LEN, CHECK_SEQUENCE_LEN) != 0;
 }
 
 /* The length of a frame with its check sequence and padding; 0 where no feed takes it. */
-static size_t wire_len(const struct captured *captured)
-{
+static size_t wire_len(const struct captured *captured) {
     size_t len = captured->len;
     if (!captured->has_check_sequence) {
         if (len < HEADER_LEN)
@@ -99,8 +91,7 @@ static size_t wire_len(const struct captured *captured)
     return captured->is_whole && len >= LEAST_FRAME_LEN && len <= MOST_FRAME_LEN ? len : 0;
 }
 
-static void put_head(unsigned char *record, uint64_t counter, unsigned marks, size_t len)
-{
+static void put_head(unsigned char *record, uint64_t counter, unsigned marks, size_t len) {
     for (int i = 0; i < 6; i++)
         record[i] = (unsigned char)(counter >> 8 * i);
     record[6] = (unsigned char)marks;
@@ -108,8 +99,7 @@ static void put_head(unsigned char *record, uint64_t counter, unsigned marks, si
     record[8] = (unsigned char)(len >> 8);
 }
 
-int put_frame(struct feed *feed, uint64_t counter, const struct captured *captured)
-{
+int put_frame(struct feed *feed, uint64_t counter, const struct captured *captured) {
     size_t len = wire_len(captured);
     if (len == 0) {
         feed->passed++;
@@ -137,8 +127,7 @@ int put_frame(struct feed *feed, uint64_t counter, const struct captured *captur
     return 1;
 }
 
-void close_feed(struct feed *feed)
-{
+void close_feed(struct feed *feed) {
     end_writer(&feed->writer);
     close_output(&feed->output);
     free(feed->bytes);

@@ -44,8 +44,8 @@ int put_frame(struct feed *feed, uint64_t counter, const struct captured *captur
  * one of them. Else it goes on as before. */
 enum switching switch_feed(struct feed *feed);
 
-/* Writes what waits, or hands it to the thread. Whether the feed is still open. Where its reader has left before it took
- * any of it, it waits for another feed. */
+/* Writes what waits, or hands it to the thread. Whether the feed is still open. Where its reader has left before it
+ * took any of it, it waits for another feed. */
 int flush_feed(struct feed *feed);
 
 /* Writes what has waited for a millisecond. Whether the feed is still open. */

@@ -11,30 +11,27 @@ enum { LINK_TYPE_ETHERNET = 1, MAGIC_LEN = 4 };
 
 /* ---- interfaces */
 
-int is_interface_read(const struct file *file, uint32_t number)
-{
+int is_interface_read(const struct file *file, uint32_t number) {
     return file->chosen == EVERY_INTERFACE || (uint32_t)file->chosen == number;
 }
 
-int judge_interface(struct file *file, uint32_t number)
-{
+int judge_interface(struct file *file, uint32_t number) {
     const struct described *it = &file->interfaces[number];
     if (it->link_type != LINK_TYPE_ETHERNET)
-        return refuse(&file->input, "link type %u of interface %" PRIu32 ", where Ethernet is 1", it->link_type, number);
+        return refuse(&file->input, "link type %u of interface %" PRIu32 ", where Ethernet is 1", it->link_type,
+                      number);
     if (it->units_per_second == 0)
         return refuse(&file->input, "time resolution %u of interface %" PRIu32, it->resolution, number);
     return 1;
 }
 
-int judge_check_sequence(struct file *file, unsigned len)
-{
+int judge_check_sequence(struct file *file, unsigned len) {
     if (len != 0 && len != CHECK_SEQUENCE_LEN)
         return refuse(&file->input, "check sequences of %u bytes, where Ethernet has 4", len);
     return 1;
 }
 
-struct described *add_interface(struct file *file)
-{
+struct described *add_interface(struct file *file) {
     if (file->count == file->room) {
         uint32_t room = file->room ? 2 * file->room : 4;
         struct described *more = realloc(file->interfaces, room * sizeof *more);
@@ -51,8 +48,7 @@ struct described *add_interface(struct file *file)
 
 /* ---- files */
 
-int open_file(struct file *file, const char *path, int chosen)
-{
+int open_file(struct file *file, const char *path, int chosen) {
     struct input *input = &file->input;
     file->chosen = chosen;
     if (!open_input(input, path))
@@ -68,13 +64,11 @@ int open_file(struct file *file, const char *path, int chosen)
     return 0;
 }
 
-int next_found(struct file *file, struct found *found)
-{
+int next_found(struct file *file, struct found *found) {
     return file->is_classic ? next_classic(file, found) : next_of_blocks(file, found);
 }
 
-void close_file(struct file *file)
-{
+void close_file(struct file *file) {
     close_input(&file->input);
     free(file->interfaces);
 }

@@ -13,7 +13,7 @@ enum { EVERY_INTERFACE = -1 };
 /* An interface of a section, as its description says. */
 struct described {
     uint16_t link_type;
-    uint32_t most_captured; /* 0 where nothing is cut */
+    uint32_t most_captured;    /* 0 where nothing is cut */
     uint64_t units_per_second; /* 0 where the resolution is one that isn't read */
     unsigned resolution;
     int64_t seconds_before;

@@ -19,8 +19,7 @@ enum {
     LAST_WAIT_MS = 300,
 };
 
-int refuse(struct input *input, const char *format, ...)
-{
+int refuse(struct input *input, const char *format, ...) {
     va_list values;
     va_start(values, format);
     vsnprintf(input->fault, sizeof input->fault, format, values);
@@ -28,8 +27,7 @@ int refuse(struct input *input, const char *format, ...)
     return -1;
 }
 
-int open_input(struct input *input, const char *path)
-{
+int open_input(struct input *input, const char *path) {
     struct stat kind;
     input->size = FIRST_ROOM;
     input->bytes = malloc(input->size);
@@ -43,8 +41,7 @@ int open_input(struct input *input, const char *path)
 }
 
 /* Moves what is left to the front, where there is room for `len` bytes. Whether there is. */
-static int make_room(struct input *input, size_t len)
-{
+static int make_room(struct input *input, size_t len) {
     memmove(input->bytes, next_bytes(input), count_next(input));
     input->end -= input->begin;
     input->begin = 0;
@@ -59,8 +56,7 @@ static int make_room(struct input *input, size_t len)
 }
 
 /* Waits for bytes of a pipe, as long as the run goes on, and then for what is on its way. Whether there are some. */
-static int wait_for_bytes(struct input *input)
-{
+static int wait_for_bytes(struct input *input) {
     struct pollfd waits[2] = {{.fd = input->fd, .events = POLLIN}, {.fd = stop_fd}};
     if (input->before_waiting)
         input->before_waiting(input->told);
@@ -69,8 +65,7 @@ static int wait_for_bytes(struct input *input)
     return waits[0].revents != 0 || poll(waits, 1, LAST_WAIT_MS) > 0;
 }
 
-int have(struct input *input, size_t len)
-{
+int have(struct input *input, size_t len) {
     if (count_next(input) >= len)
         return 1;
     if (!make_room(input, len))
@@ -90,16 +85,14 @@ int have(struct input *input, size_t len)
     return 1;
 }
 
-int want(struct input *input, size_t len)
-{
+int want(struct input *input, size_t len) {
     int found = have(input, len);
     if (found == 0)
         return refuse(input, "cut short at byte %" PRIu64, input->at + count_next(input));
     return found;
 }
 
-void close_input(struct input *input)
-{
+void close_input(struct input *input) {
     if (input->fd >= 0)
         close(input->fd);
     free(input->bytes);

@@ -13,7 +13,7 @@ struct input {
     int is_big_endian;
     unsigned char *bytes;
     size_t begin, end, size;
-    uint64_t at; /* the place in the file of the byte at `begin` */
+    uint64_t at;                    /* the place in the file of the byte at `begin` */
     void (*before_waiting)(void *); /* called before a read that may wait */
     void *told;
     char fault[FAULT_LEN]; /* what is wrong, where a call says so */
@@ -29,18 +29,15 @@ int have(struct input *input, size_t len);
 int want(struct input *input, size_t len);
 
 /* The bytes that are there and were not passed, until the next call that reads. */
-static inline const unsigned char *next_bytes(const struct input *input)
-{
+static inline const unsigned char *next_bytes(const struct input *input) {
     return input->bytes + input->begin;
 }
 
-static inline size_t count_next(const struct input *input)
-{
+static inline size_t count_next(const struct input *input) {
     return input->end - input->begin;
 }
 
-static inline void pass(struct input *input, size_t len)
-{
+static inline void pass(struct input *input, size_t len) {
     input->begin += len;
     input->at += len;
 }
@@ -48,15 +45,13 @@ static inline void pass(struct input *input, size_t len)
 /* Keeps what is wrong: -1. */
 int refuse(struct input *input, const char *format, ...) __attribute__((format(printf, 2, 3)));
 
-static inline uint32_t word(const struct input *input, const unsigned char *at)
-{
+static inline uint32_t word(const struct input *input, const unsigned char *at) {
     if (input->is_big_endian)
         return (uint32_t)at[0] << 24 | (uint32_t)at[1] << 16 | (uint32_t)at[2] << 8 | at[3];
     return (uint32_t)at[3] << 24 | (uint32_t)at[2] << 16 | (uint32_t)at[1] << 8 | at[0];
 }
 
-static inline uint16_t half(const struct input *input, const unsigned char *at)
-{
+static inline uint16_t half(const struct input *input, const unsigned char *at) {
     return (uint16_t)(input->is_big_endian ? at[0] << 8 | at[1] : at[1] << 8 | at[0]);
 }
 

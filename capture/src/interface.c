@@ -22,10 +22,10 @@ enum {
 
 /* ---- frames */
 
-static void take_frame(unsigned char *it, const struct pcap_pkthdr *head, const unsigned char *bytes)
-{
+static void take_frame(unsigned char *it, const struct pcap_pkthdr *head, const unsigned char *bytes) {
     struct interface *interface = (struct interface *)it;
-    const struct captured captured = {bytes, head->caplen, head->caplen >= head->len, interface->has_check_sequences, 0};
+    const struct captured captured = {bytes, head->caplen, head->caplen >= head->len, interface->has_check_sequences,
+                                      0};
     nanoseconds moment = (nanoseconds)head->ts.tv_sec * NANOSECONDS_PER_SECOND +
                          (nanoseconds)head->ts.tv_usec * interface->nanoseconds_per_unit;
     if (interface->is_down) {
@@ -42,8 +42,7 @@ static void take_frame(unsigned char *it, const struct pcap_pkthdr *head, const 
 }
 
 /* Keeps further frames out of the kernel's buffer, past libpcap, which would take those in it for unwanted too. */
-static void detach(struct interface *interface)
-{
+static void detach(struct interface *interface) {
     struct sock_filter drop = BPF_STMT(BPF_RET | BPF_K, 0);
     struct sock_fprog program = {1, &drop};
     setsockopt(pcap_fileno(interface->pcap), SOL_SOCKET, SO_ATTACH_FILTER, &program, sizeof program);
@@ -52,15 +51,13 @@ static void detach(struct interface *interface)
 
 /* ---- interfaces that go and come */
 
-static void close_pcap(struct interface *interface)
-{
+static void close_pcap(struct interface *interface) {
     if (interface->pcap != NULL)
         pcap_close(interface->pcap);
     interface->pcap = NULL;
 }
 
-static void lose_interface(struct interface *interface)
-{
+static void lose_interface(struct interface *interface) {
     count_drops(interface);
     close_pcap(interface);
     interface->is_down = 0;
@@ -70,8 +67,7 @@ static void lose_interface(struct interface *interface)
 
 /* Sees whether an interface that failed is only down, or gone. One that was renamed while it was down fails whenever it
  * has no frames, since libpcap goes by its name; there is nothing to do then. */
-static void look_at_interface(struct interface *interface)
-{
+static void look_at_interface(struct interface *interface) {
     char name[IF_NAMESIZE];
     if (if_indextoname(interface->number, name) == NULL) {
         lose_interface(interface);
@@ -82,8 +78,7 @@ static void look_at_interface(struct interface *interface)
 }
 
 /* Waits a moment for an interface that is gone. Whether the run goes on. */
-static int wait_until_back(struct interface *interface)
-{
+static int wait_until_back(struct interface *interface) {
     struct pollfd stop = {.fd = stop_fd};
     if (!flush_feed(&interface->feed) || is_stopping())
         return 0;
@@ -99,8 +94,7 @@ static int wait_until_back(struct interface *interface)
 /* ---- other feeds */
 
 /* Keeps that a switch was done, or can't be, by this error. */
-static void note_switch(struct interface *interface, int asked, enum switching switching, int error)
-{
+static void note_switch(struct interface *interface, int asked, enum switching switching, int error) {
     if (switching == SWITCH_FAILED)
         tell("%s: %s: %s, and it goes on as before", interface->name, interface->way->to, strerror(error));
     if (switching != SWITCH_LATER)
@@ -108,8 +102,7 @@ static void note_switch(struct interface *interface, int asked, enum switching s
 }
 
 /* Goes over to another feed where that was asked for and can be done. */
-static void follow_switches(struct interface *interface)
-{
+static void follow_switches(struct interface *interface) {
     int asked = switches_asked();
     if (asked == interface->switched)
         return;
@@ -120,16 +113,14 @@ static void follow_switches(struct interface *interface)
     note_switch(interface, asked, switching, error);
 }
 
-static void count_lost_frame(unsigned char *it, const struct pcap_pkthdr *head, const unsigned char *bytes)
-{
+static void count_lost_frame(unsigned char *it, const struct pcap_pkthdr *head, const unsigned char *bytes) {
     (void)head;
     (void)bytes;
     ((struct interface *)it)->counts.dropped++;
 }
 
 /* Counts the frames as dropped that wait for a feed that never came. */
-static void drop_waiting(struct interface *interface)
-{
+static void drop_waiting(struct interface *interface) {
     interface->counts.dropped += interface->feed.waiting;
     interface->feed.frames -= interface->feed.waiting;
     interface->feed.waiting = interface->feed.len = 0;
@@ -142,8 +133,7 @@ static void drop_waiting(struct interface *interface)
 
 /* Waits, where the reader of the feed has left or failed, for word that the next feed is to go on, and for that feed.
  * Whether it goes on. Meanwhile the kernel keeps the frames. */
-static int wait_for_next_feed(struct interface *interface)
-{
+static int wait_for_next_feed(struct interface *interface) {
     const struct output *output = &interface->feed.output;
     if (output->state != OUTPUT_LEFT && !is_held(interface->switched))
         return 0;
@@ -164,8 +154,7 @@ static int wait_for_next_feed(struct interface *interface)
 /* ---- turns */
 
 /* How long to wait for frames, in milliseconds. */
-static int pause_of(const struct interface *interface)
-{
+static int pause_of(const struct interface *interface) {
     int64_t left = (interface->counts.next_line - steady_now()) / 1000000 + 1;
     if (interface->switched != switches_asked())
         return SWITCH_PAUSE_MS;
@@ -175,8 +164,7 @@ static int pause_of(const struct interface *interface)
 }
 
 /* Whether frames come more often than once in a nap, by those since the last wait. */
-static int is_burst(struct interface *interface)
-{
+static int is_burst(struct interface *interface) {
     int64_t now = steady_now(), since = now - interface->last_wait;
     int64_t taken = interface->taken;
     interface->last_wait = now;
@@ -186,8 +174,7 @@ static int is_burst(struct interface *interface)
 
 /* Waits for frames or for the end of the run. In a burst it sleeps a moment without waiting for anything: the kernel
  * would wake it for each single frame, which takes more time than the frame itself. */
-static void wait_for_frames(struct interface *interface)
-{
+static void wait_for_frames(struct interface *interface) {
     if (is_burst(interface) && !is_stopping()) {
         nanosleep(&(struct timespec){0, NAP_NANOSECONDS}, NULL);
         return;
@@ -199,8 +186,7 @@ static void wait_for_frames(struct interface *interface)
 }
 
 /* Takes what the kernel has. Whether there is more to come. */
-static int turn(struct interface *interface)
-{
+static int turn(struct interface *interface) {
     follow_switches(interface);
     if (is_held(interface->switched))
         return 0;
@@ -223,8 +209,7 @@ static int turn(struct interface *interface)
     return 1;
 }
 
-void run_interface(struct interface *interface)
-{
+void run_interface(struct interface *interface) {
     struct feed *feed = &interface->feed;
     feed->output.while_waiting = tell_in_time;
     feed->output.told = interface;
@@ -251,8 +236,7 @@ void run_interface(struct interface *interface)
     close_pcap(interface);
 }
 
-void pass_later_feeds(struct interface *interface, const atomic_int *running)
-{
+void pass_later_feeds(struct interface *interface, const atomic_int *running) {
     while (atomic_load(running) > 0 && !is_stopping()) {
         int asked = switches_asked();
         if (asked != interface->switched) {
@@ -264,8 +248,7 @@ void pass_later_feeds(struct interface *interface, const atomic_int *running)
     }
 }
 
-int is_well(const struct interface *interface)
-{
+int is_well(const struct interface *interface) {
     enum output_state state = interface->feed.output.state;
     return !interface->is_gone && (state == OUTPUT_OPEN || state == OUTPUT_LEFT);
 }

@@ -24,8 +24,8 @@ struct interface {
     struct feed feed;
     struct counts counts;
     int64_t last_wait; /* when it began */
-    int taken; /* frames since then */
-    int switched; /* how many switches of the feed were done */
+    int taken;         /* frames since then */
+    int switched;      /* how many switches of the feed were done */
     int is_detached;
     int is_down;
     int is_gone;

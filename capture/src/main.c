@@ -35,8 +35,7 @@ struct work {
 static atomic_int running;
 static int ended_writer = -1;
 
-static void *run(void *it)
-{
+static void *run(void *it) {
     struct work *work = it;
     if (work->is_file)
         run_conversion(&work->conversion);
@@ -50,8 +49,7 @@ static void *run(void *it)
 }
 
 /* Whether two paths are one pipe or one file, whose records would stand within one another. */
-static int is_same(const char *path, const char *other)
-{
+static int is_same(const char *path, const char *other) {
     struct stat first, second;
     if (strcmp(path, other) == 0)
         return 1;
@@ -60,8 +58,7 @@ static int is_same(const char *path, const char *other)
 }
 
 /* The first feed that is another one too, or the input of its way; NULL where there is none. */
-static const char *shared_path(const struct words *words)
-{
+static const char *shared_path(const struct words *words) {
     for (int i = 0; i < words->count; i++) {
         const struct way *way = &words->ways[i];
         if (words->are_files && strcmp(way->to, "-") != 0 && is_same(way->to, way->from))
@@ -76,8 +73,7 @@ static const char *shared_path(const struct words *words)
 }
 
 /* Opens all interfaces, so that nothing is begun where one can't be. Whether they are open. */
-static int open_all(struct work *works, const struct words *words)
-{
+static int open_all(struct work *works, const struct words *words) {
     for (int i = 0; i < words->count; i++) {
         const struct way *way = &words->ways[i];
         works[i].is_file = words->are_files;
@@ -90,8 +86,7 @@ static int open_all(struct work *works, const struct words *words)
 }
 
 /* Tells what interfaces have lost. Whether one has. */
-static int tell_all_lost(const struct work *works, const struct words *words)
-{
+static int tell_all_lost(const struct work *works, const struct words *words) {
     int has_lost = 0;
     for (int i = 0; i < words->count && !words->are_files; i++)
         has_lost |= tell_lost(&works[i].interface);
@@ -99,15 +94,13 @@ static int tell_all_lost(const struct work *works, const struct words *words)
 }
 
 /* What goes beside the threads: the clock that may be set. */
-static void follow_settings(void)
-{
+static void follow_settings(void) {
     follow_clock();
     tell_settings(0);
 }
 
 /* Runs all to their ends; `beside` is called now and then, where it isn't NULL. The status. */
-static int run_all(struct work *works, int count, void (*beside)(void))
-{
+static int run_all(struct work *works, int count, void (*beside)(void)) {
     int ended[2], started = 0;
     if (pipe(ended) != 0)
         return NOT_BEGUN;
@@ -130,8 +123,7 @@ static int run_all(struct work *works, int count, void (*beside)(void))
 
 /* Puts something in the place of a standard stream that is closed, where a file of ours would stand else: reads of it
  * and writes to it fail. */
-static int fill_streams(void)
-{
+static int fill_streams(void) {
     for (int fd = STDIN_FILENO; fd <= STDERR_FILENO; fd++)
         if (fcntl(fd, F_GETFD) < 0 && open("/dev/null", fd == STDIN_FILENO ? O_WRONLY : O_RDONLY) != fd)
             return 0;
@@ -140,8 +132,7 @@ static int fill_streams(void)
 
 /* Has the kernel end the run once the process has died that started it, also where that was before this program ran, or
  * another one lies between. */
-static void follow_parent(pid_t parent)
-{
+static void follow_parent(pid_t parent) {
     if (parent == 0)
         return;
     prctl(PR_SET_PDEATHSIG, SIGTERM);
@@ -149,8 +140,7 @@ static void follow_parent(pid_t parent)
 }
 
 /* Begins what interfaces want beside their frames: facts, counters, no privileges. Whether it could. */
-static int begin_live(const struct work *works, const struct words *words)
-{
+static int begin_live(const struct work *works, const struct words *words) {
     char text[SECONDS_TEXT_LEN];
     for (int i = 0; i < words->count; i++)
         tell_buffer(&works[i].interface);
@@ -166,8 +156,7 @@ static int begin_live(const struct work *works, const struct words *words)
 }
 
 /* Records interfaces. The status. */
-static int run_live(struct work *works, const struct words *words)
-{
+static int run_live(struct work *works, const struct words *words) {
     if (!begin_live(works, words))
         return NOT_BEGUN;
     int status = run_all(works, words->count, words->uses_adapter_clock ? NULL : follow_settings);
@@ -177,8 +166,7 @@ static int run_live(struct work *works, const struct words *words)
 }
 
 /* Does what the words say. The status. */
-static int run_words(struct work *works, struct words *words)
-{
+static int run_words(struct work *works, struct words *words) {
     prepare_check_sequences();
     if (!prepare_stop() || !find_origin(words))
         return NOT_BEGUN;
@@ -188,8 +176,7 @@ static int run_words(struct work *works, struct words *words)
     return words->are_files ? run_all(works, words->count, NULL) : run_live(works, words);
 }
 
-int main(int argc, char **argv)
-{
+int main(int argc, char **argv) {
     struct words words;
     if (!fill_streams())
         return NOT_BEGUN;

@@ -9,8 +9,7 @@
 enum { COUNTER_BITS = 48, MOST_SECOND_DIGITS = 10, MOST_FRACTION_DIGITS = 9 };
 
 /* Reads so many digits at least and at most, and returns how many there were; 0 where they are too few or too many. */
-static int digits(const char *text, int least, int most, int64_t *value)
-{
+static int digits(const char *text, int least, int most, int64_t *value) {
     int count = 0;
     for (*value = 0; text[count] >= '0' && text[count] <= '9'; count++) {
         if (count == most)
@@ -21,8 +20,7 @@ static int digits(const char *text, int least, int most, int64_t *value)
 }
 
 /* Reads what follows a second: nothing, or a point and its fraction. Whether only `end` follows. */
-static int fraction(const char *text, const char *end, int64_t *value)
-{
+static int fraction(const char *text, const char *end, int64_t *value) {
     *value = 0;
     if (*text == '.') {
         int count = digits(text + 1, 1, MOST_FRACTION_DIGITS, value);
@@ -36,8 +34,7 @@ static int fraction(const char *text, const char *end, int64_t *value)
 }
 
 /* Reads a number of two or four digits and the sign after it. */
-static const char *field(const char *text, int width, char sign, int *value)
-{
+static const char *field(const char *text, int width, char sign, int *value) {
     int64_t number;
     if (text == NULL || digits(text, width, width, &number) != width || (sign != 0 && text[width] != sign))
         return NULL;
@@ -46,8 +43,7 @@ static const char *field(const char *text, int width, char sign, int *value)
 }
 
 /* Reads a date and a time of day in UTC. */
-static int calendar(const char *text, nanoseconds *at)
-{
+static int calendar(const char *text, nanoseconds *at) {
     struct tm day = {0}, back;
     int64_t rest;
     text = field(text, 4, '-', &day.tm_year);
@@ -70,8 +66,7 @@ static int calendar(const char *text, nanoseconds *at)
     return 1;
 }
 
-int origin_of(const char *word, struct origin *origin)
-{
+int origin_of(const char *word, struct origin *origin) {
     *origin = (struct origin){0, 0};
     if (strcmp(word, "zero") == 0)
         return 1;
@@ -95,8 +90,7 @@ int origin_of(const char *word, struct origin *origin)
     return calendar(word, &origin->at);
 }
 
-uint64_t counter_at(nanoseconds moment, const struct origin *origin)
-{
+uint64_t counter_at(nanoseconds moment, const struct origin *origin) {
     static const uint64_t MASK = ((uint64_t)1 << COUNTER_BITS) - 1;
     nanoseconds since = moment - origin->at;
     /* Mostly so, and a division of 64 bits is a multiplication. */
@@ -106,15 +100,13 @@ uint64_t counter_at(nanoseconds moment, const struct origin *origin)
     return (uint64_t)ticks & MASK;
 }
 
-void print_seconds(nanoseconds time, char *text)
-{
+void print_seconds(nanoseconds time, char *text) {
     nanoseconds size = time < 0 ? -time : time;
     int64_t seconds = (int64_t)(size / NANOSECONDS_PER_SECOND), rest = (int64_t)(size % NANOSECONDS_PER_SECOND);
     snprintf(text, SECONDS_TEXT_LEN, "%s%" PRId64 ".%09" PRId64, time < 0 ? "-" : "", seconds, rest);
 }
 
-int64_t steady_now(void)
-{
+int64_t steady_now(void) {
     struct timespec now;
     clock_gettime(CLOCK_MONOTONIC, &now);
     return (int64_t)now.tv_sec * NANOSECONDS_PER_SECOND + now.tv_nsec;

@@ -14,15 +14,13 @@ enum {
     BYTES_A_MIB = 1 << 20,
 };
 
-static int refused(const char *name, const char *why)
-{
+static int refused(const char *name, const char *why) {
     tell("%s: %s", name, why);
     return 0;
 }
 
 /* Why an interface can't be captured, in one line. */
-static int refused_by(pcap_t *pcap, const char *name, int status)
-{
+static int refused_by(pcap_t *pcap, const char *name, int status) {
     switch (status) {
     case PCAP_ERROR_PERM_DENIED:
     case PCAP_ERROR_PROMISC_PERM_DENIED:
@@ -39,8 +37,7 @@ static int refused_by(pcap_t *pcap, const char *name, int status)
 }
 
 /* Takes the adapter's clock, where it is disciplined to the host's, and else as it runs. Whether there is one. */
-static int use_adapter_clock(struct interface *interface)
-{
+static int use_adapter_clock(struct interface *interface) {
     static const int CLOCKS[] = {PCAP_TSTAMP_ADAPTER, PCAP_TSTAMP_ADAPTER_UNSYNCED};
     int *known, count = pcap_list_tstamp_types(interface->pcap, &known), is_set = 0;
     for (size_t clock = 0; clock < sizeof CLOCKS / sizeof *CLOCKS && !is_set; clock++)
@@ -53,8 +50,7 @@ static int use_adapter_clock(struct interface *interface)
     return is_set;
 }
 
-static int set_up(struct interface *interface)
-{
+static int set_up(struct interface *interface) {
     pcap_t *pcap = interface->pcap;
     const char *name = interface->name;
     const struct words *words = interface->words;
@@ -75,36 +71,33 @@ static int set_up(struct interface *interface)
     return 1;
 }
 
-static int set_direction(pcap_t *pcap, const char *name, enum direction direction)
-{
+static int set_direction(pcap_t *pcap, const char *name, enum direction direction) {
     static const pcap_direction_t DIRECTIONS[] = {PCAP_D_INOUT, PCAP_D_IN, PCAP_D_OUT};
     if (pcap_setdirection(pcap, DIRECTIONS[direction]) != 0)
         return refused(name, pcap_geterr(pcap));
     return 1;
 }
 
-static void note_adapter(struct interface *interface)
-{
+static void note_adapter(struct interface *interface) {
     struct adapter adapter;
     ask_adapter(interface->name, &adapter);
     enum check_sequences asked = interface->words->check_sequences;
     interface->has_check_sequences = asked == AS_THE_ADAPTER_SAYS ? adapter.gives_check_sequences : asked == GIVEN;
     if (adapter.joining[0] != 0)
-        tell("%s: the kernel may join frames (%s), and a joined frame is none of the wire: ethtool -K %s gro off lro off "
+        tell("%s: the kernel may join frames (%s), and a joined frame is none of the wire: ethtool -K %s gro off lro "
+             "off "
              "gso off tso off",
              interface->name, adapter.joining, interface->name);
 }
 
-void tell_buffer(const struct interface *interface)
-{
+void tell_buffer(const struct interface *interface) {
     uint64_t len = ring_len(pcap_fileno(interface->pcap));
     if (len > 0)
         tell("%s buffer %" PRIu64 " MiB", interface->name, len / BYTES_A_MIB);
 }
 
 /* Opens an interface that is there by now, as it was asked for. */
-static int open_pcap(struct interface *interface)
-{
+static int open_pcap(struct interface *interface) {
     char error[PCAP_ERRBUF_SIZE];
     const char *name = interface->name, *prefilter = interface->way->prefilter;
     interface->number = if_nametoindex(name);
@@ -124,14 +117,12 @@ static int open_pcap(struct interface *interface)
     return 1;
 }
 
-int open_interface(struct interface *interface, const struct way *way, const struct words *words)
-{
+int open_interface(struct interface *interface, const struct way *way, const struct words *words) {
     *interface = (struct interface){.name = way->from, .way = way, .words = words, .feed = {.output.fd = -1}};
     return open_pcap(interface);
 }
 
-int open_again(struct interface *interface)
-{
+int open_again(struct interface *interface) {
     /* A listing is read into room that all interfaces share. */
     static pthread_mutex_t opening = PTHREAD_MUTEX_INITIALIZER;
     pthread_mutex_lock(&opening);

@@ -1,7 +1,6 @@
 #include "option.h"
 
-int next_option(const struct input *input, const unsigned char **at, const unsigned char *end, struct option *it)
-{
+int next_option(const struct input *input, const unsigned char **at, const unsigned char *end, struct option *it) {
     if (end - *at < 4)
         return 0;
     it->code = half(input, *at);

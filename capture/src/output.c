@@ -17,34 +17,29 @@ static const int64_t LAST_WAIT = 2 * (int64_t)NANOSECONDS_PER_SECOND;
 
 static int pipe_len = PIPE_LEN;
 
-static int ended(struct output *output, enum output_state state, int error)
-{
+static int ended(struct output *output, enum output_state state, int error) {
     output->state = state;
     output->error = error;
     return 0;
 }
 
-int is_open(const struct output *output)
-{
+int is_open(const struct output *output) {
     return output->state == OUTPUT_OPEN;
 }
 
-int fail_output(struct output *output, int error)
-{
+int fail_output(struct output *output, int error) {
     return ended(output, OUTPUT_FAILED, error);
 }
 
 /* Standard output, opened anew where it is a pipe, so that whoever shares it keeps a pipe that waits. */
-static int open_standard_output(void)
-{
+static int open_standard_output(void) {
     struct stat kind;
     if (fstat(STDOUT_FILENO, &kind) == 0 && S_ISFIFO(kind.st_mode))
         return open("/proc/self/fd/1", O_WRONLY | O_NONBLOCK | O_CLOEXEC);
     return dup(STDOUT_FILENO);
 }
 
-static int open_path(struct output *output, const char *path)
-{
+static int open_path(struct output *output, const char *path) {
     if (strcmp(path, "-") == 0)
         return open_standard_output();
     for (int64_t end = 0;;) {
@@ -63,19 +58,16 @@ static int open_path(struct output *output, const char *path)
     }
 }
 
-void share_pipes(int count)
-{
+void share_pipes(int count) {
     pipe_len = PIPES_LEN / count < PIPE_LEN ? PIPES_LEN / count : PIPE_LEN;
 }
 
 /* Makes a pipe longer, where the system allows it; it is only quicker. */
-static void lengthen(int fd)
-{
+static void lengthen(int fd) {
     (void)!fcntl(fd, F_SETPIPE_SZ, pipe_len);
 }
 
-int open_output(struct output *output, const char *path)
-{
+int open_output(struct output *output, const char *path) {
     output->path = path;
     output->fd = open_path(output, path);
     if (output->fd < 0)
@@ -85,8 +77,7 @@ int open_output(struct output *output, const char *path)
 }
 
 /* Waits until the pipe takes bytes again, or the run is to end at once. */
-static void wait_for_room(struct output *output)
-{
+static void wait_for_room(struct output *output) {
     struct pollfd waits[2] = {{.fd = output->fd, .events = POLLOUT}, {.fd = hurry_fd}};
     int64_t begin = steady_now();
     int ready = poll(waits, 2, FULL_PAUSE_MS);
@@ -97,8 +88,7 @@ static void wait_for_room(struct output *output)
         output->while_waiting(output->told);
 }
 
-int write_all(struct output *output, const unsigned char *bytes, size_t len)
-{
+int write_all(struct output *output, const unsigned char *bytes, size_t len) {
     while (is_open(output) && len > 0) {
         ssize_t count = write(output->fd, bytes, len);
         if (count >= 0) {
@@ -119,29 +109,25 @@ int write_all(struct output *output, const unsigned char *bytes, size_t len)
 /* ---- what the path names later */
 
 /* Opens what the path names by now without waiting, where standard output is what it was. */
-static int open_anew(const struct output *output, int flags)
-{
+static int open_anew(const struct output *output, int flags) {
     if (strcmp(output->path, "-") == 0)
         return dup(output->fd);
     return open(output->path, O_WRONLY | O_NONBLOCK | O_CLOEXEC | flags, 0666);
 }
 
 /* What a fault of opening means for a switch: a pipe without a reader may get one. */
-static enum switching switching_of(int error)
-{
+static enum switching switching_of(int error) {
     return error == ENXIO ? SWITCH_LATER : SWITCH_FAILED;
 }
 
 /* Whether two descriptors are of one file or pipe. */
-static int is_one(int first, int second)
-{
+static int is_one(int first, int second) {
     struct stat kinds[2];
     return fstat(first, &kinds[0]) == 0 && fstat(second, &kinds[1]) == 0 && kinds[0].st_dev == kinds[1].st_dev &&
            kinds[0].st_ino == kinds[1].st_ino;
 }
 
-enum switching open_next(const struct output *output, int *fd)
-{
+enum switching open_next(const struct output *output, int *fd) {
     *fd = open_anew(output, O_CREAT);
     if (*fd < 0)
         return switching_of(errno);
@@ -152,8 +138,7 @@ enum switching open_next(const struct output *output, int *fd)
     return SWITCHED;
 }
 
-void go_over(struct output *output, int fd)
-{
+void go_over(struct output *output, int fd) {
     /* It is emptied only where it is a file, and another one. */
     (void)!ftruncate(fd, 0);
     lengthen(fd);
@@ -162,8 +147,7 @@ void go_over(struct output *output, int fd)
     output->state = OUTPUT_OPEN;
 }
 
-enum switching pass_next(const struct output *output)
-{
+enum switching pass_next(const struct output *output) {
     int fd = strcmp(output->path, "-") == 0 ? -1 : open_anew(output, 0);
     if (fd < 0)
         return switching_of(errno);
@@ -171,15 +155,13 @@ enum switching pass_next(const struct output *output)
     return SWITCHED;
 }
 
-void close_output(struct output *output)
-{
+void close_output(struct output *output) {
     if (output->fd >= 0 && close(output->fd) != 0 && is_open(output))
         fail_output(output, errno);
     output->fd = -1;
 }
 
-const char *output_fault(const struct output *output)
-{
+const char *output_fault(const struct output *output) {
     switch (output->state) {
     case OUTPUT_LEFT:
         return "its reader has left";

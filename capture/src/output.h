@@ -17,8 +17,8 @@ struct output {
     int fd;
     enum output_state state;
     int error;
-    int64_t waited; /* nanoseconds for which the pipe was full */
-    uint64_t taken; /* bytes that went out */
+    int64_t waited;                /* nanoseconds for which the pipe was full */
+    uint64_t taken;                /* bytes that went out */
     void (*while_waiting)(void *); /* called now and then while the pipe is full */
     void *told;
 };
@@ -27,8 +27,8 @@ struct output {
  * go over to others. */
 void share_pipes(int count);
 
-/* Opens what is at `path`, where `-` is standard output. A named pipe is waited for until it has a reader. Whether it is
- * open; else `state` says why not. */
+/* Opens what is at `path`, where `-` is standard output. A named pipe is waited for until it has a reader. Whether it
+ * is open; else `state` says why not. */
 int open_output(struct output *output, const char *path);
 
 /* Whether it is open; else why not. */

@@ -31,8 +31,7 @@ enum {
 
 static const uint32_t FLAGS_OTHER_FAULTS = 0xFE000000;
 
-static uint64_t units_of(unsigned resolution)
-{
+static uint64_t units_of(unsigned resolution) {
     unsigned power = resolution & 0x7F;
     if (resolution & 0x80)
         return power < 64 ? (uint64_t)1 << power : 0;
@@ -42,21 +41,18 @@ static uint64_t units_of(unsigned resolution)
     return power < 20 ? units : 0;
 }
 
-static int64_t signed_number(const struct input *input, const unsigned char *at)
-{
+static int64_t signed_number(const struct input *input, const unsigned char *at) {
     uint64_t first = word(input, at), second = word(input, at + 4);
     return (int64_t)(input->is_big_endian ? first << 32 | second : second << 32 | first);
 }
 
-static int read_section(struct file *file, const unsigned char *block)
-{
+static int read_section(struct file *file, const unsigned char *block) {
     unsigned major = half(&file->input, block + 12);
     file->count = 0;
     return major == 1 ? 1 : refuse(&file->input, "pcapng version %u", major);
 }
 
-static int read_interface(struct file *file, const unsigned char *block, const unsigned char *end)
-{
+static int read_interface(struct file *file, const unsigned char *block, const unsigned char *end) {
     struct input *input = &file->input;
     struct described *it = add_interface(file);
     struct option option;
@@ -78,8 +74,7 @@ static int read_interface(struct file *file, const unsigned char *block, const u
     return 1;
 }
 
-static nanoseconds moment_of(const struct described *it, uint64_t units)
-{
+static nanoseconds moment_of(const struct described *it, uint64_t units) {
     nanoseconds since = units;
     if (it->units_per_second != NANOSECONDS_PER_SECOND)
         since = since * NANOSECONDS_PER_SECOND / (nanoseconds)it->units_per_second;
@@ -87,9 +82,8 @@ static nanoseconds moment_of(const struct described *it, uint64_t units)
 }
 
 /* What a packet block says of its frame beside the bytes. */
-static int read_flags(struct file *file, const unsigned char *at, const unsigned char *end, unsigned *check_sequence_len,
-                      unsigned *marks)
-{
+static int read_flags(struct file *file, const unsigned char *at, const unsigned char *end,
+                      unsigned *check_sequence_len, unsigned *marks) {
     struct input *input = &file->input;
     struct option option;
     while (next_option(input, &at, end, &option)) {
@@ -104,8 +98,7 @@ static int read_flags(struct file *file, const unsigned char *at, const unsigned
     return judge_check_sequence(file, *check_sequence_len);
 }
 
-static int read_packet(struct file *file, const unsigned char *block, const unsigned char *end, struct found *found)
-{
+static int read_packet(struct file *file, const unsigned char *block, const unsigned char *end, struct found *found) {
     struct input *input = &file->input;
     int is_old = word(input, block) == OLD_PACKET_BLOCK;
     uint32_t number = is_old ? half(input, block + 8) : word(input, block + 8);
@@ -130,8 +123,7 @@ static int read_packet(struct file *file, const unsigned char *block, const unsi
     return 1;
 }
 
-static int read_simple(struct file *file, const unsigned char *block, const unsigned char *end, struct found *found)
-{
+static int read_simple(struct file *file, const unsigned char *block, const unsigned char *end, struct found *found) {
     struct input *input = &file->input;
     if (file->count == 0)
         return refuse(input, "no interface 0 at byte %" PRIu64, input->at);
@@ -153,15 +145,13 @@ static int read_simple(struct file *file, const unsigned char *block, const unsi
 
 /* ---- blocks */
 
-int is_of_blocks(struct file *file)
-{
+int is_of_blocks(struct file *file) {
     file->input.is_big_endian = 0;
     return word(&file->input, next_bytes(&file->input)) == SECTION_BLOCK;
 }
 
 /* Reads the byte order of a section, which its own length is written in already. */
-static int read_byte_order(struct input *input)
-{
+static int read_byte_order(struct input *input) {
     if (want(input, LEAST_BLOCK_LEN) < 0)
         return -1;
     const unsigned char *magic = next_bytes(input) + BLOCK_HEAD_LEN;
@@ -171,8 +161,7 @@ static int read_byte_order(struct input *input)
     return refuse(input, "byte order of the section at byte %" PRIu64, input->at);
 }
 
-static size_t least_len(uint32_t type)
-{
+static size_t least_len(uint32_t type) {
     switch (type) {
     case SECTION_BLOCK:
         return LEAST_SECTION_LEN;
@@ -189,8 +178,7 @@ static size_t least_len(uint32_t type)
 }
 
 /* Has the next block whole, and its type and length: 1, or 0 at the end, or -1 at a fault. */
-static int next_block(struct input *input, uint32_t *type, size_t *len)
-{
+static int next_block(struct input *input, uint32_t *type, size_t *len) {
     int more = have(input, BLOCK_HEAD_LEN);
     if (more <= 0)
         return more < 0 || count_next(input) == 0 ? more : want(input, BLOCK_HEAD_LEN);
@@ -209,8 +197,7 @@ static int next_block(struct input *input, uint32_t *type, size_t *len)
 }
 
 /* What a block says: 1 for a frame, 0 for anything else, -1 at a fault. */
-static int read_block(struct file *file, uint32_t type, size_t len, struct found *found)
-{
+static int read_block(struct file *file, uint32_t type, size_t len, struct found *found) {
     struct input *input = &file->input;
     const unsigned char *block = next_bytes(input), *end = block + len - BLOCK_TAIL_LEN;
     switch (type) {
@@ -228,8 +215,7 @@ static int read_block(struct file *file, uint32_t type, size_t len, struct found
     }
 }
 
-int next_of_blocks(struct file *file, struct found *found)
-{
+int next_of_blocks(struct file *file, struct found *found) {
     struct input *input = &file->input;
     for (;;) {
         uint32_t type = 0;

@@ -21,15 +21,13 @@ struct program {
     struct bpf_insn insns[HEAD_INSNS + MOST_INSNS + TAIL_INSNS];
 };
 
-static int refused(const char *path, const char *why)
-{
+static int refused(const char *path, const char *why) {
     tell("%s: %s", path, why);
     return 0;
 }
 
 /* Reads a number of decimal digits and nothing else. Whether the word is one of 32 bits. */
-static int read_number(const char *word, unsigned long *number)
-{
+static int read_number(const char *word, unsigned long *number) {
     errno = 0;
     *number = strtoul(word, NULL, 10);
     return errno == 0 && *number <= UINT32_MAX && word[strspn(word, "0123456789")] == '\0';
@@ -37,8 +35,7 @@ static int read_number(const char *word, unsigned long *number)
 
 /* Reads the numbers of a piece, between spaces or tabs, and carriage returns at its ends. How many they are, 0 of an
  * empty piece; -1 where they are over FIELDS or something else stands there. */
-static int read_numbers(char *piece, unsigned long numbers[FIELDS])
-{
+static int read_numbers(char *piece, unsigned long numbers[FIELDS]) {
     char *rest, *first = piece + strspn(piece, " \t\r");
     for (size_t len = strlen(first); len > 0 && strchr(" \t\r", first[len - 1]) != NULL; len--)
         first[len - 1] = '\0';
@@ -50,8 +47,7 @@ static int read_numbers(char *piece, unsigned long numbers[FIELDS])
 }
 
 /* Puts an instruction behind the others. Whether there is room and each field is in its range. */
-static int add_insn(struct program *program, const unsigned long fields[FIELDS])
-{
+static int add_insn(struct program *program, const unsigned long fields[FIELDS]) {
     if (program->count == MOST_INSNS || fields[0] > UINT16_MAX || fields[1] > UINT8_MAX || fields[2] > UINT8_MAX)
         return 0;
     program->insns[program->count++] =
@@ -61,8 +57,7 @@ static int add_insn(struct program *program, const unsigned long fields[FIELDS])
 
 /* Reads a listing: pieces that end at commas and line feeds, of which the first is the count of instructions and each
  * other one an instruction. Whether it is one; the kernel judges the program. */
-static int read_listing(char *text, struct program *program)
-{
+static int read_listing(char *text, struct program *program) {
     unsigned long numbers[FIELDS], said = 0;
     char *rest;
     int is_counted = 0;
@@ -79,8 +74,7 @@ static int read_listing(char *text, struct program *program)
 }
 
 /* Reads a file as a text of at most MOST_BYTES. Whether it is one; else a line has said why not. */
-static int read_text(const char *path, char text[MOST_BYTES + 1])
-{
+static int read_text(const char *path, char text[MOST_BYTES + 1]) {
     FILE *file = fopen(path, "r");
     if (file == NULL)
         return refused(path, strerror(errno));
@@ -98,8 +92,7 @@ static int read_text(const char *path, char text[MOST_BYTES + 1])
 }
 
 /* Lets the program return a frame whole or not at all: the kernel would cut it to as many bytes as is returned. */
-static void return_whole_frames(struct program *program)
-{
+static void return_whole_frames(struct program *program) {
     static const struct bpf_insn TAIL[TAIL_INSNS] = {
         BPF_JUMP(BPF_JMP | BPF_JEQ | BPF_K, 0, 1, 0),
         BPF_STMT(BPF_RET | BPF_K, WHOLE_FRAME),
@@ -125,8 +118,7 @@ static void return_whole_frames(struct program *program)
  * as it does with each tagged frame that it receives whatever the adapter's settings are, and a frame that will be
  * padded. The recorder judges these itself. A is 0 again where the program begins. The presence of the tag is loaded as
  * a byte: libpcap runs the program on the first frames by itself, and knows no other form of it. */
-static void pass_what_differs(struct program *program)
-{
+static void pass_what_differs(struct program *program) {
     static const struct bpf_insn HEAD[HEAD_INSNS] = {
         BPF_STMT(BPF_LD | BPF_B | BPF_ABS, (bpf_u_int32)(SKF_AD_OFF + SKF_AD_VLAN_TAG_PRESENT)),
         BPF_JUMP(BPF_JMP | BPF_JEQ | BPF_K, 0, 0, 2),
@@ -140,8 +132,7 @@ static void pass_what_differs(struct program *program)
     program->count += HEAD_INSNS;
 }
 
-int drop_by_listing(pcap_t *pcap, const char *interface, const char *path)
-{
+int drop_by_listing(pcap_t *pcap, const char *interface, const char *path) {
     static char text[MOST_BYTES + 1];
     static struct program program;
     program.count = 0;

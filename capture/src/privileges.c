@@ -12,8 +12,7 @@ enum { WORDS = _LINUX_CAPABILITY_U32S_3 };
 static const uint32_t TO_OPEN = 1U << CAP_NET_RAW;
 
 /* Sets this thread's capabilities: of those that may be had this one at most, and those in force. */
-static void set_capabilities(uint32_t in_force)
-{
+static void set_capabilities(uint32_t in_force) {
     struct __user_cap_header_struct head = {.version = _LINUX_CAPABILITY_VERSION_3};
     struct __user_cap_data_struct had[WORDS] = {0}, kept[WORDS] = {0};
     if (syscall(SYS_capget, &head, had) != 0)
@@ -23,19 +22,16 @@ static void set_capabilities(uint32_t in_force)
     syscall(SYS_capset, &head, kept);
 }
 
-void drop_privileges(void)
-{
+void drop_privileges(void) {
     prctl(PR_SET_NO_NEW_PRIVS, 1, 0, 0, 0);
     prctl(PR_CAP_AMBIENT, PR_CAP_AMBIENT_CLEAR_ALL, 0, 0, 0);
     set_capabilities(0);
 }
 
-void begin_to_open(void)
-{
+void begin_to_open(void) {
     set_capabilities(TO_OPEN);
 }
 
-void end_to_open(void)
-{
+void end_to_open(void) {
     set_capabilities(0);
 }

@@ -19,35 +19,29 @@ enum { PAUSE_MS = 20 };
 /* A signal that comes twice within this time is one: a terminal and a script may send the same. */
 static const int64_t ONE_SIGNAL = NANOSECONDS_PER_SECOND;
 
-int is_stopping(void)
-{
+int is_stopping(void) {
     return atomic_load_explicit(&stopping, memory_order_relaxed);
 }
 
-int is_hurried(void)
-{
+int is_hurried(void) {
     return atomic_load_explicit(&hurried, memory_order_relaxed);
 }
 
-int switches_asked(void)
-{
+int switches_asked(void) {
     return atomic_load_explicit(&switches, memory_order_relaxed);
 }
 
-int is_held(int switched)
-{
+int is_held(int switched) {
     return atomic_load_explicit(&held, memory_order_relaxed) == switched;
 }
 
 /* Whether HUP was ignored when the program was started. */
-static int is_hang_up_ignored(void)
-{
+static int is_hang_up_ignored(void) {
     struct sigaction given;
     return sigaction(SIGHUP, NULL, &given) == 0 && given.sa_handler == SIG_IGN;
 }
 
-int prepare_stop(void)
-{
+int prepare_stop(void) {
     sigset_t set;
     int stop[2], hurry[2];
     sigemptyset(&set);
@@ -71,16 +65,14 @@ int prepare_stop(void)
     return signals >= 0;
 }
 
-void follow_process(int process)
-{
+void follow_process(int process) {
     followed = (int)syscall(SYS_pidfd_open, process, 0);
     if (followed < 0 && errno == ESRCH)
         kill(getpid(), SIGTERM);
 }
 
 /* Does what a signal asks for; `first` is when the first came that ends the run. */
-static void serve(int signal, int64_t *first)
-{
+static void serve(int signal, int64_t *first) {
     if (signal == SIGUSR1) {
         atomic_fetch_add(&switches, 1);
     } else if (signal == SIGUSR2) {
@@ -95,8 +87,7 @@ static void serve(int signal, int64_t *first)
     }
 }
 
-void serve_signals(int ended_fd, void (*now_and_then)(void))
-{
+void serve_signals(int ended_fd, void (*now_and_then)(void)) {
     struct pollfd waits[] = {{.fd = signals, .events = POLLIN}, {.fd = ended_fd}, {.fd = followed, .events = POLLIN}};
     int64_t first = 0;
     while (waits[1].revents == 0) {

@@ -74,8 +74,23 @@ static const char USAGE[] =
     "Status: 0 it ended as it was told to or its readers left, 1 an interface, a file or a feed failed,\n"
     "2 the words are wrong, 3 an interface can't be opened and nothing was begun, 5 frames were lost (--strict).\n";
 
-enum { FIRST_LONG = 256, ORIGIN, BUFFER, DIRECTION, PREFILTER, NO_PROMISCUOUS, CLOCK, CHECK_SEQUENCE, INTERFACE, QUIET,
-       STRICT, HOLD, EVENTS, PARENT, HELP };
+enum {
+    FIRST_LONG = 256,
+    ORIGIN,
+    BUFFER,
+    DIRECTION,
+    PREFILTER,
+    NO_PROMISCUOUS,
+    CLOCK,
+    CHECK_SEQUENCE,
+    INTERFACE,
+    QUIET,
+    STRICT,
+    HOLD,
+    EVENTS,
+    PARENT,
+    HELP
+};
 
 static const struct option OPTIONS[] = {
     {"origin", required_argument, NULL, ORIGIN},
@@ -96,8 +111,7 @@ static const struct option OPTIONS[] = {
 };
 
 /* Writes a line, where standard error has room for it. */
-static int write_line(const char *line)
-{
+static int write_line(const char *line) {
     struct pollfd error = {.fd = STDERR_FILENO, .events = POLLOUT};
     if (poll(&error, 1, 0) <= 0 || (error.revents & POLLOUT) == 0)
         return 0;
@@ -105,8 +119,7 @@ static int write_line(const char *line)
     return 1;
 }
 
-void tell(const char *format, ...)
-{
+void tell(const char *format, ...) {
     static pthread_mutex_t lock = PTHREAD_MUTEX_INITIALIZER;
     static unsigned left_out;
     /* with zeros behind it */
@@ -126,8 +139,7 @@ void tell(const char *format, ...)
 }
 
 /* Reads a number in a range; whether it is one. */
-static int number_of(const char *word, int least, int most, int *number)
-{
+static int number_of(const char *word, int least, int most, int *number) {
     char *end;
     long value = strtol(word, &end, 10);
     if (*word < '0' || *word > '9' || *end != 0 || value < least || value > most)
@@ -137,8 +149,7 @@ static int number_of(const char *word, int least, int most, int *number)
 }
 
 /* Finds a word among those of a choice, which end with NULL; whether it is there. */
-static int choice_of(const char *word, const char *const *choices, int *choice)
-{
+static int choice_of(const char *word, const char *const *choices, int *choice) {
     for (*choice = 0; choices[*choice] != NULL; (*choice)++)
         if (strcmp(word, choices[*choice]) == 0)
             return 1;
@@ -146,8 +157,7 @@ static int choice_of(const char *word, const char *const *choices, int *choice)
 }
 
 /* Takes an option's value; whether it is one. */
-static int take_option(int option, const char *value, struct words *words)
-{
+static int take_option(int option, const char *value, struct words *words) {
     static const char *const DIRECTIONS[] = {"both", "in", "out", NULL}, *const CLOCKS[] = {"host", "adapter", NULL};
     static const char *const CHECK_SEQUENCES[] = {"adapter", "given", "missing", NULL};
     int choice, is_right = 1;
@@ -187,15 +197,13 @@ static int take_option(int option, const char *value, struct words *words)
     }
 }
 
-static int wrong(const char *what, const char *word)
-{
+static int wrong(const char *what, const char *word) {
     tell("%s%s: capture --help has its words", what, word);
     return 2;
 }
 
 /* Takes apart INTERFACE=PIPE at its first sign, and FILE=FEED at its last. */
-static int take_way(char *given, struct words *words)
-{
+static int take_way(char *given, struct words *words) {
     char *sign = words->are_files ? strrchr(given, '=') : strchr(given, '=');
     if (sign == NULL || sign == given || sign[1] == 0)
         return wrong(words->are_files ? "no FILE=FEED: " : "no INTERFACE=PIPE: ", given);
@@ -205,8 +213,7 @@ static int take_way(char *given, struct words *words)
 }
 
 /* Takes INTERFACE=LISTING apart, for when its way is known. Whether it is one. */
-static int take_prefilter(char *given, struct words *words)
-{
+static int take_prefilter(char *given, struct words *words) {
     char *sign = strchr(given, '=');
     if (sign == NULL || sign == given || sign[1] == 0)
         return 0;
@@ -216,8 +223,7 @@ static int take_prefilter(char *given, struct words *words)
 }
 
 /* Gives each way its prefilter. 0, or the status where one is of no way. */
-static int place_prefilters(struct words *words)
-{
+static int place_prefilters(struct words *words) {
     for (int i = 0; i < words->prefilter_count; i++) {
         const struct way *prefilter = &words->prefilters[i];
         int is_placed = 0;
@@ -232,8 +238,7 @@ static int place_prefilters(struct words *words)
     return 0;
 }
 
-static int read_ways(int count, char **given, struct words *words)
-{
+static int read_ways(int count, char **given, struct words *words) {
     int status = 0;
     for (int i = 0; i < count && status == 0; i++)
         status = take_way(given[i], words);
@@ -243,15 +248,13 @@ static int read_ways(int count, char **given, struct words *words)
 }
 
 /* The kernel's buffer for each of so many interfaces, in MiB, where no other is given. */
-static int usual_buffer(int count)
-{
+static int usual_buffer(int count) {
     int64_t pages = sysconf(_SC_PHYS_PAGES), page_len = sysconf(_SC_PAGESIZE);
     int64_t share = pages * page_len / BYTES_A_MIB / BUFFERS_IN_MEMORY / BUFFER_FOLD / count;
     return share >= USUAL_BUFFER ? USUAL_BUFFER : share > LEAST_BUFFER ? (int)share : LEAST_BUFFER;
 }
 
-int read_words(int argc, char **argv, struct words *words, int *is_done)
-{
+int read_words(int argc, char **argv, struct words *words, int *is_done) {
     int option, has_origin = 0, status = 0;
     *words = (struct words){.interface = EVERY_INTERFACE, .is_promiscuous = 1};
     *is_done = 0;

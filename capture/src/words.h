@@ -23,8 +23,8 @@ struct words {
     int is_quiet;
     int is_strict;
     int uses_adapter_clock;
-    int hold_seconds; /* how long a feed whose reader has left waits for word that the next one is to go on */
-    int parent;       /* the process whose end ends the run too; 0 where there is none */
+    int hold_seconds;   /* how long a feed whose reader has left waits for word that the next one is to go on */
+    int parent;         /* the process whose end ends the run too; 0 where there is none */
     const char *events; /* the file in which the facts of the run are noted; NULL where there is none */
     enum direction direction;
     enum check_sequences check_sequences;

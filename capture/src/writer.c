@@ -2,8 +2,7 @@
 
 #include <stdlib.h>
 
-static void *write_on(void *it)
-{
+static void *write_on(void *it) {
     struct writer *writer = it;
     pthread_mutex_lock(&writer->lock);
     while (writer->count > 0 || !writer->is_ending) {
@@ -24,8 +23,7 @@ static void *write_on(void *it)
     return NULL;
 }
 
-void start_writer(struct writer *writer, struct output *output, size_t room)
-{
+void start_writer(struct writer *writer, struct output *output, size_t room) {
     int has_room = 1;
     *writer = (struct writer){.output = output, .is_open = is_open(output)};
     for (int i = 0; i < BLOCKS; i++)
@@ -35,8 +33,7 @@ void start_writer(struct writer *writer, struct output *output, size_t room)
     writer->is_started = has_room && pthread_create(&writer->thread, NULL, write_on, writer) == 0;
 }
 
-int hand_over(struct writer *writer, unsigned char **bytes, size_t len)
-{
+int hand_over(struct writer *writer, unsigned char **bytes, size_t len) {
     pthread_mutex_lock(&writer->lock);
     while (writer->count == BLOCKS)
         pthread_cond_wait(&writer->changed, &writer->lock);
@@ -51,8 +48,7 @@ int hand_over(struct writer *writer, unsigned char **bytes, size_t len)
     return was_open;
 }
 
-void end_writer(struct writer *writer)
-{
+void end_writer(struct writer *writer) {
     if (writer->is_started) {
         pthread_mutex_lock(&writer->lock);
         writer->is_ending = 1;

@@ -14,7 +14,7 @@ struct writer {
     struct {
         unsigned char *bytes;
         size_t len;
-    } blocks[BLOCKS]; /* a ring */
+    } blocks[BLOCKS];      /* a ring */
     unsigned first, count; /* of those that are to be written */
     int is_started, is_ending;
     int is_open; /* whether the output was after the last write */

@@ -23,7 +23,7 @@ from steps import Step, keep_costs, steps_for
 def build(top, keeps):
     """Proves the crates, builds the program and runs it once: the status."""
     steps = [*steps_for(below(top)), Step("program", top, waits=[f"library-{it}" for it in below(top)])]
-    lock = toolchain().rtlib.lock([crates()[it.crate] for it in steps])
+    _ = toolchain().rtlib.lock([crates()[it.crate] for it in steps])
     failed = in_lanes(steps)
     if keeps:
         keep_costs(steps)

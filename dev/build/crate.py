@@ -36,7 +36,7 @@ def main():
         print(__doc__.strip() if {"-h", "--help"} & set(words) else f"crates.txt has no crate {' '.join(words)}")
         return 0 if {"-h", "--help"} & set(words) else 2
     steps = steps_of(words[0])
-    lock = toolchain().rtlib.lock(list(crates().values()))
+    _ = toolchain().rtlib.lock(list(crates().values()))
     in_lanes(steps, every=("edits",))
     done, wrong = counts_of(steps)
     for it in tests_of(words[0]):

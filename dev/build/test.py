@@ -70,7 +70,7 @@ def main():
     checks = [(it, subprocess.run([ROOT / it]).returncode) for it in CHECKS]
     tries = steps_of_edits(words)
     steps = [*all_steps({it.crate for it in tries}), *tries]
-    lock = toolchain().rtlib.lock(list(crates().values()))
+    _ = toolchain().rtlib.lock(list(crates().values()))
     until = None if words.edits_within is None else began + 60 * words.edits_within
     try:
         failed = [it.key for it in in_lanes(steps, until=until)]

@@ -30,11 +30,18 @@ def printed_otherwise(program):
     if [it for it in (texts.about, texts.statuses, *(f"{it.name} " for it in texts.commands)) if it not in top]:
         yield "--help"
     listed = top[top.index("Commands:") :].split("\n\n")[0].split("\n")[1:]
-    if [it.split()[0] for it in listed if it[2:3] != " " and it.split()[0] != "help"] != [it.name for it in texts.commands]:
+    if [it.split()[0] for it in listed if it[2:3] != " " and it.split()[0] != "help"] != [
+        it.name for it in texts.commands
+    ]:
         yield "the commands of --help"
     for command in texts.commands:
         said = printed(program, command.name, "--help")
-        wanted = [command.help, command.about, *(it.help for it in command.words), *(f"<{it.name}>" for it in command.words)]
+        wanted = [
+            command.help,
+            command.about,
+            *(it.help for it in command.words),
+            *(f"<{it.name}>" for it in command.words),
+        ]
         if [it for it in wanted if it not in said]:
             yield f"{command.name} --help"
     if printed(program, "version") != f"bpfrec {texts.version}\n":
@@ -51,8 +58,14 @@ def main():
         print(__doc__.strip())
         return 0 if {"-h", "--help"} & set(words) else 2
     wrong = list(differing())
-    wrong += [f"{words[0]} prints other help than its source has: {it}" for it in printed_otherwise(words[0])] if words else []
-    print("".join(f"{it}\n" for it in wrong) or "the page and the completions are those of the program's help\n", end="")
+    wrong += (
+        [f"{words[0]} prints other help than its source has: {it}" for it in printed_otherwise(words[0])]
+        if words
+        else []
+    )
+    print(
+        "".join(f"{it}\n" for it in wrong) or "the page and the completions are those of the program's help\n", end=""
+    )
     return 1 if wrong else 0
 
 

@@ -46,9 +46,15 @@ def main():
     if sys.argv[1:]:
         README.write_text(right)
         return 0
-    faults = [] if right == text else ["README.md: its packages aren't those of dev/package/packages.txt: dev/checks/packages.py --write"]
+    faults = (
+        []
+        if right == text
+        else ["README.md: its packages aren't those of dev/package/packages.txt: dev/checks/packages.py --write"]
+    )
     names = {name for name, _, _ in packages}
-    faults += [f"dev/trials/{script}: {it} isn't in dev/package/packages.txt" for it, script in wanted() if it not in names]
+    faults += [
+        f"dev/trials/{script}: {it} isn't in dev/package/packages.txt" for it, script in wanted() if it not in names
+    ]
     print("\n".join(faults) or f"{len(packages)} packages, as README.md and the trials have them")
     return 1 if faults else 0
 

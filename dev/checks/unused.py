@@ -21,7 +21,9 @@ sys.path.insert(0, str(Path(__file__).resolve().parents[1] / "build"))
 from repository import ROOT, crates, is_program
 
 WORD = re.compile(r"[^\W\d][\w'-]*")
-ITEM = re.compile(r"(?:pub |abbrev |unfoldable |record |data |mutual )*(?!module\b|ruleset\b|abbrev\b)([^\W\d][\w'-]*)(?= |$)[^=]*:")
+ITEM = re.compile(
+    r"(?:pub |abbrev |unfoldable |record |data |mutual )*(?!module\b|ruleset\b|abbrev\b)([^\W\d][\w'-]*)(?= |$)[^=]*:"
+)
 # A further clause of an item.
 CLAUSE = re.compile(r"(?!(?:module|ruleset|abbrev|pub)\b)([^\W\d][\w'-]*) [^:]*=")
 # What begins a line of a file of definitions that is no item.

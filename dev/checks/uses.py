@@ -28,7 +28,8 @@ def uses(crate, library):
     path = re.compile(rf"(?<![\w:]){library}::|\buse {library};|Rattle\.{library}\.")
     files = (ROOT / "crates" / crate).glob("*/**/*")
     return any(
-        path.search(file.read_text()) for file in files
+        path.search(file.read_text())
+        for file in files
         if file.suffix in (".rt", ".antt") and "out" not in file.relative_to(ROOT).parts
     )
 

@@ -11,8 +11,19 @@ FORMATS = ROOT / "docs/user/FORMATS.md"
 # The day of the page's last change, which pages have.
 DATE = "2026-11-25"
 # The sections whose tables the page has, where the first column is one of these.
-SECTIONS = ("Listing", "Assembler text", "Disassembled text", "Verifier", "Feed", "Settings", "Lines that change a filter",
-            "What `record` refuses", "What `record` prints", "Script", "Packets")
+SECTIONS = (
+    "Listing",
+    "Assembler text",
+    "Disassembled text",
+    "Verifier",
+    "Feed",
+    "Settings",
+    "Lines that change a filter",
+    "What `record` refuses",
+    "What `record` prints",
+    "Script",
+    "Packets",
+)
 FIRST_COLUMNS = ("Fault", "Refusal", "Printed", "Key", "Bytes", "Path", "Line")
 WIDTH = 78
 
@@ -39,24 +50,92 @@ class Tool(NamedTuple):
 
 
 TOOLS = {
-    "live": Tool("records network interfaces, and audits the recording", "SETTINGS OUT INTERFACE=CHANNEL..",
-                 ["--every", "--size", "--sync", "--force", "--no-audit", "--strict", "--prefilter", "--origin", "--buffer",
-                  "--direction", "--no-promiscuous", "--clock", "--check-sequence", "--quiet", "--help"], ["toml", "ch11"]),
-    "capture": Tool("makes feeds of interfaces, as their frames come, and of captures", "INTERFACE=PIPE..",
-                    ["-r", "--origin", "--buffer", "--direction", "--prefilter", "--no-promiscuous", "--clock",
-                     "--check-sequence", "--interface", "--quiet", "--strict", "--hold", "--events", "--parent", "--help"], []),
-    "convert": Tool("makes feeds from captures and back, and shows their records", "from-pcap|to-pcap|show|make ..",
-                 ["from-pcap", "to-pcap", "show", "make", "--origin", "--facts", "--interface", "--drop-check-sequence", "--help"], []),
-    "info": Tool("tells what is in a recording, as a text, as JSON or as a page", "[--json] [--html FILE] RECORDING",
-                 ["--json", "--html", "--help"], ["ch11"]),
+    "live": Tool(
+        "records network interfaces, and audits the recording",
+        "SETTINGS OUT INTERFACE=CHANNEL..",
+        [
+            "--every",
+            "--size",
+            "--sync",
+            "--force",
+            "--no-audit",
+            "--strict",
+            "--prefilter",
+            "--origin",
+            "--buffer",
+            "--direction",
+            "--no-promiscuous",
+            "--clock",
+            "--check-sequence",
+            "--quiet",
+            "--help",
+        ],
+        ["toml", "ch11"],
+    ),
+    "capture": Tool(
+        "makes feeds of interfaces, as their frames come, and of captures",
+        "INTERFACE=PIPE..",
+        [
+            "-r",
+            "--origin",
+            "--buffer",
+            "--direction",
+            "--prefilter",
+            "--no-promiscuous",
+            "--clock",
+            "--check-sequence",
+            "--interface",
+            "--quiet",
+            "--strict",
+            "--hold",
+            "--events",
+            "--parent",
+            "--help",
+        ],
+        [],
+    ),
+    "convert": Tool(
+        "makes feeds from captures and back, and shows their records",
+        "from-pcap|to-pcap|show|make ..",
+        [
+            "from-pcap",
+            "to-pcap",
+            "show",
+            "make",
+            "--origin",
+            "--facts",
+            "--interface",
+            "--drop-check-sequence",
+            "--help",
+        ],
+        [],
+    ),
+    "info": Tool(
+        "tells what is in a recording, as a text, as JSON or as a page",
+        "[--json] [--html FILE] RECORDING",
+        ["--json", "--html", "--help"],
+        ["ch11"],
+    ),
     "salvage": Tool("copies what is left of a damaged recording", "DAMAGED OUT", ["--help"], ["ch11"]),
-    "preflight": Tool("names all that is wrong with settings before a recording", "SETTINGS [--out OUT] [--capture FEED]",
-                      ["--out", "--capture", "--help"], ["toml"]),
+    "preflight": Tool(
+        "names all that is wrong with settings before a recording",
+        "SETTINGS [--out OUT] [--capture FEED]",
+        ["--out", "--capture", "--help"],
+        ["toml"],
+    ),
 }
 
 # Which files a word of a command takes, by what its help says of it: the first that fits.
-KINDS = [("recording", "ch11"), ("feed that", "feed"), ("listing", "txt"), ("filter in the text", "bpf"), ("script", "script"),
-         ("feeds and filters", "toml"), ("number", None), ("hexadecimal", None)]
+KINDS = [
+    ("recording", "ch11"),
+    ("feed that", "feed"),
+    ("listing", "txt"),
+    ("filter in the text", "bpf"),
+    ("script", "script"),
+    ("feeds and filters", "toml"),
+    ("number", None),
+    ("hexadecimal", None),
+]
 
 
 def kind_of(word):
@@ -79,14 +158,17 @@ class Help:
     def __init__(self):
         source = COMMANDS.read_text() + HELP.read_text()
         quoted = r'"((?:[^"\\]|\\.)*)"'
-        texts = {name: string_of(it) for name, it in re.findall(rf'const (\w+): &str =\s*{quoted};', source, re.DOTALL)}
-        word = rf'WordTexts \{{\s*name: {quoted},\s*help: {quoted},\s*\}}'
-        words = {name: Word(string_of(a), string_of(b)) for name, a, b in re.findall(rf"const (\w+): WordTexts = {word};", source)}
+        texts = {name: string_of(it) for name, it in re.findall(rf"const (\w+): &str =\s*{quoted};", source, re.DOTALL)}
+        word = rf"WordTexts \{{\s*name: {quoted},\s*help: {quoted},\s*\}}"
+        words = {
+            name: Word(string_of(a), string_of(b))
+            for name, a, b in re.findall(rf"const (\w+): WordTexts = {word};", source)
+        }
         named = dict(re.findall(r"HelpText::(\w+) => (\w+),", source))
         table = source[source.index("const COMMANDS:") :]
         self.about, self.statuses, self.version = texts["ABOUT"], texts["STATUSES"], texts["VERSION"]
         self.commands = []
-        row = rf'CommandTexts \{{\s*name: {quoted},\s*usage: {quoted},\s*about: {quoted},\s*help: HelpText::(\w+),\s*words: &\[(.*?)\],\s*\}},'
+        row = rf"CommandTexts \{{\s*name: {quoted},\s*usage: {quoted},\s*about: {quoted},\s*help: HelpText::(\w+),\s*words: &\[(.*?)\],\s*\}},"
         for name, _, about, help_name, given in re.findall(row, table, re.DOTALL):
             found = []
             for it in re.finditer(rf"{word}|\b([A-Z_]+)\b(?=\s*[,\]]|\s*$)", given):
@@ -183,14 +265,16 @@ def tables():
 def table_page(head, rows):
     found = []
     for cells in rows:
-        said = [inline(cells[1])] + [f"{escaped(name)}: {inline(it)}" for name, it in zip(head[2:], cells[2:]) if name and it]
+        said = [inline(cells[1])] + [
+            f"{escaped(name)}: {inline(it)}" for name, it in zip(head[2:], cells[2:]) if name and it
+        ]
         found += item(inline(cells[0]), "; ".join(it for it in said if it))
     return found
 
 
 def page(texts):
     found = [
-        '.\\" Made by dev/package/make_man.py of the program\'s help and of docs/user/FORMATS.md.',
+        ".\\\" Made by dev/package/make_man.py of the program's help and of docs/user/FORMATS.md.",
         f'.TH BPFREC 1 "{DATE}" "bpfrec {texts.version}" "User Commands"',
         ".SH NAME",
         "bpfrec \\- records Ethernet channels through filters, and reads the recordings",
@@ -206,13 +290,21 @@ def page(texts):
         for word in command.words:
             found += item(f"\\fI{escaped(word.name)}\\fR", escaped(word.help))
         found += text_page(command.help)
-    found += [".SH FORMATS", *filled("The tables of the project's document of formats, by its sections. A number of several bytes has its lowest byte first.")]
+    found += [
+        ".SH FORMATS",
+        *filled(
+            "The tables of the project's document of formats, by its sections. A number of several bytes has its lowest byte first."
+        ),
+    ]
     last = ""
     for title, head, rows in tables():
         found += [f'.SS "{inline(title)}"'] if title != last else [".PP"]
         found += [*filled(", ".join(escaped(it) for it in head if it) + ":"), *table_page(head, rows)]
         last = title
-    found += [".SH TOOLS", *filled("Beside the program, tested and not proved; each has a help text, by \\fB\\-\\-help\\fR.")]
+    found += [
+        ".SH TOOLS",
+        *filled("Beside the program, tested and not proved; each has a help text, by \\fB\\-\\-help\\fR."),
+    ]
     for name, tool in TOOLS.items():
         found += item(f"\\fBbpfrec\\-{name}\\fR \\fI{escaped(tool.words)}\\fR", escaped(tool.about))
     found += [".SH SEE ALSO", ".BR tcpdump (1),", ".BR capinfos (1),", ".BR pcap\\-filter (7)"]
@@ -330,16 +422,33 @@ def filled_in(template, commands, words, options):
 
 def bash(texts):
     names = " ".join(it.name for it in texts.commands)
-    words = [f"        {name}/{at}) _bpfrec_files {kind if kind != '*' else quoted(kind)} ;;" for name, _, kinds in commands_of(texts)
-             for at, kind in enumerate(kinds, 2) if kind]
-    options = [f"        bpfrec-{name}) options='{' '.join(it.options)}' kind={(it.kinds or [quoted('*')])[0]} ;;" for name, it in TOOLS.items()]
+    words = [
+        f"        {name}/{at}) _bpfrec_files {kind if kind != '*' else quoted(kind)} ;;"
+        for name, _, kinds in commands_of(texts)
+        for at, kind in enumerate(kinds, 2)
+        if kind
+    ]
+    options = [
+        f"        bpfrec-{name}) options='{' '.join(it.options)}' kind={(it.kinds or [quoted('*')])[0]} ;;"
+        for name, it in TOOLS.items()
+    ]
     return filled_in(BASH, names, words, options)
 
 
 def zsh(texts):
-    described = "\n".join("    " + quoted(f"{name}:" + about.replace(":", "\\:")) for name, about, _ in commands_of(texts))
-    words = [f"    {name}/{at}) {zsh_files(kind)} ;;" for name, _, kinds in commands_of(texts) for at, kind in enumerate(kinds, 3) if kind]
-    options = [f"    bpfrec-{name}) options=({' '.join(it.options)}); kind={(it.kinds or [''])[0]} ;;" for name, it in TOOLS.items()]
+    described = "\n".join(
+        "    " + quoted(f"{name}:" + about.replace(":", "\\:")) for name, about, _ in commands_of(texts)
+    )
+    words = [
+        f"    {name}/{at}) {zsh_files(kind)} ;;"
+        for name, _, kinds in commands_of(texts)
+        for at, kind in enumerate(kinds, 3)
+        if kind
+    ]
+    options = [
+        f"    bpfrec-{name}) options=({' '.join(it.options)}); kind={(it.kinds or [''])[0]} ;;"
+        for name, it in TOOLS.items()
+    ]
     return filled_in(ZSH, described, words, options)
 
 

@@ -19,9 +19,36 @@ from pathlib import Path
 
 import support
 from support import (
-    BPFREC, CAPTURE, DROPS_ALL, FEED, KEEPS_ALL, LIVE, MILLISECOND, NOBODY, ROOT, SECONDS, Reader, Running, extracted, judge,
-    judge_parts, judge_quietly, make_pair, numbered, numbers, origin_told, parts_of, pipe_at, recordings, records, run, send,
-    send_together, socket_into, wait_for, write_settings,
+    BPFREC,
+    CAPTURE,
+    DROPS_ALL,
+    FEED,
+    KEEPS_ALL,
+    LIVE,
+    MILLISECOND,
+    NOBODY,
+    ROOT,
+    SECONDS,
+    Reader,
+    Running,
+    extracted,
+    judge,
+    judge_parts,
+    judge_quietly,
+    make_pair,
+    numbered,
+    numbers,
+    origin_told,
+    parts_of,
+    pipe_at,
+    recordings,
+    records,
+    run,
+    send,
+    send_together,
+    socket_into,
+    wait_for,
+    write_settings,
 )
 
 WANTED = {"ip": "iproute2", "tshark": "tshark", "dumpcap": "wireshark-common"}
@@ -73,18 +100,27 @@ def check_two_channels(work: Path) -> None:
     told = running.told()
     mark = int(re.search(r"installed 2 1 (\d+)", told)[1])
     judge("Ctrl-C ends a live recording with status 0", status == 0)
-    judge("its report", printed.splitlines()[:3] == [
-        f"channel 1 versions 1 offered {2 * FRAMES} kept {2 * FRAMES} SourceEnd",
-        f"channel 2 versions 2 offered {2 * FRAMES} kept {2 * FRAMES - mark} SourceEnd",
-        "channel 3 versions 1 offered 50 kept 50 SourceEnd",
-    ])
+    judge(
+        "its report",
+        printed.splitlines()[:3]
+        == [
+            f"channel 1 versions 1 offered {2 * FRAMES} kept {2 * FRAMES} SourceEnd",
+            f"channel 2 versions 2 offered {2 * FRAMES} kept {2 * FRAMES - mark} SourceEnd",
+            "channel 3 versions 1 offered 50 kept 50 SourceEnd",
+        ],
+    )
     judge("its audit says yes", printed.splitlines()[-1] == "yes other 0" and "channel 1 programs 1 frames" in printed)
     lines = re.findall(r"rx0 frames (\d+) bytes \d+ dropped (\d+) missed (\d+) passed (\d+) waited \d+", told)
-    judge("a line a second, and the counts at the end", len(lines) > 1 and lines[-1] == (str(2 * FRAMES), "0", "0", "0"))
+    judge(
+        "a line a second, and the counts at the end", len(lines) > 1 and lines[-1] == (str(2 * FRAMES), "0", "0", "0")
+    )
     judge("pipes and settings are removed", os.listdir(work / "private") == [])
     one, two = (extracted(work, out, channel) for channel in (1, 2))
     judge("each frame once and in order", numbers(one) == list(range(2 * FRAMES)))
-    judge("and of the other channel each one from the change on", numbers(two) == list(range(mark, 2 * FRAMES)) and 0 < mark <= FRAMES)
+    judge(
+        "and of the other channel each one from the change on",
+        numbers(two) == list(range(mark, 2 * FRAMES)) and 0 < mark <= FRAMES,
+    )
     check_counters(origin_told(told), sent, [it[0] for it in records(one)], [it[0] for it in records(two)], mark)
 
 
@@ -109,7 +145,10 @@ def check_ends(work: Path) -> None:
         time.sleep(0.1)
         tell(running.process.pid, getattr(signal, f"SIG{name}"))
         status, printed = running.ended()
-        judge(f"{name} ends it too", status == 0 and "offered 100 kept 100 SourceEnd" in printed and "yes other 0" in printed)
+        judge(
+            f"{name} ends it too",
+            status == 0 and "offered 100 kept 100 SourceEnd" in printed and "yes other 0" in printed,
+        )
         judge_quietly("--quiet tells the origin and the end", running.told().count("rx0 frames") == 1)
     settings = write_settings(work, f'id = 1\nfilter = "{work}/all"\nmax = 10')
     running = Running(work, LIVE, settings, work / "max.ch11", "rx0=1")
@@ -121,7 +160,10 @@ def check_ends(work: Path) -> None:
         number += 1
         time.sleep(0.01)
     status, printed = running.ended()
-    judge("it ends by itself where each channel has all its frames", status == 0 and "offered 10 kept 10 CountFull" in printed)
+    judge(
+        "it ends by itself where each channel has all its frames",
+        status == 0 and "offered 10 kept 10 CountFull" in printed,
+    )
 
 
 def check_prefilter(work: Path) -> None:
@@ -130,7 +172,9 @@ def check_prefilter(work: Path) -> None:
     (work / "constant").write_text("4,48 0 0 21,37 0 1 9,6 0 0 1,6 0 0 0,")
     (work / "itself").write_text("2\n48 0 0 21\n22 0 0 0\n")
     settings = write_settings(
-        work, f'id = 1\nfilter = "{work}/constant" # in the kernel too', f"id = 2\n'filter'='{work}/itself'",
+        work,
+        f'id = 1\nfilter = "{work}/constant" # in the kernel too',
+        f"id = 2\n'filter'='{work}/itself'",
     )
     out = work / "prefiltered.ch11"
     running = Running(work, LIVE, "--prefilter", "--quiet", settings, out, "rx0=1", "rx1=2")
@@ -142,19 +186,35 @@ def check_prefilter(work: Path) -> None:
     running.interrupt()
     status, printed = running.ended()
     told = running.told()
-    judge("what the kernel drops by a filter is not offered", status == 0 and printed.splitlines()[:2] == [
-        "channel 1 versions 1 offered 90 kept 90 SourceEnd",
-        "channel 2 versions 1 offered 99 kept 99 SourceEnd",
-    ])
-    judge("the rest is whole", [extracted(work, out, it) for it in (1, 2)] and all(
-        [(numbers(feed), {len(frame) for _, _, frame in records(feed)}) == (list(range(least, 100)), {64})
-         for feed, least in [(extracted(work, out, 1), 10), (extracted(work, out, 2), 1)]]))
+    judge(
+        "what the kernel drops by a filter is not offered",
+        status == 0
+        and printed.splitlines()[:2]
+        == [
+            "channel 1 versions 1 offered 90 kept 90 SourceEnd",
+            "channel 2 versions 1 offered 99 kept 99 SourceEnd",
+        ],
+    )
+    judge(
+        "the rest is whole",
+        [extracted(work, out, it) for it in (1, 2)]
+        and all(
+            [
+                (numbers(feed), {len(frame) for _, _, frame in records(feed)}) == (list(range(least, 100)), {64})
+                for feed, least in [(extracted(work, out, 1), 10), (extracted(work, out, 2), 1)]
+            ]
+        ),
+    )
     judge("and no line changes a filter", "installed" not in told and "refused" not in told)
 
 
 def check_rotation(work: Path) -> None:
     """Recordings that follow one another, by time and by size, under traffic, while a filter is changed."""
-    for name, words, many in [("time", ["--every", 1], 3), ("size", ["--size", 100_000], 5), ("often", ["--size=1"], 6)]:
+    for name, words, many in [
+        ("time", ["--every", 1], 3),
+        ("size", ["--size", 100_000], 5),
+        ("often", ["--size=1"], 6),
+    ]:
         settings = write_settings(work, f'id = 1\nfilter = "{work}/all"', f'id = 2\nfilter = "{work}/none"')
         running = Running(work, LIVE, "--quiet", *words, settings, work / f"{name}.ch11", "rx0=1", "rx1=2")
         running.wait_until_told("origin")
@@ -176,14 +236,30 @@ def check_rotation(work: Path) -> None:
         told = running.told()
         files = recordings(work, name)
         judge_quietly(f"by {name}: status {status}, {told}", status == 0)
-        judge(f"by {name}: status 0, and each recording is approved", status == 0 and printed.count("yes other 0") == len(files) >= many
-              and [it for it in re.findall(r"recording (.*)", printed)] == [str(it) for it in files])
-        judge("no frame was dropped by the kernel", re.search(rf"rx0 frames {sent} bytes \d+ dropped 0 ", told) is not None)
-        judge_parts(f"each of {sent} frames is in one of {len(files)} recordings", parts_of(work, name, 1), list(range(sent)))
+        judge(
+            f"by {name}: status 0, and each recording is approved",
+            status == 0
+            and printed.count("yes other 0") == len(files) >= many
+            and [it for it in re.findall(r"recording (.*)", printed)] == [str(it) for it in files],
+        )
+        judge(
+            "no frame was dropped by the kernel",
+            re.search(rf"rx0 frames {sent} bytes \d+ dropped 0 ", told) is not None,
+        )
+        judge_parts(
+            f"each of {sent} frames is in one of {len(files)} recordings", parts_of(work, name, 1), list(range(sent))
+        )
         two = parts_of(work, name, 2)
         first = int.from_bytes([it for part in two for it in part][0][2][14:22], "big")
-        judge_parts("and of the other channel each one from the change on, in all recordings after it", two, list(range(first, sent)))
-        judge("which was told once, and the wrong line too", 0 < first <= FRAMES and told.count("installed") == 1 and told.count("refused 0 Line") == 1)
+        judge_parts(
+            "and of the other channel each one from the change on, in all recordings after it",
+            two,
+            list(range(first, sent)),
+        )
+        judge(
+            "which was told once, and the wrong line too",
+            0 < first <= FRAMES and told.count("installed") == 1 and told.count("refused 0 Line") == 1,
+        )
         judge_quietly("nothing is left", os.listdir(work / "private") == [])
 
 
@@ -212,8 +288,12 @@ def check_gone(work: Path, settings: Path) -> None:
     running.interrupt()
     status, printed = running.ended()
     judge_quietly(f"an interface that is gone: status {status}, {printed} {running.told()}", status == 1)
-    judge("an interface that is gone is empty in later recordings", status == 1 and printed.count("yes other 0") == len(recordings(work, "gone"))
-          and printed.count("channel 1 versions 1 offered 0 ") >= len(recordings(work, "gone")) - 2)
+    judge(
+        "an interface that is gone is empty in later recordings",
+        status == 1
+        and printed.count("yes other 0") == len(recordings(work, "gone"))
+        and printed.count("channel 1 versions 1 offered 0 ") >= len(recordings(work, "gone")) - 2,
+    )
     judge("and is told as gone at the end", "capture: rx0: the interface is gone\n" in running.told())
     judge_parts("and the other has all its frames", parts_of(work, "gone", 2), list(range(sent)))
     make_pair(0)
@@ -230,36 +310,59 @@ def check_signals(work: Path, settings: Path) -> None:
             sent += 2
         (os.kill if turn % 2 else os.killpg)(running.process.pid, signal.SIGTERM if turn % 2 else signal.SIGINT)
         status, printed = running.ended()
-        judge_quietly(f"a signal in a change: {status} {printed} {running.told()}", status == 0 and printed.count("yes other 0") == len(recordings(work, f"turn{turn}")))
+        judge_quietly(
+            f"a signal in a change: {status} {printed} {running.told()}",
+            status == 0 and printed.count("yes other 0") == len(recordings(work, f"turn{turn}")),
+        )
         for channel in (1, 2):
             found = [it for part in parts_of(work, f"turn{turn}", channel) for it in part]
-            judge_quietly(f"each frame once, turn {turn}", [int.from_bytes(it[2][14:22], "big") for it in found] == list(range(sent)))
+            judge_quietly(
+                f"each frame once, turn {turn}",
+                [int.from_bytes(it[2][14:22], "big") for it in found] == list(range(sent)),
+            )
     judge("a signal in the middle of a change loses nothing", True)
 
 
 def check_rotation_refusals(work: Path, settings: Path) -> None:
     own = work / "own.toml"
-    own.write_text(f'[[channel]]\nid = 1\nfilter = "{work}/all"\n[[channel]]\nid = 5\nfilter = "{work}/all"\nfeed = "own"\n')
+    own.write_text(
+        f'[[channel]]\nid = 1\nfilter = "{work}/all"\n[[channel]]\nid = 5\nfilter = "{work}/all"\nfeed = "own"\n'
+    )
     out = work / "none.ch11"
     cases = [
-        (["--every", 1, own, out, "rx0=1"], 2, f"live: --every and --size want an interface for each channel, and 5 of {own} has none"),
+        (
+            ["--every", 1, own, out, "rx0=1"],
+            2,
+            f"live: --every and --size want an interface for each channel, and 5 of {own} has none",
+        ),
         (["--every", 0, settings, out, "rx0=1", "rx1=2"], 2, "live: --every needs a number from 1 to 999999999"),
         (["--size=1k", settings, out, "rx0=1", "rx1=2"], 2, "live: --size needs a number from 1 on"),
         (["--size", 5, settings, out], 2, "live: --every and --size want an interface"),
-        (["--size", 5, settings, "/dev/null", "rx0=1", "rx1=2"], 2, "live: --every and --size make files, and /dev/null is none"),
+        (
+            ["--size", 5, settings, "/dev/null", "rx0=1", "rx1=2"],
+            2,
+            "live: --every and --size make files, and /dev/null is none",
+        ),
         (["--size", 5, settings, work / "no/x.ch11", "rx0=1", "rx1=2"], 3, f"file {work}/no/x_00001.ch11"),
         (["--quiet", "--size", 5, settings, out, "rx0=1", "nowhere0=2"], 3, "capture: nowhere0: no such interface"),
     ]
     for words, status, told in cases:
         running = Running(work, LIVE, *words)
         judge(f"refused: {told}", running.ended()[0] == status and running.told() == told + "\n")
-        judge_quietly("nothing is created or left", recordings(work, "none") == [] and os.listdir(work / "private") == [])
+        judge_quietly(
+            "nothing is created or left", recordings(work, "none") == [] and os.listdir(work / "private") == []
+        )
     (work / "none_00001.ch11").write_bytes(b"kept")
     wrong = write_settings(work, 'id = 1\nfilter = "missing"')
     running = Running(work, LIVE, "--quiet", "--size", 5, wrong, out, "rx0=1")
     status = running.ended()[0]
-    judge("a fault of the recorder ends it, and no file that is there is touched", status == 3 and "file missing\n" in running.told()
-          and [it.read_bytes() for it in recordings(work, "none")] == [b"kept"] and os.listdir(work / "private") == [])
+    judge(
+        "a fault of the recorder ends it, and no file that is there is touched",
+        status == 3
+        and "file missing\n" in running.told()
+        and [it.read_bytes() for it in recordings(work, "none")] == [b"kept"]
+        and os.listdir(work / "private") == [],
+    )
 
 
 def check_no_room(work: Path, settings: Path) -> None:
@@ -277,8 +380,13 @@ def check_no_room(work: Path, settings: Path) -> None:
         running.interrupt()
         status, printed = running.ended()
         told = f"live: {disk}/full_00002.ch11 can't be begun: {disk}/full_00001.ch11 goes on"
-        judge("where no recording can be begun the last goes on, which is told once", status == 0 and running.told().count(told) == 1
-              and f"channel 1 versions 1 offered {sent} kept {sent} " in printed and printed.count("yes other 0") == 1)
+        judge(
+            "where no recording can be begun the last goes on, which is told once",
+            status == 0
+            and running.told().count(told) == 1
+            and f"channel 1 versions 1 offered {sent} kept {sent} " in printed
+            and printed.count("yes other 0") == 1,
+        )
     finally:
         run("umount", disk)
 
@@ -293,7 +401,11 @@ def check_refusals(work: Path) -> None:
         ([settings, out, "rx0=2"], 2, f"live: {settings} has no table [[channel]] with a line id = 2"),
         ([settings, out, "rx0=1", "rx1=1"], 2, "live: channel 1 has two interfaces"),
         ([settings, out, "rx0"], 2, "live: no INTERFACE=CHANNEL: rx0"),
-        (["--origin", "yesterday", settings, out, "rx0=1"], 2, "capture: no such value: yesterday: capture --help has its words"),
+        (
+            ["--origin", "yesterday", settings, out, "rx0=1"],
+            2,
+            "capture: no such value: yesterday: capture --help has its words",
+        ),
         ([settings, settings, "rx0=1"], 3, f"file {settings}"),
         ([work / "missing.toml", out, "rx0=1"], 3, f"file {work / 'missing.toml'}"),
         ([settings], 2, "live: it takes SETTINGS and OUT: host/bin/live --help has its words"),
@@ -307,14 +419,22 @@ def check_refusals(work: Path) -> None:
     for name, listing in [("no_listing", "2,6 0 0 1,"), ("no_program", "1,7 0 0 0,")]:
         (work / name).write_text(listing)
         running = Running(work, LIVE, "--prefilter", "--quiet", write_named(work, name), out, "rx0=1")
-        judge(f"a filter that is {name.replace('_', ' ')} is refused", running.ended()[0] in (1, 3) and not out.exists())
+        judge(
+            f"a filter that is {name.replace('_', ' ')} is refused", running.ended()[0] in (1, 3) and not out.exists()
+        )
         pipe = pipe_at(work, "one.pipe")
         running = Running(work, CAPTURE, "--prefilter", f"rx0={work / name}", f"rx0={pipe}")
-        judge_quietly("by the capture too, in a line", running.ended()[0] == 3 and running.told().count("\n") == 1 and name in running.told())
+        judge_quietly(
+            "by the capture too, in a line",
+            running.ended()[0] == 3 and running.told().count("\n") == 1 and name in running.told(),
+        )
     wrong = write_settings(work, 'id = 1\nfilter = "missing"')
     running = Running(work, LIVE, "--quiet", wrong, out, "rx0=1")
     status, told = running.ended()[0], running.told()
-    judge("a fault of the recorder ends it", status == 3 and "file missing\n" in told and os.listdir(work / "private") == [])
+    judge(
+        "a fault of the recorder ends it",
+        status == 3 and "file missing\n" in told and os.listdir(work / "private") == [],
+    )
 
 
 def check_permission(work: Path) -> None:
@@ -328,9 +448,15 @@ def check_permission(work: Path) -> None:
         path.chmod(path.stat().st_mode | 0o555)
     (work / "private").chmod(0o777)
     line = r"capture: rx0: no permission to capture: be root, or once setcap \S+ \S+\n"
-    for words in [[open_to_all / "bin/capture", "rx0=-"], [open_to_all / "host/bin/live", settings, "/tmp/none.ch11", "rx0=1"]]:
+    for words in [
+        [open_to_all / "bin/capture", "rx0=-"],
+        [open_to_all / "host/bin/live", settings, "/tmp/none.ch11", "rx0=1"],
+    ]:
         running = Running(work, *words, preexec_fn=lambda: os.setuid(NOBODY))
-        judge(f"no permission of {words[0].name}: one line", running.ended()[0] == 3 and bool(re.fullmatch(line, running.told())))
+        judge(
+            f"no permission of {words[0].name}: one line",
+            running.ended()[0] == 3 and bool(re.fullmatch(line, running.told())),
+        )
 
 
 # ---- interfaces that come and go
@@ -362,10 +488,14 @@ def check_down(work: Path) -> None:
     wait_for("it is told as gone again", lambda: running.told().count("taken again once it is back") == 2)
     running.interrupt()
     status, printed = running.ended()
-    judge("an interface that is away at the end is told, and in the status",
-          status == 1 and running.told().count("capture: rx0: the interface is gone\n") == 1)
+    judge(
+        "an interface that is away at the end is told, and in the status",
+        status == 1 and running.told().count("capture: rx0: the interface is gone\n") == 1,
+    )
     judge("the recording is whole", "yes other 0" in printed)
-    judge("with the frames before, between and after", numbers(extracted(work, out, 1)) == [*range(100), *range(200, 400)])
+    judge(
+        "with the frames before, between and after", numbers(extracted(work, out, 1)) == [*range(100), *range(200, 400)]
+    )
     judge("and all of the other interface", numbers(extracted(work, out, 2)) == list(range(300)))
     make_pair(0)
 
@@ -383,7 +513,10 @@ def check_reader_that_leaves(work: Path) -> None:
     send("tx1", [numbered(number) for number in range(100)])
     wait_for("the other interface goes on", lambda: len(numbers(stays.data)) >= before + 100)
     running.interrupt()
-    judge("a reader that leaves ends its interface alone", running.ended()[0] == 0 and numbers(stays.all())[-100:] == list(range(100)))
+    judge(
+        "a reader that leaves ends its interface alone",
+        running.ended()[0] == 0 and numbers(stays.all())[-100:] == list(range(100)),
+    )
 
 
 # ---- the pipe and the kernel's buffer
@@ -409,7 +542,10 @@ def check_full_pipe(work: Path) -> None:
     status = running.ended()[0]
     frames, dropped = map(int, re.findall(r"rx0 frames (\d+) bytes \d+ dropped (\d+)", running.told())[-1])
     found = numbers(data)
-    judge("a full pipe is waited for, and what the kernel drops meanwhile is counted", dropped > 0 and frames + dropped == sent)
+    judge(
+        "a full pipe is waited for, and what the kernel drops meanwhile is counted",
+        dropped > 0 and frames + dropped == sent,
+    )
     judge("what was kept is whole and in order", status == 0 and len(found) == frames and found == sorted(set(found)))
     running = Running(work, CAPTURE, f"rx0={pipe}")
     with open(pipe, "rb", buffering=0):
@@ -420,7 +556,10 @@ def check_full_pipe(work: Path) -> None:
         time.sleep(1.5)
         judge_quietly("it still waits", running.process.poll() is None)
         running.interrupt()
-        judge("a second signal waits for nobody", running.ended()[0] == 1 and "the run was to end at once" in running.told())
+        judge(
+            "a second signal waits for nobody",
+            running.ended()[0] == 1 and "the run was to end at once" in running.told(),
+        )
 
 
 def check_last_frames(work: Path) -> None:
@@ -434,7 +573,10 @@ def check_last_frames(work: Path) -> None:
     send("tx0", [numbered(number) for number in range(1, 1_000)])
     os.kill(running.process.pid, signal.SIGTERM)
     os.kill(running.process.pid, signal.SIGCONT)
-    judge("what the kernel still holds at the end is written", running.ended()[0] == 0 and numbers(reader.all()) == list(range(1_000)))
+    judge(
+        "what the kernel still holds at the end is written",
+        running.ended()[0] == 0 and numbers(reader.all()) == list(range(1_000)),
+    )
 
 
 def check_latency(work: Path) -> None:
@@ -456,8 +598,10 @@ def check_latency(work: Path) -> None:
         reader.read()
     running.ended()
     late.sort()
-    print(f"a frame is read {late[250] / MILLISECOND:.3f} ms after its time (median), 99 of 100 within "
-          f"{late[495] / MILLISECOND:.3f}, at most {late[-1] / MILLISECOND:.3f}; load {os.getloadavg()[0]:.1f}")
+    print(
+        f"a frame is read {late[250] / MILLISECOND:.3f} ms after its time (median), 99 of 100 within "
+        f"{late[495] / MILLISECOND:.3f}, at most {late[-1] / MILLISECOND:.3f}; load {os.getloadavg()[0]:.1f}"
+    )
     judge("a live frame is with its reader within two milliseconds", late[250] < 2 * MILLISECOND)
 
 
@@ -466,19 +610,28 @@ def check_latency(work: Path) -> None:
 
 def check_frames(work: Path) -> None:
     def lengths() -> None:
-        send("tx0", [numbered(number, length) for number, length in enumerate([22, 59, 1_514, 9_014, 16_379, 16_380, 17_000])])
+        send(
+            "tx0",
+            [numbered(number, length) for number, length in enumerate([22, 59, 1_514, 9_014, 16_379, 16_380, 17_000])],
+        )
 
     for interface in ("tx0", "rx0"):
         run("ip", "link", "set", interface, "mtu", 20_000)
     feed, told = capture_while(work, lengths)
     frames = [frame for _, _, frame in records(feed)]
-    judge("short frames are padded, and those past a feed's length passed", [len(it) for it in frames] == [64, 64, 1_518, 9_018, 16_383] and " passed 2 " in told)
+    judge(
+        "short frames are padded, and those past a feed's length passed",
+        [len(it) for it in frames] == [64, 64, 1_518, 9_018, 16_383] and " passed 2 " in told,
+    )
     judge("check sequences are computed", all(zlib.crc32(it[:-4]).to_bytes(4, "little") == it[-4:] for it in frames))
     for interface in ("tx0", "rx0"):
         run("ip", "link", "set", interface, "mtu", 1_500)
     right = numbered(1) + zlib.crc32(numbered(1)).to_bytes(4, "little")
     feed, _ = capture_while(work, lambda: send("tx0", [right, right[:-1] + b"\0"]), "--check-sequence", "given")
-    judge("check sequences that are given stay, and wrong ones are marked", [it[1:] for it in records(feed)] == [(0, right), (1, right[:-1] + b"\0")])
+    judge(
+        "check sequences that are given stay, and wrong ones are marked",
+        [it[1:] for it in records(feed)] == [(0, right), (1, right[:-1] + b"\0")],
+    )
 
     def both_ways() -> None:
         send("tx0", [numbered(1)])
@@ -518,7 +671,9 @@ def check_dumpcap(work: Path) -> None:
         run("chmod", "+r", made)
         fields = ["frame.interface_id", "frame.time_epoch", "frame.len", "frame.cap_len", "frame.md5_hash"]
         words = [word for field in fields for word in ("-e", field)]
-        lines = run("tshark", "-n", "-o", "frame.generate_md5_hash:TRUE", "-r", made, "-T", "fields", *words).splitlines()
+        lines = run(
+            "tshark", "-n", "-o", "frame.generate_md5_hash:TRUE", "-r", made, "-T", "fields", *words
+        ).splitlines()
         read = [line.split("\t") for line in lines]
         judge_quietly("dumpcap has all frames", len(read) == 500 and {it[0] for it in read} == {"0", "1"})
         for chosen in ([], ["--interface", "0"], ["--interface", "1"]):
@@ -526,7 +681,10 @@ def check_dumpcap(work: Path) -> None:
             mine = [it for it in read if not chosen or it[0] == chosen[1]]
             whole = [(ticks(it[1]), it[4]) for it in mine if it[2] == it[3]]
             got = [(counter, hashlib.md5(frame[:-4]).hexdigest()) for counter, _, frame in records(feed.read_bytes())]
-            judge(f"dumpcap's file {cut} {chosen} is as tshark reads it", got == whole and told == f"frames {len(whole)} passed {len(mine) - len(whole)}\n")
+            judge(
+                f"dumpcap's file {cut} {chosen} is as tshark reads it",
+                got == whole and told == f"frames {len(whole)} passed {len(mine) - len(whole)}\n",
+            )
 
 
 def ticks(moment: str) -> int:
@@ -535,8 +693,20 @@ def ticks(moment: str) -> int:
 
 
 CHECKS = [
-    check_two_channels, check_ends, check_prefilter, check_rotation, check_rotation_ends, check_refusals, check_down,
-    check_reader_that_leaves, check_full_pipe, check_last_frames, check_latency, check_frames, check_dumpcap, check_permission,
+    check_two_channels,
+    check_ends,
+    check_prefilter,
+    check_rotation,
+    check_rotation_ends,
+    check_refusals,
+    check_down,
+    check_reader_that_leaves,
+    check_full_pipe,
+    check_last_frames,
+    check_latency,
+    check_frames,
+    check_dumpcap,
+    check_permission,
 ]
 
 if __name__ == "__main__":

@@ -21,14 +21,31 @@ from pathlib import Path
 
 import support
 from support import (
-    CAPTURE, LIVE, MILLISECOND, SECOND, Clock, Running, capture_with, extracted, judge, judge_quietly, numbered, pipe_at,
-    recordings, records, socket_into, wait_for, write_settings,
+    CAPTURE,
+    LIVE,
+    MILLISECOND,
+    SECOND,
+    Clock,
+    Running,
+    capture_with,
+    extracted,
+    judge,
+    judge_quietly,
+    numbered,
+    pipe_at,
+    recordings,
+    records,
+    socket_into,
+    wait_for,
+    write_settings,
 )
 
 WANTED = {"ip": "iproute2", "cc": "gcc", "pcap-config": "libpcap-dev"}
 YEAR = 31_557_600
 SETTINGS = {"-3,600 s": -3600 * SECOND, "+26 years": 26 * YEAR * SECOND, "+2 s": 2 * SECOND, "-1 s": -1 * SECOND}
-TOLD = re.compile(r"capture: origin (-?\d+)\.(\d{9}) from counter (\d+) on: the clock was set by ([-+]?\d+\.\d{6,9}) s\n")
+TOLD = re.compile(
+    r"capture: origin (-?\d+)\.(\d{9}) from counter (\d+) on: the clock was set by ([-+]?\d+\.\d{6,9}) s\n"
+)
 PPM = 500
 # What a step has at least that is told by itself.
 LEAST_STEP = SECOND // 2000
@@ -94,8 +111,11 @@ class Captured:
         os.kill(self.running.process.pid, signal.SIGCONT)
 
     def wait_for_told(self, count: int) -> None:
-        wait_for(lambda: f"a setting is told within a second: {self.running.told()}",
-                 lambda: len(TOLD.findall(self.running.told())) >= count, 1)
+        wait_for(
+            lambda: f"a setting is told within a second: {self.running.told()}",
+            lambda: len(TOLD.findall(self.running.told())) >= count,
+            1,
+        )
 
     def judge(self, what: str, steps: list | None) -> None:
         """Ends it and judges it; `steps` are the settings, each of which is told once."""
@@ -123,7 +143,9 @@ def nanoseconds(seconds: str, rest: str) -> int:
 
 def judge_frames(what: str, found: list, sent: list, origins: list, clock: Clock) -> None:
     """Each frame is there once, its counter is the real time since the beginning, and its time the set clock's."""
-    judge_quietly(f"{what}: {len(found)} of {len(sent)} frames, in order", list(map(number_of, found)) == list(range(len(sent))))
+    judge_quietly(
+        f"{what}: {len(found)} of {len(sent)} frames, in order", list(map(number_of, found)) == list(range(len(sent)))
+    )
     judge_times(what, found, sent, origins, clock)
 
 
@@ -137,7 +159,9 @@ def judge_times(what: str, found: list, sent: list, origins: list, clock: Clock)
     for counter, number in zip(counters, map(number_of, found)):
         begin, end = sent[number]
         wrong = off(origins[0][1] + 100 * counter, begin, end)
-        judge_quietly(f"{what}: counter {counter} of frame {number} is {wrong / MILLISECOND:.3f} ms off", wrong < MILLISECOND)
+        judge_quietly(
+            f"{what}: counter {counter} of frame {number} is {wrong / MILLISECOND:.3f} ms off", wrong < MILLISECOND
+        )
         told = [origin for from_then, origin in origins if from_then <= counter][-1] + 100 * counter
         aheads = sorted([clock.ahead_at(begin), clock.ahead_at(end)])
         wrong = off(told, begin + aheads[0], end + aheads[1])
@@ -203,7 +227,9 @@ def check_1970(work: Path) -> None:
     step = captured.clock.set_to(SECOND // 20)
     captured.sender.send(50)
     captured.wait_for_told(1)
-    judge_quietly(f"the origin is before 1970: {captured.running.told()}", origins_told(captured.running.told())[1][1] < 0)
+    judge_quietly(
+        f"the origin is before 1970: {captured.running.told()}", origins_told(captured.running.told())[1][1] < 0
+    )
     captured.judge("the clock falls back to 1970", [step])
 
 
@@ -253,8 +279,10 @@ def check_slewing(work: Path) -> None:
         gained = captured.clock.ahead_at(time.time_ns())
         captured.judge(f"a clock that gains {PPM} millionths{', and frames wait' if waits else ''}", None)
         steps = [float(it[3]) * SECOND for it in TOLD.findall(captured.running.told())]
-        judge(f"is followed in {len(steps)} steps",
-              abs(gained - sum(steps)) < MILLISECOND and len(steps) <= gained // LEAST_STEP + 1)
+        judge(
+            f"is followed in {len(steps)} steps",
+            abs(gained - sum(steps)) < MILLISECOND and len(steps) <= gained // LEAST_STEP + 1,
+        )
 
 
 def check_full_pipe(work: Path) -> None:
@@ -303,16 +331,23 @@ def check_live(work: Path) -> None:
     running.interrupt()
     status, printed = running.ended()
     told = running.told()
-    judge("live with a clock that is set twice: status 0, and the audit says yes", status == 0 and "yes other 0" in printed)
+    judge(
+        "live with a clock that is set twice: status 0, and the audit says yes",
+        status == 0 and "yes other 0" in printed,
+    )
     for channel in (1, 2):
-        judge_frames(f"live: channel {channel}", records(extracted(work, out, channel)), sender.sent, origins_told(told), clock)
+        judge_frames(
+            f"live: channel {channel}", records(extracted(work, out, channel)), sender.sent, origins_told(told), clock
+        )
     judge_steps("live", told, wanted)
     judge("live: counters go on, and with the origins that are told each frame has its time", True)
     facts = facts_of(out)
     judge("the facts have the origins that are told, in order", origins_of(facts) == origins_told(told))
     steps = [nanoseconds(*it["set_by"].split(".")) for it in facts[1:]]
-    judge("and by how much the clock was set",
-          "set_by" not in facts[0] and all(abs(a - b) < MILLISECOND for a, b in zip(steps, wanted, strict=True)))
+    judge(
+        "and by how much the clock was set",
+        "set_by" not in facts[0] and all(abs(a - b) < MILLISECOND for a, b in zip(steps, wanted, strict=True)),
+    )
 
 
 def check_live_parts(work: Path) -> None:
@@ -327,18 +362,32 @@ def check_live_parts(work: Path) -> None:
     running.interrupt()
     status, printed = running.ended()
     files = recordings(work, "part")
-    judge(f"{len(files)} recordings follow one another",
-          status == 0 and len(files) > 1 and printed.count("yes other 0") == len(files))
+    judge(
+        f"{len(files)} recordings follow one another",
+        status == 0 and len(files) > 1 and printed.count("yes other 0") == len(files),
+    )
     for channel in (1, 2):
         parts = [records(extracted(work, it, channel)) for it in files]
-        judge_quietly("each frame is in one", [number_of(it) for part in parts for it in part] == list(range(len(sender.sent))))
+        judge_quietly(
+            "each frame is in one", [number_of(it) for part in parts for it in part] == list(range(len(sender.sent)))
+        )
         for path, part in zip(files, parts):
             judge_times(f"{path.name}: channel {channel}", part, sender.sent, origins_of(facts_of(path)), clock)
     judge("by the facts beside each its frames have their times", True)
 
 
-CHECKS = [check_settings, check_frames_that_wait, check_quiet, check_1970, check_small_steps, check_two_settings, check_slewing,
-          check_full_pipe, check_live, check_live_parts]
+CHECKS = [
+    check_settings,
+    check_frames_that_wait,
+    check_quiet,
+    check_1970,
+    check_small_steps,
+    check_two_settings,
+    check_slewing,
+    check_full_pipe,
+    check_live,
+    check_live_parts,
+]
 
 if __name__ == "__main__":
     sys.exit(support.main(__doc__, CHECKS, WANTED))

@@ -105,7 +105,9 @@ def check_both_ways(work: pathlib.Path) -> None:
         run(CONVERT, "to-pcap", *words, feed, capture)
         read = len(run("tcpdump", "-n", "-r", capture).splitlines())
         judge(f"tcpdump reads {FRAMES} frames {words}", read == FRAMES)
-        judge("the capture's feed is the feed", run(CONVERT, "from-pcap", capture, back) == f"frames {FRAMES} passed 0\n")
+        judge(
+            "the capture's feed is the feed", run(CONVERT, "from-pcap", capture, back) == f"frames {FRAMES} passed 0\n"
+        )
         judge("to the byte", feed.read_bytes() == back.read_bytes())
     run(CONVERT, "to-pcap", feed, work / "kept.pcap")
     fields = run("tshark", "-o", "eth.check_fcs:TRUE", "-r", work / "kept.pcap", "-T", "fields", "-e", "eth.fcs.status")
@@ -148,17 +150,29 @@ def check_what_is_passed(work: pathlib.Path) -> None:
     frames = [struct.pack("<" + CAPTURED_HEAD, 9, 5, kept, all) + bytes(kept) for kept, all in lengths]
     capture, feed = work / "odd.pcap", work / "odd.feed"
     capture.write_bytes(head + b"".join(frames))
-    judge("a frame that is cut, too long or too short is passed", run(CONVERT, "from-pcap", capture, feed) == "frames 2 passed 3\n")
+    judge(
+        "a frame that is cut, too long or too short is passed",
+        run(CONVERT, "from-pcap", capture, feed) == "frames 2 passed 3\n",
+    )
     judge("a short frame is padded", feed.read_bytes()[7:9] == b"\x40\x00")
     judge("the first counter is 0", counters(feed.read_bytes()) == [0, 0])
     feed.write_bytes(b"kept")
     capture.write_bytes(head[:20] + struct.pack("<I", 113))
     told = f"convert: {capture}: link type 113 of interface 0, where Ethernet is 1"
-    judge("another link type is refused", refusal(CONVERT, "from-pcap", capture, feed) == told and feed.read_bytes() == b"kept")
+    judge(
+        "another link type is refused",
+        refusal(CONVERT, "from-pcap", capture, feed) == told and feed.read_bytes() == b"kept",
+    )
     capture.write_bytes(b"no capture")
-    judge("another file is refused", refusal(CONVERT, "from-pcap", capture, feed) == f"convert: {capture}: no pcap or pcapng file")
+    judge(
+        "another file is refused",
+        refusal(CONVERT, "from-pcap", capture, feed) == f"convert: {capture}: no pcap or pcapng file",
+    )
     capture.write_bytes(head + frames[0][:-1])
-    judge("a capture that is cut short is refused", refusal(CONVERT, "from-pcap", capture, feed) == f"convert: {capture}: cut short at byte 53")
+    judge(
+        "a capture that is cut short is refused",
+        refusal(CONVERT, "from-pcap", capture, feed) == f"convert: {capture}: cut short at byte 53",
+    )
 
 
 # ---- pcapng
@@ -214,7 +228,9 @@ def check_blocks(work: pathlib.Path) -> None:
     kept, wrong = option("<", 13, b"\x04"), whole(frame_of(5))[:-1] + b"\0"
     flags = lambda value: option("<", 2, struct.pack("<I", value))
     capture.write_bytes(
-        section("<") + interface("<", nanoseconds) + interface("<", before, kept, option("<", 0, b""))
+        section("<")
+        + interface("<", nanoseconds)
+        + interface("<", before, kept, option("<", 0, b""))
         + packet("<", 0, second * 10**9 + 250, frame_of(1))
         + block("<", 0x0BAD, b"unknown")
         + packet("<", 1, 3, whole(frame_of(2)))
@@ -224,35 +240,56 @@ def check_blocks(work: pathlib.Path) -> None:
         + old_packet("<", 0, second * 10**9 + 6000, frame_of(8))
         + simple_packet("<", frame_of(9, 62))
         + packet("<", 0, second * 10**9 + 7000, frame_of(10), length=61)
-        + section(">") + interface(">", halves)
-        + packet(">", 0, 2 * second + 1, frame_of(11)) + simple_packet(">", frame_of(12))
+        + section(">")
+        + interface(">", halves)
+        + packet(">", 0, 2 * second + 1, frame_of(11))
+        + simple_packet(">", frame_of(12))
     )
     wanted = [
-        (2, 0, whole(frame_of(1))), (30, 0, whole(frame_of(2))), (40, 1, wrong), (50, 1, whole(frame_of(6))),
-        (51, 2, whole(frame_of(7))), (60, 0, whole(frame_of(8))), (60, 0, whole(frame_of(9, 62))),
-        (5_000_000, 0, whole(frame_of(11))), (5_000_000, 0, whole(frame_of(12))),
+        (2, 0, whole(frame_of(1))),
+        (30, 0, whole(frame_of(2))),
+        (40, 1, wrong),
+        (50, 1, whole(frame_of(6))),
+        (51, 2, whole(frame_of(7))),
+        (60, 0, whole(frame_of(8))),
+        (60, 0, whole(frame_of(9, 62))),
+        (5_000_000, 0, whole(frame_of(11))),
+        (5_000_000, 0, whole(frame_of(12))),
     ]
     judge("frames of all blocks", run(CONVERT, "from-pcap", "--origin", second, capture, feed) == "frames 9 passed 1\n")
     judge("with their times, check sequences and marks", records(feed.read_bytes()) == wanted)
-    judge("of interface 1", run(CONVERT, "from-pcap", "--interface", 1, "--origin", second, capture, feed) == "frames 2 passed 0\n")
+    judge(
+        "of interface 1",
+        run(CONVERT, "from-pcap", "--interface", 1, "--origin", second, capture, feed) == "frames 2 passed 0\n",
+    )
     judge("and these alone", records(feed.read_bytes()) == wanted[1:3])
     told = refusal(CONVERT, "from-pcap", "--interface", 2, capture, feed)
     judge("an interface that no section has is refused", told == f"convert: {capture}: no interface 2")
     short = option("<", 13, b"\x02")
     capture.write_bytes(section("<") + interface("<", short) + packet("<", 0, 1, frame_of(1)))
-    judge("check sequences of 2 bytes are refused", refusal(CONVERT, "from-pcap", capture, feed).endswith("check sequences of 2 bytes, where Ethernet has 4"))
+    judge(
+        "check sequences of 2 bytes are refused",
+        refusal(CONVERT, "from-pcap", capture, feed).endswith("check sequences of 2 bytes, where Ethernet has 4"),
+    )
     capture.write_bytes(section("<") + interface("<", link=113) + interface("<") + packet("<", 1, 1, frame_of(1)))
-    judge("another link type is no fault where none of its frames is read", run(CONVERT, "from-pcap", capture, feed) == "frames 1 passed 0\n")
+    judge(
+        "another link type is no fault where none of its frames is read",
+        run(CONVERT, "from-pcap", capture, feed) == "frames 1 passed 0\n",
+    )
     cut = section("<") + interface("<", most=60) + simple_packet("<", frame_of(1), 61)
     capture.write_bytes(cut)
-    judge("a simple packet block that is cut is passed", run(CONVERT, "from-pcap", capture, feed) == "frames 0 passed 1\n")
+    judge(
+        "a simple packet block that is cut is passed", run(CONVERT, "from-pcap", capture, feed) == "frames 0 passed 1\n"
+    )
 
 
 def fields_of(capture: pathlib.Path) -> list[list[str]]:
     """What tshark reads of each frame: its interface, its moment, its lengths and the sum of its bytes."""
     fields = ["frame.interface_id", "frame.time_epoch", "frame.len", "frame.cap_len", "frame.md5_hash"]
     words = [word for field in fields for word in ("-e", field)]
-    lines = run("tshark", "-n", "-o", "frame.generate_md5_hash:TRUE", "-r", capture, "-T", "fields", *words).splitlines()
+    lines = run(
+        "tshark", "-n", "-o", "frame.generate_md5_hash:TRUE", "-r", capture, "-T", "fields", *words
+    ).splitlines()
     return [line.split("\t") for line in lines]
 
 
@@ -284,12 +321,17 @@ def check_made_by_others(work: pathlib.Path) -> None:
     judge("cut frames of editcap", is_as_tshark_reads(made, feed))
     run("editcap", "-F", "pcap", one, work / "micro.pcap")
     run("mergecap", "-F", "pcapng", "-I", "none", "-w", made, one, two)
-    judge("two interfaces of mergecap", {it[0] for it in fields_of(made)} == {"0", "1"} and is_as_tshark_reads(made, feed))
+    judge(
+        "two interfaces of mergecap", {it[0] for it in fields_of(made)} == {"0", "1"} and is_as_tshark_reads(made, feed)
+    )
     judge("each of them by itself", all(is_as_tshark_reads(made, feed, chosen) for chosen in "01"))
     run("mergecap", "-F", "pcapng", "-I", "none", "-w", made, work / "micro.pcap", two)
     judge("micro- and nanoseconds in one file", is_as_tshark_reads(made, feed))
     run("editcap", "-F", "nsecpcap", made, work / "classic.pcap")
-    judge("classic nanoseconds of editcap", [it[1:] for it in fields_of(work / "classic.pcap")] == [it[1:] for it in fields_of(made)])
+    judge(
+        "classic nanoseconds of editcap",
+        [it[1:] for it in fields_of(work / "classic.pcap")] == [it[1:] for it in fields_of(made)],
+    )
     run(CONVERT, "from-pcap", "--origin", "zero", work / "classic.pcap", work / "classic.feed")
     run(CONVERT, "from-pcap", "--origin", "zero", made, feed)
     judge("the same feed", (work / "classic.feed").read_bytes() == feed.read_bytes())
@@ -311,7 +353,10 @@ def check_wrong_check_sequences(work: pathlib.Path) -> None:
     status = run("tshark", "-o", "eth.check_fcs:TRUE", "-r", capture, "-T", "fields", "-e", "eth.fcs.status").split()
     run(CONVERT, "from-pcap", capture, back)
     marks = [marks for _, marks, _ in records(back.read_bytes())]
-    judge("frames are marked whose check sequence tshark finds bad", marks == [int(it == "0") for it in status] and sum(marks) == 10)
+    judge(
+        "frames are marked whose check sequence tshark finds bad",
+        marks == [int(it == "0") for it in status] and sum(marks) == 10,
+    )
     run(CONVERT, "to-pcap", back, work / "again.pcap")
     judge("and keep it", (work / "again.pcap").read_bytes() == capture.read_bytes())
 
@@ -329,9 +374,14 @@ def check_origins(work: pathlib.Path) -> None:
     run(CONVERT, "from-pcap", "--origin", f"{int(seconds)}.5", capture, work / "a.feed")
     run(CONVERT, "from-pcap", "--origin", moment, tail, work / "b.feed")
     a, b = records((work / "a.feed").read_bytes()), records((work / "b.feed").read_bytes())
-    judge("counters of two captures agree by one origin", a[50:] == b and (work / "a.feed").read_bytes() == feed.read_bytes())
+    judge(
+        "counters of two captures agree by one origin",
+        a[50:] == b and (work / "a.feed").read_bytes() == feed.read_bytes(),
+    )
     for word in ["2026-02-30T00:00:00Z", "2026-03-01T12:00:60Z", "2026-03-01T12:00:00", "1.", "x", "-1", "12345678901"]:
-        done = subprocess.run([CONVERT, "from-pcap", f"--origin={word}", capture, work / "a.feed"], capture_output=True, text=True)
+        done = subprocess.run(
+            [CONVERT, "from-pcap", f"--origin={word}", capture, work / "a.feed"], capture_output=True, text=True
+        )
         judge(f"{word} is no time", done.returncode == 2 and f"{word} is no time" in done.stderr)
 
 
@@ -342,7 +392,16 @@ def facts_of(*origins: tuple) -> dict:
     """Facts with these origins, as docs/user/FORMATS.md has them."""
     told = [dict(zip(("origin", "counter", "set_by"), it)) for it in origins]
     lost = {"interface": "eth0", "from": 1, "to": 2, "dropped": 3, "missed": 0, "skipped": 0}
-    return {"facts": 1, "recording": "x.ch11", "host": "fc1", "state": "ended", "clock": "host", "origins": told, "losses": [lost], "status": 0}
+    return {
+        "facts": 1,
+        "recording": "x.ch11",
+        "host": "fc1",
+        "state": "ended",
+        "clock": "host",
+        "origins": told,
+        "losses": [lost],
+        "status": 0,
+    }
 
 
 def feed_at(counters_of: list[int]) -> bytes:
@@ -378,8 +437,18 @@ def check_times_by_facts(work: pathlib.Path) -> None:
     run(CONVERT, "make", 8, 200, feed)
     at = counters(feed.read_bytes())
     one, two = ("1764590400.250000000", 0), ("1764590400.750000099", at[50], "0.500000099")
-    back, late = ("1764586800.250000123", at[50], "-3600.499999976"), ("1764586801.000000001", at[120] + 1, "0.749999878")
-    for origins in [[one], [one, back], [one, two, back], [one, two, back, late], [("-1.000000000", 0), ("0.000000099", at[0]), late]]:
+    back, late = ("1764586800.250000123", at[50], "-3600.499999976"), (
+        "1764586801.000000001",
+        at[120] + 1,
+        "0.749999878",
+    )
+    for origins in [
+        [one],
+        [one, back],
+        [one, two, back],
+        [one, two, back, late],
+        [("-1.000000000", 0), ("0.000000099", at[0]), late],
+    ]:
         facts.write_text(json.dumps(facts_of(*origins)))
         judge(f"frames by {len(origins)} origins", by_facts(facts, feed, capture) == (0, "frames 200\n"))
         judge("have their times", times_of(capture.read_bytes()) == moments_by(origins, at))
@@ -389,8 +458,15 @@ def check_times_by_facts(work: pathlib.Path) -> None:
     run(CONVERT, "to-pcap", "--facts", facts, "--drop-check-sequence", feed, capture)
     run(CONVERT, "to-pcap", "--origin", one[0], "--drop-check-sequence", feed, work / "origin.pcap")
     judge("one origin is as --origin", capture.read_bytes() == (work / "origin.pcap").read_bytes())
-    run("sh", "-c", f"{CONVERT} to-pcap --facts - {feed} {capture} < {facts} && {CONVERT} to-pcap --facts {facts} - - < {feed} > {work}/through.pcap 2> /dev/null")
-    judge("facts of standard input, and a feed of it", times_of(capture.read_bytes()) == times_of((work / "through.pcap").read_bytes()) == moments_by([one], at))
+    run(
+        "sh",
+        "-c",
+        f"{CONVERT} to-pcap --facts - {feed} {capture} < {facts} && {CONVERT} to-pcap --facts {facts} - - < {feed} > {work}/through.pcap 2> /dev/null",
+    )
+    judge(
+        "facts of standard input, and a feed of it",
+        times_of(capture.read_bytes()) == times_of((work / "through.pcap").read_bytes()) == moments_by([one], at),
+    )
 
 
 def check_range_of_facts(work: pathlib.Path) -> None:
@@ -398,19 +474,32 @@ def check_range_of_facts(work: pathlib.Path) -> None:
     feed, capture, facts = work / "at.feed", work / "at.pcap", work / "at.json"
     cases = [
         (("-3589.750000000", 0), [35_897_500_000], [0], ""),
-        (("-3589.750000000", 0), [35_897_500_001, 35_897_499_999], [100], "counter 35897499999 is before the times of a capture"),
+        (
+            ("-3589.750000000", 0),
+            [35_897_500_001, 35_897_499_999],
+            [100],
+            "counter 35897499999 is before the times of a capture",
+        ),
         (("4294967295.999999900", 0), [0], [4_294_967_295_999_999_900], ""),
         (("4294967295.999999900", 0), [1], [], "counter 1 is past the times of a capture"),
         (("253370764799.999999999", 0), [2**48 - 1], [], f"counter {2**48 - 1} is past the times of a capture"),
         (("-62135596800.000000000", 0), [2**48 - 1], [], f"counter {2**48 - 1} is before the times of a capture"),
-        (("0.000000000", 2**48 - 1), [2**48 - 1, 7], [28_147_497_671_065_500], "counter 7 is before the first origin of the facts"),
+        (
+            ("0.000000000", 2**48 - 1),
+            [2**48 - 1, 7],
+            [28_147_497_671_065_500],
+            "counter 7 is before the first origin of the facts",
+        ),
     ]
     for origin, given, wanted, refused in cases:
         facts.write_text(json.dumps(facts_of(origin)))
         feed.write_bytes(feed_at(given))
         done = by_facts(facts, feed, capture)
-        judge(f"{given} by {origin[0]}: {refused or 'in range'}", done == ((1, f"convert: {feed}: {refused}\n") if refused else (0, f"frames {len(given)}\n"))
-              and times_of(capture.read_bytes()) == wanted)
+        judge(
+            f"{given} by {origin[0]}: {refused or 'in range'}",
+            done == ((1, f"convert: {feed}: {refused}\n") if refused else (0, f"frames {len(given)}\n"))
+            and times_of(capture.read_bytes()) == wanted,
+        )
 
 
 def check_refused_facts(work: pathlib.Path) -> None:
@@ -419,44 +508,90 @@ def check_refused_facts(work: pathlib.Path) -> None:
     capture.write_bytes(b"kept")
     good = facts_of(("1764590400.250000000", 0))
     cases = [
-        (b"\xff", "it is no JSON that can be read"), (b"[" * 100_000, "it is no JSON that can be read"), (b"{}", "facts isn't 1"),
+        (b"\xff", "it is no JSON that can be read"),
+        (b"[" * 100_000, "it is no JSON that can be read"),
+        (b"{}", "facts isn't 1"),
         (json.dumps({**good, "origins": []}).encode(), "origins is no list with an origin"),
-        (json.dumps(facts_of(("1764590400.25", 0))).encode(), "origin 1 of 1: origin isn't seconds with nine digits behind the point, as 1764590400.250000000"),
-        (json.dumps(facts_of(("0.000000000", True))).encode(), "origin 1 of 1: counter is no number from 0 to 281474976710655"),
+        (
+            json.dumps(facts_of(("1764590400.25", 0))).encode(),
+            "origin 1 of 1: origin isn't seconds with nine digits behind the point, as 1764590400.250000000",
+        ),
+        (
+            json.dumps(facts_of(("0.000000000", True))).encode(),
+            "origin 1 of 1: counter is no number from 0 to 281474976710655",
+        ),
     ]
     for data, why in cases:
         facts.write_bytes(data)
-        judge(f"no facts: {why}", by_facts(facts, feed, capture) == (1, f"convert: {facts}: no facts of a recording: {why}\n") and capture.read_bytes() == b"kept")
+        judge(
+            f"no facts: {why}",
+            by_facts(facts, feed, capture) == (1, f"convert: {facts}: no facts of a recording: {why}\n")
+            and capture.read_bytes() == b"kept",
+        )
     for unreadable, why in [(work / "missing.json", "No such file or directory"), (work, "Is a directory")]:
-        judge(f"facts that can't be read: {why}", by_facts(unreadable, feed, capture) == (3, f"convert: {unreadable}: {why}\n") and capture.read_bytes() == b"kept")
+        judge(
+            f"facts that can't be read: {why}",
+            by_facts(unreadable, feed, capture) == (3, f"convert: {unreadable}: {why}\n")
+            and capture.read_bytes() == b"kept",
+        )
     facts.write_text(json.dumps(good))
-    judge("the capture never takes the place of the facts", by_facts(facts, feed, facts) == (1, f"convert: {facts}: the output is the file of facts\n")
-          and json.loads(facts.read_text()) == good)
-    judge("standard input is one of both", by_facts("-", "-", capture) == (1, "convert: standard input can't be the feed and the facts\n"))
+    judge(
+        "the capture never takes the place of the facts",
+        by_facts(facts, feed, facts) == (1, f"convert: {facts}: the output is the file of facts\n")
+        and json.loads(facts.read_text()) == good,
+    )
+    judge(
+        "standard input is one of both",
+        by_facts("-", "-", capture) == (1, "convert: standard input can't be the feed and the facts\n"),
+    )
     for words in (["--origin", "zero", "--facts", facts], ["--facts", facts, "--origin", "1.5"]):
         done = subprocess.run([CONVERT, "to-pcap", *words, feed, capture], capture_output=True, text=True)
-        judge("facts and an origin are refused", done.returncode == 2 and " not allowed with argument --" in done.stderr and capture.read_bytes() == b"kept")
+        judge(
+            "facts and an origin are refused",
+            done.returncode == 2 and " not allowed with argument --" in done.stderr and capture.read_bytes() == b"kept",
+        )
 
 
 def check_damaged_facts(work: pathlib.Path) -> None:
     """Drawn damage: a line and no capture, or all times by the origins that are there; never a traceback."""
-    feed, capture, facts, draw, refused = work / "few_at.feed", work / "drawn.pcap", work / "drawn.json", random.Random(12), 0
+    feed, capture, facts, draw, refused = (
+        work / "few_at.feed",
+        work / "drawn.pcap",
+        work / "drawn.json",
+        random.Random(12),
+        0,
+    )
     given = [0, 31, 32, 33, 10**9]
     feed.write_bytes(feed_at(given))
-    good = json.dumps(facts_of(("1764590400.250000000", 0), ("1764590401.000000000", 32, "0.750000000"), ("1764586800.250000123", 32, "-3600.749999877"))).encode()
+    good = json.dumps(
+        facts_of(
+            ("1764590400.250000000", 0),
+            ("1764590401.000000000", 32, "0.750000000"),
+            ("1764586800.250000123", 32, "-3600.749999877"),
+        )
+    ).encode()
     for turn in range(DAMAGED_FACTS):
-        data = good.replace(b"1764590400", str(draw.randrange(-10**10, 10**10)).encode()) if turn % 3 == 0 else damaged(draw, good)
+        data = (
+            good.replace(b"1764590400", str(draw.randrange(-(10**10), 10**10)).encode())
+            if turn % 3 == 0
+            else damaged(draw, good)
+        )
         facts.write_bytes(data)
         capture.unlink(missing_ok=True)
         status, told = by_facts(facts, feed, capture)
-        is_refused = status == 1 and told.startswith(f"convert: {facts}: no facts of a recording: ") and not capture.exists()
+        is_refused = (
+            status == 1 and told.startswith(f"convert: {facts}: no facts of a recording: ") and not capture.exists()
+        )
         is_out = status == 1 and told.startswith(f"convert: {feed}: counter ")
         judge_quietly(f"facts {turn}: {data} {told}", (status == 0 or is_refused or is_out) and told.count("\n") == 1)
         if status == 0:
             origins = [(it["origin"], it["counter"]) for it in json.loads(data.decode(errors="replace"))["origins"]]
             judge_quietly(f"facts {turn}: {origins}", times_of(capture.read_bytes()) == moments_by(origins, given))
         refused += is_refused
-    judge(f"{DAMAGED_FACTS} damaged facts, of which {refused} are refused", DAMAGED_FACTS // 4 < refused < DAMAGED_FACTS * 3 // 4)
+    judge(
+        f"{DAMAGED_FACTS} damaged facts, of which {refused} are refused",
+        DAMAGED_FACTS // 4 < refused < DAMAGED_FACTS * 3 // 4,
+    )
 
 
 def check_alone(work: pathlib.Path) -> None:
@@ -465,10 +600,16 @@ def check_alone(work: pathlib.Path) -> None:
     alone.parent.mkdir()
     shutil.copy(CONVERT, alone)
     run(alone, "to-pcap", "--origin", "1764590400.25", feed, capture)
-    judge("host/bin/convert works alone", times_of(capture.read_bytes()) == moments_by([("1764590400.25", 0)], counters(feed.read_bytes())))
+    judge(
+        "host/bin/convert works alone",
+        times_of(capture.read_bytes()) == moments_by([("1764590400.25", 0)], counters(feed.read_bytes())),
+    )
     told = refusal(alone, "to-pcap", "--facts", work / "in.json", feed, capture)
     judge("but for --facts", told == "convert: --facts wants facts.py in the folder of this program")
-    judge("and leaves nothing beside it", [it.name for it in alone.parent.iterdir()] == ["feed"] and not (CONVERT.parent / "__pycache__").exists())
+    judge(
+        "and leaves nothing beside it",
+        [it.name for it in alone.parent.iterdir()] == ["feed"] and not (CONVERT.parent / "__pycache__").exists(),
+    )
 
 
 # ---- pipes, faults
@@ -492,12 +633,17 @@ def check_pipes(work: pathlib.Path) -> None:
     run(CONVERT, "to-pcap", feed, capture)
     run("editcap", "-F", "pcapng", capture, work / "in.pcapng")
     wanted = feed.read_bytes()
-    cases = [(["from-pcap", "-", "-"], capture.read_bytes(), wanted), (["to-pcap", "-", "-"], wanted, capture.read_bytes())]
+    cases = [
+        (["from-pcap", "-", "-"], capture.read_bytes(), wanted),
+        (["to-pcap", "-", "-"], wanted, capture.read_bytes()),
+    ]
     if CAPTURE.exists():
         cases.append(([CAPTURE, "-r", "-=-"], capture.read_bytes(), wanted))
     for words, given, taken in cases:
         command = [str(it) for it in (words if words[0] == CAPTURE else [CONVERT, *words])]
-        with subprocess.Popen(command, stdin=subprocess.PIPE, stdout=subprocess.PIPE, stderr=subprocess.DEVNULL) as running:
+        with subprocess.Popen(
+            command, stdin=subprocess.PIPE, stdout=subprocess.PIPE, stderr=subprocess.DEVNULL
+        ) as running:
             half_in, half_out = (part_of(it) for it in (given, taken))
             running.stdin.write(given[:half_in])
             running.stdin.flush()
@@ -505,8 +651,13 @@ def check_pipes(work: pathlib.Path) -> None:
             running.stdin.write(given[half_in:])
             running.stdin.close()
             rest = running.stdout.read()
-        judge(f"a pipe of {words[0]} has each frame at once", first == taken[:half_out] and first + rest == taken and running.returncode == 0)
-    through = f"tcpdump -U -w - -r {capture} 2> /dev/null | {CONVERT} from-pcap - - 2> /dev/null | {CONVERT} show - | wc -l"
+        judge(
+            f"a pipe of {words[0]} has each frame at once",
+            first == taken[:half_out] and first + rest == taken and running.returncode == 0,
+        )
+    through = (
+        f"tcpdump -U -w - -r {capture} 2> /dev/null | {CONVERT} from-pcap - - 2> /dev/null | {CONVERT} show - | wc -l"
+    )
     judge("tcpdump -w - through a pipe", run("sh", "-c", through).strip() == "20")
 
 
@@ -514,7 +665,11 @@ def part_of(data: bytes) -> int:
     """Where the eleventh frame of a feed or of a classic capture begins."""
     at = 24 if data[:4] == struct.pack("<I", 0xA1B23C4D) else 0
     for _ in range(10):
-        at += 16 + struct.unpack_from("<I", data, at + 8)[0] if data[:4] == struct.pack("<I", 0xA1B23C4D) else 9 + struct.unpack_from("<H", data, at + 7)[0]
+        at += (
+            16 + struct.unpack_from("<I", data, at + 8)[0]
+            if data[:4] == struct.pack("<I", 0xA1B23C4D)
+            else 9 + struct.unpack_from("<H", data, at + 7)[0]
+        )
     return at
 
 
@@ -536,13 +691,19 @@ def check_faults(work: pathlib.Path) -> None:
         judge(f"{words[0]}: {told}", refusal(CONVERT, *words) == f"convert: {told}")
     shown = run(CONVERT, "show", feed).splitlines()
     counter, marks, frame = records(feed.read_bytes())[1]
-    judge("show has a line a record", len(shown) == 20 and shown[1] == f"{counter} {marks} {len(frame)} {frame[:24].hex()}")
+    judge(
+        "show has a line a record",
+        len(shown) == 20 and shown[1] == f"{counter} {marks} {len(frame)} {frame[:24].hex()}",
+    )
     data = feed.read_bytes()
     for at, byte, told in [(6, 4, "marks 4 of the record at byte 0"), (8, 255, "of the record at byte 0")]:
         (work / "bad.feed").write_bytes(data[:at] + bytes([byte]) + data[at + 1 :])
         judge(f"show: {told}", refusal(CONVERT, "show", work / "bad.feed").endswith(told))
     (work / "bad.feed").write_bytes(data[:-1])
-    judge("show: a feed that is cut short", refusal(CONVERT, "show", work / "bad.feed").endswith(f"cut short at byte {len(data) - 1}"))
+    judge(
+        "show: a feed that is cut short",
+        refusal(CONVERT, "show", work / "bad.feed").endswith(f"cut short at byte {len(data) - 1}"),
+    )
 
 
 def check_versions() -> None:
@@ -568,7 +729,9 @@ def damaged(draw: random.Random, data: bytes) -> bytes:
     """A file with some bytes changed, taken out, put in twice or cut off."""
     made = bytearray(data)
     for _ in range(draw.randrange(1, 4)):
-        at, kind = draw.randrange(len(made)) if draw.random() < 0.5 else draw.randrange(min(200, len(made))), draw.randrange(5)
+        at, kind = draw.randrange(len(made)) if draw.random() < 0.5 else draw.randrange(
+            min(200, len(made))
+        ), draw.randrange(5)
         if kind == 0:
             made[at] = draw.randrange(256)
         elif kind == 1:
@@ -610,7 +773,9 @@ def check_beside_capture(work: pathlib.Path) -> None:
     head = struct.pack("<" + CAPTURE_HEAD, 0xA1B23C4D, 2, 4, 0, 0, 262_144, 1)
     draw = random.Random(11)
     bodies = [draw.randbytes(length) for length in [*range(2_000), *range(2_000, 16_390, 57)]]
-    lengths.write_bytes(head + b"".join(struct.pack("<IIII", at, 7 * at, len(it), len(it)) + it for at, it in enumerate(bodies)))
+    lengths.write_bytes(
+        head + b"".join(struct.pack("<IIII", at, 7 * at, len(it), len(it)) + it for at, it in enumerate(bodies))
+    )
     for capture in [*files, lengths]:
         for words in [[], ["--origin", "zero"], ["--interface", "1"]]:
             mine, theirs = outcomes(capture, work, words)

@@ -34,8 +34,12 @@ sys.path.insert(0, str(Path(__file__).resolve().parents[2] / "host" / "bin"))
 import ch11
 
 ROOT = Path(__file__).resolve().parents[2]
-BPFREC, INFO, SALVAGE, FEED = (ROOT / it for it in ("bin/bpfrec", "host/bin/info", "host/bin/salvage", "host/bin/convert"))
-SAMPLES = [ROOT / "crates/bpfrec_cases/data/recordings" / it for it in ("two_versions.ch11", "two_versions_checked.ch11")]
+BPFREC, INFO, SALVAGE, FEED = (
+    ROOT / it for it in ("bin/bpfrec", "host/bin/info", "host/bin/salvage", "host/bin/convert")
+)
+SAMPLES = [
+    ROOT / "crates/bpfrec_cases/data/recordings" / it for it in ("two_versions.ch11", "two_versions_checked.ch11")
+]
 DAMAGED, DAMAGED_FACTS, FACTS_BY_PROCESS = 1_000, 1_500, 40
 WANTED = {"capinfos": "wireshark-common", "tshark": "tshark"}
 LIMIT = 65_536
@@ -74,7 +78,9 @@ def facts_of(recording):
     """What info says of a recording, as JSON has it; the text and the page can be made too."""
     answer = info.audit_of(str(recording))
     found = info.read(str(recording), not answer[0].startswith("yes"))
-    judge_quietly(f"text and page of {recording}", info.text_page(found, answer) and info.page("recording", found, answer))
+    judge_quietly(
+        f"text and page of {recording}", info.text_page(found, answer) and info.page("recording", found, answer)
+    )
     return json.loads(json.dumps(found.facts(answer[0])))
 
 
@@ -123,7 +129,7 @@ def record(work, draw):
     for channel, frames in ((1, 3_000), (2, 500)):
         run(FEED, "make", channel, frames, work / f"{channel}.feed", check=True)
     (work / "3.feed").write_bytes(odd_feed(draw))
-    tables = [f'limit = 16424\n']
+    tables = ["limit = 16424\n"]
     for channel, name in ((1, "all"), (2, "some"), (3, "all")):
         tables.append(f'[[channel]]\nid = {channel}\nfeed = "{work}/{channel}.feed"\nfilter = "{work}/{name}"\n')
     (work / "three.toml").write_text("".join(tables))
@@ -135,7 +141,18 @@ def packet_of(channel, data, sequence, kind, counter, is_summed):
     """A packet by docs/user/FORMATS.md, of either profile."""
     body = data + bytes(-len(data) % 4)
     body += struct.pack("<I", sum(struct.unpack(f"<{len(body) // 4}I", body)) % 2**32) if is_summed else b""
-    words = (0xEB25, channel, 24 + len(body), len(data), 8, sequence % 256, 3 * is_summed, kind, counter % 2**32, counter >> 32)
+    words = (
+        0xEB25,
+        channel,
+        24 + len(body),
+        len(data),
+        8,
+        sequence % 256,
+        3 * is_summed,
+        kind,
+        counter % 2**32,
+        counter >> 32,
+    )
     head = struct.pack("<HHIIBBBBIH", *words)
     return head + struct.pack("<H", sum(struct.unpack("<11H", head)) % 2**16) + body
 
@@ -167,34 +184,74 @@ def capinfos(pcap):
 def check_numbers(work, recording):
     """What info says of a channel beside what capinfos and tshark say of its frames."""
     facts = facts_of(recording)
-    judge("a whole recording has the audit's yes, and nothing is missing",
-          facts["audit"] == "yes other 0" and not facts["damaged"] and not facts["missing_sequence_numbers"])
+    judge(
+        "a whole recording has the audit's yes, and nothing is missing",
+        facts["audit"] == "yes other 0" and not facts["damaged"] and not facts["missing_sequence_numbers"],
+    )
     for channel, said in facts["channels"].items():
         run(BPFREC, "extract", recording, channel, work / "x.feed", check=True)
         run(FEED, "to-pcap", "--origin", "zero", work / "x.feed", work / "x.pcap", check=True)
         frames, size, seconds, first, last, rate = capinfos(work / "x.pcap")
         moments = [said["least_counter"] / 1e7, said["greatest_counter"] / 1e7]
-        judge(f"channel {channel} has capinfos' frames, bytes, first and last time, and mean rate",
-              (frames, size) == (said["frames"], said["bytes"]) and abs(seconds - (moments[1] - moments[0])) < 1e-5
-              and abs(first - moments[0]) < 1e-5 and abs(last - moments[1]) < 1e-5 and abs(rate / said["mean_rate"] - 1) < 1e-3)
+        judge(
+            f"channel {channel} has capinfos' frames, bytes, first and last time, and mean rate",
+            (frames, size) == (said["frames"], said["bytes"])
+            and abs(seconds - (moments[1] - moments[0])) < 1e-5
+            and abs(first - moments[0]) < 1e-5
+            and abs(last - moments[1]) < 1e-5
+            and abs(rate / said["mean_rate"] - 1) < 1e-3,
+        )
         check_beside_tshark(work, channel, said)
     listed = run(BPFREC, "list", recording).stdout.splitlines()
     judge("its packets are those of list", sum(facts["packets"].values()) == len(listed) - 1)
     programs = {(int(it.split()[8]), int(it.split()[9]), int(it.split()[10])) for it in listed if " program " in it}
-    judge("its versions too", programs == {(int(channel), it["version"], it["first_frame"]) for channel, said in facts["channels"].items() for it in said["versions"]})
-    ends = {it.split()[8]: (int(it.split()[9]), int(it.split()[9]) - int(it.split()[10])) for it in listed if " end " in it}
-    judge("its offered and dropped frames are those of the ends", ends == {it: (said["offered"], said["dropped"]) for it, said in facts["channels"].items()})
+    judge(
+        "its versions too",
+        programs
+        == {
+            (int(channel), it["version"], it["first_frame"])
+            for channel, said in facts["channels"].items()
+            for it in said["versions"]
+        },
+    )
+    ends = {
+        it.split()[8]: (int(it.split()[9]), int(it.split()[9]) - int(it.split()[10])) for it in listed if " end " in it
+    }
+    judge(
+        "its offered and dropped frames are those of the ends",
+        ends == {it: (said["offered"], said["dropped"]) for it, said in facts["channels"].items()},
+    )
 
 
 def check_beside_tshark(work, channel, said):
-    words = ["tshark", "-n", "-o", "eth.check_fcs:TRUE", "-r", work / "x.pcap", "-T", "fields", "-e", "frame.time_epoch", "-e", "eth.fcs.status"]
+    words = [
+        "tshark",
+        "-n",
+        "-o",
+        "eth.check_fcs:TRUE",
+        "-r",
+        work / "x.pcap",
+        "-T",
+        "fields",
+        "-e",
+        "frame.time_epoch",
+        "-e",
+        "eth.fcs.status",
+    ]
     rows = [it.split("\t") for it in run(*words, check=True).stdout.splitlines()]
     ticks = [int(it.partition(".")[0]) * 10**7 + int(it.partition(".")[2].ljust(7, "0")[:7]) for it, _ in rows]
     gaps = [b - a for a, b in zip(ticks, ticks[1:])]
-    judge(f"channel {channel} has tshark's greatest rate, longest gap, steps back and bad check sequences",
-          (max(Counter(it // 10**7 for it in ticks).values()), max(gaps), sum(it < 0 for it in gaps), sum(it == "0" for _, it in rows))
-          == (said["greatest_rate"], said["longest_gap"], said["steps_back"], said["marked"])
-          and (ticks[0], ticks[-1]) == (said["first_counter"], said["last_counter"]))
+    judge(
+        f"channel {channel} has tshark's greatest rate, longest gap, steps back and bad check sequences",
+        (
+            max(Counter(it // 10**7 for it in ticks).values()),
+            max(gaps),
+            sum(it < 0 for it in gaps),
+            sum(it == "0" for _, it in rows),
+        )
+        == (said["greatest_rate"], said["longest_gap"], said["steps_back"], said["marked"])
+        and (ticks[0], ticks[-1]) == (said["first_counter"], said["last_counter"]),
+    )
 
 
 def check_bodies(draw):
@@ -234,15 +291,26 @@ def check_damaged(work, draw, recording):
         path.write_bytes(data)
         done = run(INFO, "--json", path) if turn < 50 else None
         facts = json.loads(done.stdout) if done else facts_of(path)
-        judge_quietly(f"draw {turn}: status and messages", not done or (done.returncode == bool(facts["damaged"]) and not done.stderr))
+        judge_quietly(
+            f"draw {turn}: status and messages",
+            not done or (done.returncode == bool(facts["damaged"]) and not done.stderr),
+        )
         check_places(turn, work, data, facts["damaged"])
         first = facts["damaged"][0] if facts["damaged"] else None
         wrong_sum = first and first["fault"] in ("Checksum", "DataChecksum")
         sums += bool(wrong_sum)
         number = {"Checksum": 3, "DataChecksum": 8}.get(first["fault"] if first else "")
-        judge_quietly(f"draw {turn}: the audit's checksum", not wrong_sum or facts["audit"] == f"read {number} {first['fault']} {first['at']}" or facts["audit"].startswith("no"))
+        judge_quietly(
+            f"draw {turn}: the audit's checksum",
+            not wrong_sum
+            or facts["audit"] == f"read {number} {first['fault']} {first['at']}"
+            or facts["audit"].startswith("no"),
+        )
         check_salvage(work, bytes(data), f"draw {turn}")
-    judge(f"{DAMAGED} damaged recordings: each place is list's, checksums are audit's ({sums}), and what salvage keeps is whole", sums > 50)
+    judge(
+        f"{DAMAGED} damaged recordings: each place is list's, checksums are audit's ({sums}), and what salvage keeps is whole",
+        sums > 50,
+    )
 
 
 def check_places(turn, work, data, damaged):
@@ -264,11 +332,16 @@ def check_salvage(work, data, what):
     listed, audit = run(BPFREC, "list", work / "kept.ch11"), run(BPFREC, "audit", work / "kept.ch11").stdout
     lost = int(told.split("lost ")[-1].split()[0])
     judge_quietly(f"{what}: {told}{listed.stderr}", listed.returncode == 0 and len(kept) + lost == len(data))
-    judge_quietly(f"{what}: it is extracted", run(BPFREC, "extract", work / "kept.ch11", 1, "/dev/null").returncode == 0)
+    judge_quietly(
+        f"{what}: it is extracted", run(BPFREC, "extract", work / "kept.ch11", 1, "/dev/null").returncode == 0
+    )
     judge_quietly(f"{what}: a packet is made up", all(it.bytes in data for it in packets_of(kept)))
     is_no, is_lost = audit.startswith("no"), told.count("\n") > 1
     judge_quietly(f"{what}: {told} but {audit}", is_no or "audit will say no" not in told)
-    judge_quietly(f"{what}: {audit} isn't foretold by {told}", not is_no or not is_lost or "audit will say no" in told or "audit may say no" in told)
+    judge_quietly(
+        f"{what}: {audit} isn't foretold by {told}",
+        not is_no or not is_lost or "audit will say no" in told or "audit may say no" in told,
+    )
     return kept, told
 
 
@@ -296,7 +369,9 @@ def check_each_byte(work):
 def check_between(work):
     """A whole packet between two damaged ones; packets that are the frames of a recording."""
     for is_summed in (0, 1):
-        inner = program_of(1, 0, 0, is_summed, 0) + b"".join(packet_of(1, body_of([(7, 0, bytes(60))]), it, 0x68, 7, is_summed) for it in range(3))
+        inner = program_of(1, 0, 0, is_summed, 0) + b"".join(
+            packet_of(1, body_of([(7, 0, bytes(60))]), it, 0x68, 7, is_summed) for it in range(3)
+        )
         frame = bytes.fromhex("020000000002 020000000001 88b5") + inner
         whole = [program_of(1, 0, 0, is_summed, 0)]
         whole += [packet_of(1, body_of([(it, 0, frame + bytes(4))] * 2), it, 0x68, it, is_summed) for it in range(5)]
@@ -311,7 +386,9 @@ def check_between(work):
         for at in range(begins[3] + 30, begins[4] - 5, 7):
             kept, told = check_salvage(work, data[:at] + data[at + 5 :], f"nested, cut at {at}")
             # Without a data checksum the packet may pass with bytes of the next one, which is lost then.
-            one_lost = kept == b"".join(whole[:3] + whole[4:]) or not is_summed and len(kept) == len(data) - len(whole[4])
+            one_lost = (
+                kept == b"".join(whole[:3] + whole[4:]) or not is_summed and len(kept) == len(data) - len(whole[4])
+            )
             judge_quietly(f"nested, cut at {at}: {told}", one_lost)
         both = bytearray(data)
         both[begins[1] : begins[1] + 24] = both[begins[3] : begins[3] + 24] = bytes(24)
@@ -322,18 +399,27 @@ def check_between(work):
 
 def check_lines(work):
     """The lines of one salvage, which were written by hand."""
-    parts = [program_of(1, 0, 0, 1, 0), *(packet_of(1, body_of([(it, 0, bytes(60))]), it, 0x68, it, 1) for it in range(4)), end_of(1, 4, 4, 1, 1)]
+    parts = [
+        program_of(1, 0, 0, 1, 0),
+        *(packet_of(1, body_of([(it, 0, bytes(60))]), it, 0x68, it, 1) for it in range(4)),
+        end_of(1, 4, 4, 1, 1),
+    ]
     data = bytearray(b"".join(parts))
     second = len(parts[0]) + len(parts[1])
     data[second + 40] ^= 1
     (work / "lines.ch11").write_bytes(data[: -len(parts[-1])] + b"\0\0\0")
     done = run(SALVAGE, work / "lines.ch11", work / "kept.ch11")
-    wanted = (f"lost {len(parts[2])} at {second} after read 8 DataChecksum\nmissing 1 of 1 from 1 at {second + len(parts[2])}\n"
-              f"lost 3 at {len(data) - len(parts[-1])} after read 1 Truncated\nno end of 1\naudit will say no: NoEnd of channel 1\n"
-              f"kept 4 packets {sum(map(len, (parts[0], *parts[1:2], *parts[3:5])))} bytes, lost {len(parts[2]) + 3} bytes at 2 places\n")
+    wanted = (
+        f"lost {len(parts[2])} at {second} after read 8 DataChecksum\nmissing 1 of 1 from 1 at {second + len(parts[2])}\n"
+        f"lost 3 at {len(data) - len(parts[-1])} after read 1 Truncated\nno end of 1\naudit will say no: NoEnd of channel 1\n"
+        f"kept 4 packets {sum(map(len, (parts[0], *parts[1:2], *parts[3:5])))} bytes, lost {len(parts[2]) + 3} bytes at 2 places\n"
+    )
     judge("what salvage prints", (done.returncode, done.stdout, done.stderr) == (1, wanted, ""))
     done = run(SALVAGE, SAMPLES[1], work / "kept.ch11")
-    judge("and of a whole recording", (done.returncode, done.stdout) == (0, "kept 4 packets 248 bytes, lost 0 bytes at 0 places\n"))
+    judge(
+        "and of a whole recording",
+        (done.returncode, done.stdout) == (0, "kept 4 packets 248 bytes, lost 0 bytes at 0 places\n"),
+    )
 
 
 # ---- the page
@@ -356,22 +442,38 @@ def check_page(work, recording):
     plain = work / "plain.html"
     judge("a page is written", run(INFO, "--html", plain, recording).returncode == 0)
     page = plain.read_text()
-    judge("it wants nothing from outside", not any(it in page for it in ("http:", "https:", "src=", "href=", "@import", "url(", "<script")))
+    judge(
+        "it wants nothing from outside",
+        not any(it in page for it in ("http:", "https:", "src=", "href=", "@import", "url(", "<script")),
+    )
     judge("it has all channels and filters", page.count("<svg") == 3 and page.count("<pre>") == 3 and "ret" in page)
-    names = [b"<script>alert(1)<.ch11", b"</title><img src=x onerror=alert(1)>.ch11".replace(b"/", b"\\"), b"a\"b'c&lt;&amp;.ch11",
-             b"\xff\xfe\x80.ch11", b"line\nfeed\r\t\x01.ch11", "\u202e\u00e9\U0001f600.ch11".encode(), b"-- --> <!-- .ch11", b"--json"]
+    names = [
+        b"<script>alert(1)<.ch11",
+        b"</title><img src=x onerror=alert(1)>.ch11".replace(b"/", b"\\"),
+        b"a\"b'c&lt;&amp;.ch11",
+        b"\xff\xfe\x80.ch11",
+        b"line\nfeed\r\t\x01.ch11",
+        "\u202e\u00e9\U0001f600.ch11".encode(),
+        b"-- --> <!-- .ch11",
+        b"--json",
+    ]
     for name in names:
         path = os.path.join(os.fsencode(work), name)
         shutil.copy(recording, path)
         done = subprocess.run([INFO, "--html", work / "odd.html", path], capture_output=True)
         odd = (work / "odd.html").read_text(encoding="utf-8")
-        judge_quietly(f"{name}: {done.stderr}", done.returncode == 0 and not done.stderr and Tags(odd).found == Tags(page).found)
+        judge_quietly(
+            f"{name}: {done.stderr}", done.returncode == 0 and not done.stderr and Tags(odd).found == Tags(page).found
+        )
     judge("no name becomes HTML", True)
     unknown = work / "unknown.ch11"
     odd = struct.pack("<I4sHHIQHH", 0, b"CBPR", 1, 9, 0, 0, 1, 0) + struct.pack("<HBBI", 0x3C3C, 0x3C, 0x3E, 0x3C3E)
     unknown.write_bytes(packet_of(0, odd, 0, 0, 0, 1))
-    judge("a filter without a text stands as its listing", run(INFO, "--html", work / "odd.html", unknown).returncode == 0
-          and "1,15420 60 62 15422," in (work / "odd.html").read_text())
+    judge(
+        "a filter without a text stands as its listing",
+        run(INFO, "--html", work / "odd.html", unknown).returncode == 0
+        and "1,15420 60 62 15422," in (work / "odd.html").read_text(),
+    )
     (work / "empty.ch11").write_bytes(b"")
     judge("an empty recording has a page", run(INFO, "--html", work / "odd.html", work / "empty.ch11").returncode == 0)
 
@@ -409,20 +511,78 @@ channel 1
   version 1                  from frame 1, counter 32
 """
 # Two hold from counter 32 on, of which the last counts; the clock was set back by an hour.
-THREE_ORIGINS = [("1764590400.250000000", 0, None), ("1764590401.000000000", 32, "0.750000000"), ("1764586800.250000123", 32, "-3600.749999877")]
-ODD_VALUES = [None, True, False, -1, 0, 1, 2, 1.0, 1e300, 2**48 - 1, 2**48, 2**63 - 1, 2**63, 10**30, "", "x", "1", "-1.5", "0.0000000000", "-0.000000001",
-              "+1.000000000", "1764590400.250000000\n", "\u0661.000000000", "-62135596800.000000000", "-62135596800.000000001", "253370764799.999999999",
-              "253370764800.000000000", "1" * 13 + ".000000000", "\ud800", "a" * 255, "a" * 256, [], [[]], [1], {}, {"a": {}}]
+THREE_ORIGINS = [
+    ("1764590400.250000000", 0, None),
+    ("1764590401.000000000", 32, "0.750000000"),
+    ("1764586800.250000123", 32, "-3600.749999877"),
+]
+ODD_VALUES = [
+    None,
+    True,
+    False,
+    -1,
+    0,
+    1,
+    2,
+    1.0,
+    1e300,
+    2**48 - 1,
+    2**48,
+    2**63 - 1,
+    2**63,
+    10**30,
+    "",
+    "x",
+    "1",
+    "-1.5",
+    "0.0000000000",
+    "-0.000000001",
+    "+1.000000000",
+    "1764590400.250000000\n",
+    "\u0661.000000000",
+    "-62135596800.000000000",
+    "-62135596800.000000001",
+    "253370764799.999999999",
+    "253370764800.000000000",
+    "1" * 13 + ".000000000",
+    "\ud800",
+    "a" * 255,
+    "a" * 256,
+    [],
+    [[]],
+    [1],
+    {},
+    {"a": {}},
+]
 
 
 def facts_of_run(origins, losses=()):
     """Facts as docs/user/FORMATS.md has them."""
-    told = [{"origin": origin, "counter": counter, **({} if set_by is None else {"set_by": set_by})} for origin, counter, set_by in origins]
-    lost = [{"interface": "eth0", "from": 1_200, "to": 11_200, **dict(zip(("dropped", "missed", "skipped"), it))} for it in losses]
+    told = [
+        {"origin": origin, "counter": counter, **({} if set_by is None else {"set_by": set_by})}
+        for origin, counter, set_by in origins
+    ]
+    lost = [
+        {"interface": "eth0", "from": 1_200, "to": 11_200, **dict(zip(("dropped", "missed", "skipped"), it))}
+        for it in losses
+    ]
     return {
-        "facts": 1, "recording": "x.ch11", "host": "fc1", "program": "bpfrec 0.1.0", "state": "ended", "begun": "2025-12-01T12:00:00Z", "clock": "host",
-        "origins": told, "interfaces": [{"interface": "eth0", "channel": 1}], "settings": "# text\n", "filters": [], "counts": [], "losses": lost,
-        "report": None, "audit": None, "status": None,
+        "facts": 1,
+        "recording": "x.ch11",
+        "host": "fc1",
+        "program": "bpfrec 0.1.0",
+        "state": "ended",
+        "begun": "2025-12-01T12:00:00Z",
+        "clock": "host",
+        "origins": told,
+        "interfaces": [{"interface": "eth0", "channel": 1}],
+        "settings": "# text\n",
+        "filters": [],
+        "counts": [],
+        "losses": lost,
+        "report": None,
+        "audit": None,
+        "status": None,
     }
 
 
@@ -433,8 +593,10 @@ def time_by(origins, counter):
         return None
     ticks = (found[-1] + Fraction(counter, 10**7)) * 10**7 // 1
     day = time.gmtime(ticks // 10**7)
-    return (f"{day.tm_year:04}-{day.tm_mon:02}-{day.tm_mday:02}T{day.tm_hour:02}:{day.tm_min:02}:{day.tm_sec:02}"
-            f".{ticks % 10**7:07}Z")
+    return (
+        f"{day.tm_year:04}-{day.tm_mon:02}-{day.tm_mday:02}T{day.tm_hour:02}:{day.tm_min:02}:{day.tm_sec:02}"
+        f".{ticks % 10**7:07}Z"
+    )
 
 
 def are_seconds(value):
@@ -448,8 +610,13 @@ def is_count(value, most):
 
 
 def is_origin(it):
-    return (isinstance(it, dict) and are_seconds(it.get("origin")) and -62_135_596_800 <= Fraction(it["origin"]) < 253_370_764_800
-            and is_count(it.get("counter"), 2**48 - 1) and (it.get("set_by") is None or are_seconds(it["set_by"])))
+    return (
+        isinstance(it, dict)
+        and are_seconds(it.get("origin"))
+        and -62_135_596_800 <= Fraction(it["origin"]) < 253_370_764_800
+        and is_count(it.get("counter"), 2**48 - 1)
+        and (it.get("set_by") is None or are_seconds(it["set_by"]))
+    )
 
 
 def are_facts(told):
@@ -457,11 +624,21 @@ def are_facts(told):
     if not isinstance(told, dict) or not is_count(told.get("facts"), 1) or told["facts"] != 1:
         return False
     host, origins, losses = (told.get(it) for it in ("host", "origins", "losses"))
-    if not isinstance(host, str) or len(host) > 255 or not isinstance(origins, list) or not origins or not isinstance(losses, list):
+    if (
+        not isinstance(host, str)
+        or len(host) > 255
+        or not isinstance(origins, list)
+        or not origins
+        or not isinstance(losses, list)
+    ):
         return False
     if not all(map(is_origin, origins)):
         return False
-    return all(isinstance(it, dict) and is_count(it.get(name), 2**63 - 1) for it in losses for name in ("dropped", "missed", "skipped"))
+    return all(
+        isinstance(it, dict) and is_count(it.get(name), 2**63 - 1)
+        for it in losses
+        for name in ("dropped", "missed", "skipped")
+    )
 
 
 def no_constant(name):
@@ -478,7 +655,7 @@ def value_of(data):
 
 def places_in(value):
     """Each place of a value of JSON, as what holds it and by which key."""
-    for key in (value if isinstance(value, dict) else range(len(value)) if isinstance(value, list) else ()):
+    for key in value if isinstance(value, dict) else range(len(value)) if isinstance(value, list) else ():
         yield value, key
         yield from places_in(value[key])
 
@@ -500,7 +677,9 @@ def damaged_facts(draw, told):
     data = bytearray(json.dumps(made, ensure_ascii=draw.random() < 0.9).encode("utf-8", "surrogatepass"))
     for _ in range(draw.choice([0, 0, 1, 3])):
         at = draw.randrange(len(data))
-        data[at : at + draw.choice([0, 1, 1, 5])] = draw.choice([b"", draw.randbytes(1), draw.randbytes(3), b"9" * draw.randrange(40), b"[" * 5])
+        data[at : at + draw.choice([0, 1, 1, 5])] = draw.choice(
+            [b"", draw.randbytes(1), draw.randbytes(3), b"9" * draw.randrange(40), b"[" * 5]
+        )
     return bytes(data[: draw.randrange(len(data))] if draw.random() < 0.05 else data)
 
 
@@ -510,56 +689,106 @@ def check_without_facts(work):
     shutil.copy(SAMPLES[1], path)
     judge("without facts the text is as it was", run(INFO, path).stdout == WITHOUT_FACTS)
     found = json.loads(run(INFO, "--json", path).stdout)
-    judge("and what JSON has of them is null", found["facts"] is None and found["channels"]["1"]["first_time"] is None and found["channels"]["1"]["last_time"] is None)
+    judge(
+        "and what JSON has of them is null",
+        found["facts"] is None
+        and found["channels"]["1"]["first_time"] is None
+        and found["channels"]["1"]["last_time"] is None,
+    )
     (work / "x.ch11.json").symlink_to(work / "nowhere")
-    judge("a link that leads nowhere is no facts", run(INFO, path).stdout == WITHOUT_FACTS and not run(INFO, path).stderr)
+    judge(
+        "a link that leads nowhere is no facts", run(INFO, path).stdout == WITHOUT_FACTS and not run(INFO, path).stderr
+    )
     (work / "x.ch11.json").unlink()
 
 
 def check_rows_of_facts(work):
     """The rows of facts, which were written by hand: the frame's counter is 32."""
     path, beside = work / "x.ch11", work / "x.ch11.json"
-    beside.write_text(json.dumps({**facts_of_run(THREE_ORIGINS, [(120, 0, 3), (1_000, 0, 0)]), "host": "fc1\n\ud800<b>"}))
-    rows = [f"facts                      {beside}", "host                       fc1??<b>", "origin                     2025-12-01T12:00:00.250000000Z from counter 0 on",
-            "origin                     2025-12-01T12:00:01.000000000Z from counter 32 on: the clock was set by 0.750000000 s",
-            "origin                     2025-12-01T11:00:00.250000123Z from counter 32 on: the clock was set by -3600.749999877 s",
-            "frames lost                1,120 dropped, 3 skipped", "  first time                 2025-12-01T11:00:00.2500033Z", "  last time                  2025-12-01T11:00:00.2500033Z"]
+    beside.write_text(
+        json.dumps({**facts_of_run(THREE_ORIGINS, [(120, 0, 3), (1_000, 0, 0)]), "host": "fc1\n\ud800<b>"})
+    )
+    rows = [
+        f"facts                      {beside}",
+        "host                       fc1??<b>",
+        "origin                     2025-12-01T12:00:00.250000000Z from counter 0 on",
+        "origin                     2025-12-01T12:00:01.000000000Z from counter 32 on: the clock was set by 0.750000000 s",
+        "origin                     2025-12-01T11:00:00.250000123Z from counter 32 on: the clock was set by -3600.749999877 s",
+        "frames lost                1,120 dropped, 3 skipped",
+        "  first time                 2025-12-01T11:00:00.2500033Z",
+        "  last time                  2025-12-01T11:00:00.2500033Z",
+    ]
     done = run(INFO, path)
     told = done.stdout.splitlines()
-    judge("the rows of facts", (done.returncode, done.stderr) == (0, "") and [it for it in told if it not in WITHOUT_FACTS.splitlines()] == rows)
+    judge(
+        "the rows of facts",
+        (done.returncode, done.stderr) == (0, "")
+        and [it for it in told if it not in WITHOUT_FACTS.splitlines()] == rows,
+    )
     judge("and all others as without them", "".join(f"{it}\n" for it in told if it not in rows) == WITHOUT_FACTS)
     wanted = [{"origin": origin, "counter": counter, "set_by": set_by} for origin, counter, set_by in THREE_ORIGINS]
     found = json.loads(run(INFO, "--json", path).stdout)
-    judge("the same in JSON", found["facts"] == {"path": str(beside), "host": "fc1\n\ud800<b>", "origin_count": 3, "origins": wanted, "losses": {"dropped": 1_120, "missed": 0, "skipped": 3}}
-          and found["channels"]["1"]["first_time"] == found["channels"]["1"]["last_time"] == "2025-12-01T11:00:00.2500033Z")
+    judge(
+        "the same in JSON",
+        found["facts"]
+        == {
+            "path": str(beside),
+            "host": "fc1\n\ud800<b>",
+            "origin_count": 3,
+            "origins": wanted,
+            "losses": {"dropped": 1_120, "missed": 0, "skipped": 3},
+        }
+        and found["channels"]["1"]["first_time"]
+        == found["channels"]["1"]["last_time"]
+        == "2025-12-01T11:00:00.2500033Z",
+    )
     judge("and in the page", run(INFO, "--html", work / "x.html", path).returncode == 0)
     page = (work / "x.html").read_text()
-    judge("which says that times are UTC", "Times are UTC, from the facts in x.ch11.json." in page and "<td>fc1??&lt;b&gt;</td>" in page
-          and "<td class=bad>1,120 dropped, 3 skipped</td>" in page and page.count("2025-12-01T11:00:00.2500033Z") == 2)
+    judge(
+        "which says that times are UTC",
+        "Times are UTC, from the facts in x.ch11.json." in page
+        and "<td>fc1??&lt;b&gt;</td>" in page
+        and "<td class=bad>1,120 dropped, 3 skipped</td>" in page
+        and page.count("2025-12-01T11:00:00.2500033Z") == 2,
+    )
     beside.write_text(json.dumps({**facts_of_run(THREE_ORIGINS), "host": "m\u00fcnchen"}))
     for encoding, host in (("utf-8", "m\u00fcnchen"), ("ascii", "m?nchen")):
         done = run(INFO, path, env={**os.environ, "PYTHONIOENCODING": encoding}, encoding=encoding)
-        judge(f"a host's name in {encoding}", done.returncode == 0 and f"\nhost                       {host}\n" in done.stdout)
+        judge(
+            f"a host's name in {encoding}",
+            done.returncode == 0 and f"\nhost                       {host}\n" in done.stdout,
+        )
     beside.write_text(json.dumps(facts_of_run([("1764590400.250000000", 33, None)])))
-    judge("a frame before the first origin has no time", "\n  first time                 unknown\n" in run(INFO, path).stdout
-          and json.loads(run(INFO, "--json", path).stdout)["channels"]["1"]["first_time"] is None)
+    judge(
+        "a frame before the first origin has no time",
+        "\n  first time                 unknown\n" in run(INFO, path).stdout
+        and json.loads(run(INFO, "--json", path).stdout)["channels"]["1"]["first_time"] is None,
+    )
     many = [(f"{1_764_590_400 + it}.000000000", it, None) for it in range(1_500)]
     beside.write_text(json.dumps(facts_of_run(many)))
     told = run(INFO, path).stdout
-    judge("a thousand origins are told one by one", told.count("\norigin ") == 1_001 and "\norigin                     and 500 more\nframes lost                none\n" in told)
+    judge(
+        "a thousand origins are told one by one",
+        told.count("\norigin ") == 1_001
+        and "\norigin                     and 500 more\nframes lost                none\n" in told,
+    )
 
 
 def origins_of_draw(draw, most):
     """Origins of which some hold from one counter on, in the order of their counters or not; whole ticks and others,
     before 1970 too."""
-    counters = [draw.choice([0, most, draw.randrange(most + 1), draw.randrange(2**48)]) for _ in range(draw.randrange(1, 6))]
+    counters = [
+        draw.choice([0, most, draw.randrange(most + 1), draw.randrange(2**48)]) for _ in range(draw.randrange(1, 6))
+    ]
     if draw.random() < 0.8:
         counters = [0, *sorted(counters)]
-    found, at = [], draw.choice([0, -3_589_750_000_000, draw.randrange(-10**18, 10**19), 1_764_590_400_250_000_000])
+    found, at = [], draw.choice(
+        [0, -3_589_750_000_000, draw.randrange(-(10**18), 10**19), 1_764_590_400_250_000_000]
+    )
     for counter in counters:
         sign, whole = "-" if at < 0 else "", abs(at)
         found.append((f"{sign}{whole // 10**9}.{whole % 10**9:09}", counter, draw.choice([None, "-3600.000000000"])))
-        at += draw.choice([-3_600_000_000_000, 500_001, draw.randrange(-10**12, 10**12)])
+        at += draw.choice([-3_600_000_000_000, 500_001, draw.randrange(-(10**12), 10**12)])
     return found
 
 
@@ -576,14 +805,29 @@ def check_times(work, draw, recording):
         told = found.facts(answer[0], known)["channels"]
         for name, it in bare.items():
             wanted = [time_by(origins, it[f"{which}_counter"]) for which in ("first", "last")]
-            judge_quietly(f"channel {name} of {origins}: {told[int(name)]}, {wanted}", [told[int(name)]["first_time"], told[int(name)]["last_time"]] == wanted)
-        for counter in [0, 2**48 - 1, *(draw.randrange(2**48) for _ in range(20)), *(it + step for _, it, _ in origins for step in (-1, 0, 1))]:
+            judge_quietly(
+                f"channel {name} of {origins}: {told[int(name)]}, {wanted}",
+                [told[int(name)]["first_time"], told[int(name)]["last_time"]] == wanted,
+            )
+        for counter in [
+            0,
+            2**48 - 1,
+            *(draw.randrange(2**48) for _ in range(20)),
+            *(it + step for _, it, _ in origins for step in (-1, 0, 1)),
+        ]:
             if 0 <= counter < 2**48:
-                judge_quietly(f"counter {counter} of {origins}", info.time_of(counter, known) == time_by(origins, counter))
+                judge_quietly(
+                    f"counter {counter} of {origins}", info.time_of(counter, known) == time_by(origins, counter)
+                )
         judge_quietly("text and page", info.text_page(found, answer, known) and info.page("x", found, answer, known))
-    seconds = [draw.randrange(-10**10, 10**11) for _ in range(20)]
-    days = run("date", "-u", "-f", "-", "+%Y-%m-%dT%H:%M:%S", input="".join(f"@{it}\n" for it in seconds), check=True).stdout.split()
-    judge("times of drawn origins, and of drawn counters", days == [time_by([(f"{it}.000000000", 0, None)], 0)[:-9] for it in seconds])
+    seconds = [draw.randrange(-(10**10), 10**11) for _ in range(20)]
+    days = run(
+        "date", "-u", "-f", "-", "+%Y-%m-%dT%H:%M:%S", input="".join(f"@{it}\n" for it in seconds), check=True
+    ).stdout.split()
+    judge(
+        "times of drawn origins, and of drawn counters",
+        days == [time_by([(f"{it}.000000000", 0, None)], 0)[:-9] for it in seconds],
+    )
 
 
 def check_damaged_facts(work, draw):
@@ -591,24 +835,57 @@ def check_damaged_facts(work, draw):
     path, beside, refused = work / "x.ch11", work / "x.ch11.json", 0
     found, answer = info.read(str(path)), info.audit_of(str(path))
     for turn in range(DAMAGED_FACTS):
-        data = damaged_facts(draw, facts_of_run(draw.choice([THREE_ORIGINS[:2], THREE_ORIGINS, [("-3589.750000000", 0, None), ("10.000000000", 9, "3599.750000000")]]), [(1, 2, 3), (4, 5, 6)]))
+        data = damaged_facts(
+            draw,
+            facts_of_run(
+                draw.choice(
+                    [
+                        THREE_ORIGINS[:2],
+                        THREE_ORIGINS,
+                        [("-3589.750000000", 0, None), ("10.000000000", 9, "3599.750000000")],
+                    ]
+                ),
+                [(1, 2, 3), (4, 5, 6)],
+            ),
+        )
         beside.write_bytes(data)
         told = value_of(data)
         is_refused, by_process = not are_facts(told), turn < FACTS_BY_PROCESS
         with contextlib.redirect_stderr(io.StringIO()) as errors:
             known = info.facts_beside(str(path))
-        judge_quietly(f"facts {turn}: {data} {errors.getvalue()}", (known is None) == is_refused and errors.getvalue().count("\n") == is_refused
-                      and (f": {beside}: no facts of a recording: " in errors.getvalue()) == is_refused)
-        judge_quietly("text, page and JSON", info.text_page(found, answer, known) and info.page("x", found, answer, known) and json.dumps(found.facts(answer[0], known)))
+        judge_quietly(
+            f"facts {turn}: {data} {errors.getvalue()}",
+            (known is None) == is_refused
+            and errors.getvalue().count("\n") == is_refused
+            and (f": {beside}: no facts of a recording: " in errors.getvalue()) == is_refused,
+        )
+        judge_quietly(
+            "text, page and JSON",
+            info.text_page(found, answer, known)
+            and info.page("x", found, answer, known)
+            and json.dumps(found.facts(answer[0], known)),
+        )
         if not is_refused:
             origins = [(it["origin"], it["counter"], None) for it in told["origins"]]
-            judge_quietly(f"facts {turn}: {origins}", found.facts(answer[0], known)["channels"][1]["first_time"] == time_by(origins, 32))
+            judge_quietly(
+                f"facts {turn}: {origins}",
+                found.facts(answer[0], known)["channels"][1]["first_time"] == time_by(origins, 32),
+            )
         if by_process:
             done = [run(INFO, path), run(INFO, "--json", path), run(INFO, "--html", work / "x.html", path)]
-            judge_quietly(f"facts {turn}: {done}", all(it.returncode == 0 and it.stderr.count("\n") == is_refused and "Traceback" not in it.stderr for it in done))
+            judge_quietly(
+                f"facts {turn}: {done}",
+                all(
+                    it.returncode == 0 and it.stderr.count("\n") == is_refused and "Traceback" not in it.stderr
+                    for it in done
+                ),
+            )
             judge_quietly(f"facts {turn}: the rest is as without", not is_refused or done[0].stdout == WITHOUT_FACTS)
         refused += is_refused
-    judge(f"{DAMAGED_FACTS} damaged facts, of which {refused} are refused, and the rest of the answer stays", DAMAGED_FACTS // 4 < refused < DAMAGED_FACTS * 9 // 10)
+    judge(
+        f"{DAMAGED_FACTS} damaged facts, of which {refused} are refused, and the rest of the answer stays",
+        DAMAGED_FACTS // 4 < refused < DAMAGED_FACTS * 9 // 10,
+    )
 
 
 def refusals_of_facts():
@@ -636,7 +913,10 @@ def refusals_of_facts():
         (origin(set_by=10**30), "origin 2 of 2: set_by isn't seconds with nine digits behind the point"),
         ({**good, "losses": None}, "losses is no list"),
         ({**good, "losses": [*good["losses"], {}]}, "loss 2 of 2: dropped is no number from 0 to 9223372036854775807"),
-        (json.dumps(good).replace('"skipped": 3', f'"skipped": {"3" * 100_000}'), "loss 1 of 1: skipped is no number from 0 to 9223372036854775807"),
+        (
+            json.dumps(good).replace('"skipped": 3', f'"skipped": {"3" * 100_000}'),
+            "loss 1 of 1: skipped is no number from 0 to 9223372036854775807",
+        ),
     ]
 
 
@@ -646,7 +926,9 @@ def check_refused_facts(work):
     wanted = lambda why: (0, WITHOUT_FACTS, f"info: {beside}: no facts of a recording: {why}\n")
     seen = lambda: (lambda done: (done.returncode, done.stdout, done.stderr))(run(INFO, path, timeout=60))
     for given, why in refusals_of_facts():
-        beside.write_bytes(given if isinstance(given, bytes) else (given if isinstance(given, str) else json.dumps(given)).encode())
+        beside.write_bytes(
+            given if isinstance(given, bytes) else (given if isinstance(given, str) else json.dumps(given)).encode()
+        )
         judge(f"facts are refused: {why}", seen() == wanted(why))
     os.truncate(beside, (64 << 20) + 1)
     judge("facts that are too long", seen() == wanted("it has more than 64 MiB"))
@@ -659,12 +941,19 @@ def check_refused_facts(work):
     beside.unlink()
     beside.write_text(json.dumps(facts_of_run(THREE_ORIGINS)))
     done = run(INFO, "--html", beside, path)
-    judge("a page never takes the place of the facts", (done.returncode, done.stderr) == (3, f"file {beside}: it is RECORDING.json itself\n") and are_facts(json.loads(beside.read_text())))
+    judge(
+        "a page never takes the place of the facts",
+        (done.returncode, done.stderr) == (3, f"file {beside}: it is RECORDING.json itself\n")
+        and are_facts(json.loads(beside.read_text())),
+    )
     damaged = work / "cut.ch11"
     damaged.write_bytes(path.read_bytes()[:-1])
     (work / "cut.ch11.json").write_text("[]")
     done = run(INFO, damaged)
-    judge("the status stays that of the recording", done.returncode == 1 and done.stderr == f"info: {work}/cut.ch11.json: no facts of a recording: facts isn't 1\n")
+    judge(
+        "the status stays that of the recording",
+        done.returncode == 1 and done.stderr == f"info: {work}/cut.ch11.json: no facts of a recording: facts isn't 1\n",
+    )
 
 
 def check_facts(work, draw, recording):
@@ -707,11 +996,18 @@ def check_forced(work):
     cut.write_bytes(SAMPLES[1].read_bytes()[:-1])
     plain = run(SALVAGE, cut, out)
     lost, _, rest = plain.stdout.partition("\n")
-    cases = [("", 1, f"{lost}\nfsync\n{rest}", ""), (errno.EIO, 3, f"{lost}\nfsync\n", f"file {out}: Input/output error\n"), (errno.EINVAL, 1, f"{lost}\nfsync\n{rest}", "")]
+    cases = [
+        ("", 1, f"{lost}\nfsync\n{rest}", ""),
+        (errno.EIO, 3, f"{lost}\nfsync\n", f"file {out}: Input/output error\n"),
+        (errno.EINVAL, 1, f"{lost}\nfsync\n{rest}", ""),
+    ]
     for fails, status, printed, told in cases:
         more = {"LD_PRELOAD": str(work / "fsync.so"), **({"FSYNC_FAILS": str(fails)} if fails else {})}
         done = run(sys.executable, SALVAGE, cut, out, env={**os.environ, **more})
-        judge(f"salvage forces its output before it answers: {errno.errorcode.get(fails, 'done')}", (done.returncode, done.stdout, done.stderr) == (status, printed, told))
+        judge(
+            f"salvage forces its output before it answers: {errno.errorcode.get(fails, 'done')}",
+            (done.returncode, done.stdout, done.stderr) == (status, printed, told),
+        )
     judge("a device that can't be forced is passed over", run(SALVAGE, cut, "/dev/null").stdout == plain.stdout)
 
 
@@ -731,8 +1027,25 @@ def write_large(path, size):
             counters = struct.pack(f"<{count}Q", *range(first, first + 100 * count, 100))
             for at in range(6):
                 body[4 + at :: stride] = counters[at::8]
-            head = struct.pack("<HHIIBBBBIH", 0xEB25, 1, 28 + len(body), len(body), 8, packets % 256, 3, 0x68, first % 2**32, first >> 32)
-            file.write(head + struct.pack("<H", sum(struct.unpack("<11H", head)) % 2**16) + body + ch11.word_sum(body).to_bytes(4, "little"))
+            head = struct.pack(
+                "<HHIIBBBBIH",
+                0xEB25,
+                1,
+                28 + len(body),
+                len(body),
+                8,
+                packets % 256,
+                3,
+                0x68,
+                first % 2**32,
+                first >> 32,
+            )
+            file.write(
+                head
+                + struct.pack("<H", sum(struct.unpack("<11H", head)) % 2**16)
+                + body
+                + ch11.word_sum(body).to_bytes(4, "little")
+            )
             packets += 1
         file.write(end_of(1, packets * count, packets * count, 1, 1))
     return packets * count
@@ -752,12 +1065,21 @@ def check_large(work, megabytes):
     path, least = work / "large.ch11", timed(INFO, "/dev/null")[2]
     frames = write_large(path, megabytes * 1_000_000)
     size = path.stat().st_size
-    judge("a large recording is whole", run(BPFREC, "audit", path).stdout == f"channel 1 programs 1 frames {frames} offered {frames}\nyes other 0\n")
+    judge(
+        "a large recording is whole",
+        run(BPFREC, "audit", path).stdout == f"channel 1 programs 1 frames {frames} offered {frames}\nyes other 0\n",
+    )
     without = {**os.environ, "BPFREC": str(work / "nowhere")}
-    runs = {"with the audit": timed(INFO, path), "without": timed(INFO, path, env=without), "salvage": timed(SALVAGE, path, "/dev/null")}
+    runs = {
+        "with the audit": timed(INFO, path),
+        "without": timed(INFO, path, env=without),
+        "salvage": timed(SALVAGE, path, "/dev/null"),
+    }
     for name, (seconds, processor, memory) in runs.items():
-        print(f"{size / 1e6:,.0f} MB {name}: {size / seconds / 1e6:,.0f} MB/s by the clock, {size / processor / 1e6:,.0f} by the processor, "
-              f"{memory:,} KiB; load {os.getloadavg()[0]:.1f}")
+        print(
+            f"{size / 1e6:,.0f} MB {name}: {size / seconds / 1e6:,.0f} MB/s by the clock, {size / processor / 1e6:,.0f} by the processor, "
+            f"{memory:,} KiB; load {os.getloadavg()[0]:.1f}"
+        )
     judge("it takes the memory of one packet", all(it[2] < least + MOST_MEMORY_KIB for it in runs.values()))
     judge(f"info reads {LEAST_SPEED} MB/s", size / runs["with the audit"][1] / 1e6 >= LEAST_SPEED)
     path.unlink()
@@ -782,19 +1104,35 @@ def check_refusals(work):
     ]
     for words, status, told in cases:
         done = run(*words)
-        judge(f"refused: {told.strip()}", (done.returncode, done.stderr) == (status, told) and not (work / "out").exists())
-    for words in ([INFO, SAMPLES[0]], [INFO, "--json", SAMPLES[0]], [SALVAGE, SAMPLES[0], work / "kept.ch11"], [SALVAGE, "--help"]):
+        judge(
+            f"refused: {told.strip()}", (done.returncode, done.stderr) == (status, told) and not (work / "out").exists()
+        )
+    for words in (
+        [INFO, SAMPLES[0]],
+        [INFO, "--json", SAMPLES[0]],
+        [SALVAGE, SAMPLES[0], work / "kept.ch11"],
+        [SALVAGE, "--help"],
+    ):
         with open("/dev/full", "w") as full:
             done = run(*words, capture_output=False, stdout=full, stderr=subprocess.PIPE)
-        judge(f"standard output that is full: {words[0].name}", (done.returncode, done.stderr) == (3, "file -: No space left on device\n"))
+        judge(
+            f"standard output that is full: {words[0].name}",
+            (done.returncode, done.stderr) == (3, "file -: No space left on device\n"),
+        )
     judge("words that are none", run(INFO).returncode == 2 and run(INFO, "--no", "x").returncode == 2)
     path = work / "same.ch11"
     shutil.copy(SAMPLES[0], path)
     os.link(path, work / "link.ch11")
-    judge("OUT that is DAMAGED is refused", run(SALVAGE, path, work / "link.ch11").returncode == 3 and path.read_bytes() == SAMPLES[0].read_bytes())
+    judge(
+        "OUT that is DAMAGED is refused",
+        run(SALVAGE, path, work / "link.ch11").returncode == 3 and path.read_bytes() == SAMPLES[0].read_bytes(),
+    )
     writer = subprocess.Popen(["cp", SAMPLES[0], pipe])
     done = run(INFO, pipe)
-    judge("a pipe is read, and not audited", writer.wait() == 0 and done.returncode == 0 and "not asked: no regular file" in done.stdout)
+    judge(
+        "a pipe is read, and not audited",
+        writer.wait() == 0 and done.returncode == 0 and "not asked: no regular file" in done.stdout,
+    )
     done = run(INFO, SAMPLES[1], env={**os.environ, "BPFREC": "/nowhere"})
     judge("without bpfrec it says so", done.returncode == 0 and "not asked: bpfrec is missing" in done.stdout)
 

@@ -37,7 +37,9 @@ def judge(what, holds):
 
 
 def run(*words, **more):
-    done = subprocess.run([str(it) for it in words], **{"stdout": subprocess.PIPE, "stderr": subprocess.STDOUT, "text": True, **more})
+    done = subprocess.run(
+        [str(it) for it in words], **{"stdout": subprocess.PIPE, "stderr": subprocess.STDOUT, "text": True, **more}
+    )
     return done.returncode, done.stdout
 
 
@@ -45,15 +47,27 @@ def run(*words, **more):
 
 
 def check_page():
-    judge("the page and the completions are of the program's help, which it prints", run(ROOT / "dev/checks/man.py", BPFREC)[0] == 0)
+    judge(
+        "the page and the completions are of the program's help, which it prints",
+        run(ROOT / "dev/checks/man.py", BPFREC)[0] == 0,
+    )
     judge("mandoc -Tlint finds nothing", run("mandoc", "-Tlint", PAGE) == (0, ""))
     more = {"env": {**os.environ, "LC_ALL": "C.UTF-8", "MANWIDTH": "80"}}
-    judge("man -l finds nothing", run("man", "--warnings", "-l", PAGE, stdout=subprocess.DEVNULL, stderr=subprocess.PIPE, **more)[0] == 0
-          and subprocess.run(["man", "--warnings", "-l", PAGE], stdout=subprocess.DEVNULL, stderr=subprocess.PIPE, **more).stderr == b"")
+    judge(
+        "man -l finds nothing",
+        run("man", "--warnings", "-l", PAGE, stdout=subprocess.DEVNULL, stderr=subprocess.PIPE, **more)[0] == 0
+        and subprocess.run(
+            ["man", "--warnings", "-l", PAGE], stdout=subprocess.DEVNULL, stderr=subprocess.PIPE, **more
+        ).stderr
+        == b"",
+    )
     status, text = run("man", "-l", PAGE, **more)
     wanted = [f"bpfrec {it.name}" for it in manual.Help().commands]
     wanted += ["DataChecksum", "16,424 to 524,284", "refused 8 Unset", "no 3 NotAccepted", "bpfrec-info", "SourceEnd"]
-    judge("it has each command, and the tables of the formats", status == 0 and not [it for it in wanted if it not in text])
+    judge(
+        "it has each command, and the tables of the formats",
+        status == 0 and not [it for it in wanted if it not in text],
+    )
 
 
 # ---- completions
@@ -71,8 +85,10 @@ def folder_of_files(work):
 def bash_offers(folder, *words):
     """What bash offers for the last word."""
     function = "_bpfrec" if words[0] == "bpfrec" else "_bpfrec_tool"
-    script = (f'source "{COMPLETIONS}/bpfrec.bash"; COMP_WORDS=("$@"); COMP_CWORD=$(($# - 1)); '
-              f'{function} "$1"; printf "%s\\n" "${{COMPREPLY[@]}}"')
+    script = (
+        f'source "{COMPLETIONS}/bpfrec.bash"; COMP_WORDS=("$@"); COMP_CWORD=$(($# - 1)); '
+        f'{function} "$1"; printf "%s\\n" "${{COMPREPLY[@]}}"'
+    )
     return set(run("bash", "--norc", "-c", script, "bash", *words, cwd=folder)[1].split())
 
 
@@ -88,7 +104,10 @@ def zsh_completes(folder, line):
     if process == 0:
         os.chdir(folder)
         os.execvpe("zsh", ["zsh", "-f", "-i"], {**os.environ, "TERM": "dumb", "HOME": str(folder)})
-    os.write(terminal, f"PS1=; fpath=({COMPLETIONS} $fpath); autoload -Uz compinit; compinit -u -D; unsetopt automenu; echo rea''dy\n".encode())
+    os.write(
+        terminal,
+        f"PS1=; fpath=({COMPLETIONS} $fpath); autoload -Uz compinit; compinit -u -D; unsetopt automenu; echo rea''dy\n".encode(),
+    )
     read_until(terminal, b"ready\r\n")
     os.write(terminal, f"{line}\t".encode())
     time.sleep(0.7)
@@ -110,24 +129,61 @@ def read_until(terminal, wanted):
 def check_completions(work):
     folder = folder_of_files(work)
     commands = {it.name for it in manual.Help().commands}
-    judge("bash offers the commands", bash_offers(folder, "bpfrec", "") == commands | {"help", "--help", "--version"}
-          and bash_offers(folder, "bpfrec", "a") == {"asm", "audit"} and bash_offers(folder, "bpfrec", "help", "a") == {"asm", "audit"})
-    for words, ending in [(["list"], "one.ch11"), (["verify"], "two.txt"), (["asm"], "three.bpf"), (["record"], "four.toml"),
-                          (["extract", "one.ch11", "1"], "five.feed"), (["simulate"], "six.script"), (["record", "four.toml"], "one.ch11")]:
-        judge(f"bash offers files by kind: {' '.join(words)}", bash_offers(folder, "bpfrec", *words, "") == {ending, "sub"})
+    judge(
+        "bash offers the commands",
+        bash_offers(folder, "bpfrec", "") == commands | {"help", "--help", "--version"}
+        and bash_offers(folder, "bpfrec", "a") == {"asm", "audit"}
+        and bash_offers(folder, "bpfrec", "help", "a") == {"asm", "audit"},
+    )
+    for words, ending in [
+        (["list"], "one.ch11"),
+        (["verify"], "two.txt"),
+        (["asm"], "three.bpf"),
+        (["record"], "four.toml"),
+        (["extract", "one.ch11", "1"], "five.feed"),
+        (["simulate"], "six.script"),
+        (["record", "four.toml"], "one.ch11"),
+    ]:
+        judge(
+            f"bash offers files by kind: {' '.join(words)}",
+            bash_offers(folder, "bpfrec", *words, "") == {ending, "sub"},
+        )
     judge("bash offers no file for a number", bash_offers(folder, "bpfrec", "extract", "one.ch11", "") == set())
-    judge("bash offers what tools take", bash_offers(folder, "bpfrec-info", "--h") == {"--html", "--help"}
-          and bash_offers(folder, "bpfrec-salvage", "") == {"one.ch11", "sub"} and "to-pcap" in bash_offers(folder, "bpfrec-convert", "t"))
-    judge("fish offers the commands", set(fish_offers(folder, "bpfrec ")) == commands | {"help"} and fish_offers(folder, "bpfrec au") == ["audit"]
-          and set(fish_offers(folder, "bpfrec help a")) == {"asm", "audit"})
-    for line, first in [("bpfrec list ", "one.ch11"), ("bpfrec asm ", "three.bpf"), ("bpfrec record ", "four.toml"),
-                        ("bpfrec extract one.ch11 1 ", "five.feed"), ("bpfrec-salvage ", "one.ch11")]:
+    judge(
+        "bash offers what tools take",
+        bash_offers(folder, "bpfrec-info", "--h") == {"--html", "--help"}
+        and bash_offers(folder, "bpfrec-salvage", "") == {"one.ch11", "sub"}
+        and "to-pcap" in bash_offers(folder, "bpfrec-convert", "t"),
+    )
+    judge(
+        "fish offers the commands",
+        set(fish_offers(folder, "bpfrec ")) == commands | {"help"}
+        and fish_offers(folder, "bpfrec au") == ["audit"]
+        and set(fish_offers(folder, "bpfrec help a")) == {"asm", "audit"},
+    )
+    for line, first in [
+        ("bpfrec list ", "one.ch11"),
+        ("bpfrec asm ", "three.bpf"),
+        ("bpfrec record ", "four.toml"),
+        ("bpfrec extract one.ch11 1 ", "five.feed"),
+        ("bpfrec-salvage ", "one.ch11"),
+    ]:
         judge(f"fish offers files by kind: {line}", fish_offers(folder, line)[:1] == [first])
-    judge("fish offers what tools take", "--html" in fish_offers(folder, "bpfrec-info --h") and "from-pcap" in fish_offers(folder, "bpfrec-convert f"))
+    judge(
+        "fish offers what tools take",
+        "--html" in fish_offers(folder, "bpfrec-info --h") and "from-pcap" in fish_offers(folder, "bpfrec-convert f"),
+    )
     shutil.rmtree(folder / "sub")
-    for line, wanted in [("bpfrec aud", "bpfrec audit "), ("bpfrec list ", "bpfrec list one.ch11 "), ("bpfrec asm ", "bpfrec asm three.bpf "),
-                         ("bpfrec record ", "bpfrec record four.toml "), ("bpfrec extract one.ch11 1 ", "bpfrec extract one.ch11 1 five.feed "),
-                         ("bpfrec help sim", "bpfrec help simulate "), ("bpfrec-info --j", "bpfrec-info --json "), ("bpfrec-salvage ", "bpfrec-salvage one.ch11 ")]:
+    for line, wanted in [
+        ("bpfrec aud", "bpfrec audit "),
+        ("bpfrec list ", "bpfrec list one.ch11 "),
+        ("bpfrec asm ", "bpfrec asm three.bpf "),
+        ("bpfrec record ", "bpfrec record four.toml "),
+        ("bpfrec extract one.ch11 1 ", "bpfrec extract one.ch11 1 five.feed "),
+        ("bpfrec help sim", "bpfrec help simulate "),
+        ("bpfrec-info --j", "bpfrec-info --json "),
+        ("bpfrec-salvage ", "bpfrec-salvage one.ch11 "),
+    ]:
         found = zsh_completes(folder, line)
         judge(f"zsh makes {wanted!r} of {line!r}", found.rstrip() == wanted.rstrip() or print(repr(found)))
 
@@ -140,7 +196,9 @@ def record_in(folder, programs, *before):
     (folder / "all").write_text("1,6 0 0 1,")
     (folder / "s.toml").write_text(SETTINGS)
     shutil.copy(ROOT / "examples/feeds/one.feed", folder / "one.feed")
-    status, told = run(*before, f"{programs}/bpfrec", "record", "s.toml", "one.ch11", cwd=folder, stdin=subprocess.DEVNULL)
+    status, told = run(
+        *before, f"{programs}/bpfrec", "record", "s.toml", "one.ch11", cwd=folder, stdin=subprocess.DEVNULL
+    )
     judge("it records", status == 0 and told.startswith("channel 1 versions 1 offered 60 kept 60 SourceEnd\n"))
     return run(*before, f"{programs}/bpfrec", "audit", "one.ch11", cwd=folder)
 
@@ -148,15 +206,36 @@ def record_in(folder, programs, *before):
 def check_tools(work, programs):
     """The tools as they are installed, which find the program that is."""
     env = {it: value for it, value in os.environ.items() if it not in ("BPFREC", "CAPTURE")}
-    judge("info finds the program", "audit                      yes other 0" in run(programs / "bpfrec-info", "one.ch11", cwd=work, env=env)[1])
-    judge("salvage", run(programs / "bpfrec-salvage", "one.ch11", "kept.ch11", cwd=work)[1].endswith("lost 0 bytes at 0 places\n"))
+    judge(
+        "info finds the program",
+        "audit                      yes other 0" in run(programs / "bpfrec-info", "one.ch11", cwd=work, env=env)[1],
+    )
+    judge(
+        "salvage",
+        run(programs / "bpfrec-salvage", "one.ch11", "kept.ch11", cwd=work)[1].endswith("lost 0 bytes at 0 places\n"),
+    )
     judge("feed", run(programs / "bpfrec-convert", "to-pcap", "one.feed", "one.pcap", cwd=work) == (0, "frames 60\n"))
     (work / "one.ch11.json").write_text(FACTS)
-    judge("feed finds what reads facts", run(programs / "bpfrec-convert", "to-pcap", "--facts", "one.ch11.json", "one.feed", "one.pcap", cwd=work) == (0, "frames 60\n"))
-    judge("info too", "  first time                 2025-12-01T12:00:00.2500000Z\n" in run(programs / "bpfrec-info", "one.ch11", cwd=work, env=env)[1])
+    judge(
+        "feed finds what reads facts",
+        run(programs / "bpfrec-convert", "to-pcap", "--facts", "one.ch11.json", "one.feed", "one.pcap", cwd=work)
+        == (0, "frames 60\n"),
+    )
+    judge(
+        "info too",
+        "  first time                 2025-12-01T12:00:00.2500000Z\n"
+        in run(programs / "bpfrec-info", "one.ch11", cwd=work, env=env)[1],
+    )
     (work / "one.ch11.json").write_text("")
-    judge("and names itself", "bpfrec-info: one.ch11.json: no facts of a recording: " in run(programs / "bpfrec-info", "one.ch11", cwd=work, env=env)[1])
-    judge("preflight finds the program", run(programs / "bpfrec-preflight", "s.toml", cwd=work, env=env)[1].endswith("0 faults\n"))
+    judge(
+        "and names itself",
+        "bpfrec-info: one.ch11.json: no facts of a recording: "
+        in run(programs / "bpfrec-info", "one.ch11", cwd=work, env=env)[1],
+    )
+    judge(
+        "preflight finds the program",
+        run(programs / "bpfrec-preflight", "s.toml", cwd=work, env=env)[1].endswith("0 faults\n"),
+    )
     for name in manual.TOOLS:
         if (programs / f"bpfrec-{name}").exists():
             status, told = run(programs / f"bpfrec-{name}", "--help")
@@ -172,7 +251,10 @@ def check_install(work):
     judge("make install", run("make", "-s", "-C", ROOT, "install", *words)[0] == 0)
     programs, field = Path(f"{dest}{prefix}/bin"), work / "field"
     field.mkdir()
-    judge("the audit says yes", record_in(field, programs) == (0, "channel 1 programs 1 frames 60 offered 60\nyes other 0\n"))
+    judge(
+        "the audit says yes",
+        record_in(field, programs) == (0, "channel 1 programs 1 frames 60 offered 60\nyes other 0\n"),
+    )
     check_tools(field, programs)
     for name in ("bpfrec", "bpfrec-info"):
         status, found = run("man", "-M", f"{dest}{prefix}/share/man", "-w", name)
@@ -180,7 +262,10 @@ def check_install(work):
     unit = Path(f"{dest}{prefix}/lib/systemd/system/bpfrec.service").read_text()
     judge("the unit runs what is installed", f"{prefix}/bin/bpfrec-live" in unit and "/opt/bpfrec/tools" not in unit)
     installed = {it for it in dest.rglob("*") if not it.is_dir() or it.is_symlink()}
-    judge("no link leads nowhere, and nothing is left beside", all(it.exists() for it in installed) and not list(dest.rglob("__pycache__")))
+    judge(
+        "no link leads nowhere, and nothing is left beside",
+        all(it.exists() for it in installed) and not list(dest.rglob("__pycache__")),
+    )
     (programs.parent / "libexec/bpfrec/other").write_text("another's")
     check_unproved(work)
     judge("make install again", run("make", "-s", "-C", ROOT, "install", *words)[0] == 0)
@@ -196,8 +281,13 @@ def check_unproved(work):
     (work / "unproved/bin").mkdir()
     shutil.copy(ROOT / "dev/package/install.sh", work / "unproved/dev/package")
     shutil.copy("/bin/true", work / "unproved/bin/bpfrec")
-    status, told = run(work / "unproved/dev/package/install.sh", env={**os.environ, "DESTDIR": str(work / "unproved/dest")})
-    judge("a program that isn't proved is refused", status == 3 and "wasn't built from its proof" in told and not (work / "unproved/dest").exists())
+    status, told = run(
+        work / "unproved/dev/package/install.sh", env={**os.environ, "DESTDIR": str(work / "unproved/dest")}
+    )
+    judge(
+        "a program that isn't proved is refused",
+        status == 3 and "wasn't built from its proof" in told and not (work / "unproved/dest").exists(),
+    )
 
 
 # ---- the package
@@ -224,8 +314,12 @@ def check_package(work, root):
     there = ["chroot", root, "sh", "-c", 'cd /root/field && exec "$@"', "sh"]
     answer = record_in(inside, "/usr/bin", *there)
     judge("and it records there", answer == (0, "channel 1 programs 1 frames 60 offered 60\nyes other 0\n"))
-    judge("dpkg removes it", run("chroot", root, "dpkg", "-P", "bpfrec")[0] == 0 and not (root / "usr/bin/bpfrec").exists()
-          and not (root / "usr/libexec/bpfrec").exists())
+    judge(
+        "dpkg removes it",
+        run("chroot", root, "dpkg", "-P", "bpfrec")[0] == 0
+        and not (root / "usr/bin/bpfrec").exists()
+        and not (root / "usr/libexec/bpfrec").exists(),
+    )
 
 
 def main():

@@ -30,20 +30,65 @@ from pathlib import Path
 
 import support
 from support import (
-    BPFREC, CAPTURE, KEEPS_ALL, LIVE, NOBODY, ROOT, SECOND, Clock, Reader, Running, extracted, judge, judge_parts, judge_quietly,
-    leave_out, make_pair, numbered, numbers, origin_told, parts_of, pipe_at, preloaded, recordings, records, run, send,
-    send_together, socket_into, wait_for, write_settings,
+    BPFREC,
+    CAPTURE,
+    KEEPS_ALL,
+    LIVE,
+    NOBODY,
+    ROOT,
+    SECOND,
+    Clock,
+    Reader,
+    Running,
+    extracted,
+    judge,
+    judge_parts,
+    judge_quietly,
+    leave_out,
+    make_pair,
+    numbered,
+    numbers,
+    origin_told,
+    parts_of,
+    pipe_at,
+    preloaded,
+    recordings,
+    records,
+    run,
+    send,
+    send_together,
+    socket_into,
+    wait_for,
+    write_settings,
 )
 
 WANTED = {
-    "ip": "iproute2", "cc": "gcc", "pcap-config": "libpcap-dev", "mkfs.ext4": "e2fsprogs", "mount": "mount",
+    "ip": "iproute2",
+    "cc": "gcc",
+    "pcap-config": "libpcap-dev",
+    "mkfs.ext4": "e2fsprogs",
+    "mount": "mount",
     "setcap": "libcap2-bin",
 }
 # Names the run that a process belongs to.
 RUN = "BPFREC_TRIAL_RUN"
 KEYS = [
-    "facts", "recording", "host", "program", "state", "begun", "clock", "origins", "interfaces", "settings", "filters", "counts",
-    "losses", "report", "audit", "status",
+    "facts",
+    "recording",
+    "host",
+    "program",
+    "state",
+    "begun",
+    "clock",
+    "origins",
+    "interfaces",
+    "settings",
+    "filters",
+    "counts",
+    "losses",
+    "report",
+    "audit",
+    "status",
 ]
 MIB = 1 << 20
 YES = "yes other 0"
@@ -145,7 +190,9 @@ class Traffic(threading.Thread):
 def mounted(words: list, place: Path):
     """A mount while it lasts; gives whether it could be made."""
     place.mkdir(exist_ok=True)
-    done = subprocess.run(["mount", *map(str, words), str(place)], capture_output=True, text=True, timeout=support.SECONDS)
+    done = subprocess.run(
+        ["mount", *map(str, words), str(place)], capture_output=True, text=True, timeout=support.SECONDS
+    )
     if done.returncode:
         leave_out(f"what wants mount {' '.join(map(str, words))}: {done.stderr.strip()}")
         yield False
@@ -163,7 +210,12 @@ class Start:
     """A way to start host/bin/live, and the signal that ends it."""
 
     def __init__(self, work: Path, name: str, words: list, options: list, number: signal.Signals) -> None:
-        self.name, self.words, self.options, self.number = f"{name}{' with --every' if options else ''}", words, options, number
+        self.name, self.words, self.options, self.number = (
+            f"{name}{' with --every' if options else ''}",
+            words,
+            options,
+            number,
+        )
         self.here = folder_of(work, re.sub(r"\W", "_", f"{self.name} {number.name}"))
         self.out, self.file = self.here / "out.ch11", self.here / ("out_00001.ch11" if options else "out.ch11")
 
@@ -189,8 +241,11 @@ class Start:
     def judge(self) -> None:
         status, printed = self.ended()
         is_whole = status == 0 and YES in printed and nothing_left(self.here)
-        judge(f"{self.name}: it records, and {self.number.name} ends it",
-              is_whole and numbers(extracted(self.here, self.file, 1)) == list(range(100)), (status, printed, self.told()))
+        judge(
+            f"{self.name}: it records, and {self.number.name} ends it",
+            is_whole and numbers(extracted(self.here, self.file, 1)) == list(range(100)),
+            (status, printed, self.told()),
+        )
 
 
 class Nohup(Start):
@@ -207,7 +262,11 @@ class AtTerminal(Start):
     def begin(self, settings: Path) -> None:
         self.master, slave = pty.openpty()
         self.shell = subprocess.Popen(
-            ["bash", "--norc", "--noprofile", "-i"], stdin=slave, stdout=slave, stderr=slave, start_new_session=True,
+            ["bash", "--norc", "--noprofile", "-i"],
+            stdin=slave,
+            stdout=slave,
+            stderr=slave,
+            start_new_session=True,
             env={**os.environ, "TMPDIR": str(self.here / "private"), RUN: str(self.out)},
             preexec_fn=lambda: fcntl.ioctl(0, termios.TIOCSCTTY, 0),
         )
@@ -215,7 +274,9 @@ class AtTerminal(Start):
         self.shown = b""
         threading.Thread(target=self.read, daemon=True).start()
         words = " ".join(map(str, ["--quiet", "--buffer", 4, *self.options, settings, self.out]))
-        self.type_in(f"cd {self.here}; {LIVE} {words} rx0=1 rx1=2 > printed 2> told & echo $! > number && mv number pid")
+        self.type_in(
+            f"cd {self.here}; {LIVE} {words} rx0=1 rx1=2 > printed 2> told & echo $! > number && mv number pid"
+        )
 
     def read(self) -> None:
         with contextlib.suppress(OSError):
@@ -296,8 +357,10 @@ def fill(descriptor: int) -> None:
 def judge_all_recorded(what: str, work: Path, running: Running, out: Path) -> None:
     status, printed = running.ended()
     judge_quietly(f"{what}: status {status}, {printed}", status == 0 and YES in printed)
-    judge(f"{what}: all of {MANY} frames on each of two interfaces are recorded, and TERM ends it",
-          all(numbers(extracted(work, out, channel)) == list(range(MANY)) for channel in (1, 2)))
+    judge(
+        f"{what}: all of {MANY} frames on each of two interfaces are recorded, and TERM ends it",
+        all(numbers(extracted(work, out, channel)) == list(range(MANY)) for channel in (1, 2)),
+    )
 
 
 def check_full_error(work: Path) -> None:
@@ -335,8 +398,11 @@ def check_stopped_terminal(work: Path) -> None:
     time.sleep(2.2)
     os.write(master, b"\x11")
     wait_for(lambda: f"lines that were left out are counted: {b''.join(shown)!r}", read, 10)
-    judge("lines that a stopped terminal didn't take are counted",
-          re.search(rb"capture: [1-9]\d* lines were left out: standard error had no room\r?\n", b"".join(shown)) is not None)
+    judge(
+        "lines that a stopped terminal didn't take are counted",
+        re.search(rb"capture: [1-9]\d* lines were left out: standard error had no room\r?\n", b"".join(shown))
+        is not None,
+    )
     os.write(master, b"\x13")
     os.kill(running.process.pid, signal.SIGTERM)
     judge_all_recorded("a stopped terminal", work, running, out)
@@ -371,8 +437,13 @@ def check_there(work: Path) -> None:
     time.sleep(0.1)
     running.interrupt()
     status, printed = running.ended()
-    judge("--force records over it", status == 0 and YES in printed and numbers(extracted(work, out, 1)) == list(range(10))
-          and facts_of(out)["state"] == "ended")
+    judge(
+        "--force records over it",
+        status == 0
+        and YES in printed
+        and numbers(extracted(work, out, 1)) == list(range(10))
+        and facts_of(out)["state"] == "ended",
+    )
 
 
 # ---- lost power
@@ -406,8 +477,11 @@ def judge_copy(work: Path, image: Path, disk: Path, told: str) -> None:
         behind = (alive - newest(copied)) * 100 / SECOND
         print(f"the newest packet on the disk is {behind:.2f} s behind, of {alive * 100 / SECOND:.2f} s")
         judge("and its newest packet is at most 2.5 s old", newest(copied) > 0 and behind <= 2.5)
-        judge("and its facts have the origin", has_facts(copied)
-              and facts_of(copied)["origins"][0]["origin"] == re.search(r"origin (\d+\.\d{9})", told)[1])
+        judge(
+            "and its facts have the origin",
+            has_facts(copied)
+            and facts_of(copied)["origins"][0]["origin"] == re.search(r"origin (\d+\.\d{9})", told)[1],
+        )
 
 
 def check_sync(work: Path) -> None:
@@ -430,8 +504,10 @@ def check_sync(work: Path) -> None:
             time.sleep(0.1)
             running.interrupt()
             status, printed = running.ended()
-            judge(f"{' '.join(map(str, words)) or 'forced to its disk'}: it records", status == 0 and YES in printed
-                  and numbers(extracted(work, out, 1)) == list(range(sent)))
+            judge(
+                f"{' '.join(map(str, words)) or 'forced to its disk'}: it records",
+                status == 0 and YES in printed and numbers(extracted(work, out, 1)) == list(range(sent)),
+            )
 
 
 # ---- a full disk
@@ -491,19 +567,27 @@ def judge_going_on(work: Path, disk: Path, name: str, words: list) -> None:
     for path in before:
         if path != failed:
             path.unlink()
-    wait_for(lambda: f"{name}: a recording begins once there is room: {running.told()}",
-             lambda: any(it not in before for it in recordings(disk, name)), 10)
+    wait_for(
+        lambda: f"{name}: a recording begins once there is room: {running.told()}",
+        lambda: any(it not in before for it in recordings(disk, name)),
+        10,
+    )
     send_together(sent, 200)
     time.sleep(0.3)
     running.interrupt()
     (status, printed), told = running.ended(), running.told()
     later = [it for it in recordings(disk, name) if it not in before]
-    judge(f"{name}: recordings go on once a full disk has room, and the status is 1", status == 1 and told.count(line) == 1,
-          (status, printed, told))
+    judge(
+        f"{name}: recordings go on once a full disk has room, and the status is 1",
+        status == 1 and told.count(line) == 1,
+        (status, printed, told),
+    )
     judge(f"{name}: later recordings are approved", later != [] and all(is_approved(it) for it in later))
     after = [number for it in later for number in numbers(extracted(work, it, 1))]
-    judge(f"{name}: and have the frames that came then",
-          after[-200:] == list(range(sent, sent + 200)) and after == sorted(set(after)))
+    judge(
+        f"{name}: and have the frames that came then",
+        after[-200:] == list(range(sent, sent + 200)) and after == sorted(set(after)),
+    )
 
 
 # ---- SIGKILL
@@ -529,8 +613,10 @@ def judge_kill(work: Path, turn: int, moment: float) -> None:
     judge_quietly(f"{what}: TMPDIR is empty: {os.listdir(here / 'private')}", nothing_left(here))
     told = re.search(r"origin (\d+\.\d{9})\n", running.told())
     for path in had_bytes:
-        judge_quietly(f"{what}: {path.name}.json has the origin",
-                      has_facts(path) and facts_of(path)["origins"][0]["origin"] == told[1])
+        judge_quietly(
+            f"{what}: {path.name}.json has the origin",
+            has_facts(path) and facts_of(path)["origins"][0]["origin"] == told[1],
+        )
     judge(f"{what}: {len(there)} recordings, whole and approved, and nothing is left", True)
     running.process.stdin.close()
 
@@ -553,17 +639,29 @@ def judge_facts(facts: dict, out: Path, settings: Path, filters: list) -> None:
     """The keys and the values that are the same all the time."""
     begun = time.mktime(time.strptime(facts["begun"], "%Y-%m-%dT%H:%M:%SZ")) - time.timezone
     judge_quietly(f"facts: keys {sorted(facts)}", set(facts) >= set(KEYS))
-    wanted = {"facts": 1, "recording": out.name, "host": socket.gethostname(), "clock": "host", "settings": settings.read_text(),
-              "interfaces": [{"interface": "rx0", "channel": 1}, {"interface": "rx1", "channel": 2}]}
+    wanted = {
+        "facts": 1,
+        "recording": out.name,
+        "host": socket.gethostname(),
+        "clock": "host",
+        "settings": settings.read_text(),
+        "interfaces": [{"interface": "rx0", "channel": 1}, {"interface": "rx1", "channel": 2}],
+    }
     for key, value in wanted.items():
         judge_quietly(f"facts: {key} {facts[key]!r}", facts[key] == value)
     judge_quietly(f"facts: begun {facts['begun']}", abs(begun - time.time()) < 20)
-    judge_quietly(f"facts: program {facts['program']}", re.fullmatch(r"bpfrec \d+\.\d+\.\d+\S*", facts["program"]) is not None)
+    judge_quietly(
+        f"facts: program {facts['program']}", re.fullmatch(r"bpfrec \d+\.\d+\.\d+\S*", facts["program"]) is not None
+    )
     for at, listing in enumerate(filters):
         told = facts["filters"][at]
-        judge_quietly(f"facts: filters {told}", set(told) == {"channel", "listing", "text"} and told["channel"] == at + 1
-                      and told["listing"].strip() == listing.read_text().strip()
-                      and told["text"].strip() == run(BPFREC, "dis", listing).strip())
+        judge_quietly(
+            f"facts: filters {told}",
+            set(told) == {"channel", "listing", "text"}
+            and told["channel"] == at + 1
+            and told["listing"].strip() == listing.read_text().strip()
+            and told["text"].strip() == run(BPFREC, "dis", listing).strip(),
+        )
 
 
 def check_facts(work: Path) -> None:
@@ -585,20 +683,36 @@ def check_facts(work: Path) -> None:
     early = facts_of(out)
     filters = [place / "all it", place / "udp"]
     judge_facts(early, out, settings, filters)
-    judge("facts: there from the beginning, with their keys and values", early["origins"] == [{"origin": origin, "counter": 0}]
-          and early["state"] == "recording" and [early[key] for key in ("report", "audit", "status")] == [None] * 3)
+    judge(
+        "facts: there from the beginning, with their keys and values",
+        early["origins"] == [{"origin": origin, "counter": 0}]
+        and early["state"] == "recording"
+        and [early[key] for key in ("report", "audit", "status")] == [None] * 3,
+    )
     send_together(0, 100)
     time.sleep(0.2)
     running.interrupt()
     status, printed = running.ended()
     facts, lines = facts_of(out), printed.splitlines()
     judge_facts(facts, out, settings, filters)
-    judge("facts: the report, the audit and the status at the end", (status, facts["state"], facts["status"]) == (0, "ended", 0)
-          and facts["report"] + facts["audit"] == lines and lines.index(YES) == len(lines) - 1 and facts["audit"][-1] == YES)
+    judge(
+        "facts: the report, the audit and the status at the end",
+        (status, facts["state"], facts["status"]) == (0, "ended", 0)
+        and facts["report"] + facts["audit"] == lines
+        and lines.index(YES) == len(lines) - 1
+        and facts["audit"][-1] == YES,
+    )
     counts = sorted((it["interface"], it["frames"], it["bytes"]) for it in facts["counts"])
-    judge(f"facts: the counts at the end: {counts}", counts == [("rx0", 100, 6_400), ("rx1", 100, 6_400)]
-          and set(facts["counts"][0]) == {"interface", "counter", "frames", "bytes", "dropped", "missed", "skipped", "waited"})
-    judge("facts: nothing beside them is left", sorted(os.listdir(here)) == sorted([settings.name, out.name, f"{out.name}.json"]))
+    judge(
+        f"facts: the counts at the end: {counts}",
+        counts == [("rx0", 100, 6_400), ("rx1", 100, 6_400)]
+        and set(facts["counts"][0])
+        == {"interface", "counter", "frames", "bytes", "dropped", "missed", "skipped", "waited"},
+    )
+    judge(
+        "facts: nothing beside them is left",
+        sorted(os.listdir(here)) == sorted([settings.name, out.name, f"{out.name}.json"]),
+    )
 
 
 def check_facts_of_none(work: Path) -> None:
@@ -609,8 +723,11 @@ def check_facts_of_none(work: Path) -> None:
     time.sleep(0.3)
     running.interrupt()
     status, printed = running.ended()
-    judge("an OUT that is no file has no facts", status == 0 and "offered 10 kept 10" in printed
-          and not Path("/dev/null.json").exists(), running.told())
+    judge(
+        "an OUT that is no file has no facts",
+        status == 0 and "offered 10 kept 10" in printed and not Path("/dev/null.json").exists(),
+        running.told(),
+    )
 
 
 def check_facts_of_bytes(work: Path) -> None:
@@ -626,7 +743,11 @@ def check_facts_of_bytes(work: Path) -> None:
     running.interrupt()
     status = running.ended()[0]
     facts = facts_of(Path(os.fsdecode(here)) / "flight.ch11")
-    judge("names that are no UTF-8", (status, facts["recording"], facts["state"]) == (0, "flight.ch11", "ended"), running.told())
+    judge(
+        "names that are no UTF-8",
+        (status, facts["recording"], facts["state"]) == (0, "flight.ch11", "ended"),
+        running.told(),
+    )
     running = Running(work, LIVE, "--quiet", settings, here + b"/o\xff.ch11", "rx0=1", "rx1=2")
     time.sleep(1)
     with contextlib.suppress(ProcessLookupError):
@@ -650,9 +771,13 @@ def judge_facts_of_parts(work: Path, name: str, pause: float) -> None:
     status, printed = running.ended()
     files = recordings(work, name)
     facts = [facts_of(it) for it in files]
-    judge(f"facts: one for each of those that follow one another, with Ctrl-C after {pause} s", status == 0 and len(files) >= 3
-          and [(it["recording"], it["state"]) for it in facts] == [(it.name, "ended") for it in files],
-          (status, printed, running.told(), [(it["recording"], it["state"], it["status"]) for it in facts]))
+    judge(
+        f"facts: one for each of those that follow one another, with Ctrl-C after {pause} s",
+        status == 0
+        and len(files) >= 3
+        and [(it["recording"], it["state"]) for it in facts] == [(it.name, "ended") for it in files],
+        (status, printed, running.told(), [(it["recording"], it["state"], it["status"]) for it in facts]),
+    )
     origin = re.search(r"origin (\d+\.\d{9})\n", running.told())[1]
     judge("facts: each has the origin", all(it["origins"][0] == {"origin": origin, "counter": 0} for it in facts))
     counts = [it["counts"][0]["frames"] for it in facts]
@@ -685,19 +810,34 @@ def check_set_clock(work: Path) -> None:
     time.sleep(0.1)
     running.interrupt()
     status, printed = running.ended()
-    judge("--every goes by a clock that can't be set",
-          status == 0 and printed.count(YES) == len(recordings(work, "hour")) and 3 <= many <= 5, printed)
-    judge_parts("and each frame is in one recording, with counters that go on", parts_of(work, "hour", 1), list(range(sent)))
+    judge(
+        "--every goes by a clock that can't be set",
+        status == 0 and printed.count(YES) == len(recordings(work, "hour")) and 3 <= many <= 5,
+        printed,
+    )
+    judge_parts(
+        "and each frame is in one recording, with counters that go on", parts_of(work, "hour", 1), list(range(sent))
+    )
 
 
 def check_every(work: Path) -> None:
     settings = settings_of(work)
     for value in ("1234567890", "0", "1.5", "-1"):
-        judge_refused(work, f"--every {value}", ["--every", value, settings, work / "no.ch11", "rx0=1", "rx1=2"], 2,
-                      "live: --every needs a number from 1 to 999999999\n")
+        judge_refused(
+            work,
+            f"--every {value}",
+            ["--every", value, settings, work / "no.ch11", "rx0=1", "rx1=2"],
+            2,
+            "live: --every needs a number from 1 to 999999999\n",
+        )
     for value in ("1234567890", "-1", "x"):
-        judge_refused(work, f"--sync {value}", ["--sync", value, settings, work / "no.ch11", "rx0=1", "rx1=2"], 2,
-                      r"live: --sync needs .*\n")
+        judge_refused(
+            work,
+            f"--sync {value}",
+            ["--sync", value, settings, work / "no.ch11", "rx0=1", "rx1=2"],
+            2,
+            r"live: --sync needs .*\n",
+        )
     judge_quietly("nothing is created", list(work.glob("no*.ch11*")) == [])
 
 
@@ -717,7 +857,10 @@ def check_installed(work: Path) -> None:
     names = [it if found and found[2].startswith("/") else Path(it.name) for it in recordings(work, "inst")]
     judge("a change is told with its recording", status == 0 and found is not None and Path(found[2]) in names, told)
     listed = run(BPFREC, "list", work / Path(found[2]).name)
-    judge("which has the change", re.search(r" program 2 1 (\d+) ", listed) is not None and f" program 2 1 {found[1]} " in listed)
+    judge(
+        "which has the change",
+        re.search(r" program 2 1 (\d+) ", listed) is not None and f" program 2 1 {found[1]} " in listed,
+    )
 
 
 def check_moved(work: Path) -> None:
@@ -729,11 +872,19 @@ def check_moved(work: Path) -> None:
     time.sleep(0.4)
     first = recordings(work, "moved")[0]
     first.rename(other / first.name)
-    wait_for(lambda: f"recordings follow one that was moved: {running.told()}", lambda: len(recordings(work, "moved")) >= 1, 5)
+    wait_for(
+        lambda: f"recordings follow one that was moved: {running.told()}",
+        lambda: len(recordings(work, "moved")) >= 1,
+        5,
+    )
     time.sleep(0.4)
     second = recordings(work, "moved")[0]
     second.unlink()
-    wait_for(lambda: f"recordings follow one that was removed: {running.told()}", lambda: len(recordings(work, "moved")) >= 1, 5)
+    wait_for(
+        lambda: f"recordings follow one that was removed: {running.told()}",
+        lambda: len(recordings(work, "moved")) >= 1,
+        5,
+    )
     time.sleep(0.3)
     sent = traffic.end()
     time.sleep(0.1)
@@ -749,8 +900,10 @@ def check_moved(work: Path) -> None:
     kept = [records(extracted(work, it, 1)) for it in [other / first.name, *recordings(work, "moved")]]
     found = [int.from_bytes(it[2][14:22], "big") for part in kept for it in part]
     gap = [it for it in range(sent) if it not in set(found)]
-    judge("no frame is lost but those of the one that was removed",
-          found == sorted(set(found)) and gap == list(range(gap[0], gap[-1] + 1)))
+    judge(
+        "no frame is lost but those of the one that was removed",
+        found == sorted(set(found)) and gap == list(range(gap[0], gap[-1] + 1)),
+    )
 
 
 def check_moved_alone(work: Path) -> None:
@@ -765,8 +918,14 @@ def check_moved_alone(work: Path) -> None:
         time.sleep(0.2)
         running.interrupt()
         status, printed = running.ended()
-        judge(f"a recording that was {name.split()[0]} is told and audited", status == 0 and YES in printed
-              and "offered 100 kept 100" in printed and f"live: {out} was {name}" in running.told(), running.told())
+        judge(
+            f"a recording that was {name.split()[0]} is told and audited",
+            status == 0
+            and YES in printed
+            and "offered 100 kept 100" in printed
+            and f"live: {out} was {name}" in running.told(),
+            running.told(),
+        )
     judge_quietly("what was moved has all", numbers(extracted(work, work / "elsewhere.ch11", 1)) == list(range(100)))
     out = work / "unaudited.ch11"
     running = begin(work, out, "--quiet", "--no-audit")
@@ -775,8 +934,16 @@ def check_moved_alone(work: Path) -> None:
     running.interrupt()
     status, printed = running.ended()
     facts = facts_of(out)
-    judge("--no-audit", status == 0 and "yes" not in printed and "programs" not in printed and facts["audit"] is None
-          and facts["status"] == 0 and facts["state"] == "ended" and is_approved(out))
+    judge(
+        "--no-audit",
+        status == 0
+        and "yes" not in printed
+        and "programs" not in printed
+        and facts["audit"] is None
+        and facts["status"] == 0
+        and facts["state"] == "ended"
+        and is_approved(out),
+    )
 
 
 # ---- buffers
@@ -790,16 +957,22 @@ def check_buffers(work: Path) -> None:
     settings = write_settings(work, *[f'id = {at + 1}\nfilter = "{work}/all"' for at in range(PAIRS)])
     out, started = work / "many.ch11", time.monotonic()
     running = Running(work, LIVE, "--quiet", settings, out, *[f"bx{at}={at + 1}" for at in range(PAIRS)])
-    wait_for(lambda: f"{PAIRS} interfaces start within 20 s: {running.told()}",
-             lambda: out.exists() and "origin" in running.told(), 20)
+    wait_for(
+        lambda: f"{PAIRS} interfaces start within 20 s: {running.told()}",
+        lambda: out.exists() and "origin" in running.told(),
+        20,
+    )
     print(f"{PAIRS} interfaces started in {time.monotonic() - started:.1f} s")
     for at in range(PAIRS):
         send(f"by{at}", [numbered(at)])
     time.sleep(0.3)
     running.interrupt()
     status, printed = running.ended()
-    judge(f"{PAIRS} interfaces start within 20 s and are recorded",
-          status == 0 and printed.count(" offered 1 kept 1 ") == PAIRS, running.told())
+    judge(
+        f"{PAIRS} interfaces start within 20 s and are recorded",
+        status == 0 and printed.count(" offered 1 kept 1 ") == PAIRS,
+        running.told(),
+    )
     buffers = dict(re.findall(r"capture: (bx\d+) buffer (\d+) MiB\n", running.told()))
     judge("each has a buffer, which is told", len(buffers) == PAIRS and all(int(it) > 0 for it in buffers.values()))
     total, memory = sum(map(int, buffers.values())), os.sysconf("SC_PHYS_PAGES") * os.sysconf("SC_PAGE_SIZE") // MIB
@@ -831,13 +1004,20 @@ def judge_losses(work: Path, name: str, words: list, status: int) -> None:
     found = re.search(r"live: rx0 LOST (\d+) dropped (\d+) skipped\n\Z", told)
     judge("losses are the last line of standard error", found is not None and "rx1 LOST" not in told, told)
     dropped, skipped = map(int, found.groups())
-    judge(f"{dropped} dropped and {skipped} skipped are what was sent and isn't recorded",
-          skipped == 7 and dropped > 0 and dropped + skipped == 8_008 - len(recorded))
+    judge(
+        f"{dropped} dropped and {skipped} skipped are what was sent and isn't recorded",
+        skipped == 7 and dropped > 0 and dropped + skipped == 8_008 - len(recorded),
+    )
     judge(f"status {ended} of {name}", ended == status)
     losses = facts_of(out)["losses"]
     sums = [sum(it[word] for it in losses) for word in ("dropped", "missed", "skipped")]
-    judge("facts: the losses", sums == [dropped, 0, 7] and {it["interface"] for it in losses} == {"rx0"}
-          and all(0 <= it["from"] <= it["to"] for it in losses), losses)
+    judge(
+        "facts: the losses",
+        sums == [dropped, 0, 7]
+        and {it["interface"] for it in losses} == {"rx0"}
+        and all(0 <= it["from"] <= it["to"] for it in losses),
+        losses,
+    )
     judge_lost_times(work, out, losses)
 
 
@@ -868,8 +1048,14 @@ def judge_losses_of_parts(work: Path) -> None:
     losses = [facts_of(it)["losses"] for it in files]
     dropped = int(re.search(r"live: rx0 LOST (\d+) dropped 0 skipped\n\Z", told)[1])
     recorded = sum(len(numbers(extracted(work, it, 1))) for it in files)
-    judge("facts: each recording has the losses of its time", status == 0 and dropped == 8_100 - recorded and losses[-1] == []
-          and sum(it["dropped"] for part in losses for it in part) == dropped, (told, losses))
+    judge(
+        "facts: each recording has the losses of its time",
+        status == 0
+        and dropped == 8_100 - recorded
+        and losses[-1] == []
+        and sum(it["dropped"] for part in losses for it in part) == dropped,
+        (told, losses),
+    )
 
 
 def judge_strict_capture(work: Path) -> None:
@@ -882,8 +1068,11 @@ def judge_strict_capture(work: Path) -> None:
         time.sleep(0.2)
         running.interrupt()
         ended, told = running.ended()[0], running.told()
-        judge(f"the capture by itself ends with status {status} and tells its losses at last",
-              ended == status and told.endswith("\ncapture: rx0 LOST 0 dropped 1 skipped\n"), told)
+        judge(
+            f"the capture by itself ends with status {status} and tells its losses at last",
+            ended == status and told.endswith("\ncapture: rx0 LOST 0 dropped 1 skipped\n"),
+            told,
+        )
 
 
 def check_losses(work: Path) -> None:
@@ -900,8 +1089,11 @@ def check_losses(work: Path) -> None:
     send_together(0, 100)
     time.sleep(0.1)
     running.interrupt()
-    judge("none are told where nothing was lost",
-          running.ended()[0] == 0 and "LOST" not in running.told() and facts_of(out)["losses"] == [], running.told())
+    judge(
+        "none are told where nothing was lost",
+        running.ended()[0] == 0 and "LOST" not in running.told() and facts_of(out)["losses"] == [],
+        running.told(),
+    )
 
 
 # ---- interfaces that come back
@@ -917,19 +1109,30 @@ def judge_back(work: Path, name: str, words: list) -> None:
     for turn in (1, 2):
         time.sleep(0.6 if words else 0.2)
         run("ip", "link", "del", "rx0")
-        wait_for(lambda: f"{name}: it is told as gone: {running.told()}", lambda: running.told().count(GONE) == turn, 10)
+        wait_for(
+            lambda: f"{name}: it is told as gone: {running.told()}", lambda: running.told().count(GONE) == turn, 10
+        )
         time.sleep(0.6 if words else 0.1)
         make_pair(0)
-        wait_for(lambda: f"{name}: it is told as back: {running.told()}", lambda: running.told().count(BACK) == turn, 10)
+        wait_for(
+            lambda: f"{name}: it is told as back: {running.told()}", lambda: running.told().count(BACK) == turn, 10
+        )
         send_together(100 * turn, 100)
     time.sleep(0.6 if words else 0.2)
     running.interrupt()
     status, printed = running.ended()
     files = recordings(work, name) if words else [work / f"{name}.ch11"]
-    judge(f"{name}: an interface that comes back is no fault", status == 0 and printed.count(YES) == len(files), running.told())
+    judge(
+        f"{name}: an interface that comes back is no fault",
+        status == 0 and printed.count(YES) == len(files),
+        running.told(),
+    )
     for channel in (1, 2):
-        judge_parts(f"{name}: channel {channel} has the frames before, between and after",
-                    [records(extracted(work, it, channel)) for it in files], list(range(300)))
+        judge_parts(
+            f"{name}: channel {channel} has the frames before, between and after",
+            [records(extracted(work, it, channel)) for it in files],
+            list(range(300)),
+        )
     judge_quietly(f"{name}: several recordings", len(files) > 1 or not words)
 
 
@@ -956,8 +1159,11 @@ def check_renamed(work: Path) -> None:
     for words in (["rz0", "down"], ["rz0", "name", "rx0"], ["rx0", "up"]):
         run("ip", "link", "set", *words)
     wait_for("the pair is up", lambda: "LOWER_UP" in run("ip", "link", "show", "rx0"))
-    judge("an interface that is renamed while it is down goes on", status == 0 and YES in printed
-          and numbers(extracted(work, work / "renamed.ch11", 1)) == list(range(200)), running.told())
+    judge(
+        "an interface that is renamed while it is down goes on",
+        status == 0 and YES in printed and numbers(extracted(work, work / "renamed.ch11", 1)) == list(range(200)),
+        running.told(),
+    )
 
 
 # ---- permissions
@@ -973,8 +1179,13 @@ def permissions_of(pid: int) -> dict:
 def judge_permissions(what: str, pid: int) -> None:
     """Threads have their own, so each of them is looked at."""
     told = [permissions_of(int(it.name)) for it in Path(f"/proc/{pid}/task").iterdir()]
-    judge(f"{what}: none is in force, new ones can't be had, and one at most is kept",
-          all(int(it["CapEff"], 16) == 0 and it["NoNewPrivs"] == "1" and int(it["CapPrm"], 16) in (0, NET_RAW) for it in told))
+    judge(
+        f"{what}: none is in force, new ones can't be had, and one at most is kept",
+        all(
+            int(it["CapEff"], 16) == 0 and it["NoNewPrivs"] == "1" and int(it["CapPrm"], 16) in (0, NET_RAW)
+            for it in told
+        ),
+    )
 
 
 def member_tools(work: Path) -> Path:
@@ -1013,8 +1224,10 @@ def check_capabilities(work: Path) -> None:
     words = [place / "host/bin/live", "--quiet", place / "live.toml", out, "rx0=1", "rx1=2"]
     running = Running(place, *words, adds={RUN: str(out)}, user=NOBODY, group=MEMBERS, extra_groups=[], cwd=place)
     running.wait_until_told("origin")
-    wait_for(lambda: f"a member of the group records: {running.told()}",
-             lambda: out.exists() or running.process.poll() is not None)
+    wait_for(
+        lambda: f"a member of the group records: {running.told()}",
+        lambda: out.exists() or running.process.poll() is not None,
+    )
     send_together(0, 100)
     judge_permissions("a capture with a permission of its file", process_of(out, place / "bin/capture"))
     run("ip", "link", "del", "rx0")
@@ -1025,10 +1238,17 @@ def check_capabilities(work: Path) -> None:
     time.sleep(0.2)
     running.interrupt()
     status, printed = running.ended()
-    judge("a member of the group records, also an interface that comes back", status == 0 and YES in printed
-          and [numbers(extracted(work, out, it)) for it in (1, 2)] == [list(range(200))] * 2, running.told())
+    judge(
+        "a member of the group records, also an interface that comes back",
+        status == 0
+        and YES in printed
+        and [numbers(extracted(work, out, it)) for it in (1, 2)] == [list(range(200))] * 2,
+        running.told(),
+    )
     try:
-        subprocess.run([place / "bin/capture", "--help"], user=NOBODY, group=NOBODY, extra_groups=[], capture_output=True)
+        subprocess.run(
+            [place / "bin/capture", "--help"], user=NOBODY, group=NOBODY, extra_groups=[], capture_output=True
+        )
         judge("nobody else can run it", False)
     except PermissionError:
         judge("nobody else can run it", True)
@@ -1039,8 +1259,10 @@ def check_capabilities(work: Path) -> None:
 
 def check_adapter(work: Path) -> None:
     running = Running(work, CAPTURE, "--clock", "adapter", "rx0=-")
-    judge("--clock adapter of one without a clock is refused",
-          running.ended()[0] == 3 and running.told() == "capture: rx0: its adapter gives no times\n")
+    judge(
+        "--clock adapter of one without a clock is refused",
+        running.ended()[0] == 3 and running.told() == "capture: rx0: its adapter gives no times\n",
+    )
     reader = Reader(pipe_at(work, "adapter.pipe"))
     adds = {"LD_PRELOAD": str(preloaded(work)), "ADAPTER_AHEAD": "37"}
     running = Running(work, CAPTURE, "--quiet", "--clock", "adapter", f"rx0={reader.path}", adds=adds)
@@ -1053,16 +1275,38 @@ def check_adapter(work: Path) -> None:
         time.sleep(0.3)
         running.interrupt()
     status, told = running.ended()[0], running.told()
-    judge("an adapter's clock that runs TAI is told",
-          status == 0 and re.search(r"capture: rx0\b.*\bTAI\b.*\n", told) is not None, told)
+    judge(
+        "an adapter's clock that runs TAI is told",
+        status == 0 and re.search(r"capture: rx0\b.*\bTAI\b.*\n", told) is not None,
+        told,
+    )
     ahead = (records(reader.all())[0][0] * 100 + origin_told(told) - begin_at) / SECOND
     judge(f"and its times are taken as they are, {ahead:.3f} s ahead", 36.9 < ahead < 37.5)
 
 
 CHECKS = [
-    check_starts, check_full_error, check_stopped_terminal, check_there, check_sync, check_full_disk, check_kills, check_facts,
-    check_facts_of_none, check_facts_of_bytes, check_facts_of_parts, check_set_clock, check_every, check_installed, check_moved,
-    check_moved_alone, check_buffers, check_losses, check_back, check_renamed, check_capabilities, check_adapter,
+    check_starts,
+    check_full_error,
+    check_stopped_terminal,
+    check_there,
+    check_sync,
+    check_full_disk,
+    check_kills,
+    check_facts,
+    check_facts_of_none,
+    check_facts_of_bytes,
+    check_facts_of_parts,
+    check_set_clock,
+    check_every,
+    check_installed,
+    check_moved,
+    check_moved_alone,
+    check_buffers,
+    check_losses,
+    check_back,
+    check_renamed,
+    check_capabilities,
+    check_adapter,
 ]
 
 if __name__ == "__main__":

@@ -67,7 +67,17 @@ class Checks:
     def __init__(self, program, work):
         self.program, self.work, self.wrong = str(program), work, 0
         self.library, self.counts = work / "failing_malloc.so", work / "counts"
-        words = ["cc", "-O2", "-Wall", "-shared", "-fPIC", "-o", self.library, ROOT / "dev/trials/failing_malloc.c", "-ldl"]
+        words = [
+            "cc",
+            "-O2",
+            "-Wall",
+            "-shared",
+            "-fPIC",
+            "-o",
+            self.library,
+            ROOT / "dev/trials/failing_malloc.c",
+            "-ldl",
+        ]
         subprocess.run(words, check=True)
         (work / "keeps").write_text(KEEPS)
         (work / "drops").write_text(DROPS)
@@ -126,15 +136,25 @@ class Checks:
 
     def no_growth(self):
         plain = self.recorded("plain.ch11", FRAMES)
-        self.judge(f"{FRAMES} frames are recorded", plain[:1] == (0,) and f"offered {FRAMES} kept {FRAMES}".encode() in plain[1], plain[:3])
+        self.judge(
+            f"{FRAMES} frames are recorded",
+            plain[:1] == (0,) and f"offered {FRAMES} kept {FRAMES}".encode() in plain[1],
+            plain[:3],
+        )
         refused = self.recorded("refused.ch11", FRAMES, REFUSED_FROM="feed")
-        self.judge("where each growth is refused from the first frame on, the same is recorded", refused == plain, refused[:3])
+        self.judge(
+            "where each growth is refused from the first frame on, the same is recorded", refused == plain, refused[:3]
+        )
         late = self.counted()["late"]
         self.judge("and no growth was asked for", late == 0, f"{late} growths")
         lines = f"set 1 {self.work / 'drops'}\n".encode() * 3
         status, output, errors, recording = self.recorded("lines.ch11", FRAMES, lines, REFUSED_FROM="feed")
         as_ever = (output, recording) == (plain[1], plain[3])
-        self.judge("a line without memory ends the lines, and the same is recorded", as_ever and (status, errors) == (4, NO_LINE_ANSWER + b"memory\n"), (status, output, errors))
+        self.judge(
+            "a line without memory ends the lines, and the same is recorded",
+            as_ever and (status, errors) == (4, NO_LINE_ANSWER + b"memory\n"),
+            (status, output, errors),
+        )
 
     def changes(self):
         """A hundred changes, each after a thousand more frames were written; the control alone may take memory."""
@@ -154,11 +174,17 @@ class Checks:
                     break
                 marks.append(int(answer[3]))
         output, errors = running.communicate(timeout=SECONDS)
-        self.judge(f"{CHANGES} changes are answered", len(marks) == CHANGES + 1 and (running.returncode, errors) == (0, b""), (len(marks), output, errors))
+        self.judge(
+            f"{CHANGES} changes are answered",
+            len(marks) == CHANGES + 1 and (running.returncode, errors) == (0, b""),
+            (len(marks), output, errors),
+        )
         refused = self.counted()["refused"]
         self.judge("and no growth was asked for by the worker or the writer", refused == 0, f"{refused} growths")
         ends = [*marks[1:], FRAMES]
-        kept = [it for version, (mark, end) in enumerate(zip(marks, ends)) if version % 2 == 0 for it in range(mark, end)]
+        kept = [
+            it for version, (mark, end) in enumerate(zip(marks, ends)) if version % 2 == 0 for it in range(mark, end)
+        ]
         met = len({mark for mark in ends if mark > 0})
         self.judge("half of them meet a frame at least", met > CHANGES // 2, met)
         self.read_again(kept)
@@ -176,8 +202,20 @@ class Checks:
             counts = [int(line[-1]) for line in listed if line[-2] == b"frames"]
             feed = again.read_bytes()
             found = [int.from_bytes(feed[at : at + 6], "little") for at in range(0, len(feed), 73)]
-            seen = ([it.returncode for it in ran], len(listed) - 1, sum(counts), len(found), ran[2].stdout, ran[3].stdout)
-            holds = seen[0] == [0, 0, 0, 0] and listed[-1][1] == b"%d" % seen[1] and sum(counts) == len(kept) and found == kept
+            seen = (
+                [it.returncode for it in ran],
+                len(listed) - 1,
+                sum(counts),
+                len(found),
+                ran[2].stdout,
+                ran[3].stdout,
+            )
+            holds = (
+                seen[0] == [0, 0, 0, 0]
+                and listed[-1][1] == b"%d" % seen[1]
+                and sum(counts) == len(kept)
+                and found == kept
+            )
             holds = holds and seen[5] == b"upgraded 0 copied %d\n" % seen[1] and new.read_bytes() == path.read_bytes()
             by = f"`list`, `audit`, `extract` and `upgrade` of {'the stream' if file == '-' else 'the file'}"
             self.judge(f"and each meets the frames from its mark on, by {by}", holds, seen)
@@ -193,7 +231,11 @@ class Checks:
             lines = f"set {channel} {self.work / 'drops'}\n".encode() * CHANGES
             errors = self.recorded("installs.ch11", FEW, lines)[2]
             counts.append((errors.count(answer), self.counted()["recording"]))
-        self.judge(f"{CHANGES} changes take memory equally often for a channel and for none", counts[0] == counts[1] and counts[0][0] == CHANGES, counts)
+        self.judge(
+            f"{CHANGES} changes take memory equally often for a channel and for none",
+            counts[0] == counts[1] and counts[0][0] == CHANGES,
+            counts,
+        )
 
     def once(self):
         """A recording that runs the filter on each frame, beside the audit of it."""
@@ -207,12 +249,23 @@ class Checks:
             ratio = min(recorded) / min(audited)
             if done >= FEWEST_ROUNDS and ratio < MOST_RATIO:
                 break
-        self.judge("a filter runs once on a frame", ratio < MOST_RATIO, f"{ratio:.2f} times the audit's time, {recorded} beside {audited}")
+        self.judge(
+            "a filter runs once on a frame",
+            ratio < MOST_RATIO,
+            f"{ratio:.2f} times the audit's time, {recorded} beside {audited}",
+        )
 
     def seconds_of(self, *words):
         """The seconds of a processor that a command takes for itself."""
         before = seconds_of_children()
-        subprocess.run([self.program, *words], cwd=self.work, stdin=subprocess.DEVNULL, capture_output=True, check=True, timeout=SECONDS)
+        subprocess.run(
+            [self.program, *words],
+            cwd=self.work,
+            stdin=subprocess.DEVNULL,
+            capture_output=True,
+            check=True,
+            timeout=SECONDS,
+        )
         return seconds_of_children() - before
 
     def channels(self):
@@ -222,7 +275,10 @@ class Checks:
         for channel in range(1, MOST_CHANNELS + 1):
             threading.Thread(target=feed_once, args=(self.work / f"feed_{channel}", frames), daemon=True).start()
         output, errors = self.start("channels.ch11", subprocess.DEVNULL).communicate(timeout=SECONDS)
-        want = [f"channel {channel} versions 1 offered {FEW} kept {FEW} SourceEnd" for channel in range(1, MOST_CHANNELS + 1)]
+        want = [
+            f"channel {channel} versions 1 offered {FEW} kept {FEW} SourceEnd"
+            for channel in range(1, MOST_CHANNELS + 1)
+        ]
         seen = output.decode().splitlines()[:-1]
         self.judge(f"{MOST_CHANNELS} channels are recorded", (seen, errors) == (want, b""), (seen[:3], errors))
 
@@ -255,8 +311,20 @@ class Checks:
             os.close(write)
             left, counts = os.read(read, len(line)), self.counted()
             os.close(read)
-            seen = (running.returncode, output, errors, out.stat().st_size, left == line, counts["started"], counts["left"])
-            self.judge(f"thread {refused} can't be started: all end, and nothing was read or written", seen == (4, b"", b"memory\n", 0, True, refused - 1, 0), seen)
+            seen = (
+                running.returncode,
+                output,
+                errors,
+                out.stat().st_size,
+                left == line,
+                counts["started"],
+                counts["left"],
+            )
+            self.judge(
+                f"thread {refused} can't be started: all end, and nothing was read or written",
+                seen == (4, b"", b"memory\n", 0, True, refused - 1, 0),
+                seen,
+            )
 
     def claims(self):
         (self.work / "claim.ch11").write_bytes(CLAIM)
@@ -317,7 +385,16 @@ def main():
         return 2
     with tempfile.TemporaryDirectory(prefix=PREFIX) as work:
         checks = Checks(program, Path(work))
-        for check in (checks.no_growth, checks.changes, checks.installs, checks.same_number, checks.once, checks.channels, checks.threads, checks.claims):
+        for check in (
+            checks.no_growth,
+            checks.changes,
+            checks.installs,
+            checks.same_number,
+            checks.once,
+            checks.channels,
+            checks.threads,
+            checks.claims,
+        ):
             try:
                 check()
             except (OSError, LookupError, ValueError, subprocess.SubprocessError) as error:

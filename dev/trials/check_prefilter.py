@@ -79,13 +79,21 @@ def ipv4(port: int, protocol: int = 17) -> bytes:
 def payloads() -> list:
     """What follows the addresses: with and without tags."""
     plain = [
-        b"\x08\x00" + ipv4(53), b"\x08\x00" + ipv4(54), b"\x08\x00" + ipv4(53, 6), b"\x08\x06" + bytes(28),
+        b"\x08\x00" + ipv4(53),
+        b"\x08\x00" + ipv4(54),
+        b"\x08\x00" + ipv4(53, 6),
+        b"\x08\x06" + bytes(28),
         b"\x88\xb5" + bytes(range(30)),
         b"\x86\xdd" + bytes.fromhex("60000000 0008 11 40") + bytes(32) + bytes.fromhex("0035 0fa0 0008 0000"),
     ]
     tags = [
-        b"", b"\x81\x00\x00\x64", b"\x81\x00\x00\x05", b"\x81\x00\xa0\x00", b"\x88\xa8\x00\x64",
-        b"\x88\xa8\x00\x64\x81\x00\x00\x05", b"\x81\x00\x00\x64\x81\x00\x00\x05",
+        b"",
+        b"\x81\x00\x00\x64",
+        b"\x81\x00\x00\x05",
+        b"\x81\x00\xa0\x00",
+        b"\x88\xa8\x00\x64",
+        b"\x88\xa8\x00\x64\x81\x00\x00\x05",
+        b"\x81\x00\x00\x64\x81\x00\x00\x05",
         b"\x88\xa8\x00\x05\x88\xa8\x00\x64\x81\x00\xa0\x64",
     ]
     return [tag + data for data in plain for tag in tags]
@@ -131,7 +139,11 @@ def check_unset(work: Path) -> None:
     (work / "text").write_text("ld M[3]\nadd #1\nret a\n")
     (work / "unset").write_text(run(BPFREC, "asm", work / "text"))
     done = subprocess.run([BPFREC, "verify", work / "unset"], capture_output=True, text=True, timeout=support.SECONDS)
-    judge("a scratch word that is read before it is set is refused", done.stdout.startswith("refused 8 Unset"), done.stdout)
+    judge(
+        "a scratch word that is read before it is set is refused",
+        done.stdout.startswith("refused 8 Unset"),
+        done.stdout,
+    )
     (work / "live.toml").write_text(f'[[channel]]\nid = 1\nfilter = "{work}/unset"\n')
     running = Running(work, LIVE, "--quiet", "--prefilter", work / "live.toml", work / "unset.ch11", "rx0=1")
     judge("by a recording too", running.ended()[0] in (1, 3) and not (work / "unset.ch11").exists(), running.told())
@@ -146,7 +158,9 @@ def record(work: Path, name: str, paths: dict, words: list) -> tuple:
     settings.write_text("limit = 65536\n" + "".join(channels))
     ways = [f"fx{at}={at + 1}" for at in range(len(paths))]
     running = Running(here, LIVE, "--quiet", "--buffer", 4, *words, settings, out, *ways)
-    wait_for(lambda: f"{name}: it records: {running.told()}", lambda: out.exists() or running.process.poll() is not None)
+    wait_for(
+        lambda: f"{name}: it records: {running.told()}", lambda: out.exists() or running.process.poll() is not None
+    )
     return running, out
 
 
@@ -175,8 +189,11 @@ def check_same(work: Path) -> None:
     for at, name in enumerate(paths):
         kept, too = ([it[2] for it in records(extracted(work, out, at + 1))] for out in (its_out, other_out))
         lost = (Counter(kept) - Counter(too)).total()
-        judge(f"{name}: {len(too)} frames of {2 * len(frames)} with --prefilter, {len(kept)} without, {lost} of which are lost, "
-              f"and {offered_alone[at] - offered[at]} stayed in the kernel", kept == too and len(kept) > 0)
+        judge(
+            f"{name}: {len(too)} frames of {2 * len(frames)} with --prefilter, {len(kept)} without, {lost} of which are lost, "
+            f"and {offered_alone[at] - offered[at]} stayed in the kernel",
+            kept == too and len(kept) > 0,
+        )
     judge("the kernel drops some", sum(offered) < sum(offered_alone) * 9 // 10)
     judge_long(told, paths, offered, offered_alone)
 
@@ -185,10 +202,16 @@ def judge_long(told: str, paths: dict, offered: list, offered_alone: list) -> No
     """A program that has no room in the kernel runs in the recorder alone, and that is said."""
     said = re.findall(rf"capture: fx(\d+): (\S+): {TOO_LONG}\n", told)
     names = list(paths)
-    judge("what is too long for the kernel is said", sorted(names[int(at)] for at, _ in said) == sorted(SAID_TOO_LONG), told)
+    judge(
+        "what is too long for the kernel is said",
+        sorted(names[int(at)] for at, _ in said) == sorted(SAID_TOO_LONG),
+        told,
+    )
     for at, name in enumerate(names):
-        judge_quietly(f"{name} runs {'in the recorder alone' if name in SAID_TOO_LONG else 'in the kernel'}",
-                      (offered[at] == offered_alone[at]) == (name in SAID_TOO_LONG) or name not in LONG)
+        judge_quietly(
+            f"{name} runs {'in the recorder alone' if name in SAID_TOO_LONG else 'in the kernel'}",
+            (offered[at] == offered_alone[at]) == (name in SAID_TOO_LONG) or name not in LONG,
+        )
 
 
 CHECKS = [check_unset, check_same]

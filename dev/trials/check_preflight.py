@@ -68,7 +68,9 @@ SETTINGS_CASES = [
         "limit = 524_284\nring = 0x1000\nversion = 0\n" + GOOD + "net = 255\nspeed = 15\nmax = 0\n",
         [],
     ),
-    Case("a mark of the byte order, and lines of another system", "\ufeffring = 1\r\n" + GOOD.replace("\n", "\r\n"), []),
+    Case(
+        "a mark of the byte order, and lines of another system", "\ufeffring = 1\r\n" + GOOD.replace("\n", "\r\n"), []
+    ),
     Case("a value is missing", GOOD + "net = \n", ["s.toml:5: settings 1 Syntax: column 7: <text>"]),
     Case("a text has no end", HEAD + 'feed = "three.feed', ["s.toml:3: settings 1 Syntax: column 19: <text>"]),
     Case("a key twice", GOOD + "id = 2\n", ["s.toml:5: settings 1 Syntax: column <n>: <text>"]),
@@ -100,7 +102,10 @@ SETTINGS_CASES = [
     ),
     Case(
         "values under their ranges",
-        "limit = 16423\nring = 0\nversion = -1\n[[channel]]\nid = 0\n" + FEED + FILTER + "net = -1\nspeed = -1\nmax = -1\n",
+        "limit = 16423\nring = 0\nversion = -1\n[[channel]]\nid = 0\n"
+        + FEED
+        + FILTER
+        + "net = -1\nspeed = -1\nmax = -1\n",
         [
             "s.toml:1: settings 4 Value limit: 16423 is not in 16424 to 524284",
             "s.toml:2: settings 4 Value ring: 0 is not in 1 to 4096",
@@ -113,7 +118,10 @@ SETTINGS_CASES = [
     ),
     Case(
         "values over their ranges",
-        "limit = 524285\nring = 4097\nversion = 256\n[[channel]]\nid = 65536\n" + FEED + FILTER + "net = 256\nspeed = 16\n",
+        "limit = 524285\nring = 4097\nversion = 256\n[[channel]]\nid = 65536\n"
+        + FEED
+        + FILTER
+        + "net = 256\nspeed = 16\n",
         [
             "s.toml:1: settings 4 Value limit: 524285 is not in 16424 to 524284",
             "s.toml:2: settings 4 Value ring: 4097 is not in 1 to 4096",
@@ -138,7 +146,11 @@ SETTINGS_CASES = [
     ),
     Case("single brackets", GOOD.replace("[[channel]]", "[channel]"), [f"s.toml:1: {NO_TABLE}"]),
     Case("a channel that is no table", "ring = 1\nchannel = [1]\n", [f"s.toml:2: {NO_TABLE}"]),
-    Case("tables in one line", 'channel = [{id = 1, feed = "three.feed"}]\n', ["s.toml:1: channel 1: settings 3 Missing filter"]),
+    Case(
+        "tables in one line",
+        'channel = [{id = 1, feed = "three.feed"}]\n',
+        ["s.toml:1: channel 1: settings 3 Missing filter"],
+    ),
     Case("no channel", "ring = 1\n", ["s.toml: settings 5 Channels: no [[channel]]"]),
     Case(
         "65 channels",
@@ -210,8 +222,18 @@ OUT_CASES = [
     Case("OUT is there", GOOD, [], ["--out", "none.txt"]),
     Case("OUT is a device", GOOD, [], ["--out", "/dev/null"]),
     Case("OUT is the settings", GOOD, ["./s.toml: file ./s.toml: the output is the settings"], ["--out", "./s.toml"]),
-    Case("OUT is a filter", GOOD, ["link: channel 1: file link: the output is this channel's filter, arp.txt"], ["--out", "link"]),
-    Case("OUT is a feed", GOOD, ["three.feed: channel 1: file three.feed: the output is this channel's feed, three.feed"], ["--out", "three.feed"]),
+    Case(
+        "OUT is a filter",
+        GOOD,
+        ["link: channel 1: file link: the output is this channel's filter, arp.txt"],
+        ["--out", "link"],
+    ),
+    Case(
+        "OUT is a feed",
+        GOOD,
+        ["three.feed: channel 1: file three.feed: the output is this channel's feed, three.feed"],
+        ["--out", "three.feed"],
+    ),
     Case("OUT is a directory", GOOD, ["folder: file folder: a directory"], ["--out", "folder"]),
     Case("OUT has no name", GOOD, ["new/: file new/: no name of a file"], ["--out", "new/"]),
     Case("OUT has no folder", GOOD, ["no/new.ch11: file no/new.ch11: its folder is missing"], ["--out", "no/new.ch11"]),
@@ -246,7 +268,9 @@ def bpfrec() -> str | None:
 
 def preflight(work: pathlib.Path, *words: str, **more: str) -> subprocess.CompletedProcess:
     environment = {**os.environ, "BPFREC": os.path.abspath(bpfrec()), **more}
-    return subprocess.run([str(PREFLIGHT), *words], cwd=work, env=environment, capture_output=True, text=True, timeout=60)
+    return subprocess.run(
+        [str(PREFLIGHT), *words], cwd=work, env=environment, capture_output=True, text=True, timeout=60
+    )
 
 
 def is_said(line: str, wanted: str) -> bool:
@@ -350,7 +374,10 @@ def check_words(work: pathlib.Path) -> None:
     is_told = done.returncode == 2 and is_said(done.stderr.rstrip(), not_read)
     judge("TOML 1.1 is judged, or said not to be", done.returncode == 0 or is_told)
     done = preflight(work, "live.feed")
-    judge("settings are a pipe", (done.returncode, done.stderr) == (2, "preflight: live.feed is a pipe and was not opened\n"))
+    judge(
+        "settings are a pipe",
+        (done.returncode, done.stderr) == (2, "preflight: live.feed is a pipe and was not opened\n"),
+    )
     done = preflight(work, "s.toml", BPFREC="/no/bpfrec")
     judge("the program is missing", (done.returncode, done.stderr) == (2, "preflight: /no/bpfrec is missing\n"))
 

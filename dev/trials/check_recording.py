@@ -93,7 +93,10 @@ def check_pipes(work: pathlib.Path) -> None:
     with open(answers, "w") as errors:
         running = subprocess.Popen(
             [str(BPFREC), "record", str(settings), str(out)],
-            stdin=subprocess.PIPE, stdout=subprocess.PIPE, stderr=errors, text=True,
+            stdin=subprocess.PIPE,
+            stdout=subprocess.PIPE,
+            stderr=errors,
+            text=True,
         )
     with open(work / "busy.feed", "wb") as busy, open(work / "silent.feed", "wb") as silent:
         busy.write(frames)
@@ -147,7 +150,10 @@ def check_sums(work: pathlib.Path) -> None:
     """Each sum of a recording is right for a reader of its own, which finds each changed byte."""
     make_feed(work / "sums.feed", FRAMES // 10)
     whole, changed = work / "sums.ch11", work / "sums_changed.ch11"
-    judge("a hundred thousand frames", record(write_settings(work, "sums.toml", ["sums.feed"], ["half"]), whole).returncode == 0)
+    judge(
+        "a hundred thousand frames",
+        record(write_settings(work, "sums.toml", ["sums.feed"], ["half"]), whole).returncode == 0,
+    )
     listed = subprocess.run([str(BPFREC), "list", str(whole)], capture_output=True, text=True, check=True)
     count = listed.stdout.splitlines()[-1].split()[1]
     told = sums_of(whole)
@@ -182,7 +188,11 @@ def grow(recording: pathlib.Path) -> None:
 
 def check_changed_meanwhile(work: pathlib.Path) -> None:
     """A recording that is changed between the two times that a command reads it."""
-    settings, changed, out = write_settings(work, "meanwhile.toml", ["sums.feed"], ["all"]), work / "meanwhile.ch11", work / "meanwhile"
+    settings, changed, out = (
+        write_settings(work, "meanwhile.toml", ["sums.feed"], ["all"]),
+        work / "meanwhile.ch11",
+        work / "meanwhile",
+    )
     settings.write_text("limit = 16424\n" + settings.read_text())
     judge_quietly("a recording of short packets", record(settings, changed).returncode == 0)
     whole = changed.read_bytes()
@@ -284,12 +294,12 @@ def without_checksums(recording: bytes) -> bytes:
     """The same packets without their data checksums, as they were written once."""
     old, at = bytearray(), 0
     while at < len(recording):
-        length = int.from_bytes(recording[at + 4:at + 8], "little")
-        header = bytearray(recording[at:at + 22])
+        length = int.from_bytes(recording[at + 4 : at + 8], "little")
+        header = bytearray(recording[at : at + 22])
         header[4:8] = (length - 4).to_bytes(4, "little")
         header[14] = 0
-        words = (int.from_bytes(header[it:it + 2], "little") for it in range(0, 22, 2))
-        old += header + (sum(words) % 65_536).to_bytes(2, "little") + recording[at + 24:at + length - 4]
+        words = (int.from_bytes(header[it : it + 2], "little") for it in range(0, 22, 2))
+        old += header + (sum(words) % 65_536).to_bytes(2, "little") + recording[at + 24 : at + length - 4]
         at += length
     return bytes(old)
 
@@ -309,9 +319,15 @@ def check_reading(work: pathlib.Path) -> None:
     old, new = work / "old.ch11", work / "new.ch11"
     old.write_bytes(without_checksums(whole.read_bytes()))
     done = read_within(["upgrade", str(old), str(new)])
-    judge("it is upgraded from what it was without data checksums", done.returncode == 0 and new.read_bytes() == whole.read_bytes())
+    judge(
+        "it is upgraded from what it was without data checksums",
+        done.returncode == 0 and new.read_bytes() == whole.read_bytes(),
+    )
     done = read_within(["upgrade", str(new), str(old)])
-    judge("and copied by a second upgrade", done.stdout.startswith("upgraded 0 ") and old.read_bytes() == whole.read_bytes())
+    judge(
+        "and copied by a second upgrade",
+        done.stdout.startswith("upgraded 0 ") and old.read_bytes() == whole.read_bytes(),
+    )
     for command in ["list", "audit"]:
         told = read_within([command, str(claim)])
         judge(f"a length that is only claimed takes no memory in {command}", told.stderr == "read 1 Truncated 0\n")
@@ -327,15 +343,24 @@ def check_reading(work: pathlib.Path) -> None:
         link(same, other)
         told = read_within(["extract", str(same), "1", str(other)])
         is_refused = told.returncode == 3 and told.stderr == f"file {other}\n"
-        judge(f"a recording isn't extracted into itself by another name ({link.__name__})", is_refused and same.read_bytes() == recording)
+        judge(
+            f"a recording isn't extracted into itself by another name ({link.__name__})",
+            is_refused and same.read_bytes() == recording,
+        )
         told = read_within(["upgrade", str(same), str(other)])
         is_refused = told.returncode == 3 and told.stderr == f"file {other}\n"
-        judge(f"a recording isn't upgraded into itself by another name ({link.__name__})", is_refused and same.read_bytes() == recording)
+        judge(
+            f"a recording isn't upgraded into itself by another name ({link.__name__})",
+            is_refused and same.read_bytes() == recording,
+        )
         settings = write_settings(work, "itself.toml", ["long.feed"], ["all"])
         other.unlink()
         link(settings, other)
         told = record(settings, other)
-        judge(f"settings aren't recorded into by another name ({link.__name__})", told.returncode == 3 and told.stderr == f"file {other}\n")
+        judge(
+            f"settings aren't recorded into by another name ({link.__name__})",
+            told.returncode == 3 and told.stderr == f"file {other}\n",
+        )
 
 
 def check_fault_order(work: pathlib.Path) -> None:
@@ -343,7 +368,11 @@ def check_fault_order(work: pathlib.Path) -> None:
     OUT that is the recording goes before its fault."""
     loop, damaged = work / "loop", RECORDINGS / "cut_to_210.ch11"
     loop.symlink_to(loop)
-    for what, out in [("below a file", work / "all/out"), ("of a long name", work / ("n" * 300)), ("of a loop of links", loop)]:
+    for what, out in [
+        ("below a file", work / "all/out"),
+        ("of a long name", work / ("n" * 300)),
+        ("of a loop of links", loop),
+    ]:
         for recording, wanted in [
             (damaged, (1, b"", b"read 1 Truncated 180\n")),
             (RECORDINGS / "two_versions.ch11", (3, b"", f"file {out}\n".encode())),
@@ -390,10 +419,16 @@ def check_forced(work: pathlib.Path) -> None:
         # the whole of OUT, and nothing is printed yet
         forced = f"{len(made)} 0 {out}\n"
         told = forced_by([*words, str(out)], given, library, 0)
-        judge(f"{what} forces OUT to its disk before it prints", told == (0, line, "", forced) and out.read_bytes() == made)
+        judge(
+            f"{what} forces OUT to its disk before it prints",
+            told == (0, line, "", forced) and out.read_bytes() == made,
+        )
         for error in [errno.EIO, errno.ENOSPC]:
             told = forced_by([*words, str(out)], given, library, error)
-            judge(f"and prints nothing else where that fails ({errno.errorcode[error]})", told == (3, "", f"file {out}\n", forced))
+            judge(
+                f"and prints nothing else where that fails ({errno.errorcode[error]})",
+                told == (3, "", f"file {out}\n", forced),
+            )
         told = forced_by([*words, str(out)], given, library, errno.EINVAL)
         judge("but goes on where OUT has no disk (EINVAL)", told == (0, line, "", forced))
 
@@ -449,7 +484,9 @@ def check_output_names(work: pathlib.Path) -> None:
         judge_quietly(f"OUT elsewhere/{name} is written", done.returncode == 0)
     judge("an OUT that is an input is refused by each of its names, and a namesake elsewhere is written", True)
     whole = (work / "elsewhere/own").read_bytes()
-    judge("a new OUT", told_of(settings, "new.ch11", work).returncode == 0 and (work / "new.ch11").read_bytes() == whole)
+    judge(
+        "a new OUT", told_of(settings, "new.ch11", work).returncode == 0 and (work / "new.ch11").read_bytes() == whole
+    )
     wanted = f"channel 1 versions 1 offered 100 kept 100 SourceEnd\nwrote 3 {len(whole)}\n"
     done = told_of(settings, "/dev/null", work)
     judge("OUT /dev/null, for a trial of filters", (done.returncode, done.stdout) == (0, wanted))
@@ -459,7 +496,10 @@ def check_output_names(work: pathlib.Path) -> None:
         judge("OUT a pipe", (done.returncode, done.stdout, cat.stdout.read()) == (0, wanted, whole))
     words = [str(BPFREC), "record", str(settings), "/dev/stdout"]
     done = subprocess.run(words, stdin=subprocess.DEVNULL, capture_output=True)
-    judge("OUT /dev/stdout, with the report after the recording", (done.returncode, done.stdout) == (0, whole + wanted.encode()))
+    judge(
+        "OUT /dev/stdout, with the report after the recording",
+        (done.returncode, done.stdout) == (0, whole + wanted.encode()),
+    )
     check_stream_files(work, settings)
     os.mkfifo(work / "own.pipe")
     piped = write_settings(work, "own_pipe.toml", ["own.pipe"], ["own"])
@@ -471,18 +511,32 @@ def check_output_names(work: pathlib.Path) -> None:
 def check_stream_files(work: pathlib.Path, settings: pathlib.Path) -> None:
     """A file that a standard stream is, is no OUT: what is printed would be written over it."""
     lines = work / "stream.lines"
-    for how, out in [("> stream.lines", "stream.lines"), (">> stream.lines", "/dev/stdout"), ("< stream.lines", "./stream.lines")]:
+    for how, out in [
+        ("> stream.lines", "stream.lines"),
+        (">> stream.lines", "/dev/stdout"),
+        ("< stream.lines", "./stream.lines"),
+    ]:
         lines.write_text("set 9 nowhere\n")
         kept = b"" if how.startswith("> ") else lines.read_bytes()
         told = subprocess.run(
-            f"{BPFREC} record {settings} {out} {how}", shell=True, cwd=work, stdin=subprocess.DEVNULL, capture_output=True, text=True
+            f"{BPFREC} record {settings} {out} {how}",
+            shell=True,
+            cwd=work,
+            stdin=subprocess.DEVNULL,
+            capture_output=True,
+            text=True,
         )
         refused = (told.returncode, told.stderr) == (3, f"file {out}\n")
         judge_quietly(f"OUT {out} with {how} is refused", refused and lines.read_bytes() == kept)
     recording = (work / "new.ch11").read_bytes()
     with open(work / "new.ch11", "rb") as given:
-        told = subprocess.run([str(BPFREC), "extract", "-", "1", "new.ch11"], stdin=given, cwd=work, capture_output=True)
-    judge("OUT that is a standard stream's file is refused", told.returncode == 3 and (work / "new.ch11").read_bytes() == recording)
+        told = subprocess.run(
+            [str(BPFREC), "extract", "-", "1", "new.ch11"], stdin=given, cwd=work, capture_output=True
+        )
+    judge(
+        "OUT that is a standard stream's file is refused",
+        told.returncode == 3 and (work / "new.ch11").read_bytes() == recording,
+    )
 
 
 def told_of(settings: pathlib.Path, out: str, folder: pathlib.Path) -> subprocess.CompletedProcess:
@@ -496,7 +550,9 @@ def check_failing_output(work: pathlib.Path) -> None:
     settings = write_settings(work, "still.toml", ["long.feed", "still.feed"], ["all", "all"])
     running = subprocess.Popen(
         [str(BPFREC), "record", str(settings), "/dev/full"],
-        stdin=subprocess.PIPE, stdout=subprocess.PIPE, stderr=subprocess.PIPE,
+        stdin=subprocess.PIPE,
+        stdout=subprocess.PIPE,
+        stderr=subprocess.PIPE,
     )
     with open(work / "still.feed", "wb"):
         told = line_within_a_second(running) == b"run 2 Output 0 0\n" and running.poll() is None
@@ -557,10 +613,21 @@ def check_odd_filters(work: pathlib.Path) -> None:
     settings = write_settings(work, "odd.toml", ["odd.feed"], ["none"])
     running = subprocess.Popen(
         [str(BPFREC), "record", str(settings), str(work / "odd.ch11")],
-        stdin=subprocess.PIPE, stdout=subprocess.PIPE, stderr=subprocess.PIPE,
+        stdin=subprocess.PIPE,
+        stdout=subprocess.PIPE,
+        stderr=subprocess.PIPE,
     )
     with open(work / "odd.feed", "wb") as feed:
-        names = ["/dev/zero", "/dev/stdin", work, work / "odd.feed", work / "unwritten.pipe", work / "nowhere", work / "long.txt", work / "latin.txt"]
+        names = [
+            "/dev/zero",
+            "/dev/stdin",
+            work,
+            work / "odd.feed",
+            work / "unwritten.pipe",
+            work / "nowhere",
+            work / "long.txt",
+            work / "latin.txt",
+        ]
         for name in names:
             running.stdin.write(f"set 1 {name}\n".encode())
             running.stdin.flush()
@@ -615,11 +682,23 @@ def check_answers(work: pathlib.Path) -> None:
         os.close(reads)
         judge_quietly("it records", running.wait() == 0)
     packets, bytes_read = found
-    judge(f"each of {ANSWERS} answers is one write", len(packets) == ANSWERS and all(it.count(b"\n") == 1 and it[-1:] == b"\n" for it in packets))
+    judge(
+        f"each of {ANSWERS} answers is one write",
+        len(packets) == ANSWERS and all(it.count(b"\n") == 1 and it[-1:] == b"\n" for it in packets),
+    )
     judge("and no byte of them is lost", len(b"".join(bytes_read).splitlines()) == ANSWERS)
     out, script = work / "answers.ch11", ROOT / "crates/bpfrec_cases/data/scripts/changed_filter.script"
-    commands = [["record", str(settings), "/dev/null"], ["audit", str(out)], ["extract", str(out), "1", str(work / "again.feed")]]
-    commands += [["verify", str(work / "all")], ["run", str(work / "all"), "00"], ["simulate", str(script)], ["version"]]
+    commands = [
+        ["record", str(settings), "/dev/null"],
+        ["audit", str(out)],
+        ["extract", str(out), "1", str(work / "again.feed")],
+    ]
+    commands += [
+        ["verify", str(work / "all")],
+        ["run", str(work / "all"), "00"],
+        ["simulate", str(script)],
+        ["version"],
+    ]
     for words in commands + [["verify", str(work / "bad")], ["list", str(work / "all")], ["verify", "nowhere"]]:
         judge_quietly(f"{words[0]} writes whole lines", all(it.endswith(b"\n") for it in writes_of(words)))
     judge("each line that a command prints is one write", True)

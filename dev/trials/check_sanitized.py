@@ -16,7 +16,14 @@ import time
 import support
 from support import ROOT, Reader, Running, judge, judge_quietly, pipe_at, send_together
 
-WANTED = {"gcc": "gcc", "clang": "clang", "ip": "iproute2", "tshark": "tshark", "dumpcap": "wireshark-common", "tcpdump": "tcpdump"}
+WANTED = {
+    "gcc": "gcc",
+    "clang": "clang",
+    "ip": "iproute2",
+    "tshark": "tshark",
+    "dumpcap": "wireshark-common",
+    "tcpdump": "tcpdump",
+}
 SOURCES = sorted((ROOT / "capture/src").glob("*.c"))
 FUZZ = ROOT / "capture/fuzz"
 FUZZ_SECONDS = int(os.environ.get("FUZZ_SECONDS", "60"))
@@ -58,9 +65,17 @@ def check_addresses(work: pathlib.Path) -> None:
     for script in ("check_convert.py", "check_capture.py"):
         inside = {name: value for name, value in os.environ.items() if name != support.INSIDE}
         done = subprocess.run(
-            [ROOT / "dev" / "trials" / script], env={**inside, **options, "CAPTURE": str(capture)}, capture_output=True, text=True,
-            timeout=PATIENCE)
-        judge(f"dev/trials/{script} under the address sanitizer", done.returncode == 0, done.stdout[-800:] + done.stderr[-800:])
+            [ROOT / "dev" / "trials" / script],
+            env={**inside, **options, "CAPTURE": str(capture)},
+            capture_output=True,
+            text=True,
+            timeout=PATIENCE,
+        )
+        judge(
+            f"dev/trials/{script} under the address sanitizer",
+            done.returncode == 0,
+            done.stdout[-800:] + done.stderr[-800:],
+        )
         judge_quietly(f"dev/trials/{script}: no report", not reports_in(folder), reports_in(folder))
 
 
@@ -90,10 +105,22 @@ def check_readers(work: pathlib.Path) -> None:
     fuzzer = built(work, "fuzzer", "clang", "fuzzer,address,undefined", sources)
     drawn = work / "drawn"
     drawn.mkdir(exist_ok=True)
-    words = [fuzzer, f"-max_total_time={FUZZ_SECONDS}", "-rss_limit_mb=2048", "-timeout=10", f"-artifact_prefix={work}/", drawn, FUZZ / "corpus"]
+    words = [
+        fuzzer,
+        f"-max_total_time={FUZZ_SECONDS}",
+        "-rss_limit_mb=2048",
+        "-timeout=10",
+        f"-artifact_prefix={work}/",
+        drawn,
+        FUZZ / "corpus",
+    ]
     done = subprocess.run([str(it) for it in words], capture_output=True, text=True, errors="replace", timeout=PATIENCE)
     runs = [it for it in done.stderr.splitlines() if it.startswith("Done ")]
-    judge(f"the readers of capture files take what is drawn: {runs[-1] if runs else ''}", done.returncode == 0, done.stderr[-2000:])
+    judge(
+        f"the readers of capture files take what is drawn: {runs[-1] if runs else ''}",
+        done.returncode == 0,
+        done.stderr[-2000:],
+    )
 
 
 if __name__ == "__main__":

@@ -104,7 +104,13 @@ def send_frames() -> None:
 
 def run_all(script: str, words: list[str]) -> str:
     done = subprocess.run(
-        [*words, "bash"], input=script, cwd=ROOT, text=True, timeout=180, stdout=subprocess.PIPE, stderr=subprocess.STDOUT
+        [*words, "bash"],
+        input=script,
+        cwd=ROOT,
+        text=True,
+        timeout=180,
+        stdout=subprocess.PIPE,
+        stderr=subprocess.STDOUT,
     )
     return done.stdout
 

@@ -12,8 +12,7 @@
 #include <sys/stat.h>
 #include <unistd.h>
 
-static void tell_of(int file)
-{
+static void tell_of(int file) {
     int told = open(getenv("FORCED"), O_WRONLY | O_APPEND);
     char link[64], name[4096];
     struct stat found, printed;
@@ -27,8 +26,7 @@ static void tell_of(int file)
     close(told);
 }
 
-int fsync(int file)
-{
+int fsync(int file) {
     int (*real_fsync)(int) = dlsym(RTLD_NEXT, "fsync");
     const char *error = getenv("FORCED_ERROR");
 

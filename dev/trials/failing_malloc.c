@@ -46,13 +46,11 @@ static int counting, spares_input, moment = BEFORE;
 static struct stat from;
 static __thread int reads_input __attribute__((tls_model("initial-exec")));
 
-static int64_t add(int64_t *count, int64_t more)
-{
+static int64_t add(int64_t *count, int64_t more) {
     return __atomic_add_fetch(count, more, __ATOMIC_SEQ_CST);
 }
 
-static void count_into(const char *name)
-{
+static void count_into(const char *name) {
     int file = open(name, O_RDWR | O_CREAT | O_TRUNC, 0644);
     void *counter;
 
@@ -65,14 +63,12 @@ static void count_into(const char *name)
     close(file);
 }
 
-static int64_t number_in(const char *name)
-{
+static int64_t number_in(const char *name) {
     const char *number = getenv(name);
     return number ? atol(number) : 0;
 }
 
-__attribute__((constructor)) static void begin(void)
-{
+__attribute__((constructor)) static void begin(void) {
     const char *file = getenv("REFUSED_FROM"), *name = getenv("GROWTHS");
     real_malloc = dlsym(RTLD_NEXT, "malloc");
     real_calloc = dlsym(RTLD_NEXT, "calloc");
@@ -91,17 +87,15 @@ __attribute__((constructor)) static void begin(void)
     counting = 1;
 }
 
-static void keep_largest(size_t size)
-{
+static void keep_largest(size_t size) {
     int64_t known = __atomic_load_n(&counts->largest, __ATOMIC_SEQ_CST);
 
-    while ((size_t)known < size
-           && !__atomic_compare_exchange_n(&counts->largest, &known, (int64_t)size, 0, __ATOMIC_SEQ_CST, __ATOMIC_SEQ_CST))
+    while ((size_t)known < size &&
+           !__atomic_compare_exchange_n(&counts->largest, &known, (int64_t)size, 0, __ATOMIC_SEQ_CST, __ATOMIC_SEQ_CST))
         ;
 }
 
-static int is_refused(size_t size)
-{
+static int is_refused(size_t size) {
     int64_t number;
     int is_late;
 
@@ -119,30 +113,26 @@ static int is_refused(size_t size)
     return 1;
 }
 
-void *malloc(size_t size)
-{
+void *malloc(size_t size) {
     if (!real_malloc)
         real_malloc = dlsym(RTLD_NEXT, "malloc");
     return is_refused(size) ? NULL : real_malloc(size);
 }
 
-void *calloc(size_t count, size_t size)
-{
+void *calloc(size_t count, size_t size) {
     static char early[4096]; /* dlsym itself may ask before calloc is found */
     if (!real_calloc)
         return counting ? NULL : (void *)early;
     return is_refused(count * size) ? NULL : real_calloc(count, size);
 }
 
-void *realloc(void *old, size_t size)
-{
+void *realloc(void *old, size_t size) {
     if (!real_realloc)
         real_realloc = dlsym(RTLD_NEXT, "realloc");
     return is_refused(size) ? NULL : real_realloc(old, size);
 }
 
-ssize_t read(int file, void *bytes, size_t most)
-{
+ssize_t read(int file, void *bytes, size_t most) {
     struct stat found;
     ssize_t count;
 
@@ -151,14 +141,13 @@ ssize_t read(int file, void *bytes, size_t most)
     if (file == STDIN_FILENO)
         reads_input = 1;
     count = real_read(file, bytes, most);
-    if (count > 0 && __atomic_load_n(&moment, __ATOMIC_SEQ_CST) == BEFORE && fstat(file, &found) == 0
-        && found.st_dev == from.st_dev && found.st_ino == from.st_ino)
+    if (count > 0 && __atomic_load_n(&moment, __ATOMIC_SEQ_CST) == BEFORE && fstat(file, &found) == 0 &&
+        found.st_dev == from.st_dev && found.st_ino == from.st_ino)
         __atomic_store_n(&moment, WITHIN, __ATOMIC_SEQ_CST);
     return count;
 }
 
-ssize_t write(int file, const void *bytes, size_t count)
-{
+ssize_t write(int file, const void *bytes, size_t count) {
     ssize_t taken;
 
     if (!real_write)
@@ -171,8 +160,7 @@ ssize_t write(int file, const void *bytes, size_t count)
     return taken;
 }
 
-int fsync(int file)
-{
+int fsync(int file) {
     if (!real_fsync)
         real_fsync = dlsym(RTLD_NEXT, "fsync");
     __atomic_store_n(&moment, AFTER, __ATOMIC_SEQ_CST);
@@ -187,8 +175,7 @@ struct work {
     void *with;
 };
 
-static void *run_counted(void *given)
-{
+static void *run_counted(void *given) {
     struct work work = *(struct work *)given;
     void *result;
 
@@ -198,8 +185,7 @@ static void *run_counted(void *given)
     return result;
 }
 
-int pthread_create(pthread_t *thread, const pthread_attr_t *how, void *(*run)(void *), void *with)
-{
+int pthread_create(pthread_t *thread, const pthread_attr_t *how, void *(*run)(void *), void *with) {
     struct work *work;
     int status;
 

@@ -54,8 +54,10 @@ ENDING = r"SourceEnd|CountFull|SourceFault (Truncated|Length|Marks|Device)"
 REPORT = rf"(channel \d+ versions \d+ offered \d+ kept \d+ ({ENDING})\n)+wrote \d+ \d+\n"
 ANSWERS = r"(installed \d+ \d+ \d+\n|refused \d+ (Line|File|Listing|Program|NoChannel|VersionsFull)\n)*"
 REFUSALS = r"NoChannel|Closed|RingFull|NothingToSend|NothingToWrite|VersionsFull|CountFull"
-EVENT = (r"took \d+ \d+ \d+|installed \d+ \d+|sent (program \d+|frames \d+|end)|wrote [0-9a-f]+|"
-         rf"closed \d+ \d+|refused [1-7] ({REFUSALS})")
+EVENT = (
+    r"took \d+ \d+ \d+|installed \d+ \d+|sent (program \d+|frames \d+|end)|wrote [0-9a-f]+|"
+    rf"closed \d+ \d+|refused [1-7] ({REFUSALS})"
+)
 EVENTS = rf"(({EVENT})\n)*"
 FILE = (3, "", r"file .*\n")
 ALLOWED = {
@@ -138,16 +140,23 @@ class Runner:
         for name, content in case.files.items():
             (self.folder / name).write_bytes(content)
         try:
-            ran = subprocess.run([*self.words, *case.words], input=case.input, capture_output=True, cwd=self.folder,
-                                 timeout=SECONDS_A_RUN)
+            ran = subprocess.run(
+                [*self.words, *case.words],
+                input=case.input,
+                capture_output=True,
+                cwd=self.folder,
+                timeout=SECONDS_A_RUN,
+            )
         except subprocess.TimeoutExpired:
             raise Wrong(f"no answer within {SECONDS_A_RUN} seconds") from None
         return ran, int(self.peak_file.read_text().split()[-1])
 
     def peak_of_empty(self, case):
         """The memory that the command takes on an empty file, and `record` on empty feeds."""
-        files = {name: b"" if name in ("in", "feed", "one.feed") and case.words[1] != name else content
-                 for name, content in case.files.items()}
+        files = {
+            name: b"" if name in ("in", "feed", "one.feed") and case.words[1] != name else content
+            for name, content in case.files.items()
+        }
         key = hash(tuple(sorted(files.items())))
         if case.command() != "record":
             files, key = dict.fromkeys(case.files, b""), case.command()
@@ -158,15 +167,109 @@ class Runner:
 
 # ---- inputs, drawn and damaged
 
-CODES = [0x00, 0x01, 0x02, 0x03, 0x04, 0x05, 0x06, 0x07, 0x0C, 0x14, 0x15, 0x16, 0x1D, 0x20, 0x24, 0x25, 0x28,
-         0x2C, 0x30, 0x34, 0x35, 0x3C, 0x40, 0x44, 0x45, 0x48, 0x50, 0x54, 0x5C, 0x60, 0x61, 0x64, 0x6C, 0x74,
-         0x80, 0x81, 0x84, 0x87, 0x94, 0x9C, 0xA4, 0xAC, 0xB1]
+CODES = [
+    0x00,
+    0x01,
+    0x02,
+    0x03,
+    0x04,
+    0x05,
+    0x06,
+    0x07,
+    0x0C,
+    0x14,
+    0x15,
+    0x16,
+    0x1D,
+    0x20,
+    0x24,
+    0x25,
+    0x28,
+    0x2C,
+    0x30,
+    0x34,
+    0x35,
+    0x3C,
+    0x40,
+    0x44,
+    0x45,
+    0x48,
+    0x50,
+    0x54,
+    0x5C,
+    0x60,
+    0x61,
+    0x64,
+    0x6C,
+    0x74,
+    0x80,
+    0x81,
+    0x84,
+    0x87,
+    0x94,
+    0x9C,
+    0xA4,
+    0xAC,
+    0xB1,
+]
 WORDS = [0, 1, 2, 4, 12, 14, 15, 16, 31, 32, 254, 255, 256, 2048, 2054, 65535, 2**31, 2**32 - 1]
-TOKENS = [b"ldh", b"ld", b"ldb", b"ldx", b"ldxb", b"st", b"stx", b"jmp", b"ja", b"jeq", b"jne", b"jlt", b"jle",
-          b"jgt", b"jge", b"jset", b"add", b"sub", b"mul", b"div", b"mod", b"neg", b"and", b"or", b"xor", b"lsh",
-          b"rsh", b"tax", b"txa", b"ret", b"[12]", b"[x + 1]", b"M[0]", b"M[15]", b"#0x806", b"#1", b"#-1", b"x",
-          b"a", b"len", b"#len", b"4*([14]&0xf)", b",", b":", b"drop", b"yes", b"no", b"\n", b";", b"/*", b"*/",
-          b"0", b"08", b"4294967296", b"%x"]
+TOKENS = [
+    b"ldh",
+    b"ld",
+    b"ldb",
+    b"ldx",
+    b"ldxb",
+    b"st",
+    b"stx",
+    b"jmp",
+    b"ja",
+    b"jeq",
+    b"jne",
+    b"jlt",
+    b"jle",
+    b"jgt",
+    b"jge",
+    b"jset",
+    b"add",
+    b"sub",
+    b"mul",
+    b"div",
+    b"mod",
+    b"neg",
+    b"and",
+    b"or",
+    b"xor",
+    b"lsh",
+    b"rsh",
+    b"tax",
+    b"txa",
+    b"ret",
+    b"[12]",
+    b"[x + 1]",
+    b"M[0]",
+    b"M[15]",
+    b"#0x806",
+    b"#1",
+    b"#-1",
+    b"x",
+    b"a",
+    b"len",
+    b"#len",
+    b"4*([14]&0xf)",
+    b",",
+    b":",
+    b"drop",
+    b"yes",
+    b"no",
+    b"\n",
+    b";",
+    b"/*",
+    b"*/",
+    b"0",
+    b"08",
+    b"4294967296",
+    b"%x",
+]
 
 
 def drawn_program(draw):
@@ -200,9 +303,9 @@ def damaged(draw, content):
             case 0 if at < len(content):
                 content[at] = draw.choice([0, 1, 9, 10, 32, 44, 45, 48, 57, 127, 128, 255, draw.randrange(256)])
             case 1:
-                del content[at:at + draw.choice([1, 2, 4, 60])]
+                del content[at : at + draw.choice([1, 2, 4, 60])]
             case 2:
-                content[at:at] = content[at:at + draw.choice([1, 8, 60, 300])]
+                content[at:at] = content[at : at + draw.choice([1, 8, 60, 300])]
             case 3:
                 content[at:at] = bytes(draw.choice([b"\n", b",", b" ", b"\r", b"-", b"99999999999", b"\xff", b"#"]))
             case _ if draw.random() < 0.3:
@@ -214,15 +317,23 @@ def drawn_frames(draw):
     """Frames as (counter, marks, bytes)."""
     count = draw.choice([0, 1, 2, 7, 40])
     lengths = [18, 19, 60, 300, 1518, 16383]
-    return [(draw.choice([0, 16, 2**48 - 1, draw.randrange(2**48)]), draw.randrange(4),
-             draw.choice([b"\xff", b"\x00", bytes([draw.randrange(256)])]) * 12
-             + draw.choice([b"\x08\x06", b"\x08\x00", b"\x86\xdd"])
-             + draw.randbytes(draw.choice(lengths) - 14)) for _ in range(count)]
+    return [
+        (
+            draw.choice([0, 16, 2**48 - 1, draw.randrange(2**48)]),
+            draw.randrange(4),
+            draw.choice([b"\xff", b"\x00", bytes([draw.randrange(256)])]) * 12
+            + draw.choice([b"\x08\x06", b"\x08\x00", b"\x86\xdd"])
+            + draw.randbytes(draw.choice(lengths) - 14),
+        )
+        for _ in range(count)
+    ]
 
 
 def feed_of(frames):
-    return b"".join(counter.to_bytes(6, "little") + bytes([marks]) + len(content).to_bytes(2, "little") + content
-                    for counter, marks, content in frames)
+    return b"".join(
+        counter.to_bytes(6, "little") + bytes([marks]) + len(content).to_bytes(2, "little") + content
+        for counter, marks, content in frames
+    )
 
 
 class Corpus:
@@ -236,7 +347,8 @@ class Corpus:
         self.listings = read("*")
         self.recordings = read("recordings/*.ch11")
         self.scripts = read("scripts/*.script") + [
-            path.read_bytes() for path in sorted((ROOT / "examples").glob("*.script"))]
+            path.read_bytes() for path in sorted((ROOT / "examples").glob("*.script"))
+        ]
         self.settings = read("records/*.toml")
 
 
@@ -304,9 +416,9 @@ def recordings(run, draw, corpus):
 def with_sums(draw, recording):
     """The same, mostly with the right checksums in each packet that still begins with the sync pattern."""
     recording, at = bytearray(recording), 0
-    while draw.random() < 0.98 and recording[at:at + 2] == b"\x25\xeb" and len(recording) >= at + 24:
-        recording[at + 22:at + 24] = sum_of(recording[at:at + 22], 2)
-        end = at + max(int.from_bytes(recording[at + 4:at + 8], "little"), 24)
+    while draw.random() < 0.98 and recording[at : at + 2] == b"\x25\xeb" and len(recording) >= at + 24:
+        recording[at + 22 : at + 24] = sum_of(recording[at : at + 22], 2)
+        end = at + max(int.from_bytes(recording[at + 4 : at + 8], "little"), 24)
         if draw.random() < 0.9:
             set_data_sum(recording, at, end)
         at = end
@@ -315,14 +427,14 @@ def with_sums(draw, recording):
 
 def sum_of(data, width):
     """The sum of the words of so many bytes, as such a word."""
-    words = (int.from_bytes(data[at:at + width], "little") for at in range(0, len(data), width))
+    words = (int.from_bytes(data[at : at + width], "little") for at in range(0, len(data), width))
     return (sum(words) % 256**width).to_bytes(width, "little")
 
 
 def set_data_sum(recording, at, end):
     """Makes the data checksum of a packet right, where it has one and is whole."""
     if recording[at + 14] & 3 == 3 and at + 28 <= end <= len(recording):
-        recording[end - 4:end] = sum_of(recording[at + 24:end - 4], 4)
+        recording[end - 4 : end] = sum_of(recording[at + 24 : end - 4], 4)
 
 
 def readings(run, recording):
@@ -405,8 +517,10 @@ def feeds(run, draw, corpus):
     net, speed, most = draw.randrange(256), draw.randrange(16), draw.choice([0, 1, 5, 1000])
     limit, version = draw.choice([16424, 20000, 65536, 524284]), draw.randrange(256)
     listing = listing_of(program)
-    settings = (f'limit = {limit}\nring = {draw.choice([1, 4, 64])}\nversion = {version}\n[[channel]]\nid = 7\n'
-                f'feed = "feed"\nfilter = "filter"\nnet = {net}\nspeed = {speed}\nmax = {most}\n')
+    settings = (
+        f"limit = {limit}\nring = {draw.choice([1, 4, 64])}\nversion = {version}\n[[channel]]\nid = 7\n"
+        f'feed = "feed"\nfilter = "filter"\nnet = {net}\nspeed = {speed}\nmax = {most}\n'
+    )
     files = {"settings": settings.encode(), "feed": feed, "filter": listing}
     lines = draw.choice([b"", b"x\n", b"set 9 filter\n", b"set 7 nowhere\nset 7 feed\n", b"set 7 /dev/zero\nset 7 .\n"])
     recorded = run(Case(["record", "settings", "out"], files, lines))
@@ -445,11 +559,11 @@ def frames_in(feed):
     """The frames of a feed, up to its first fault."""
     at = 0
     while len(feed) - at >= 9:
-        counter, marks = int.from_bytes(feed[at:at + 6], "little"), feed[at + 6]
-        length = int.from_bytes(feed[at + 7:at + 9], "little")
+        counter, marks = int.from_bytes(feed[at : at + 6], "little"), feed[at + 6]
+        length = int.from_bytes(feed[at + 7 : at + 9], "little")
         if not 18 <= length <= 16383 or marks > 3 or len(feed) - at - 9 < length:
             return
-        yield counter, marks, feed[at + 9:at + 9 + length]
+        yield counter, marks, feed[at + 9 : at + 9 + length]
         at += 9 + length
 
 
@@ -458,9 +572,22 @@ def scripts(run, draw, corpus):
     script = damaged(draw, draw.choice(corpus.scripts))
     if draw.random() < 0.5:
         program, frame = listing_of([[6, 0, 0, 1]]).decode(), "00" * 18
-        events = [f"take 1 5 0 {frame}", f"install 1 {program}", "send 1", "write 1", "close 1", "send 2", "take 1 5 4 00"]
-        script = "\n".join(["recorder 16424 2 8", f"channel 1 0 0 9 {program}",
-                            *draw.choices(events, [9, 3, 6, 6, 1, 1, 0.1], k=draw.randrange(60))]).encode()
+        events = [
+            f"take 1 5 0 {frame}",
+            f"install 1 {program}",
+            "send 1",
+            "write 1",
+            "close 1",
+            "send 2",
+            "take 1 5 4 00",
+        ]
+        script = "\n".join(
+            [
+                "recorder 16424 2 8",
+                f"channel 1 0 0 9 {program}",
+                *draw.choices(events, [9, 3, 6, 6, 1, 1, 0.1], k=draw.randrange(60)),
+            ]
+        ).encode()
     run(Case(["simulate", "in"], {"in": script}))
 
 
@@ -479,7 +606,7 @@ KINDS = [texts, listings, recordings, feeds, scripts, settings]
 # a header that claims four gigabytes, with nothing behind it
 LONE_HEADER = bytes.fromhex("25eb0100 fcffffff 00000000 08000001 00000000 000029ec")
 FRAME = bytes.fromhex("ffffffffffff0200000000010806a1b2c3d4")
-SETTINGS_TEXT = (b'limit = 16424\n[[channel]]\nid = 1\nfeed = "feed"\nfilter = "filter"\nspeed = 3\n')
+SETTINGS_TEXT = b'limit = 16424\n[[channel]]\nid = 1\nfeed = "feed"\nfilter = "filter"\nspeed = 3\n'
 
 
 def expect(what, answer, *printed):
@@ -530,7 +657,7 @@ def cut_and_changed(run, recording, places):
             expect(f"cut to {cut} bytes", listed, f"read 1 Truncated {place}\n")
     for at in range(len(recording)):
         for value in (b"\x00", b"\xff"):
-            readings(run, recording[:at] + value + recording[at + 1:])
+            readings(run, recording[:at] + value + recording[at + 1 :])
 
 
 # ---- the search
@@ -541,7 +668,11 @@ def search(words):
     kind, and how many cases were kept."""
     corpus, draw = Corpus(), random.Random(words.seed)
     first = [] if words.files else [fixed]
-    runs, kept, end = dict.fromkeys((kind.__name__ for kind in [*first, *KINDS]), 0), 0, time.monotonic() + words.seconds
+    runs, kept, end = (
+        dict.fromkeys((kind.__name__ for kind in [*first, *KINDS]), 0),
+        0,
+        time.monotonic() + words.seconds,
+    )
     with tempfile.TemporaryDirectory() as name:
         runner = Runner(str(Path(words.program).resolve()), Path(name))
         while len(runner.inputs) < words.files if words.files else time.monotonic() < end:

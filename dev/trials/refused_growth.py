@@ -153,7 +153,7 @@ def main():
         print(__doc__.strip())
         return 0 if len(sys.argv) == 2 else 2
     made = [ROOT / "bin/bpfrec"] + [ROOT / f"crates/{crate}/out/{crate}_tests" for crate in TESTS]
-    program, *tests = map(os.path.abspath, sys.argv[1:] + made[len(sys.argv) - 1:])
+    program, *tests = map(os.path.abspath, sys.argv[1:] + made[len(sys.argv) - 1 :])
     hows = ["`make build`"] + [f"`rt test` in crates/{crate}" for crate in TESTS]
     for needed, how in zip([program, *tests], hows):
         if not os.access(needed, os.X_OK):
@@ -161,15 +161,32 @@ def main():
             return 2
     with tempfile.TemporaryDirectory() as work:
         library = f"{work}/failing_malloc.so"
-        subprocess.run(["cc", "-O2", "-Wall", "-shared", "-fPIC", "-o", library, str(ROOT / "dev/trials/failing_malloc.c"), "-ldl"], check=True)
+        subprocess.run(
+            [
+                "cc",
+                "-O2",
+                "-Wall",
+                "-shared",
+                "-fPIC",
+                "-o",
+                library,
+                str(ROOT / "dev/trials/failing_malloc.c"),
+                "-ldl",
+            ],
+            check=True,
+        )
         named = [(built, name) for built, names in zip(tests, TESTS.values()) for name in names]
         of_tests = [growths_of_test(built, name, library, f"{work}/growths") for built, name in named]
         counts = [growths_of(program, words, text, library, f"{work}/growths") for words, text in samples()]
     if None in counts + of_tests:
         return 1
     growths, passed = (sum(column) for column in zip(*of_tests))
-    print(f"{growths} growths of {len(of_tests)} tests were refused, one a run: {passed} of calls, which were made again with the right answer, and {growths - passed} of what the tests make beside them, which ended the run")
-    print(f"{sum(counts)} growths of {len(counts)} runs were refused, one a run: each run ended with `memory`, status 4 and no feed, or with its answer; a recording of which only lines lacked memory, with its lines and `memory`; a script, a list or an extraction in part with `memory`")
+    print(
+        f"{growths} growths of {len(of_tests)} tests were refused, one a run: {passed} of calls, which were made again with the right answer, and {growths - passed} of what the tests make beside them, which ended the run"
+    )
+    print(
+        f"{sum(counts)} growths of {len(counts)} runs were refused, one a run: each run ended with `memory`, status 4 and no feed, or with its answer; a recording of which only lines lacked memory, with its lines and `memory`; a script, a list or an extraction in part with `memory`"
+    )
     return 0
 
 

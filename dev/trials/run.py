@@ -63,8 +63,13 @@ class Run:
         self.log = LOGS / f"{trial.name}.log"
         with open(self.log, "w") as log:
             self.process = subprocess.Popen(
-                [script_of(trial.name), *trial.words], cwd=ROOT, stdin=subprocess.DEVNULL, stdout=log,
-                stderr=subprocess.STDOUT, start_new_session=True)
+                [script_of(trial.name), *trial.words],
+                cwd=ROOT,
+                stdin=subprocess.DEVNULL,
+                stdout=log,
+                stderr=subprocess.STDOUT,
+                start_new_session=True,
+            )
 
     def has_ended(self):
         if time.monotonic() - self.began > PATIENCE:
@@ -121,7 +126,9 @@ def run_all(trials):
 
 
 def parse_words():
-    parser = argparse.ArgumentParser(prog="dev/trials/run.py", description=__doc__, formatter_class=argparse.RawDescriptionHelpFormatter)
+    parser = argparse.ArgumentParser(
+        prog="dev/trials/run.py", description=__doc__, formatter_class=argparse.RawDescriptionHelpFormatter
+    )
     parser.add_argument("names", nargs="*", metavar="TRIAL", help=", ".join(it.name for it in TRIALS))
     words = parser.parse_args()
     unknown = set(words.names) - {it.name for it in TRIALS}

@@ -2,8 +2,8 @@
  *
  * SET_CLOCK names a file of `struct settings`, which the trial writes while the process runs: the wall clock is the
  * real one and what it is ahead by, and so is the stamp of each frame that libpcap hands on, by the moment at which it
- * was stamped. CLOCK_MONOTONIC is the real one. With ADAPTER_AHEAD=SECONDS libpcap offers the clock of an adapter alone,
- * which nobody sets by the host's and which is ahead of it by so much. */
+ * was stamped. CLOCK_MONOTONIC is the real one. With ADAPTER_AHEAD=SECONDS libpcap offers the clock of an adapter
+ * alone, which nobody sets by the host's and which is ahead of it by so much. */
 #define _GNU_SOURCE
 #include <dlfcn.h>
 #include <fcntl.h>
@@ -35,8 +35,7 @@ static struct settings *settings;
 static int64_t adapter_ahead;
 static int has_adapter;
 
-__attribute__((constructor)) static void prepare(void)
-{
+__attribute__((constructor)) static void prepare(void) {
     const char *path = getenv("SET_CLOCK"), *ahead = getenv("ADAPTER_AHEAD");
     int fd = path == NULL ? -1 : open(path, O_RDONLY | O_CLOEXEC);
     if (fd >= 0) {
@@ -49,8 +48,7 @@ __attribute__((constructor)) static void prepare(void)
 }
 
 /* How far the set clock is ahead of the real one at a real moment. */
-static int64_t ahead_at(int64_t real)
-{
+static int64_t ahead_at(int64_t real) {
     int64_t ahead = 0;
     if (settings == NULL)
         return 0;
@@ -65,8 +63,7 @@ static int64_t ahead_at(int64_t real)
 
 /* ---- the clock */
 
-static int64_t set_now(void)
-{
+static int64_t set_now(void) {
     static int (*real)(clockid_t, struct timespec *);
     struct timespec now;
     if (real == NULL)
@@ -76,8 +73,7 @@ static int64_t set_now(void)
     return at + ahead_at(at);
 }
 
-int clock_gettime(clockid_t clock, struct timespec *now)
-{
+int clock_gettime(clockid_t clock, struct timespec *now) {
     static int (*real)(clockid_t, struct timespec *);
     if (real == NULL)
         real = (int (*)(clockid_t, struct timespec *))dlsym(RTLD_NEXT, "clock_gettime");
@@ -88,16 +84,14 @@ int clock_gettime(clockid_t clock, struct timespec *now)
     return 0;
 }
 
-int gettimeofday(struct timeval *restrict now, void *restrict zone)
-{
+int gettimeofday(struct timeval *restrict now, void *restrict zone) {
     (void)zone;
     int64_t at = set_now();
     *now = (struct timeval){at / A_SECOND, at % A_SECOND / NANOSECONDS_A_MICROSECOND};
     return 0;
 }
 
-time_t time(time_t *now)
-{
+time_t time(time_t *now) {
     time_t at = set_now() / A_SECOND;
     if (now != NULL)
         *now = at;
@@ -113,14 +107,12 @@ struct handing {
     int64_t unit;
 };
 
-static int64_t unit_of(pcap_t *pcap)
-{
+static int64_t unit_of(pcap_t *pcap) {
     int (*precision)(pcap_t *) = (int (*)(pcap_t *))dlsym(RTLD_NEXT, "pcap_get_tstamp_precision");
     return precision(pcap) == PCAP_TSTAMP_PRECISION_NANO ? 1 : NANOSECONDS_A_MICROSECOND;
 }
 
-static struct pcap_pkthdr moved(const struct pcap_pkthdr *head, int64_t unit)
-{
+static struct pcap_pkthdr moved(const struct pcap_pkthdr *head, int64_t unit) {
     struct pcap_pkthdr set = *head;
     int64_t at = head->ts.tv_sec * A_SECOND + head->ts.tv_usec * unit;
     at += has_adapter ? adapter_ahead : ahead_at(at);
@@ -128,31 +120,27 @@ static struct pcap_pkthdr moved(const struct pcap_pkthdr *head, int64_t unit)
     return set;
 }
 
-static void hand_on(u_char *it, const struct pcap_pkthdr *head, const u_char *bytes)
-{
+static void hand_on(u_char *it, const struct pcap_pkthdr *head, const u_char *bytes) {
     const struct handing *handing = (const struct handing *)it;
     struct pcap_pkthdr set = moved(head, handing->unit);
     handing->to(handing->user, &set, bytes);
 }
 
-int pcap_dispatch(pcap_t *pcap, int count, pcap_handler to, u_char *user)
-{
+int pcap_dispatch(pcap_t *pcap, int count, pcap_handler to, u_char *user) {
     int (*real)(pcap_t *, int, pcap_handler, u_char *) =
         (int (*)(pcap_t *, int, pcap_handler, u_char *))dlsym(RTLD_NEXT, "pcap_dispatch");
     struct handing handing = {to, user, unit_of(pcap)};
     return real(pcap, count, hand_on, (u_char *)&handing);
 }
 
-int pcap_loop(pcap_t *pcap, int count, pcap_handler to, u_char *user)
-{
+int pcap_loop(pcap_t *pcap, int count, pcap_handler to, u_char *user) {
     int (*real)(pcap_t *, int, pcap_handler, u_char *) =
         (int (*)(pcap_t *, int, pcap_handler, u_char *))dlsym(RTLD_NEXT, "pcap_loop");
     struct handing handing = {to, user, unit_of(pcap)};
     return real(pcap, count, hand_on, (u_char *)&handing);
 }
 
-int pcap_next_ex(pcap_t *pcap, struct pcap_pkthdr **head, const u_char **bytes)
-{
+int pcap_next_ex(pcap_t *pcap, struct pcap_pkthdr **head, const u_char **bytes) {
     static _Thread_local struct pcap_pkthdr set;
     int (*real)(pcap_t *, struct pcap_pkthdr **, const u_char **) =
         (int (*)(pcap_t *, struct pcap_pkthdr **, const u_char **))dlsym(RTLD_NEXT, "pcap_next_ex");
@@ -166,8 +154,7 @@ int pcap_next_ex(pcap_t *pcap, struct pcap_pkthdr **head, const u_char **bytes)
 
 /* ---- the adapter */
 
-int pcap_list_tstamp_types(pcap_t *pcap, int **types)
-{
+int pcap_list_tstamp_types(pcap_t *pcap, int **types) {
     int (*real)(pcap_t *, int **) = (int (*)(pcap_t *, int **))dlsym(RTLD_NEXT, "pcap_list_tstamp_types");
     if (!has_adapter)
         return real(pcap, types);
@@ -178,8 +165,7 @@ int pcap_list_tstamp_types(pcap_t *pcap, int **types)
     return 1;
 }
 
-int pcap_set_tstamp_type(pcap_t *pcap, int type)
-{
+int pcap_set_tstamp_type(pcap_t *pcap, int type) {
     int (*real)(pcap_t *, int) = (int (*)(pcap_t *, int))dlsym(RTLD_NEXT, "pcap_set_tstamp_type");
     if (!has_adapter)
         return real(pcap, type);

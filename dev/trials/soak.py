@@ -29,11 +29,18 @@ FRAMES_A_SECOND = 40
 MOST_GROWTH_KIB = 1_024
 FILLING_SECONDS = 150
 # Keeps all; nothing; frames whose byte 20 is less than 128; ARP.
-FILTERS = ["1,6 0 0 1,", "1,6 0 0 0,", "4,48 0 0 20,53 1 0 128,6 0 0 1,6 0 0 0,",
-           "4,40 0 0 12,21 0 1 2054,6 0 0 1,6 0 0 0,"]
+FILTERS = [
+    "1,6 0 0 1,",
+    "1,6 0 0 0,",
+    "4,48 0 0 20,53 1 0 128,6 0 0 1,6 0 0 0,",
+    "4,40 0 0 12,21 0 1 2054,6 0 0 1,6 0 0 0,",
+]
 # A record that is cut, one with wrong marks and one with a wrong length, and what is said of each.
-DAMAGES = [(bytes(8), "SourceFault Truncated"), (bytes(6) + b"\x04\x12\x00" + bytes(18), "SourceFault Marks"),
-           (bytes(6) + b"\x00\x11\x00" + bytes(17), "SourceFault Length")]
+DAMAGES = [
+    (bytes(8), "SourceFault Truncated"),
+    (bytes(6) + b"\x04\x12\x00" + bytes(18), "SourceFault Marks"),
+    (bytes(6) + b"\x00\x11\x00" + bytes(17), "SourceFault Length"),
+]
 
 
 @dataclass
@@ -76,8 +83,10 @@ def make_feeds(work, seconds, draw):
 def write_settings(work, feeds):
     for number, listing in enumerate(FILTERS):
         (work / f"filter{number}").write_text(listing)
-    tables = [f'[[channel]]\nid = {channel}\nfeed = "{feed.pipe}"\nfilter = "{work}/filter{channel % len(FILTERS)}"\n'
-              for channel, feed in enumerate(feeds, 1)]
+    tables = [
+        f'[[channel]]\nid = {channel}\nfeed = "{feed.pipe}"\nfilter = "{work}/filter{channel % len(FILTERS)}"\n'
+        for channel, feed in enumerate(feeds, 1)
+    ]
     # short packets and rings, so that all buffers have been filled soon
     (work / "settings").write_text("limit = 16424\nring = 4\n" + "".join(tables))
 
@@ -97,8 +106,13 @@ def soak(work, seconds, draw):
     feeds = make_feeds(work, seconds, draw)
     write_settings(work, feeds)
     with open(work / "answers", "w") as answers:
-        running = subprocess.Popen([BPFREC, "record", work / "settings", work / "out"], text=True,
-                                   stdin=subprocess.PIPE, stdout=subprocess.PIPE, stderr=answers)
+        running = subprocess.Popen(
+            [BPFREC, "record", work / "settings", work / "out"],
+            text=True,
+            stdin=subprocess.PIPE,
+            stdout=subprocess.PIPE,
+            stderr=answers,
+        )
     threads = [threading.Thread(target=feed.run, args=(random.Random(draw.random()),)) for feed in feeds]
     for thread in threads:
         thread.start()
@@ -130,16 +144,20 @@ def judge_all(work, feeds, changes, report, status, memory, descriptors):
     fed = [(channel, versions[channel], feed.given, feed.ending) for channel, feed in enumerate(feeds, 1)]
     audited = subprocess.run([BPFREC, "audit", work / "out"], capture_output=True, text=True)
     first = max(len(memory) // 10, 1)
-    print(f"{sum(feed.given for feed in feeds)} frames, {len(changes)} changes, {report[-1]}; "
-          f"memory {min(memory)} to {max(memory)} KiB, descriptors {min(descriptors)} to {max(descriptors)}")
-    return all([
-        judge("the status is 0", status == 0),
-        judge("each change has the next version of its channel", answers == wanted),
-        judge("each channel has the frames, the versions and the ending of its feed", told == fed),
-        is_flat(memory, max(first, FILLING_SECONDS)),
-        judge("no descriptor is left open", max(descriptors[first:]) <= max(descriptors[:first])),
-        judge("the recording is approved", audited.returncode == 0),
-    ])
+    print(
+        f"{sum(feed.given for feed in feeds)} frames, {len(changes)} changes, {report[-1]}; "
+        f"memory {min(memory)} to {max(memory)} KiB, descriptors {min(descriptors)} to {max(descriptors)}"
+    )
+    return all(
+        [
+            judge("the status is 0", status == 0),
+            judge("each change has the next version of its channel", answers == wanted),
+            judge("each channel has the frames, the versions and the ending of its feed", told == fed),
+            is_flat(memory, max(first, FILLING_SECONDS)),
+            judge("no descriptor is left open", max(descriptors[first:]) <= max(descriptors[:first])),
+            judge("the recording is approved", audited.returncode == 0),
+        ]
+    )
 
 
 def is_flat(memory, first):

@@ -129,15 +129,19 @@ class Running:
         self.told_in = open(work / "told", "w+")
         with_these = {"stdin": subprocess.PIPE, "stdout": subprocess.PIPE, "stderr": self.told_in, "text": True, **more}
         self.process = subprocess.Popen(
-            [word if isinstance(word, bytes) else str(word) for word in words], start_new_session=True,
-            env={**os.environ, "TMPDIR": str(work / "private"), **(adds or {})}, **with_these,
+            [word if isinstance(word, bytes) else str(word) for word in words],
+            start_new_session=True,
+            env={**os.environ, "TMPDIR": str(work / "private"), **(adds or {})},
+            **with_these,
         )
 
     def told(self) -> str:
         return pathlib.Path(self.told_in.name).read_text()
 
     def wait_until_told(self, what: str) -> None:
-        wait_for(lambda: f"{what} is told: {self.told()}", lambda: what in self.told() or self.process.poll() is not None)
+        wait_for(
+            lambda: f"{what} is told: {self.told()}", lambda: what in self.told() or self.process.poll() is not None
+        )
 
     def type_in(self, line: str) -> None:
         self.process.stdin.write(line + "\n")
@@ -358,7 +362,9 @@ def check_all(work: pathlib.Path, checks: dict) -> None:
         (work / "private").mkdir(exist_ok=True)
         check(work)
         print(f"{name} took {time.monotonic() - before:.1f} s", flush=True)
-    print(f"all of it took {time.monotonic() - begin:.1f} s" + (f", left out {len(all_left_out)}" if all_left_out else ""))
+    print(
+        f"all of it took {time.monotonic() - begin:.1f} s" + (f", left out {len(all_left_out)}" if all_left_out else "")
+    )
 
 
 def end_all_in(namespace: str) -> None:

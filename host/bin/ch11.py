@@ -311,7 +311,9 @@ class Reader:
 
     def ends_at(self, offset):
         """Whether the input ends so many bytes on."""
-        return self.rest() == offset if self.left is not None else not self.fill(offset + 1) and len(self.held) == offset
+        return (
+            self.rest() == offset if self.left is not None else not self.fill(offset + 1) and len(self.held) == offset
+        )
 
     def pass_over(self, count):
         del self.held[:count]

@@ -125,7 +125,9 @@ def read(path):
     if len(data) > MOST_BYTES:
         raise NoFacts(f"it has more than {MOST_BYTES >> 20} MiB")
     try:
-        told = json.loads(data.decode(errors="replace"), parse_int=whole_number, parse_float=other_number, parse_constant=no_constant)
+        told = json.loads(
+            data.decode(errors="replace"), parse_int=whole_number, parse_float=other_number, parse_constant=no_constant
+        )
     except (ValueError, RecursionError, MemoryError):
         raise NoFacts("it is no JSON that can be read") from None
     return Facts(told)
