@@ -4,9 +4,10 @@ export RT
 
 PREFIX ?= /usr/local
 DESTDIR ?=
+C_FLAGS := -std=gnu11 -O2 -Wall -Wextra -Wconversion -Wshadow -Werror
 export PREFIX DESTDIR
 
-.PHONY: help try demo build capture quick crate test trials gate install uninstall deb refused-growth fuzz bench clean
+.PHONY: help try demo build capture quick crate test trials lint gate install uninstall deb refused-growth fuzz bench clean
 
 help: ## lists the targets
 	@grep -E '^[a-z-]+:.*## ' Makefile | sed -E 's/:[^#]*## /\t/' | expand -t 18
@@ -22,7 +23,7 @@ build: ## proves the program and all that it stands on: bin/bpfrec, and bin/capt
 	@dev/build/build.py $(if $(KEEP_COSTS),--keep-costs)
 
 capture: ## bin/capture alone, which makes feeds of interfaces; it wants libpcap-dev
-	@capture/build.sh
+	@$(MAKE) -s -C capture
 
 quick: ## all tests, compiled with checks and run, with no proof: minutes, also on a fresh checkout
 	@dev/build/quick.py
@@ -67,11 +68,14 @@ bin/pcap_filter bin/record_feed: bin/%: bench/%.c
 	@test -f /usr/include/pcap/bpf.h || \
 		{ echo "make bench wants libpcap-dev, python3 and cc: libpcap-dev is missing"; exit 1; }
 	@mkdir -p bin
-	$(CC) -O2 -o $@ $< -lpcap -lpthread
+	$(CC) $(C_FLAGS) -o $@ $< -lpcap -lpthread
 
 bin/send_frames: bench/send_frames.c
 	@mkdir -p bin
-	$(CC) -O2 -o $@ $<
+	$(CC) $(C_FLAGS) -o $@ $<
+
+lint: ## how Python, C and shell scripts are written, by Debian's tools: black, mypy, shellcheck, clang-tidy and others
+	@dev/checks/style.py
 
 clean: ## removes what a build has made
 	rm -rf bin crates/*/out

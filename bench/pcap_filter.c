@@ -1,7 +1,7 @@
 /* Times libpcap's interpreter on the programs and frames of compare.py: the other side of `bench machine`,
  * with the same words after `machine`, and the same lines of output but that of the steps. */
 #include <inttypes.h>
-#include <pcap/bpf.h>
+#include <pcap/pcap.h>
 #include <stdint.h>
 #include <stdio.h>
 #include <stdlib.h>

@@ -5,7 +5,7 @@
  *
  * With `shared` each frame takes the filter as one that may be replaced meanwhile: under a mutex, with a
  * reference that is counted. It prints how many frames it read and kept. */
-#include <pcap/bpf.h>
+#include <pcap/pcap.h>
 #include <pthread.h>
 #include <stdatomic.h>
 #include <stdint.h>
@@ -74,7 +74,7 @@ int main(int argc, char **argv) {
     static unsigned char record[HEAD + MOST];
     unsigned long frames = 0, kept = 0;
     while (fread(record, 1, HEAD, feed) == HEAD) {
-        unsigned length = record[7] | record[8] << 8;
+        unsigned length = record[7] | (unsigned)record[8] << 8;
         if (length < LEAST || length > MOST || fread(record + HEAD, 1, length, feed) != length)
             return 1;
         struct filter *filter = shared ? take_filter() : first;

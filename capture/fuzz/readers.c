@@ -1,8 +1,8 @@
 /* Gives drawn bytes to the readers of capture files, as libFuzzer asks for it; dev/trials/check_sanitized.py builds and
  * runs it. */
 #define _GNU_SOURCE
-#include "../feed.h"
-#include "../file.h"
+#include "../src/capture_file.h"
+#include "../src/feed.h"
 
 #include <stdio.h>
 #include <stdlib.h>
@@ -15,11 +15,11 @@ int LLVMFuzzerTestOneInput(const unsigned char *bytes, size_t len);
 
 /* Makes the records of all frames that a file gives. */
 static void read_frames(const char *path) {
-    struct file file = {.input.fd = -1};
+    struct capture_file file = {.input.fd = -1};
     struct feed feed = {.output.fd = -1};
-    struct found found;
+    struct file_frame frame;
     if (open_file(&file, path, EVERY_INTERFACE) && open_feed(&feed, "/dev/null"))
-        while (next_found(&file, &found) > 0 && put_frame(&feed, 0, &found.captured))
+        while (next_frame(&file, &frame) > 0 && put_frame(&feed, 0, &frame.captured))
             ;
     flush_feed(&feed);
     close_feed(&feed);

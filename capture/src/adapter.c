@@ -1,6 +1,6 @@
 #define _GNU_SOURCE
 #include "adapter.h"
-#include "words.h"
+#include "arguments.h"
 
 #include <inttypes.h>
 #include <linux/ethtool.h>

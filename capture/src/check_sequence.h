@@ -7,9 +7,6 @@
 
 enum { CHECK_SEQUENCE_LEN = 4 };
 
-/* Once, before the first call of `check_sequence`. */
-void prepare_check_sequences(void);
-
 /* The check sequence of a frame's bytes; its lowest byte goes onto the wire first. */
 uint32_t check_sequence(const unsigned char *frame, size_t len);
 

@@ -1,7 +1,7 @@
 #define _GNU_SOURCE
 #include "clock.h"
+#include "arguments.h"
 #include "events.h"
-#include "words.h"
 
 #include <inttypes.h>
 #include <pthread.h>

@@ -99,7 +99,7 @@ static int64_t between_notes(const struct counts *counts) {
 void tell_in_time(void *it) {
     struct interface *interface = it;
     struct counts *counts = &interface->counts;
-    if (!interface->words->is_quiet && is_due(&counts->next_line, BETWEEN_LINES))
+    if (!interface->arguments->is_quiet && is_due(&counts->next_line, BETWEEN_LINES))
         tell_counts(interface);
     if (has_events() && is_due(&counts->next_note, between_notes(counts))) {
         count_drops(interface);

@@ -1,6 +1,6 @@
 #define _GNU_SOURCE
 #include "events.h"
-#include "words.h"
+#include "arguments.h"
 
 #include <errno.h>
 #include <fcntl.h>

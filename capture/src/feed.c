@@ -34,7 +34,7 @@ void write_beside(struct feed *feed) {
         return;
     feed->bytes = more;
     feed->room = ROOM_BESIDE;
-    start_writer(&feed->writer, &feed->output, feed->room);
+    start_output_thread(&feed->writer, &feed->output, feed->room);
 }
 
 int flush_feed(struct feed *feed) {
@@ -128,7 +128,7 @@ int put_frame(struct feed *feed, uint64_t counter, const struct captured *captur
 }
 
 void close_feed(struct feed *feed) {
-    end_writer(&feed->writer);
+    end_output_thread(&feed->writer);
     close_output(&feed->output);
     free(feed->bytes);
     feed->bytes = NULL;

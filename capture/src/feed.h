@@ -3,7 +3,7 @@
 #define FEED_H
 
 #include "output.h"
-#include "writer.h"
+#include "output_thread.h"
 
 #include <stddef.h>
 #include <stdint.h>
@@ -12,7 +12,7 @@ enum { MARK_CHECK_SEQUENCE = 1, MARK_OTHER_FAULT = 2 };
 
 struct feed {
     struct output output;
-    struct writer writer; /* where it is started, it writes */
+    struct output_thread writer; /* where it is started, it writes */
     unsigned char *bytes;
     size_t len, room;
     int64_t since; /* when the first of the waiting bytes came */

@@ -1,6 +1,6 @@
 #define _GNU_SOURCE
 #include "input.h"
-#include "stop.h"
+#include "signals.h"
 
 #include <errno.h>
 #include <fcntl.h>
@@ -59,7 +59,7 @@ static int make_room(struct input *input, size_t len) {
 static int wait_for_bytes(struct input *input) {
     struct pollfd waits[2] = {{.fd = input->fd, .events = POLLIN}, {.fd = stop_fd}};
     if (input->before_waiting)
-        input->before_waiting(input->told);
+        input->before_waiting(input->listener);
     while (!is_stopping() && waits[0].revents == 0)
         poll(waits, 2, -1);
     return waits[0].revents != 0 || poll(waits, 1, LAST_WAIT_MS) > 0;

@@ -15,7 +15,7 @@ struct input {
     size_t begin, end, size;
     uint64_t at;                    /* the place in the file of the byte at `begin` */
     void (*before_waiting)(void *); /* called before a read that may wait */
-    void *told;
+    void *listener;
     char fault[FAULT_LEN]; /* what is wrong, where a call says so */
 };
 

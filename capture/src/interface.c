@@ -1,7 +1,7 @@
 #define _GNU_SOURCE
 #include "interface.h"
 #include "adapter.h"
-#include "stop.h"
+#include "signals.h"
 
 #include <errno.h>
 #include <inttypes.h>
@@ -36,9 +36,9 @@ static void take_frame(unsigned char *it, const struct pcap_pkthdr *head, const 
         interface->is_clock_of_its_own = 0;
         tell_adapter_clock(interface->name, moment);
     }
-    if (!interface->words->uses_adapter_clock)
+    if (!interface->arguments->uses_adapter_clock)
         moment = steady_moment(&interface->clock, moment);
-    put_frame(&interface->feed, counter_at(moment, &interface->words->origin), &captured);
+    put_frame(&interface->feed, counter_at(moment, &interface->arguments->origin), &captured);
 }
 
 /* Keeps further frames out of the kernel's buffer, past libpcap, which would take those in it for unwanted too. */
@@ -96,7 +96,7 @@ static int wait_until_back(struct interface *interface) {
 /* Keeps that a switch was done, or can't be, by this error. */
 static void note_switch(struct interface *interface, int asked, enum switching switching, int error) {
     if (switching == SWITCH_FAILED)
-        tell("%s: %s: %s, and it goes on as before", interface->name, interface->way->to, strerror(error));
+        tell("%s: %s: %s, and it goes on as before", interface->name, interface->route->to, strerror(error));
     if (switching != SWITCH_LATER)
         interface->switched = asked;
 }
@@ -137,7 +137,7 @@ static int wait_for_next_feed(struct interface *interface) {
     const struct output *output = &interface->feed.output;
     if (output->state != OUTPUT_LEFT && !is_held(interface->switched))
         return 0;
-    int64_t until = steady_now() + interface->words->hold_seconds * (int64_t)NANOSECONDS_PER_SECOND;
+    int64_t until = steady_now() + interface->arguments->hold_seconds * (int64_t)NANOSECONDS_PER_SECOND;
     while (!is_stopping() && (is_held(interface->switched) || (!is_open(output) && steady_now() < until))) {
         struct pollfd stop = {.fd = stop_fd};
         poll(&stop, 1, SWITCH_PAUSE_MS);
@@ -158,7 +158,7 @@ static int pause_of(const struct interface *interface) {
     int64_t left = (interface->counts.next_line - steady_now()) / 1000000 + 1;
     if (interface->switched != switches_asked())
         return SWITCH_PAUSE_MS;
-    if (interface->words->is_quiet || left > MOST_PAUSE_MS)
+    if (interface->arguments->is_quiet || left > MOST_PAUSE_MS)
         return MOST_PAUSE_MS;
     return left > 0 ? (int)left : 0;
 }
@@ -212,9 +212,9 @@ static int turn(struct interface *interface) {
 void run_interface(struct interface *interface) {
     struct feed *feed = &interface->feed;
     feed->output.while_waiting = tell_in_time;
-    feed->output.told = interface;
+    feed->output.listener = interface;
     begin_counts(interface);
-    if (open_feed(feed, interface->way->to))
+    if (open_feed(feed, interface->route->to))
         do
             while (turn(interface))
                 ;
@@ -226,13 +226,13 @@ void run_interface(struct interface *interface) {
         tell("%s: the interface is gone", interface->name);
     int was_open = is_open(&feed->output);
     if (!was_open)
-        tell("%s: %s %s", interface->name, interface->way->to, output_fault(&feed->output));
+        tell("%s: %s %s", interface->name, interface->route->to, output_fault(&feed->output));
     /* Before the pipe is closed, so that the counts come ahead of what its reader tells then. */
     tell_counts(interface);
     note_counts(interface);
     close_feed(feed);
     if (was_open && !is_open(&feed->output))
-        tell("%s: %s %s", interface->name, interface->way->to, output_fault(&feed->output));
+        tell("%s: %s %s", interface->name, interface->route->to, output_fault(&feed->output));
     close_pcap(interface);
 }
 

@@ -2,19 +2,19 @@
 #ifndef INTERFACE_H
 #define INTERFACE_H
 
+#include "arguments.h"
 #include "clock.h"
 #include "counts.h"
 #include "feed.h"
 #include "moment.h"
-#include "words.h"
 
 #include <pcap/pcap.h>
 #include <stdatomic.h>
 
 struct interface {
     const char *name;
-    const struct way *way;
-    const struct words *words;
+    const struct route *route;
+    const struct arguments *arguments;
     pcap_t *pcap;    /* NULL once it is closed */
     unsigned number; /* the kernel's */
     int has_check_sequences;
@@ -33,7 +33,7 @@ struct interface {
 
 /* Begins to capture an interface's frames, which the kernel keeps until they are taken. Whether it could;
  * else a line has said why not. */
-int open_interface(struct interface *interface, const struct way *way, const struct words *words);
+int open_interface(struct interface *interface, const struct route *route, const struct arguments *arguments);
 
 /* Tells how much the kernel really keeps of it: it has room for as many frames as slots of the longest fit. */
 void tell_buffer(const struct interface *interface);

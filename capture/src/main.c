@@ -1,15 +1,15 @@
-/* Makes feeds for bpfrec of the frames of interfaces and of capture files. `capture --help` has its words.
+/* Makes feeds for bpfrec of the frames of interfaces and of capture files. `capture --help` has its arguments.
  *
  * Nothing of it is proved. Each interface or file has a thread of its own, so that none waits for another's pipe. */
 #define _GNU_SOURCE
+#include "arguments.h"
 #include "check_sequence.h"
 #include "clock.h"
-#include "conversion.h"
+#include "convert.h"
 #include "events.h"
 #include "interface.h"
 #include "privileges.h"
-#include "stop.h"
-#include "words.h"
+#include "signals.h"
 
 #include <errno.h>
 #include <fcntl.h>
@@ -58,37 +58,37 @@ static int is_same(const char *path, const char *other) {
 }
 
 /* The first feed that is another one too, or the input of its way; NULL where there is none. */
-static const char *shared_path(const struct words *words) {
-    for (int i = 0; i < words->count; i++) {
-        const struct way *way = &words->ways[i];
-        if (words->are_files && strcmp(way->to, "-") != 0 && is_same(way->to, way->from))
-            return way->to;
+static const char *shared_path(const struct arguments *arguments) {
+    for (int i = 0; i < arguments->count; i++) {
+        const struct route *route = &arguments->routes[i];
+        if (arguments->are_files && strcmp(route->to, "-") != 0 && is_same(route->to, route->from))
+            return route->to;
         for (int before = 0; before < i; before++)
-            if (is_same(way->to, words->ways[before].to) ||
-                (words->are_files && is_same(way->from, words->ways[before].to)) ||
-                (words->are_files && is_same(way->to, words->ways[before].from)))
-                return way->to;
+            if (is_same(route->to, arguments->routes[before].to) ||
+                (arguments->are_files && is_same(route->from, arguments->routes[before].to)) ||
+                (arguments->are_files && is_same(route->to, arguments->routes[before].from)))
+                return route->to;
     }
     return NULL;
 }
 
 /* Opens all interfaces, so that nothing is begun where one can't be. Whether they are open. */
-static int open_all(struct work *works, const struct words *words) {
-    for (int i = 0; i < words->count; i++) {
-        const struct way *way = &words->ways[i];
-        works[i].is_file = words->are_files;
-        if (words->are_files)
-            works[i].conversion = (struct conversion){.from = way->from, .to = way->to, .words = words};
-        else if (!open_interface(&works[i].interface, way, words))
+static int open_all(struct work *works, const struct arguments *arguments) {
+    for (int i = 0; i < arguments->count; i++) {
+        const struct route *route = &arguments->routes[i];
+        works[i].is_file = arguments->are_files;
+        if (arguments->are_files)
+            works[i].conversion = (struct conversion){.from = route->from, .to = route->to, .arguments = arguments};
+        else if (!open_interface(&works[i].interface, route, arguments))
             return 0;
     }
     return 1;
 }
 
 /* Tells what interfaces have lost. Whether one has. */
-static int tell_all_lost(const struct work *works, const struct words *words) {
+static int tell_all_lost(const struct work *works, const struct arguments *arguments) {
     int has_lost = 0;
-    for (int i = 0; i < words->count && !words->are_files; i++)
+    for (int i = 0; i < arguments->count && !arguments->are_files; i++)
         has_lost |= tell_lost(&works[i].interface);
     return has_lost;
 }
@@ -140,58 +140,57 @@ static void follow_parent(pid_t parent) {
 }
 
 /* Begins what interfaces want beside their frames: facts, counters, no privileges. Whether it could. */
-static int begin_live(const struct work *works, const struct words *words) {
+static int begin_live(const struct work *works, const struct arguments *arguments) {
     char text[SECONDS_TEXT_LEN];
-    for (int i = 0; i < words->count; i++)
+    for (int i = 0; i < arguments->count; i++)
         tell_buffer(&works[i].interface);
     drop_privileges();
-    follow_parent(words->parent);
-    share_pipes(words->count);
-    if (words->events != NULL && !open_events(words->events))
+    follow_parent(arguments->parent);
+    share_pipes(arguments->count);
+    if (arguments->events != NULL && !open_events(arguments->events))
         return 0;
-    print_seconds(words->origin.at, text);
+    print_seconds(arguments->origin.at, text);
     tell("origin %s", text);
     tell_event("{\"origin\": \"%s\", \"counter\": 0}", text);
     return 1;
 }
 
 /* Records interfaces. The status. */
-static int run_live(struct work *works, const struct words *words) {
-    if (!begin_live(works, words))
+static int run_live(struct work *works, const struct arguments *arguments) {
+    if (!begin_live(works, arguments))
         return NOT_BEGUN;
-    int status = run_all(works, words->count, words->uses_adapter_clock ? NULL : follow_settings);
+    int status = run_all(works, arguments->count, arguments->uses_adapter_clock ? NULL : follow_settings);
     tell_settings(1);
-    int has_lost = tell_all_lost(works, words);
-    return status == WELL && has_lost && words->is_strict ? LOST : status;
+    int has_lost = tell_all_lost(works, arguments);
+    return status == WELL && has_lost && arguments->is_strict ? LOST : status;
 }
 
-/* Does what the words say. The status. */
-static int run_words(struct work *works, struct words *words) {
-    prepare_check_sequences();
-    if (!prepare_stop() || !find_origin(words))
+/* Does what the arguments say. The status. */
+static int run_arguments(struct work *works, struct arguments *arguments) {
+    if (!prepare_stop() || !find_origin(arguments))
         return NOT_BEGUN;
-    start_clock(&words->origin);
-    if (!open_all(works, words))
+    start_clock(&arguments->origin);
+    if (!open_all(works, arguments))
         return NOT_BEGUN;
-    return words->are_files ? run_all(works, words->count, NULL) : run_live(works, words);
+    return arguments->are_files ? run_all(works, arguments->count, NULL) : run_live(works, arguments);
 }
 
 int main(int argc, char **argv) {
-    struct words words;
+    struct arguments arguments;
     if (!fill_streams())
         return NOT_BEGUN;
-    int is_done, status = read_words(argc, argv, &words, &is_done);
+    int is_done, status = read_arguments(argc, argv, &arguments, &is_done);
     if (status != 0 || is_done)
         return status;
-    const char *shared = shared_path(&words);
+    const char *shared = shared_path(&arguments);
     if (shared != NULL) {
         tell("%s: it is used twice", shared);
         return NOT_BEGUN;
     }
-    struct work *works = calloc((size_t)words.count, sizeof *works);
-    status = works != NULL ? run_words(works, &words) : NOT_BEGUN;
+    struct work *works = calloc((size_t)arguments.count, sizeof *works);
+    status = works != NULL ? run_arguments(works, &arguments) : NOT_BEGUN;
     free(works);
-    free(words.ways);
-    free(words.prefilters);
+    free(arguments.routes);
+    free(arguments.prefilters);
     return status;
 }

@@ -1,7 +1,7 @@
 #define _GNU_SOURCE
 #include "output.h"
 #include "moment.h"
-#include "stop.h"
+#include "signals.h"
 
 #include <errno.h>
 #include <fcntl.h>
@@ -54,7 +54,7 @@ static int open_path(struct output *output, const char *path) {
         if (is_hurried() || (end != 0 && steady_now() > end))
             return -1;
         if (output->while_waiting)
-            output->while_waiting(output->told);
+            output->while_waiting(output->listener);
     }
 }
 
@@ -85,7 +85,7 @@ static void wait_for_room(struct output *output) {
     if (ready > 0 && waits[1].revents != 0)
         ended(output, OUTPUT_ABANDONED, 0);
     else if (ready == 0 && output->while_waiting)
-        output->while_waiting(output->told);
+        output->while_waiting(output->listener);
 }
 
 int write_all(struct output *output, const unsigned char *bytes, size_t len) {

@@ -20,7 +20,7 @@ struct output {
     int64_t waited;                /* nanoseconds for which the pipe was full */
     uint64_t taken;                /* bytes that went out */
     void (*while_waiting)(void *); /* called now and then while the pipe is full */
-    void *told;
+    void *listener;
 };
 
 /* Says how many outputs there are: a user may have pipes of 64 MiB in all, and there are twice as many while feeds

@@ -1,5 +1,5 @@
 #include "prefilter.h"
-#include "words.h"
+#include "arguments.h"
 
 #include <errno.h>
 #include <linux/filter.h>

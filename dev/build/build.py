@@ -8,7 +8,7 @@ depend on each other are proved side by side, the one with the longest way to th
 processors that the others leave: an interrupted build goes on with the crates that it hadn't finished.
 It says about how many functions are proved, and how long the rest is likely to take by dev/build/costs.txt, which
 --keep-costs, or KEEP_COSTS=1 for make, writes anew. After the program itself it builds bin/capture, where that can be built
-(capture/build.sh); the recorder doesn't need it. What a step prints goes to bin/steps/, and is shown where it fails.
+(capture/Makefile); the recorder doesn't need it. What a step prints goes to bin/steps/, and is shown where it fails.
 RT names another command than `rt`.
 """
 import shutil
@@ -32,7 +32,7 @@ def build(top, keeps):
     shutil.copy2(ROOT / "crates" / top / "out" / top, ROOT / "bin" / top)
     print(f"bin/{top} is built", flush=True)
     if top == "bpfrec":
-        subprocess.run([ROOT / "capture" / "build.sh"])
+        subprocess.run(["make", "-s", "-C", ROOT / "capture"])
     return 0
 
 

@@ -15,7 +15,7 @@ elif [[ $# != 0 ]]; then
     echo "$usage" >&2
     exit 2
 fi
-cd "$(dirname "$0")/../.."
+cd "$(dirname "$0")/../.." || exit 3
 program=bin/bpfrec
 if [[ ${UNPROVED:-} ]]; then
     program=bin/bpfrec-unproved

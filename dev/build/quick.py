@@ -43,8 +43,13 @@ def tried(top, name):
     """Runs the tests of one crate: how many passed, and how many failed."""
     began = time.monotonic()
     ran = subprocess.run(
-        [*RT, "try", "--test", "--seconds", "600"], cwd=top / "crates" / name, text=True, errors="replace",
-        stdin=subprocess.DEVNULL, stdout=subprocess.PIPE, stderr=subprocess.STDOUT,
+        [*RT, "try", "--test", "--seconds", "600"],
+        cwd=top / "crates" / name,
+        text=True,
+        errors="replace",
+        stdin=subprocess.DEVNULL,
+        stdout=subprocess.PIPE,
+        stderr=subprocess.STDOUT,
     )
     passed = len(re.findall(r"(?m)^test \S+ \.\.\. ok", ran.stdout))
     failed = len(re.findall(r"(?m)^test \S+ \.\.\. (?!ok)", ran.stdout)) or int(ran.returncode != 0)
@@ -60,9 +65,9 @@ def main():
     if set(words) - set(with_tests):
         print(__doc__.strip())
         return 0 if {"-h", "--help"} & set(words) else 2
-    counts = [(int(status == 0), int(status != 0)) for status in [
-        subprocess.run([ROOT / it]).returncode for it in CHECKS
-    ]]
+    counts = [
+        (int(status == 0), int(status != 0)) for status in [subprocess.run([ROOT / it]).returncode for it in CHECKS]
+    ]
     with tempfile.TemporaryDirectory(prefix="bpfrec-quick-") as top:
         copy_to(Path(top))
         make_fewer(Path(top))

@@ -101,7 +101,9 @@ class Step:
         with open(self.log, "w") as log:
             self.process = subprocess.Popen(
                 [sys.executable, ROOT / "dev" / "build" / "step.py", self.kind, self.crate, str(jobs), *words],
-                stdin=subprocess.DEVNULL, stdout=log, stderr=subprocess.STDOUT,
+                stdin=subprocess.DEVNULL,
+                stdout=log,
+                stderr=subprocess.STDOUT,
             )
 
     def ended(self):

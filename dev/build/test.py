@@ -35,7 +35,9 @@ def steps_of_edits(words):
     changed = [it for it in libraries() if it not in known or known[it].all != sums_of(it).all]
     others = in_turn(it for it in changed if it in known and known[it].own == sums_of(it).own)
     steps = [step for it in changed if it not in others for step in edit_steps(it, 1)]
-    return steps + [step for turn, it in enumerate(others, 2) for step in edit_steps(it, turn, words.edits_within is not None)]
+    return steps + [
+        step for turn, it in enumerate(others, 2) for step in edit_steps(it, turn, words.edits_within is not None)
+    ]
 
 
 def left_of(steps):
@@ -44,13 +46,17 @@ def left_of(steps):
 
 
 def parse_words():
-    parser = argparse.ArgumentParser(prog="dev/build/test.py", description=__doc__, formatter_class=argparse.RawDescriptionHelpFormatter)
+    parser = argparse.ArgumentParser(
+        prog="dev/build/test.py", description=__doc__, formatter_class=argparse.RawDescriptionHelpFormatter
+    )
     parser.add_argument("--keep-costs", action="store_true", help="writes dev/build/costs.txt")
     edits = parser.add_mutually_exclusive_group()
     edits.add_argument("--edits", action="store_true", help="tries all edits")
     edits.add_argument("--no-edits", action="store_true", help="tries none")
     edits.add_argument(
-        "--edits-within", type=int, metavar="MINUTES",
+        "--edits-within",
+        type=int,
+        metavar="MINUTES",
         help="begins no edits that aren't likely to end within so many minutes, but those of crates whose own files "
         "changed; the crates whose edits are left are named, aren't written as seen, and come first in the next run",
     )
@@ -61,7 +67,9 @@ def tell_left(left):
     """Names the crates whose edits were left."""
     known = seen()
     for it in left:
-        print(f"LEFT: edits of {it}, whose own files are as {known[it].kit} refused them: dev/build/test.py --edits tries them")
+        print(
+            f"LEFT: edits of {it}, whose own files are as {known[it].kit} refused them: dev/build/test.py --edits tries them"
+        )
     write_left(left)
 
 

@@ -3,7 +3,7 @@
 # own folder, and rt takes no links, so these files stand twice and must be the same to the byte. And
 # that the callers on the crates' pages are those that are proved.
 set -uo pipefail
-cd "$(dirname "$0")/../.."
+cd "$(dirname "$0")/../.." || exit 3
 status=0
 
 # same EXAMPLE TESTED: both are files with the same bytes

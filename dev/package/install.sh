@@ -14,7 +14,7 @@ share/zsh/site-functions.
 Status: 0 done, 2 wrong words, 3 something to install is missing or not proved, else that of the command that
 failed.'
 
-cd "$(dirname "$0")/../.."
+cd "$(dirname "$0")/../.." || exit 3
 PREFIX=${PREFIX:-/usr/local} DESTDIR=${DESTDIR:-} ZSH=${ZSH:-share/zsh/site-functions}
 to=$DESTDIR$PREFIX
 tools=(convert info live preflight salvage)

@@ -15,7 +15,7 @@ case ${*:-} in
     -h | --help) echo "$usage"; exit 0 ;;
     *) echo "$usage" >&2; exit 2 ;;
 esac
-cd "$(dirname "$0")/../.."
+cd "$(dirname "$0")/../.." || exit 3
 if ! command -v dpkg-deb > /dev/null; then
     echo "make deb wants dpkg-deb: it is Debian's dpkg" >&2
     exit 3

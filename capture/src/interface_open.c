@@ -53,13 +53,13 @@ static int use_adapter_clock(struct interface *interface) {
 static int set_up(struct interface *interface) {
     pcap_t *pcap = interface->pcap;
     const char *name = interface->name;
-    const struct words *words = interface->words;
+    const struct arguments *arguments = interface->arguments;
     pcap_set_snaplen(pcap, MOST_CAPTURED);
-    pcap_set_promisc(pcap, words->is_promiscuous);
+    pcap_set_promisc(pcap, arguments->is_promiscuous);
     pcap_set_immediate_mode(pcap, 1);
-    pcap_set_buffer_size(pcap, words->buffer_mib * BYTES_A_MIB);
+    pcap_set_buffer_size(pcap, arguments->buffer_mib * BYTES_A_MIB);
     pcap_set_tstamp_precision(pcap, PCAP_TSTAMP_PRECISION_NANO);
-    if (words->uses_adapter_clock && !use_adapter_clock(interface))
+    if (arguments->uses_adapter_clock && !use_adapter_clock(interface))
         return refused(name, "its adapter gives no times");
     int status = pcap_activate(pcap);
     if (status < 0)
@@ -81,7 +81,7 @@ static int set_direction(pcap_t *pcap, const char *name, enum direction directio
 static void note_adapter(struct interface *interface) {
     struct adapter adapter;
     ask_adapter(interface->name, &adapter);
-    enum check_sequences asked = interface->words->check_sequences;
+    enum check_sequences asked = interface->arguments->check_sequences;
     interface->has_check_sequences = asked == AS_THE_ADAPTER_SAYS ? adapter.gives_check_sequences : asked == GIVEN;
     if (adapter.joining[0] != 0)
         tell("%s: the kernel may join frames (%s), and a joined frame is none of the wire: ethtool -K %s gro off lro "
@@ -99,12 +99,12 @@ void tell_buffer(const struct interface *interface) {
 /* Opens an interface that is there by now, as it was asked for. */
 static int open_pcap(struct interface *interface) {
     char error[PCAP_ERRBUF_SIZE];
-    const char *name = interface->name, *prefilter = interface->way->prefilter;
+    const char *name = interface->name, *prefilter = interface->route->prefilter;
     interface->number = if_nametoindex(name);
     interface->pcap = pcap_create(name, error);
     if (interface->pcap == NULL)
         return refused(name, error);
-    if (!set_up(interface) || !set_direction(interface->pcap, name, interface->words->direction))
+    if (!set_up(interface) || !set_direction(interface->pcap, name, interface->arguments->direction))
         return 0;
     if (prefilter != NULL && !drop_by_listing(interface->pcap, name, prefilter))
         return 0;
@@ -117,8 +117,9 @@ static int open_pcap(struct interface *interface) {
     return 1;
 }
 
-int open_interface(struct interface *interface, const struct way *way, const struct words *words) {
-    *interface = (struct interface){.name = way->from, .way = way, .words = words, .feed = {.output.fd = -1}};
+int open_interface(struct interface *interface, const struct route *route, const struct arguments *arguments) {
+    *interface =
+        (struct interface){.name = route->from, .route = route, .arguments = arguments, .feed = {.output.fd = -1}};
     return open_pcap(interface);
 }
 

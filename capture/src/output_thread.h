@@ -1,6 +1,6 @@
 /* A thread that writes a feed's full buffers, while the next ones are filled. */
-#ifndef WRITER_H
-#define WRITER_H
+#ifndef OUTPUT_THREAD_H
+#define OUTPUT_THREAD_H
 
 #include "output.h"
 
@@ -9,7 +9,7 @@
 /* So many that neither thread often waits for the other. */
 enum { BLOCKS = 8 };
 
-struct writer {
+struct output_thread {
     struct output *output;
     struct {
         unsigned char *bytes;
@@ -24,13 +24,13 @@ struct writer {
 };
 
 /* Starts the thread, with blocks of so many bytes. Where it can't be, `is_started` stays 0. */
-void start_writer(struct writer *writer, struct output *output, size_t room);
+void start_output_thread(struct output_thread *writer, struct output *output, size_t room);
 
 /* Gives it a block to write, once there is another for it, which is taken in its place. Whether the output was still
  * open then; until the thread has ended, it alone looks at the output. */
-int hand_over(struct writer *writer, unsigned char **bytes, size_t len);
+int hand_over(struct output_thread *writer, unsigned char **bytes, size_t len);
 
 /* Ends it once all is written. */
-void end_writer(struct writer *writer);
+void end_output_thread(struct output_thread *writer);
 
 #endif

@@ -1,6 +1,6 @@
+#include "capture_file_formats.h"
 #include "check_sequence.h"
-#include "forms.h"
-#include "option.h"
+#include "pcapng_option.h"
 
 #include <errno.h>
 #include <inttypes.h>
@@ -46,16 +46,16 @@ static int64_t signed_number(const struct input *input, const unsigned char *at)
     return (int64_t)(input->is_big_endian ? first << 32 | second : second << 32 | first);
 }
 
-static int read_section(struct file *file, const unsigned char *block) {
+static int read_section(struct capture_file *file, const unsigned char *block) {
     unsigned major = half(&file->input, block + 12);
     file->count = 0;
     return major == 1 ? 1 : refuse(&file->input, "pcapng version %u", major);
 }
 
-static int read_interface(struct file *file, const unsigned char *block, const unsigned char *end) {
+static int read_interface(struct capture_file *file, const unsigned char *block, const unsigned char *end) {
     struct input *input = &file->input;
-    struct described *it = add_interface(file);
-    struct option option;
+    struct file_interface *it = add_interface(file);
+    struct pcapng_option option;
     if (it == NULL)
         return refuse(input, "%s", strerror(ENOMEM));
     it->link_type = half(input, block + 8);
@@ -74,7 +74,7 @@ static int read_interface(struct file *file, const unsigned char *block, const u
     return 1;
 }
 
-static nanoseconds moment_of(const struct described *it, uint64_t units) {
+static nanoseconds moment_of(const struct file_interface *it, uint64_t units) {
     nanoseconds since = units;
     if (it->units_per_second != NANOSECONDS_PER_SECOND)
         since = since * NANOSECONDS_PER_SECOND / (nanoseconds)it->units_per_second;
@@ -82,10 +82,10 @@ static nanoseconds moment_of(const struct described *it, uint64_t units) {
 }
 
 /* What a packet block says of its frame beside the bytes. */
-static int read_flags(struct file *file, const unsigned char *at, const unsigned char *end,
+static int read_flags(struct capture_file *file, const unsigned char *at, const unsigned char *end,
                       unsigned *check_sequence_len, unsigned *marks) {
     struct input *input = &file->input;
-    struct option option;
+    struct pcapng_option option;
     while (next_option(input, &at, end, &option)) {
         if (option.code != OPTION_PACKET_FLAGS || option.len != 4)
             continue;
@@ -98,7 +98,8 @@ static int read_flags(struct file *file, const unsigned char *at, const unsigned
     return judge_check_sequence(file, *check_sequence_len);
 }
 
-static int read_packet(struct file *file, const unsigned char *block, const unsigned char *end, struct found *found) {
+static int read_packet(struct capture_file *file, const unsigned char *block, const unsigned char *end,
+                       struct file_frame *frame) {
     struct input *input = &file->input;
     int is_old = word(input, block) == OLD_PACKET_BLOCK;
     uint32_t number = is_old ? half(input, block + 8) : word(input, block + 8);
@@ -108,7 +109,7 @@ static int read_packet(struct file *file, const unsigned char *block, const unsi
         return 0;
     if (judge_interface(file, number) < 0)
         return -1;
-    const struct described *it = &file->interfaces[number];
+    const struct file_interface *it = &file->interfaces[number];
     uint64_t units = (uint64_t)word(input, block + 12) << 32 | word(input, block + 16);
     uint32_t captured = word(input, block + 20), len = word(input, block + 24);
     if (captured > MOST_CAPTURED || captured > (size_t)(end - block) - 28)
@@ -117,13 +118,14 @@ static int read_packet(struct file *file, const unsigned char *block, const unsi
     const unsigned char *options = block + 28 + ((captured + 3) & ~(uint32_t)3);
     if (read_flags(file, options, end, &check_sequence_len, &marks) < 0)
         return -1;
-    found->captured = (struct captured){block + 28, captured, captured >= len, check_sequence_len != 0, marks};
-    found->has_time = 1;
-    found->moment = moment_of(it, units);
+    frame->captured = (struct captured){block + 28, captured, captured >= len, check_sequence_len != 0, marks};
+    frame->has_time = 1;
+    frame->moment = moment_of(it, units);
     return 1;
 }
 
-static int read_simple(struct file *file, const unsigned char *block, const unsigned char *end, struct found *found) {
+static int read_simple(struct capture_file *file, const unsigned char *block, const unsigned char *end,
+                       struct file_frame *frame) {
     struct input *input = &file->input;
     if (file->count == 0)
         return refuse(input, "no interface 0 at byte %" PRIu64, input->at);
@@ -131,21 +133,21 @@ static int read_simple(struct file *file, const unsigned char *block, const unsi
         return 0;
     if (judge_interface(file, 0) < 0)
         return -1;
-    const struct described *it = &file->interfaces[0];
+    const struct file_interface *it = &file->interfaces[0];
     uint32_t len = word(input, block + 8);
     uint32_t captured = it->most_captured && it->most_captured < len ? it->most_captured : len;
     if (captured > MOST_CAPTURED || captured > (size_t)(end - block) - 12)
         return refuse(input, "captured length %" PRIu32 " at byte %" PRIu64, captured, input->at);
     if (judge_check_sequence(file, it->check_sequence_len) < 0)
         return -1;
-    found->captured = (struct captured){block + 12, captured, captured >= len, it->check_sequence_len != 0, 0};
-    found->has_time = 0;
+    frame->captured = (struct captured){block + 12, captured, captured >= len, it->check_sequence_len != 0, 0};
+    frame->has_time = 0;
     return 1;
 }
 
 /* ---- blocks */
 
-int is_of_blocks(struct file *file) {
+int is_pcapng(struct capture_file *file) {
     file->input.is_big_endian = 0;
     return word(&file->input, next_bytes(&file->input)) == SECTION_BLOCK;
 }
@@ -197,7 +199,7 @@ static int next_block(struct input *input, uint32_t *type, size_t *len) {
 }
 
 /* What a block says: 1 for a frame, 0 for anything else, -1 at a fault. */
-static int read_block(struct file *file, uint32_t type, size_t len, struct found *found) {
+static int read_block(struct capture_file *file, uint32_t type, size_t len, struct file_frame *frame) {
     struct input *input = &file->input;
     const unsigned char *block = next_bytes(input), *end = block + len - BLOCK_TAIL_LEN;
     switch (type) {
@@ -206,16 +208,16 @@ static int read_block(struct file *file, uint32_t type, size_t len, struct found
     case INTERFACE_BLOCK:
         return read_interface(file, block, end) < 0 ? -1 : 0;
     case SIMPLE_PACKET_BLOCK:
-        return read_simple(file, block, end, found);
+        return read_simple(file, block, end, frame);
     case OLD_PACKET_BLOCK:
     case PACKET_BLOCK:
-        return read_packet(file, block, end, found);
+        return read_packet(file, block, end, frame);
     default:
         return 0;
     }
 }
 
-int next_of_blocks(struct file *file, struct found *found) {
+int next_pcapng_frame(struct capture_file *file, struct file_frame *frame) {
     struct input *input = &file->input;
     for (;;) {
         uint32_t type = 0;
@@ -225,7 +227,7 @@ int next_of_blocks(struct file *file, struct found *found) {
             return refuse(input, "no interface %d", file->chosen);
         if (more <= 0)
             return more;
-        int outcome = read_block(file, type, len, found);
+        int outcome = read_block(file, type, len, frame);
         if (outcome < 0)
             return -1;
         pass(input, len);

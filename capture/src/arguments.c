@@ -1,6 +1,6 @@
 #define _GNU_SOURCE
-#include "words.h"
-#include "file.h"
+#include "arguments.h"
+#include "capture_file.h"
 
 #include <getopt.h>
 #include <limits.h>
@@ -157,42 +157,42 @@ static int choice_of(const char *word, const char *const *choices, int *choice) 
 }
 
 /* Takes an option's value; whether it is one. */
-static int take_option(int option, const char *value, struct words *words) {
+static int take_option(int option, const char *value, struct arguments *arguments) {
     static const char *const DIRECTIONS[] = {"both", "in", "out", NULL}, *const CLOCKS[] = {"host", "adapter", NULL};
     static const char *const CHECK_SEQUENCES[] = {"adapter", "given", "missing", NULL};
     int choice, is_right = 1;
     switch (option) {
     case ORIGIN:
-        return origin_of(value, &words->origin);
+        return origin_of(value, &arguments->origin);
     case BUFFER:
-        return number_of(value, LEAST_BUFFER, MOST_BUFFER, &words->buffer_mib);
+        return number_of(value, LEAST_BUFFER, MOST_BUFFER, &arguments->buffer_mib);
     case INTERFACE:
-        return number_of(value, 0, MOST_INTERFACE, &words->interface);
+        return number_of(value, 0, MOST_INTERFACE, &arguments->interface);
     case DIRECTION:
         is_right = choice_of(value, DIRECTIONS, &choice);
-        words->direction = (enum direction)choice;
+        arguments->direction = (enum direction)choice;
         return is_right;
     case CLOCK:
-        return choice_of(value, CLOCKS, &words->uses_adapter_clock);
+        return choice_of(value, CLOCKS, &arguments->uses_adapter_clock);
     case CHECK_SEQUENCE:
         is_right = choice_of(value, CHECK_SEQUENCES, &choice);
-        words->check_sequences = (enum check_sequences)choice;
+        arguments->check_sequences = (enum check_sequences)choice;
         return is_right;
     case HOLD:
-        return number_of(value, 0, MOST_HOLD, &words->hold_seconds);
+        return number_of(value, 0, MOST_HOLD, &arguments->hold_seconds);
     case PARENT:
-        return number_of(value, 1, INT_MAX, &words->parent);
+        return number_of(value, 1, INT_MAX, &arguments->parent);
     case EVENTS:
-        words->events = value;
+        arguments->events = value;
         return 1;
     case NO_PROMISCUOUS:
-        words->is_promiscuous = 0;
+        arguments->is_promiscuous = 0;
         return 1;
     case STRICT:
-        words->is_strict = 1;
+        arguments->is_strict = 1;
         return 1;
     default:
-        words->is_quiet = 1;
+        arguments->is_quiet = 1;
         return 1;
     }
 }
@@ -203,33 +203,33 @@ static int wrong(const char *what, const char *word) {
 }
 
 /* Takes apart INTERFACE=PIPE at its first sign, and FILE=FEED at its last. */
-static int take_way(char *given, struct words *words) {
-    char *sign = words->are_files ? strrchr(given, '=') : strchr(given, '=');
+static int take_route(char *given, struct arguments *arguments) {
+    char *sign = arguments->are_files ? strrchr(given, '=') : strchr(given, '=');
     if (sign == NULL || sign == given || sign[1] == 0)
-        return wrong(words->are_files ? "no FILE=FEED: " : "no INTERFACE=PIPE: ", given);
+        return wrong(arguments->are_files ? "no FILE=FEED: " : "no INTERFACE=PIPE: ", given);
     *sign = 0;
-    words->ways[words->count++] = (struct way){given, sign + 1, NULL};
+    arguments->routes[arguments->count++] = (struct route){given, sign + 1, NULL};
     return 0;
 }
 
 /* Takes INTERFACE=LISTING apart, for when its way is known. Whether it is one. */
-static int take_prefilter(char *given, struct words *words) {
+static int take_prefilter(char *given, struct arguments *arguments) {
     char *sign = strchr(given, '=');
     if (sign == NULL || sign == given || sign[1] == 0)
         return 0;
     *sign = 0;
-    words->prefilters[words->prefilter_count++] = (struct way){given, sign + 1, NULL};
+    arguments->prefilters[arguments->prefilter_count++] = (struct route){given, sign + 1, NULL};
     return 1;
 }
 
 /* Gives each way its prefilter. 0, or the status where one is of no way. */
-static int place_prefilters(struct words *words) {
-    for (int i = 0; i < words->prefilter_count; i++) {
-        const struct way *prefilter = &words->prefilters[i];
+static int place_prefilters(struct arguments *arguments) {
+    for (int i = 0; i < arguments->prefilter_count; i++) {
+        const struct route *prefilter = &arguments->prefilters[i];
         int is_placed = 0;
-        for (int at = 0; at < words->count; at++)
-            if (!words->are_files && strcmp(words->ways[at].from, prefilter->from) == 0) {
-                words->ways[at].prefilter = prefilter->to;
+        for (int at = 0; at < arguments->count; at++)
+            if (!arguments->are_files && strcmp(arguments->routes[at].from, prefilter->from) == 0) {
+                arguments->routes[at].prefilter = prefilter->to;
                 is_placed = 1;
             }
         if (!is_placed)
@@ -238,13 +238,13 @@ static int place_prefilters(struct words *words) {
     return 0;
 }
 
-static int read_ways(int count, char **given, struct words *words) {
+static int read_routes(int count, char **given, struct arguments *arguments) {
     int status = 0;
     for (int i = 0; i < count && status == 0; i++)
-        status = take_way(given[i], words);
-    if (status == 0 && words->count == 0)
+        status = take_route(given[i], arguments);
+    if (status == 0 && arguments->count == 0)
         return wrong("nothing to capture", "");
-    return status == 0 ? place_prefilters(words) : status;
+    return status == 0 ? place_prefilters(arguments) : status;
 }
 
 /* The kernel's buffer for each of so many interfaces, in MiB, where no other is given. */
@@ -254,35 +254,35 @@ static int usual_buffer(int count) {
     return share >= USUAL_BUFFER ? USUAL_BUFFER : share > LEAST_BUFFER ? (int)share : LEAST_BUFFER;
 }
 
-int read_words(int argc, char **argv, struct words *words, int *is_done) {
+int read_arguments(int argc, char **argv, struct arguments *arguments, int *is_done) {
     int option, has_origin = 0, status = 0;
-    *words = (struct words){.interface = EVERY_INTERFACE, .is_promiscuous = 1};
+    *arguments = (struct arguments){.interface = EVERY_INTERFACE, .is_promiscuous = 1};
     *is_done = 0;
-    words->ways = calloc((size_t)argc, sizeof *words->ways);
-    words->prefilters = calloc((size_t)argc, sizeof *words->prefilters);
+    arguments->routes = calloc((size_t)argc, sizeof *arguments->routes);
+    arguments->prefilters = calloc((size_t)argc, sizeof *arguments->prefilters);
     while (status == 0 && (option = getopt_long(argc, argv, "r:", OPTIONS, NULL)) != -1) {
         if (option == HELP) {
             *is_done = 1;
             return fputs(USAGE, stdout) < 0 || fflush(stdout) != 0;
         }
-        if (option == '?' || words->ways == NULL || words->prefilters == NULL)
+        if (option == '?' || arguments->routes == NULL || arguments->prefilters == NULL)
             return wrong("the words are wrong", "");
-        words->are_files |= option == 'r';
+        arguments->are_files |= option == 'r';
         has_origin |= option == ORIGIN;
         if (option == 'r')
-            status = take_way(optarg, words);
+            status = take_route(optarg, arguments);
         else if (option == PREFILTER)
-            status = take_prefilter(optarg, words) ? 0 : wrong("no INTERFACE=LISTING: ", optarg);
-        else if (!take_option(option, optarg, words))
+            status = take_prefilter(optarg, arguments) ? 0 : wrong("no INTERFACE=LISTING: ", optarg);
+        else if (!take_option(option, optarg, arguments))
             status = wrong("no such value: ", optarg);
     }
     if (!has_origin)
-        origin_of(words->are_files ? "first" : "now", &words->origin);
-    if (status == 0 && words->origin.is_first_frame && !words->are_files)
+        origin_of(arguments->are_files ? "first" : "now", &arguments->origin);
+    if (status == 0 && arguments->origin.is_first_frame && !arguments->are_files)
         return wrong("of interfaces the first frame isn't known: --origin first", "");
     if (status == 0)
-        status = read_ways(argc - optind, argv + optind, words);
-    if (status == 0 && words->buffer_mib == 0)
-        words->buffer_mib = usual_buffer(words->count);
+        status = read_routes(argc - optind, argv + optind, arguments);
+    if (status == 0 && arguments->buffer_mib == 0)
+        arguments->buffer_mib = usual_buffer(arguments->count);
     return status;
 }

@@ -1,6 +1,7 @@
-#include "option.h"
+#include "pcapng_option.h"
 
-int next_option(const struct input *input, const unsigned char **at, const unsigned char *end, struct option *it) {
+int next_option(const struct input *input, const unsigned char **at, const unsigned char *end,
+                struct pcapng_option *it) {
     if (end - *at < 4)
         return 0;
     it->code = half(input, *at);

@@ -1,5 +1,5 @@
 #define _GNU_SOURCE
-#include "stop.h"
+#include "signals.h"
 #include "moment.h"
 
 #include <errno.h>

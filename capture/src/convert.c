@@ -1,6 +1,6 @@
 #define _GNU_SOURCE
-#include "conversion.h"
-#include "stop.h"
+#include "convert.h"
+#include "signals.h"
 
 #include <inttypes.h>
 #include <string.h>
@@ -13,32 +13,32 @@ static int is_regular(const char *path) {
 
 /* The moment of a file's first frame that has one: 1, or 0 where none has, which is told where the file is unreadable
  * once it is converted. */
-static int first_moment(const struct words *words, const char *path, nanoseconds *moment) {
-    struct file file = {.input.fd = -1};
-    struct found found = {0};
-    if (open_file(&file, path, words->interface))
-        while (next_found(&file, &found) > 0 && !found.has_time)
+static int first_moment(const struct arguments *arguments, const char *path, nanoseconds *moment) {
+    struct capture_file file = {.input.fd = -1};
+    struct file_frame frame = {0};
+    if (open_file(&file, path, arguments->interface))
+        while (next_frame(&file, &frame) > 0 && !frame.has_time)
             ;
     close_file(&file);
-    *moment = found.moment;
-    return found.has_time;
+    *moment = frame.moment;
+    return frame.has_time;
 }
 
-int find_origin(struct words *words) {
-    if (!words->origin.is_first_frame || words->count < 2)
+int find_origin(struct arguments *arguments) {
+    if (!arguments->origin.is_first_frame || arguments->count < 2)
         return 1;
-    for (int i = 0; i < words->count; i++) {
+    for (int i = 0; i < arguments->count; i++) {
         nanoseconds moment;
-        if (!is_regular(words->ways[i].from)) {
-            tell("%s: beside other files it needs --origin, since it can't be read twice", words->ways[i].from);
+        if (!is_regular(arguments->routes[i].from)) {
+            tell("%s: beside other files it needs --origin, since it can't be read twice", arguments->routes[i].from);
             return 0;
         }
-        if (!first_moment(words, words->ways[i].from, &moment))
+        if (!first_moment(arguments, arguments->routes[i].from, &moment))
             continue;
-        if (words->origin.is_first_frame || moment < words->origin.at)
-            words->origin = (struct origin){0, moment};
+        if (arguments->origin.is_first_frame || moment < arguments->origin.at)
+            arguments->origin = (struct origin){0, moment};
     }
-    words->origin.is_first_frame = 0;
+    arguments->origin.is_first_frame = 0;
     return 1;
 }
 
@@ -48,40 +48,40 @@ static void flush_before_waiting(void *it) {
 }
 
 /* The counter of a frame; one without a time has that of the frame before. */
-static uint64_t counter_of(struct conversion *conversion, const struct found *found) {
-    if (!found->has_time)
+static uint64_t counter_of(struct conversion *conversion, const struct file_frame *frame) {
+    if (!frame->has_time)
         return conversion->counter;
     if (conversion->origin.is_first_frame)
-        conversion->origin = (struct origin){0, found->moment};
-    conversion->counter = counter_at(found->moment, &conversion->origin);
+        conversion->origin = (struct origin){0, frame->moment};
+    conversion->counter = counter_at(frame->moment, &conversion->origin);
     return conversion->counter;
 }
 
 /* Whether a run that is stopped leaves the rest of a file: of a pipe it still takes what has come. */
-static int is_left(const struct file *file) {
+static int is_left(const struct capture_file *file) {
     return is_hurried() || (is_stopping() && !file->input.waits);
 }
 
 static void convert(struct conversion *conversion) {
-    struct found found;
+    struct file_frame frame;
     int more = 1;
     if (!conversion->file.input.waits)
         write_beside(&conversion->feed);
-    while (more > 0 && !is_left(&conversion->file) && (more = next_found(&conversion->file, &found)) > 0)
-        if (!put_frame(&conversion->feed, counter_of(conversion, &found), &found.captured))
+    while (more > 0 && !is_left(&conversion->file) && (more = next_frame(&conversion->file, &frame)) > 0)
+        if (!put_frame(&conversion->feed, counter_of(conversion, &frame), &frame.captured))
             break;
     flush_feed(&conversion->feed);
     conversion->is_well = more >= 0;
 }
 
 void run_conversion(struct conversion *conversion) {
-    struct file *file = &conversion->file;
+    struct capture_file *file = &conversion->file;
     struct feed *feed = &conversion->feed;
     struct output *output = &feed->output;
-    file->input = (struct input){.fd = -1, .before_waiting = flush_before_waiting, .told = conversion};
+    file->input = (struct input){.fd = -1, .before_waiting = flush_before_waiting, .listener = conversion};
     output->fd = -1;
-    conversion->origin = conversion->words->origin;
-    if (open_file(file, conversion->from, conversion->words->interface) && open_feed(feed, conversion->to))
+    conversion->origin = conversion->arguments->origin;
+    if (open_file(file, conversion->from, conversion->arguments->interface) && open_feed(feed, conversion->to))
         convert(conversion);
     if (file->input.fault[0] != 0)
         tell("%s: %s", conversion->from, file->input.fault);

@@ -1,6 +1,6 @@
-/* The words of the command line. */
-#ifndef WORDS_H
-#define WORDS_H
+/* The arguments of the command line. */
+#ifndef ARGUMENTS_H
+#define ARGUMENTS_H
 
 #include "moment.h"
 
@@ -9,13 +9,13 @@ enum check_sequences { AS_THE_ADAPTER_SAYS, GIVEN, MISSING };
 
 /* Where frames come from and where they go to, and the listing of a program by which the kernel drops some before;
  * NULL where there is none. */
-struct way {
+struct route {
     char *from;
     char *to;
     const char *prefilter;
 };
 
-struct words {
+struct arguments {
     int are_files;
     int buffer_mib;
     int interface;
@@ -29,14 +29,14 @@ struct words {
     enum direction direction;
     enum check_sequences check_sequences;
     struct origin origin;
-    struct way *ways;
+    struct route *routes;
     int count;
-    struct way *prefilters; /* from an interface to a listing, as they were given */
+    struct route *prefilters; /* from an interface to a listing, as they were given */
     int prefilter_count;
 };
 
-/* Reads the words. 0, or the status with which to end: 0 is for help too, so `is_done` says which. */
-int read_words(int argc, char **argv, struct words *words, int *is_done);
+/* Reads the arguments. 0, or the status with which to end: 0 is for help too, so `is_done` says which. */
+int read_arguments(int argc, char **argv, struct arguments *arguments, int *is_done);
 
 /* A line on standard error, written at once: `capture: ` and what the format makes. A line that finds no room is left
  * out and counted, so that nobody waits for whoever reads it. */

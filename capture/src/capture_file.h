@@ -1,6 +1,6 @@
 /* Capture files, frame by frame. */
-#ifndef FILE_H
-#define FILE_H
+#ifndef CAPTURE_FILE_H
+#define CAPTURE_FILE_H
 
 #include "feed.h"
 #include "input.h"
@@ -11,7 +11,7 @@
 enum { EVERY_INTERFACE = -1 };
 
 /* An interface of a section, as its description says. */
-struct described {
+struct file_interface {
     uint16_t link_type;
     uint32_t most_captured;    /* 0 where nothing is cut */
     uint64_t units_per_second; /* 0 where the resolution is one that isn't read */
@@ -20,29 +20,29 @@ struct described {
     unsigned check_sequence_len;
 };
 
-struct file {
+struct capture_file {
     struct input input;
     int chosen;   /* the number of the interface whose frames are read, or EVERY_INTERFACE */
     int is_found; /* whether some section has the chosen interface */
-    int is_classic;
+    int is_pcap;
     uint32_t nanoseconds_per_unit;
-    struct described *interfaces;
+    struct file_interface *interfaces;
     uint32_t count, room;
 };
 
 /* A frame of a file; a simple packet block has no time. */
-struct found {
+struct file_frame {
     struct captured captured;
     int has_time;
     nanoseconds moment;
 };
 
 /* Opens a file, where `-` is standard input, and reads its head. Whether it is a capture. */
-int open_file(struct file *file, const char *path, int chosen);
+int open_file(struct capture_file *file, const char *path, int chosen);
 
 /* Reads the next frame, whose bytes stay until the next call: 1, or 0 at the end, or -1 at a fault. */
-int next_found(struct file *file, struct found *found);
+int next_frame(struct capture_file *file, struct file_frame *frame);
 
-void close_file(struct file *file);
+void close_file(struct capture_file *file);
 
 #endif

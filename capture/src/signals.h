@@ -1,6 +1,6 @@
 /* How a run is ended: asked once, each thread writes what it has; asked again later, it waits for nobody. */
-#ifndef STOP_H
-#define STOP_H
+#ifndef SIGNALS_H
+#define SIGNALS_H
 
 /* Ends that can be polled: each is readable (hung up) once the run is to end, or to end at once. */
 extern int stop_fd, hurry_fd;

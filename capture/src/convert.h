@@ -1,16 +1,16 @@
 /* A capture file that becomes a feed. */
-#ifndef CONVERSION_H
-#define CONVERSION_H
+#ifndef CONVERT_H
+#define CONVERT_H
 
+#include "arguments.h"
+#include "capture_file.h"
 #include "feed.h"
-#include "file.h"
-#include "words.h"
 
 struct conversion {
     const char *from;
     const char *to;
-    const struct words *words;
-    struct file file;
+    const struct arguments *arguments;
+    struct capture_file file;
     struct feed feed;
     struct origin origin;
     uint64_t counter; /* of the frame before */
@@ -19,7 +19,7 @@ struct conversion {
 
 /* Finds the earliest first frame of several files, where their origin is that. Whether it is known;
  * else a line has said why not. */
-int find_origin(struct words *words);
+int find_origin(struct arguments *arguments);
 
 /* Writes the feed and tells the counts. */
 void run_conversion(struct conversion *conversion);

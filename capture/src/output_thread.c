@@ -1,9 +1,9 @@
-#include "writer.h"
+#include "output_thread.h"
 
 #include <stdlib.h>
 
 static void *write_on(void *it) {
-    struct writer *writer = it;
+    struct output_thread *writer = it;
     pthread_mutex_lock(&writer->lock);
     while (writer->count > 0 || !writer->is_ending) {
         if (writer->count == 0) {
@@ -23,9 +23,9 @@ static void *write_on(void *it) {
     return NULL;
 }
 
-void start_writer(struct writer *writer, struct output *output, size_t room) {
+void start_output_thread(struct output_thread *writer, struct output *output, size_t room) {
     int has_room = 1;
-    *writer = (struct writer){.output = output, .is_open = is_open(output)};
+    *writer = (struct output_thread){.output = output, .is_open = is_open(output)};
     for (int i = 0; i < BLOCKS; i++)
         has_room &= (writer->blocks[i].bytes = malloc(room)) != NULL;
     pthread_mutex_init(&writer->lock, NULL);
@@ -33,7 +33,7 @@ void start_writer(struct writer *writer, struct output *output, size_t room) {
     writer->is_started = has_room && pthread_create(&writer->thread, NULL, write_on, writer) == 0;
 }
 
-int hand_over(struct writer *writer, unsigned char **bytes, size_t len) {
+int hand_over(struct output_thread *writer, unsigned char **bytes, size_t len) {
     pthread_mutex_lock(&writer->lock);
     while (writer->count == BLOCKS)
         pthread_cond_wait(&writer->changed, &writer->lock);
@@ -48,7 +48,7 @@ int hand_over(struct writer *writer, unsigned char **bytes, size_t len) {
     return was_open;
 }
 
-void end_writer(struct writer *writer) {
+void end_output_thread(struct output_thread *writer) {
     if (writer->is_started) {
         pthread_mutex_lock(&writer->lock);
         writer->is_ending = 1;
