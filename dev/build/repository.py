@@ -17,7 +17,7 @@ ROOT = Path(__file__).resolve().parents[2]
 RT = shlex.split(os.environ.get("RT", "rt"))
 # What is checked beside the crates.
 CHECKS = tuple(
-    f"dev/checks/{it}" for it in ("links.py", "examples.sh", "uses.py", "man.py", "packages.py", "unused.py")
+    f"dev/checks/{it}.py" for it in ("links", "map", "architecture", "examples", "uses", "man", "packages", "unused")
 )
 # What is checked of the program once it is built, and where it stands then.
 MEMORY, PROGRAM = "dev/trials/check_memory.py", Path("crates/bpfrec/out/bpfrec")

@@ -1,5 +1,5 @@
 //! The callers of the crates' pages: each file is a block of code of a page's section "A caller", so
-//! that what a page shows is compiled and proved. `dev/checks/examples.sh` compares them.
+//! that what a page shows is compiled and proved. `dev/checks/examples.py` compares them.
 #![tactic(auto)]
 
 pub mod calls_bpf_asm;
