@@ -1,8 +1,6 @@
 #!/usr/bin/env python3
 """Proves the program and the crates that it stands on, and leaves it at bin/bpfrec.
 
-usage: dev/build/build.py [--keep-costs] [CRATE]
-
 Takes the crates below crates/bpfrec (or below CRATE, another program) from crates.txt. Those that don't
 depend on each other are proved side by side, the one with the longest way to the end behind it by the
 processors that the others leave: an interrupted build goes on with the crates that it hadn't finished.
@@ -11,6 +9,7 @@ It says about how many functions are proved, and how long the rest is likely to 
 (capture/Makefile); the recorder doesn't need it. What a step prints goes to bin/steps/, and is shown where it fails.
 RT names another command than `rt`.
 """
+import argparse
 import shutil
 import subprocess
 import sys
@@ -37,17 +36,14 @@ def build(top, keeps):
 
 
 def main():
-    words = sys.argv[1:]
-    if any(it in ("-h", "--help") for it in words):
-        print(__doc__.strip())
-        return 0
-    keeps = "--keep-costs" in words
-    words = [it for it in words if it != "--keep-costs"]
-    top = words[0] if words else "bpfrec"
-    if len(words) > 1 or top not in crates() or not crates()[top].is_program:
-        print(f"dev/build/build.py takes one program of crates.txt, not {' '.join(words)}")
-        return 2
-    return build(top, keeps)
+    parser = argparse.ArgumentParser(description=__doc__, formatter_class=argparse.RawDescriptionHelpFormatter)
+    parser.add_argument("--keep-costs", action="store_true", help="writes dev/build/costs.txt")
+    programs = [name for name, it in crates().items() if it.is_program]
+    parser.add_argument(
+        "crate", nargs="?", default="bpfrec", choices=programs, metavar="CRATE", help="bpfrec (default)"
+    )
+    arguments = parser.parse_args()
+    return build(arguments.crate, arguments.keep_costs)
 
 
 if __name__ == "__main__":

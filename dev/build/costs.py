@@ -1,8 +1,7 @@
 #!/usr/bin/env python3
 """Prints what checks cost as a table of Markdown, by crate, from dev/build/costs.txt; its last row is the sum.
-
-usage: dev/build/costs.py
 """
+import argparse
 import sys
 
 from repository import UNTESTED, crates, table_in
@@ -10,9 +9,7 @@ from steps import COSTS
 
 
 def main():
-    if len(sys.argv) > 1:
-        print(__doc__.strip())
-        return 0 if {"-h", "--help"} & set(sys.argv) else 2
+    argparse.ArgumentParser(description=__doc__, formatter_class=argparse.RawDescriptionHelpFormatter).parse_args()
     rows = table_in(COSTS)
     total = [0, 0]
     print("| Crate | Proof, program or tests | Edits | Memory |\n|---|---|---|---|")

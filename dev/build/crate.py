@@ -1,12 +1,11 @@
 #!/usr/bin/env python3
 """One crate, for whoever changes it: its proof, its edits that must fail, and its tests.
 
-usage: dev/build/crate.py CRATE
-
 Proves CRATE and what it stands on over kept work, tries all of its edits, and then compiles with checks
 and runs, with no proof, the tests of each crate of tests that names CRATE in crates.txt. Of a program it
 runs the stored run. The last line is `N passed, M failed`.
 """
+import argparse
 import subprocess
 import sys
 
@@ -31,15 +30,14 @@ def tests_of(name):
 
 
 def main():
-    words = sys.argv[1:]
-    if len(words) != 1 or words[0] not in crates():
-        print(__doc__.strip() if {"-h", "--help"} & set(words) else f"crates.txt has no crate {' '.join(words)}")
-        return 0 if {"-h", "--help"} & set(words) else 2
-    steps = steps_of(words[0])
+    parser = argparse.ArgumentParser(description=__doc__, formatter_class=argparse.RawDescriptionHelpFormatter)
+    parser.add_argument("crate", choices=crates(), metavar="CRATE", help="a crate of crates.txt")
+    crate = parser.parse_args().crate
+    steps = steps_of(crate)
     _ = toolchain().rtlib.lock(list(crates().values()))
     in_lanes(steps, every=("edits",))
     done, wrong = counts_of(steps)
-    for it in tests_of(words[0]):
+    for it in tests_of(crate):
         print(f"== tests of {it}", flush=True)
         status = subprocess.run([*RT, "try", "--test", "--seconds", "600"], cwd=ROOT / "crates" / it).returncode
         done, wrong = done + (status == 0), wrong + (status != 0)

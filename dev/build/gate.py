@@ -1,14 +1,13 @@
 #!/usr/bin/env python3
 """The whole gate: `rt ci` on a copy of the repository's files, everything from nothing.
 
-usage: dev/build/gate.py
-
 The copy has the files that git knows and those that it doesn't ignore, but for the crates that promise
 nothing, so kept work is neither read nor changed. Where all passed, the crates' sums are written to
 dev/build/edits_seen.txt, since each edit was seen refused. After `rt ci` dev/trials/check_memory.py refuses memory
 and threads to the program that it built. Then it prints what each crate cost in seconds of processor, as
 a table of Markdown. The last line is `N passed, M failed`, of `rt ci` and the program's check.
 """
+import argparse
 import re
 import subprocess
 import sys
@@ -34,9 +33,7 @@ def judged(top):
 
 
 def main():
-    if len(sys.argv) > 1:
-        print(__doc__.strip())
-        return 0 if {"-h", "--help"} & set(sys.argv) else 2
+    argparse.ArgumentParser(description=__doc__, formatter_class=argparse.RawDescriptionHelpFormatter).parse_args()
     if any([subprocess.run([ROOT / it]).returncode for it in CHECKS]):
         return 1
     before = {it: sums_of(it) for it in libraries()}

@@ -1,12 +1,11 @@
 #!/usr/bin/env python3
 """All tests, compiled with checks and run, with no proof: what to run after each change of a line.
 
-usage: dev/build/quick.py [CRATE..]
-
 Checks the links, the examples, crates.txt and the manual page, and runs the tests of each crate that has some (or of
 CRATE alone) by `rt try --test`, side by side. Three tests that go through many drawn frames get fewer
 of them (FEWER), on a copy of the files. The last line is `N passed, M failed`, of checks and tests.
 """
+import argparse
 import re
 import subprocess
 import sys
@@ -60,18 +59,19 @@ def tried(top, name):
 
 
 def main():
-    words = sys.argv[1:]
     with_tests = [it for it in crates() if crates()[it].has_tests()]
-    if set(words) - set(with_tests):
-        print(__doc__.strip())
-        return 0 if {"-h", "--help"} & set(words) else 2
+    parser = argparse.ArgumentParser(description=__doc__, formatter_class=argparse.RawDescriptionHelpFormatter)
+    parser.add_argument("crates", nargs="*", metavar="CRATE", help=f"these alone, of {', '.join(with_tests)}")
+    chosen = parser.parse_args().crates
+    if unknown := set(chosen) - set(with_tests):
+        parser.error(f"no crate with tests: {', '.join(sorted(unknown))}")
     counts = [
         (int(status == 0), int(status != 0)) for status in [subprocess.run([ROOT / it]).returncode for it in CHECKS]
     ]
     with tempfile.TemporaryDirectory(prefix="bpfrec-quick-") as top:
         copy_to(Path(top))
         make_fewer(Path(top))
-        by_length = sorted(words or with_tests, key=lambda it: -crates()[it].count(rb"\n"))
+        by_length = sorted(chosen or with_tests, key=lambda it: -crates()[it].count(rb"\n"))
         with ThreadPoolExecutor(processors()) as pool:
             counts += list(pool.map(lambda it: tried(Path(top), it), by_length))
     print(f"{sum(it for it, _ in counts)} passed, {sum(it for _, it in counts)} failed")

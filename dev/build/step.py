@@ -1,8 +1,6 @@
 #!/usr/bin/env python3
 """One step of a build or of a test run.
 
-usage: dev/build/step.py KIND CRATE JOBS [WORDS] [--keep]
-
   library   proves CRATE and leaves what the crates above it read
   program   proves the program, builds it at out/CRATE and runs it on its stored input
   twice     the same as two compilers build it, each run
@@ -16,6 +14,7 @@ proved over kept work, some functions at a time; but what two compilers build is
 The status is 0 where all is proved, passed and refused. What the toolchain's own gate holds a crate to
 beside its proof is held here too. dev/build/build.py and dev/build/test.py start this; it takes no lock.
 """
+import argparse
 import glob
 import os
 import re
@@ -211,13 +210,21 @@ def edits(crate, _flags, words):
 
 
 def main():
-    kind, name, jobs, *words = sys.argv[1:]
-    crate, is_edits = crates()[name], kind == "edits"
+    kinds = {"library": library, "program": program, "twice": twice, "tests": tests, "edits": edits}
+    parser = argparse.ArgumentParser(description=__doc__, formatter_class=argparse.RawDescriptionHelpFormatter)
+    parser.add_argument("kind", choices=kinds, metavar="KIND")
+    parser.add_argument("crate", choices=crates(), metavar="CRATE")
+    parser.add_argument("jobs", metavar="JOBS", help="how many processes may work on it")
+    parser.add_argument("words", nargs="*", metavar="WORDS")
+    parser.add_argument("--keep", action="store_true", help="over kept work")
+    arguments = parser.parse_args()
+    kind, name, is_edits = arguments.kind, arguments.crate, arguments.kind == "edits"
+    words = [*arguments.words, *["--keep"] * arguments.keep]
+    crate = crates()[name]
     before = hash_of(name, is_edits)
     os.makedirs(f"{crate.folder}/out", exist_ok=True)
     crate.out = Printed()
-    kinds = {"library": library, "program": program, "twice": twice, "tests": tests, "edits": edits}
-    status = kinds[kind](crate, ["--jobs", jobs], words)
+    status = kinds[kind](crate, ["--jobs", arguments.jobs], words)
     hash_of.cache_clear()
     if not status and hash_of(name, is_edits) == before:
         Step(kind, name, [it for it in words if it != "--keep"]).done.write_text(before)

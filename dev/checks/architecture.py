@@ -1,7 +1,5 @@
 #!/usr/bin/env python3
 """Compares docs/dev/architecture.svg, a frame's way and the crates, with crates.txt; --write draws it.
-
-usage: dev/checks/architecture.py [--write]
 """
 import argparse
 import sys

@@ -1,12 +1,11 @@
 #!/usr/bin/env python3
 """Checks that each caller on a crate's page is one that is proved, and that each that is proved stands on a page.
 
-usage: dev/checks/callers.py
-
 A block of code of a page's section "A caller" must be a file of crates/callers/src/ without its first
 lines, which say whose caller it is, or stand in the program's own src/main.rt. The status is 1 where a
 block or a file has no other half.
 """
+import argparse
 import re
 import sys
 from pathlib import Path
@@ -31,10 +30,7 @@ def callers():
 
 
 def main():
-    words = sys.argv[1:]
-    if words:
-        print(__doc__.strip())
-        return 0 if {"-h", "--help"} & set(words) else 2
+    argparse.ArgumentParser(description=__doc__, formatter_class=argparse.RawDescriptionHelpFormatter).parse_args()
     proved, found, status = callers(), list(blocks()), 0
     for page, block in found:
         if block not in proved.values() and block not in MAIN.read_text():

@@ -1,8 +1,6 @@
 #!/usr/bin/env python3
 """Checks that the examples are what the tests run, and that callers on crates' pages are those that are proved.
 
-usage: dev/checks/examples.py
-
 A program's test reads only files of its crate's own folder, and rt takes no links, so these files stand twice and must
 be the same to the byte. The status is 1 where something differs.
 """

@@ -1,8 +1,6 @@
 #!/usr/bin/env python3
 """Checks that what the documents name in backticks exists.
 
-usage: dev/checks/links.py [DOCUMENT..]
-
 Without a document it reads each *.md of the repository. It looks at each word in backticks:
 - a path, which contains a / or ends in .rt, .antt, .md, .edit or .txt, must exist, from the root or
   from the document's folder;
@@ -17,6 +15,7 @@ folders that each crate has (specs/, proofs/, src/, must-fail/, data/). In docs/
 of files are examples, only names of items are checked.
 It prints each broken link as FILE:LINE: TEXT, and the status is 1 where there is one.
 """
+import argparse
 import re
 import sys
 from pathlib import Path
@@ -168,10 +167,9 @@ def broken_in(document):
 
 
 def main():
-    if any(it in ("-h", "--help") for it in sys.argv[1:]):
-        print(__doc__.strip())
-        return 0
-    chosen = [Path(it).resolve() for it in sys.argv[1:]] or documents()
+    parser = argparse.ArgumentParser(description=__doc__, formatter_class=argparse.RawDescriptionHelpFormatter)
+    parser.add_argument("documents", nargs="*", type=Path, metavar="DOCUMENT", help="these alone")
+    chosen = [it.resolve() for it in parser.parse_args().documents] or documents()
     broken = 0
     for document in chosen:
         for number, reason in broken_in(document):

@@ -1,8 +1,6 @@
 #!/usr/bin/env python3
 """Checks that docs/dev/MAP.md has each file of code and of definitions in some row.
 
-usage: dev/checks/map.py
-
 A row names a file by its path, all files below a folder by a path that ends in /, and files of several crates by a
 pattern as crates/*/src/lib.rt. The status is 1 where a file is in no row.
 """

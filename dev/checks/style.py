@@ -1,8 +1,6 @@
 #!/usr/bin/env python3
 """Checks how Python, C and shell scripts are written, by tools that Debian has: make lint.
 
-usage: dev/checks/style.py [NAME..]
-
 black and isort (layout) and flake8 (faults) read all Python, mypy (strict) the package of host/, shellcheck the shell
 scripts, clang-format and clang-tidy the C, and gcc -fanalyzer that of the capture. Their settings stand in
 pyproject.toml, .flake8, .clang-format and .clang-tidy; for editors .editorconfig says the same. A NAME runs that tool

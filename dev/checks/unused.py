@@ -1,8 +1,6 @@
 #!/usr/bin/env python3
 """Lists what nothing uses, and words that mean two things: to be taken out, or named apart.
 
-usage: dev/checks/unused.py
-
 - A definition or a lemma of specs/ or proofs/ is used where an item other than itself names it, in any
   crate; an import alone is no use.
 - A public function of a library is used where another file calls it, tests left out; laws, which run
@@ -12,6 +10,7 @@ usage: dev/checks/unused.py
 
 It prints each as FILE:LINE NAME with the reason, and the status is 1 where there is one.
 """
+import argparse
 import re
 import sys
 from collections import defaultdict
@@ -126,9 +125,7 @@ def doubles(items):
 
 
 def main():
-    if len(sys.argv) > 1:
-        print(__doc__.strip())
-        return 0 if {"-h", "--help"} & set(sys.argv) else 2
+    argparse.ArgumentParser(description=__doc__, formatter_class=argparse.RawDescriptionHelpFormatter).parse_args()
     items, code = list(definitions()), list(code_words())
     found = [
         *((it, "nothing names it") for it in unused_definitions(items, code)),

@@ -1,13 +1,12 @@
 #!/usr/bin/env python3
 """Checks that each crate uses every library that its line of crates.txt names.
 
-usage: dev/checks/uses.py
-
 A crate uses a library where a file of its src/ has a path that begins with the library's name, or where
 a file of it names a definition or a proof as Rattle.NAME. What a crate names brings its modules to each
 proof of the crate, and the crate is proved again when it changes. It prints each word that isn't used as
 CRATE: LIBRARY, and the status is 1 where there is one.
 """
+import argparse
 import re
 import sys
 from pathlib import Path
@@ -35,6 +34,7 @@ def uses(crate, library):
 
 
 def main():
+    argparse.ArgumentParser(description=__doc__, formatter_class=argparse.RawDescriptionHelpFormatter).parse_args()
     unused = [(crate, it) for crate, named in lines() for it in named if not uses(crate, it)]
     for crate, library in unused:
         print(f"{crate}: {library} is named in crates.txt, and no file of the crate uses it")
