@@ -1,22 +1,31 @@
-"""The facts beside a recording, RECORDING.json by docs/user/FORMATS.md: at what times its counters stand, and what was lost.
+"""The facts beside a recording, RECORDING.json: at what times its counters stand, and what was lost.
 
-host/bin/info and `host/bin/convert to-pcap --facts` stand on it. What a file claims is judged before it is used.
+What such a file claims is judged by type and range before any of it is used, for it may be damaged as a recording may.
 """
+
+from __future__ import annotations
+
 import json
 import re
 from bisect import bisect_right
 from datetime import datetime, timedelta
-from typing import NamedTuple, Optional
+from typing import Any, NamedTuple, Optional, Union
 
-NANOSECONDS_A_TICK, NANOSECONDS_A_SECOND = 100, 1_000_000_000
-MOST_COUNTER, MOST_COUNT = (1 << 48) - 1, (1 << 63) - 1
-MOST_BYTES, MOST_HOST = 64 << 20, 255
+from bpfrec_host.formats.limits import (
+    MAX_COUNT,
+    MAX_COUNTER,
+    MAX_FACTS_LEN,
+    MAX_HOST_LEN,
+    NANOSECONDS_A_SECOND,
+    NANOSECONDS_A_TICK,
+)
+
 SECONDS = re.compile(r"(-?)([0-9]{1,12})\.([0-9]{9})")
 # Of origins: the years 1 to 9998, so that each counter's time has a year of four digits.
 FIRST_MOMENT, END_MOMENT = (it * NANOSECONDS_A_SECOND for it in (-62_135_596_800, 253_370_764_800))
 EPOCH = datetime(1970, 1, 1)
 # The longest number that may be a count.
-MOST_DIGITS = len(str(MOST_COUNT))
+MAX_DIGITS = len(str(MAX_COUNT))
 # Stands for each number that is no whole number, or too long a one.
 OTHER_NUMBER = float("nan")
 LOST = ("dropped", "missed", "skipped")
@@ -39,30 +48,31 @@ class Origin(NamedTuple):
 class Facts:
     """What the facts say of times and losses."""
 
-    def __init__(self, told):
+    def __init__(self, told: Any) -> None:
         if not isinstance(told, dict) or not is_number(told.get("facts"), 1, 1):
             raise NoFacts("facts isn't 1")
-        self.host = told.get("host")
-        if not isinstance(self.host, str) or len(self.host) > MOST_HOST:
-            raise NoFacts(f"host is no text of at most {MOST_HOST} characters")
+        host = told.get("host")
+        if not isinstance(host, str) or len(host) > MAX_HOST_LEN:
+            raise NoFacts(f"host is no text of at most {MAX_HOST_LEN} characters")
+        self.host = host
         self.origins = origins_in(told.get("origins"))
         self.losses = losses_in(told.get("losses"))
         self.holding = holding(self.origins)
         self.counters = [it.counter for it in self.holding]
 
-    def moment_of(self, counter):
+    def moment_of(self, counter: int) -> Optional[int]:
         """The moment of a frame with this counter, in nanoseconds since 1970, by the last origin whose counter is at
         most this one; None where there is none."""
         at = bisect_right(self.counters, counter) - 1
         return None if at < 0 else self.holding[at].moment + counter * NANOSECONDS_A_TICK
 
 
-def is_number(value, least, most):
+def is_number(value: Any, least: int, most: int) -> bool:
     """Whether a value is a whole number of this range; true and false are none."""
     return type(value) is int and least <= value <= most
 
 
-def nanoseconds_of(text):
+def nanoseconds_of(text: Any) -> Optional[int]:
     """The nanoseconds of seconds with nine digits behind the point; None where a value is something else."""
     found = SECONDS.fullmatch(text) if isinstance(text, str) else None
     if not found:
@@ -71,32 +81,35 @@ def nanoseconds_of(text):
     return -count if found[1] else count
 
 
-def origins_in(told):
+def origins_in(told: Any) -> list[Origin]:
     """The origins of the facts, in order."""
     if not isinstance(told, list) or not told:
         raise NoFacts("origins is no list with an origin")
     return [origin_in(it, f"origin {at} of {len(told)}") for at, it in enumerate(told, 1)]
 
 
-def origin_in(told, name):
+def origin_in(told: Any, name: str) -> Origin:
+    """The origin that an object of JSON is."""
     if not isinstance(told, dict):
         raise NoFacts(f"{name}: it is no object")
-    moment, counter, set_by = nanoseconds_of(told.get("origin")), told.get("counter"), told.get("set_by")
+    moment = nanoseconds_of(told.get("origin"))
+    counter: Any = told.get("counter")
+    set_by: Any = told.get("set_by")
     if moment is None:
         raise NoFacts(f"{name}: origin isn't seconds with nine digits behind the point, as 1764590400.250000000")
     if not FIRST_MOMENT <= moment < END_MOMENT:
         raise NoFacts(f"{name}: origin is of no year from 1 to 9998")
-    if not is_number(counter, 0, MOST_COUNTER):
-        raise NoFacts(f"{name}: counter is no number from 0 to {MOST_COUNTER}")
+    if not is_number(counter, 0, MAX_COUNTER):
+        raise NoFacts(f"{name}: counter is no number from 0 to {MAX_COUNTER}")
     if set_by is not None and nanoseconds_of(set_by) is None:
         raise NoFacts(f"{name}: set_by isn't seconds with nine digits behind the point")
     return Origin(told["origin"], moment, counter, set_by)
 
 
-def holding(origins):
+def holding(origins: list[Origin]) -> list[Origin]:
     """The origins that hold for some counter, by rising counters: a later one takes the place of each that holds from
     the same counter on, or from a higher one."""
-    found = []
+    found: list[Origin] = []
     for it in origins:
         while found and found[-1].counter >= it.counter:
             found.pop()
@@ -104,26 +117,26 @@ def holding(origins):
     return found
 
 
-def losses_in(told):
+def losses_in(told: Any) -> dict[str, int]:
     """How many frames were lost in all, by the way in which they were."""
     if not isinstance(told, list):
         raise NoFacts("losses is no list")
     sums = dict.fromkeys(LOST, 0)
     for at, it in enumerate(told, 1):
         for name in LOST:
-            count = it.get(name) if isinstance(it, dict) else None
-            if not is_number(count, 0, MOST_COUNT):
-                raise NoFacts(f"loss {at} of {len(told)}: {name} is no number from 0 to {MOST_COUNT}")
+            count: Any = it.get(name) if isinstance(it, dict) else None
+            if not is_number(count, 0, MAX_COUNT):
+                raise NoFacts(f"loss {at} of {len(told)}: {name} is no number from 0 to {MAX_COUNT}")
             sums[name] += count
     return sums
 
 
-def read(path):
+def read(path: Union[str, int]) -> Facts:
     """The facts that a file has; `path` may be a descriptor too."""
     with open(path, "rb") as file:
-        data = file.read(MOST_BYTES + 1)
-    if len(data) > MOST_BYTES:
-        raise NoFacts(f"it has more than {MOST_BYTES >> 20} MiB")
+        data = file.read(MAX_FACTS_LEN + 1)
+    if len(data) > MAX_FACTS_LEN:
+        raise NoFacts(f"it has more than {MAX_FACTS_LEN >> 20} MiB")
     try:
         told = json.loads(
             data.decode(errors="replace"), parse_int=whole_number, parse_float=other_number, parse_constant=no_constant
@@ -133,26 +146,27 @@ def read(path):
     return Facts(told)
 
 
-def whole_number(digits):
+def whole_number(digits: str) -> Union[int, float]:
     """A number of JSON; one that is longer than any that is used isn't computed, since Python takes long for those."""
-    return int(digits) if len(digits) <= MOST_DIGITS else OTHER_NUMBER
+    return int(digits) if len(digits) <= MAX_DIGITS else OTHER_NUMBER
 
 
-def other_number(_):
+def other_number(_: str) -> float:
     """A number of JSON with a fraction or an exponent, of which none is used."""
     return OTHER_NUMBER
 
 
-def no_constant(name):
+def no_constant(name: str) -> None:
+    """Refuses what Python takes for numbers and JSON doesn't, as NaN."""
     raise ValueError(f"{name} is no JSON")
 
 
-def utc_of(moment):
+def utc_of(moment: int) -> str:
     """A moment as UTC, to the nanosecond."""
     seconds, rest = divmod(moment, NANOSECONDS_A_SECOND)
     return f"{(EPOCH + timedelta(seconds=seconds)).isoformat()}.{rest:09d}Z"
 
 
-def tick_of(moment):
+def tick_of(moment: int) -> str:
     """A moment as UTC, to the tick of 100 ns, rounded down."""
     return utc_of(moment)[:-3] + "Z"

@@ -1,0 +1,55 @@
+"""Runs the tool whose name this is called by, as bpfrec-info; or the one that the first word names."""
+
+from __future__ import annotations
+
+import importlib
+import os
+import sys
+from typing import Callable, NamedTuple
+
+from bpfrec_host.ending import guarded
+
+
+class Tool(NamedTuple):
+    """A tool: the module that has its parser and its run, and what it does."""
+
+    module: str
+    about: str
+
+
+TOOLS = {
+    "convert": Tool("bpfrec_host.convert.command", "makes feeds from captures and back, and shows their records"),
+    "info": Tool("bpfrec_host.info.command", "tells what is in a recording, as a text, as JSON or as a page"),
+    "salvage": Tool("bpfrec_host.salvage", "copies what is left of a damaged recording"),
+    "preflight": Tool("bpfrec_host.preflight.command", "names all that is wrong with settings before a recording"),
+}
+
+
+def run_tool(tool: str) -> int:
+    """Runs a tool with the words of the command line: its status."""
+
+    def command() -> int:
+        # Imported here, so that Ctrl-C during an import ends as it does later.
+        run: Callable[[list[str]], int] = importlib.import_module(TOOLS[tool].module).run
+        return run(sys.argv[1:])
+
+    return guarded(tool, command)
+
+
+def main() -> int:
+    """Runs the tool that was called: the status."""
+    called = os.path.basename(sys.argv[0])
+    tool = called[len("bpfrec-") :] if called.startswith("bpfrec-") else called
+    if tool in TOOLS:
+        return run_tool(tool)
+    if len(sys.argv) > 1 and sys.argv[1] in TOOLS:
+        return run_tool(sys.argv.pop(1))
+    is_asked = len(sys.argv) > 1 and sys.argv[1] in ("-h", "--help")
+    lines = [f"  {name:<10} {it.about}" for name, it in TOOLS.items()]
+    text = "\n".join(["usage: bpfrec_host TOOL ..", "", *lines, "", "TOOL --help has the words of each."])
+    print(text, file=sys.stdout if is_asked else sys.stderr)
+    return 0 if is_asked else 2
+
+
+if __name__ == "__main__":
+    sys.exit(main())

@@ -1,0 +1,1 @@
+"""bpfrec-convert: feeds from captures and back, sample feeds, and what a feed has."""

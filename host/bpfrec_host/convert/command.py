@@ -1,0 +1,125 @@
+"""The command line of bpfrec-convert."""
+
+from __future__ import annotations
+
+import argparse
+
+from bpfrec_host.convert.moments import moment_of, origin_of
+from bpfrec_host.convert.runs import SHOWN_BYTES, from_pcap, make, show, to_pcap
+from bpfrec_host.ending import short_name, tell
+from bpfrec_host.streams import Refused
+from bpfrec_host.words import Parser, natural
+
+ABOUT = """\
+Makes feeds for bpfrec from captures, captures from feeds, and sample feeds; shows what a feed has.
+
+A feed holds the records of Ethernet frames, one after the other: a counter (6 bytes, little-endian,
+ticks of the 10 MHz relative time counter of IRIG 106), marks (1 byte: bit 0 says that the check
+sequence is wrong, bit 1 that the frame is damaged otherwise), the frame's length (2 bytes,
+little-endian, 18 to 16,383), and the frame with its 4-byte check sequence.
+
+As a file, `-` is standard input or output. It wants Python 3.9 or later, and nothing beside it.
+Nothing of this tool is proved; bpfrec itself reads no captures and computes no check sequence.
+"""
+FROM_PCAP = """Makes a feed from a capture of Ethernet: a classic pcap file (both byte orders, micro- and nanoseconds) or a
+    pcapng file, of which each section and interface is read. Frames of less than 60 bytes are padded as on the wire,
+    check sequences are computed where the capture has none, and frames whose check sequence is wrong are marked. From
+    a pipe each frame is written before the next one is waited for. Prints `frames <n> passed <m>`, on standard error
+    where the feed is standard output: m frames were cut short by the capture, or have fewer bytes than a frame or more
+    than 16,379. A file that is damaged or ends in the middle is refused, and then OUT.feed has the frames before."""
+TO_PCAP = """Makes a classic pcap file (nanoseconds, little-endian) from a feed, such as `bpfrec extract` writes. Marks have
+    no place in it. Prints `frames <n>`, on standard error where the capture is standard output. A frame whose time is
+    before 1970, or past 2106-02-07, is refused. The status is 3 where the FILE of --facts can't be read, and 1 where it
+    has no facts of a recording."""
+SHOW = f"""Prints a line for each record: the counter, the marks, the length of the frame with its check sequence, and the
+    frame's first {SHOWN_BYTES} bytes."""
+MAKE = "Makes a feed of COUNT sample frames, the same for the same SEED."
+
+Commands = argparse._SubParsersAction  # pylint: disable=protected-access
+
+
+def add(commands: "Commands[Parser]", name: str, about: str, description: str) -> Parser:
+    """The parser of a command, whose description is filled to the width of the terminal."""
+    return commands.add_parser(name, help=about, description=description, formatter_class=argparse.HelpFormatter)
+
+
+def add_from_pcap(commands: "Commands[Parser]") -> None:
+    """The arguments of from-pcap."""
+    made = add(commands, "from-pcap", "makes a feed from a capture of Ethernet, a pcap or a pcapng file", FROM_PCAP)
+    made.add_argument("capture", metavar="IN.pcap")
+    made.add_argument("output", metavar="OUT.feed")
+    made.add_argument(
+        "--origin",
+        metavar="WHEN",
+        type=origin_of,
+        default="first",
+        help="the moment of counter 0: first (the first frame, by itself), zero (1970-01-01), now, or a time, "
+        "as 1764590400.25 or 2025-12-01T12:00:00.25Z; with the same origin the counters of several captures agree",
+    )
+    made.add_argument(
+        "--interface", metavar="N", type=natural, help="only the frames of each section's interface N, from 0 on"
+    )
+    made.set_defaults(run=lambda given: from_pcap(given.capture, given.output, given.origin, given.interface))
+
+
+def add_to_pcap(commands: "Commands[Parser]") -> None:
+    """The arguments of to-pcap."""
+    made = add(commands, "to-pcap", "makes a pcap file from a feed", TO_PCAP)
+    made.add_argument("feed", metavar="IN.feed")
+    made.add_argument("output", metavar="OUT.pcap")
+    times = made.add_mutually_exclusive_group()
+    times.add_argument(
+        "--origin",
+        metavar="WHEN",
+        type=moment_of,
+        default="zero",
+        help="the moment of counter 0, as of from-pcap or as bin/capture told it; by itself zero (1970-01-01)",
+    )
+    times.add_argument(
+        "--facts",
+        metavar="FILE",
+        help="the facts beside the recording that the feed is of, as flight.ch11.json: by them each frame "
+        "has its time, also where the clock was set during the recording",
+    )
+    made.add_argument("--drop-check-sequence", action="store_true", help="leave the check sequences out")
+    made.set_defaults(
+        run=lambda given: to_pcap(given.feed, given.output, given.origin, given.facts, given.drop_check_sequence)
+    )
+
+
+def add_show(commands: "Commands[Parser]") -> None:
+    """The arguments of show."""
+    made = add(commands, "show", "prints a line for each record of a feed", SHOW)
+    made.add_argument("feed", metavar="FEED")
+    made.set_defaults(run=lambda given: show(given.feed))
+
+
+def add_make(commands: "Commands[Parser]") -> None:
+    """The arguments of make."""
+    made = add(commands, "make", "makes a feed of sample frames", MAKE)
+    made.add_argument("seed", metavar="SEED", type=natural)
+    made.add_argument("count", metavar="COUNT", type=natural)
+    made.add_argument("output", metavar="OUT.feed")
+    made.set_defaults(run=lambda given: make(given.seed, given.count, given.output))
+
+
+def parser() -> Parser:
+    """The arguments of bpfrec-convert."""
+    made = Parser(prog=short_name("convert"), description=ABOUT)
+    commands = made.add_subparsers(dest="command", required=True)
+    add_from_pcap(commands)
+    add_to_pcap(commands)
+    add_show(commands)
+    add_make(commands)
+    return made
+
+
+def run(words: list[str]) -> int:
+    """Runs a command: the status."""
+    given = parser().parse_args(words)
+    try:
+        given.run(given)
+    except Refused as refused:
+        tell(f"convert: {refused}")
+        return refused.status
+    return 0

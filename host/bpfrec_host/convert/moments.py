@@ -1,0 +1,68 @@
+"""The moments of frames: what the arguments say of counter 0, and the times that a capture can have."""
+
+from __future__ import annotations
+
+import argparse
+import calendar
+import re
+import time
+from typing import Callable, Optional
+
+from bpfrec_host.formats import facts
+from bpfrec_host.formats.limits import NANOSECONDS_A_SECOND, NANOSECONDS_A_TICK
+from bpfrec_host.streams import Input, Refused, Unreadable
+
+MOMENT = re.compile(
+    r"(?:([0-9]{1,10})|([0-9]{4}-[0-9]{2}-[0-9]{2}T[0-9]{2}:[0-9]{2}:[0-9]{2}))(?:\.([0-9]{1,9}))?(Z?)\Z"
+)
+
+
+def moment_of(word: str) -> int:
+    """Nanoseconds since 1970 of `zero`, `now`, seconds since 1970 or a time as 2025-12-01T12:00:00.25Z."""
+    if word == "zero":
+        return 0
+    if word == "now":
+        now = time.time_ns()
+        return now - now % NANOSECONDS_A_TICK
+    found = MOMENT.match(word)
+    if not found or bool(found[2]) != bool(found[4]):
+        raise argparse.ArgumentTypeError(f"{word} is no time")
+    try:
+        seconds = int(found[1]) if found[1] else calendar.timegm(time.strptime(found[2], "%Y-%m-%dT%H:%M:%S"))
+    except ValueError:
+        raise argparse.ArgumentTypeError(f"{word} is no time") from None
+    if seconds < 0 or found[2] and found[2][17:] > "59":
+        raise argparse.ArgumentTypeError(f"{word} is no time")
+    return seconds * NANOSECONDS_A_SECOND + int((found[3] or "").ljust(9, "0"))
+
+
+def origin_of(word: str) -> Optional[int]:
+    """The moment of counter 0; None where it is that of the first frame."""
+    return None if word == "first" else moment_of(word)
+
+
+def moments_by_origin(origin: int) -> Callable[[int], Optional[int]]:
+    """The moment of each counter, by that of counter 0."""
+    return lambda counter: origin + counter * NANOSECONDS_A_TICK
+
+
+def moments_by_facts(path: str, feed: str) -> Callable[[int], Optional[int]]:
+    """The moment of each counter of a feed, by the facts of a recording; None before their first origin."""
+    if path == feed == "-":
+        raise Refused("standard input can't be the feed and the facts")
+    try:
+        return facts.read(0 if path == "-" else path).moment_of
+    except OSError as fault:
+        raise Unreadable(f"{path}: {fault.strerror}") from None
+    except facts.NoFacts as fault:
+        raise Refused(f"{path}: no facts of a recording: {fault}") from None
+
+
+def captured_time(feed: Input, counter: int, moment: Optional[int]) -> tuple[int, int]:
+    """The seconds and nanoseconds of a frame in a capture, which begin with 1970 and have 32 bits."""
+    if moment is None:
+        raise Refused(f"{feed.name}: counter {counter} is before the first origin of the facts")
+    seconds, nanoseconds = divmod(moment, NANOSECONDS_A_SECOND)
+    if seconds >> 32:
+        raise Refused(f"{feed.name}: counter {counter} is {'before' if seconds < 0 else 'past'} the times of a capture")
+    return seconds, nanoseconds

@@ -1,0 +1,131 @@
+"""What the commands of bpfrec-convert do."""
+
+from __future__ import annotations
+
+import random
+import signal
+import zlib
+from typing import Iterator, Optional
+
+from bpfrec_host.convert.moments import captured_time, moments_by_facts, moments_by_origin
+from bpfrec_host.convert.samples import sample_frame
+from bpfrec_host.formats import pcap, pcapng
+from bpfrec_host.formats.feed import CHECK_SEQUENCE, RECORD_HEAD, Record, check_sequence, read_records, write_record
+from bpfrec_host.formats.limits import (
+    CHECK_SEQUENCE_LEN,
+    MARK_CHECK_SEQUENCE,
+    MAX_COUNTER,
+    MAX_FRAME_LEN,
+    MIN_FRAME_LEN,
+    NANOSECONDS_A_TICK,
+)
+from bpfrec_host.formats.pcap import Captured
+from bpfrec_host.streams import PARTS_A_WRITE, Input, Output, Refused
+
+# A frame's addresses and type.
+ETHERNET_HEADER_LEN = 14
+# On the wire a frame has at least 64 bytes with its check sequence.
+MIN_WIRE_LEN = 60
+MIN_WIRE_PADDING = bytes(MIN_WIRE_LEN)
+SHOWN_BYTES = 24
+# The ticks between two sample frames.
+LEAST_PAUSE, MOST_PAUSE = 100, 10_100
+
+
+def captured_frames(capture: Input, chosen: Optional[int]) -> Iterator[Captured]:
+    """The frames of a capture, of one interface or of all."""
+    if capture.has(4):
+        head = capture.data[:4]
+        if pcap.begins_classic(head):
+            return pcap.frames(capture, chosen)
+        if pcapng.begins_pcapng(head):
+            return pcapng.Blocks(capture, chosen).frames()
+    raise Refused(f"{capture.name}: no pcap or pcapng file")
+
+
+def padded(frame: bytes) -> bytes:
+    """A short frame as it is on the wire; one that has no whole header has no bytes there."""
+    return frame + MIN_WIRE_PADDING[len(frame) :] if len(frame) >= ETHERNET_HEADER_LEN else b""
+
+
+def write_captured(captures: Iterator[Captured], origin: Optional[int], feed: Output) -> tuple[int, int]:
+    """Writes the records of captured frames: how many, and how many frames were passed."""
+    # Each frame of a large file comes through here, so names are local and what is common comes first.
+    pack, pack_sequence, crc32, extend = RECORD_HEAD.pack, CHECK_SEQUENCE.pack, zlib.crc32, feed.parts.extend
+    counter = frames = passed = 0
+    for nanoseconds, is_whole, has_check_sequence, marks, frame in captures:
+        if nanoseconds is not None:
+            origin = nanoseconds if origin is None else origin
+            counter = (nanoseconds - origin) // NANOSECONDS_A_TICK & MAX_COUNTER
+        if has_check_sequence:
+            bare, sequence = frame[:-CHECK_SEQUENCE_LEN], frame[-CHECK_SEQUENCE_LEN:]
+            marks |= 0 if pack_sequence(crc32(bare)) == sequence else MARK_CHECK_SEQUENCE
+        else:
+            bare = frame if len(frame) >= MIN_WIRE_LEN else padded(frame)
+            sequence = pack_sequence(crc32(bare))
+        length = len(bare) + CHECK_SEQUENCE_LEN
+        if not is_whole or not MIN_FRAME_LEN <= length <= MAX_FRAME_LEN:
+            passed += 1
+            continue
+        extend((pack(counter & 0xFFFFFFFF, counter >> 32, marks, length), bare, sequence))
+        frames += 1
+        if not frames & PARTS_A_WRITE - 1:
+            feed.flush()
+    return frames, passed
+
+
+def from_pcap(path: str, output: str, origin: Optional[int], interface: Optional[int]) -> None:
+    """Writes the feed of a capture, and prints how many frames it has and how many were passed."""
+    capture = Input(path)
+    captures = captured_frames(capture, interface)
+    feed = Output(output, capture)
+    try:
+        frames, passed = write_captured(captures, origin, feed)
+    finally:
+        feed.close()
+    feed.tell(f"frames {frames} passed {passed}")
+
+
+def to_pcap(path: str, output: str, origin: int, facts: Optional[str], drops_check_sequences: bool) -> None:
+    """Writes the capture of a feed, in nanoseconds, and prints its number of frames."""
+    moment_at = moments_by_origin(origin) if facts is None else moments_by_facts(facts, path)
+    feed = Input(path)
+    capture = Output(output, feed, None if facts == "-" else facts)
+    pack, frames = pcap.CAPTURED_HEAD.pack, 0
+    try:
+        capture.write(pcap.head(not drops_check_sequences))
+        for counter, _, whole in read_records(feed):
+            frame = whole[:-CHECK_SEQUENCE_LEN] if drops_check_sequences else whole
+            seconds, nanoseconds = captured_time(feed, counter, moment_at(counter))
+            capture.write(pack(seconds, nanoseconds, len(frame), len(frame)) + frame)
+            frames += 1
+    finally:
+        capture.close()
+    capture.tell(f"frames {frames}")
+
+
+def show(path: str) -> None:
+    """Prints a line for each record: its counter, its marks, its frame's length and first bytes."""
+    # A reader of the lines may leave, as `head` does.
+    signal.signal(signal.SIGPIPE, signal.SIG_DFL)
+    feed = Input(path)
+    lines = Output("-")
+    feed.before_waiting = lines.flush
+    try:
+        for counter, marks, frame in read_records(feed):
+            lines.write(f"{counter} {marks} {len(frame)} {frame[:SHOWN_BYTES].hex()}\n".encode())
+    finally:
+        lines.flush()
+
+
+def make(seed: int, count: int, output: str) -> None:
+    """Writes a feed of sample frames, the same for the same seed, and prints their number."""
+    draw = random.Random(seed)
+    counter = 0
+    feed = Output(output)
+    for _ in range(count):
+        frame = sample_frame(draw).ljust(MIN_WIRE_LEN, b"\0")
+        write_record(feed, Record(counter, 0, frame + check_sequence(frame)))
+        counter += LEAST_PAUSE + int(draw.random() * (MOST_PAUSE - LEAST_PAUSE))
+    feed.close()
+    feed.tell(f"frames {count}")

@@ -1,0 +1,91 @@
+"""How a tool is called, what it prints, and how it ends: with a line and a status for each fault, with no traceback."""
+
+from __future__ import annotations
+
+import errno
+import io
+import os
+import sys
+from typing import Callable
+
+# The statuses of faults that any tool may meet: a file, no memory, and Ctrl-C, as shells have it.
+FILE_STATUS, MEMORY_STATUS, INTERRUPTED_STATUS = 3, 4, 130
+
+
+def short_name(tool: str) -> str:
+    """The name of a tool in what it tells: `info`, or `bpfrec-info` where it is installed."""
+    called = os.path.basename(sys.argv[0])
+    return called if called == f"bpfrec-{tool}" else tool
+
+
+def full_name(tool: str) -> str:
+    """How a tool was called, for its help: `host/bin/info` in a checkout, or `bpfrec-info` where it is installed."""
+    called = os.path.basename(sys.argv[0])
+    if called == f"bpfrec-{tool}":
+        return called
+    if called.startswith("bpfrec-"):
+        return f"{called} {tool}"
+    return f"python3 -m bpfrec_host {tool}" if called == "__main__.py" else f"host/bin/{tool}"
+
+
+def say(text: str) -> None:
+    """Prints a text on standard output, at once."""
+    try:
+        if sys.stdout is None:
+            raise OSError(errno.EBADF, os.strerror(errno.EBADF))
+        sys.stdout.write(text)
+        sys.stdout.flush()
+    except OSError as error:
+        error.filename = "-"
+        raise
+
+
+def tell(line: str) -> None:
+    """Prints a line on standard error; one that it can't take is left out, since there is nowhere to say so."""
+    try:
+        print(line, file=sys.stderr, flush=True)
+    except OSError:
+        leave(2)
+
+
+def leave(stream: int) -> None:
+    """Puts the null device in the place of a stream, so that what it couldn't take isn't tried again at the end."""
+    os.dup2(os.open(os.devnull, os.O_WRONLY), stream)
+
+
+def hold_streams() -> None:
+    """Fills the place of each standard stream that is closed, so that no file is opened there. What is written to such
+    a stream fails, since the null device is opened to be read."""
+    for stream in range(3):
+        try:
+            os.fstat(stream)
+        except OSError:
+            os.open(os.devnull, os.O_RDONLY)
+
+
+def failed(tool: str, error: OSError) -> int:
+    """Tells which file couldn't be read or written: the status for it."""
+    leave(1)
+    if error.errno == errno.ENOMEM:
+        tell(f"{tool}: out of memory")
+        return MEMORY_STATUS
+    tell(f"{tool}: {error.strerror}" if error.filename is None else f"file {error.filename}: {error.strerror}")
+    return FILE_STATUS
+
+
+def guarded(tool: str, command: Callable[[], int]) -> int:
+    """The status of a command: the one that it returns, or that of the fault that ended it, which is told."""
+    try:
+        hold_streams()
+        if isinstance(sys.stdout, io.TextIOWrapper):
+            # Paths and facts may have letters that it has no bytes for.
+            sys.stdout.reconfigure(errors="replace")
+        return command()
+    except OSError as error:
+        return failed(tool, error)
+    except KeyboardInterrupt:
+        tell(f"{tool}: interrupted")
+        return INTERRUPTED_STATUS
+    except MemoryError:
+        tell(f"{tool}: out of memory")
+        return MEMORY_STATUS

@@ -1,0 +1,1 @@
+"""The formats that the tools read and write, a module each."""

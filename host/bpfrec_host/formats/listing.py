@@ -1,0 +1,16 @@
+"""Listings of filters: the count, then code jt jf k of each instruction."""
+
+from __future__ import annotations
+
+import struct
+
+from bpfrec_host.formats.limits import INSN_LEN
+
+# An instruction as a program's record has it: its code, jt, jf and k.
+INSN = struct.Struct("<HBBI")
+
+
+def listing_of(insns: bytes) -> str:
+    """The listing of instructions, as they are stored in a recording."""
+    words = [f"{code} {jt} {jf} {k}" for code, jt, jf, k in INSN.iter_unpack(insns)]
+    return "".join(f"{it}," for it in [str(len(insns) // INSN_LEN), *words])

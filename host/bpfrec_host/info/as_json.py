@@ -1,0 +1,66 @@
+"""What is in a recording, as an object of JSON: times are ticks of 100 ns, and null stands for what isn't known."""
+
+from __future__ import annotations
+
+from typing import Any, Optional
+
+from bpfrec_host.info.beside import Beside, time_of
+from bpfrec_host.info.contents import KINDS, MOST_PLACES, Channel, Recording
+
+
+def object_of(recording: Recording, audit: Optional[str], beside: Optional[Beside] = None) -> dict[str, Any]:
+    """All that is known of a recording; `audit` is what the audit answered."""
+    return {
+        "facts": beside and beside_object(beside),
+        "bytes": recording.bytes,
+        "packets": {kind: recording.kinds[kind] for kind in KINDS.values()},
+        "missing_sequence_numbers": dict(sorted(recording.missing.items())),
+        "gap_count": recording.gap_count,
+        "gaps": [
+            {"at": it.at, "channel": it.channel, "from": it.first, "missing": it.missing} for it in recording.gaps
+        ],
+        "damaged_count": recording.damage_count,
+        "damaged_bytes": recording.damaged_bytes,
+        "damaged": [{"at": it.fault.at, "fault": it.fault.name, "bytes": it.length} for it in recording.damages],
+        "audit": audit,
+        "channels": {channel: channel_object(it, beside) for channel, it in sorted(recording.channels.items())},
+    }
+
+
+def beside_object(beside: Beside) -> dict[str, Any]:
+    """What the facts beside a recording say."""
+    origins = beside.known.origins
+    return {
+        "path": beside.path,
+        "host": beside.known.host,
+        "origin_count": len(origins),
+        "origins": [{"origin": it.text, "counter": it.counter, "set_by": it.set_by} for it in origins[:MOST_PLACES]],
+        "losses": beside.known.losses,
+    }
+
+
+def channel_object(channel: Channel, beside: Optional[Beside]) -> dict[str, Any]:
+    """What is known of a channel."""
+    first, last, least, greatest = channel.counters() or (None, None, None, None)
+    return {
+        "frames": channel.frames,
+        "bytes": channel.bytes,
+        "offered": channel.offered(),
+        "dropped": channel.dropped(),
+        "first_counter": first,
+        "last_counter": last,
+        "first_time": time_of(first, beside),
+        "last_time": time_of(last, beside),
+        "least_counter": least,
+        "greatest_counter": greatest,
+        "time": channel.span(),
+        "mean_rate": channel.mean_rate(),
+        "greatest_rate": channel.rates.greatest(),
+        "greatest_rate_seconds": channel.rates.seconds(),
+        "longest_gap": channel.longest_gap(),
+        "steps_back": channel.steps_back,
+        "marked": channel.marked,
+        "version_count": channel.version_count,
+        "versions": [{"version": it.number, "first_frame": it.first, "counter": it.counter} for it in channel.versions],
+        "has_end": channel.end is not None,
+    }

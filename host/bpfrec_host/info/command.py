@@ -1,0 +1,83 @@
+"""The command line of bpfrec-info."""
+
+from __future__ import annotations
+
+import json
+import os
+from typing import Optional
+
+from bpfrec_host.ending import full_name, say
+from bpfrec_host.info.as_json import object_of
+from bpfrec_host.info.beside import Beside, facts_beside
+from bpfrec_host.info.contents import Recording, read
+from bpfrec_host.info.page import page
+from bpfrec_host.info.text import text_page
+from bpfrec_host.program import Audit, audit_of
+from bpfrec_host.words import Parser
+
+ABOUT = """\
+What is in a recording: rates, gaps, versions of filters, faults, as a text, as JSON or as a page.
+
+Of each channel: frames and bytes that were kept, the versions of its filter with the first frame of each, first
+and last counter with the time between, the mean rate (frames by the time between the least and the greatest
+counter), the greatest rate (frames in a second of the counter), the longest gap between two frames, counters that
+step back, frames with marks, and the frames offered and dropped by the filter, by the record of its end. Of the
+whole: packets by kind, gaps in sequence numbers, places that can't be read, wrong checksums among them, and what
+`bpfrec audit` answers. Packets behind a damaged place are counted too (salvage copies them).
+
+Where the facts of the recording stand beside it, as RECORDING.json, it tells from them the host, each origin (the
+moment of counter 0) with the counter from which on it holds, the frames that were lost, and of each channel the times
+of its first and last frame. These times are UTC. The time between two frames goes by their counters.
+"""
+MORE = """\
+In JSON lengths of time are ticks of 100 ns, and what isn't known is null, as all that facts would say where there are
+none. Where over a hundred thousand seconds have frames, rates are of longer times, which are said. Of gaps, damaged
+places and origins the first thousand are told one by one, of a channel's versions as many as a recorder writes,
+1,024; all are counted.
+
+A RECORDING.json that can't be read, or has no facts of a recording, is told on standard error, and changes neither
+the rest nor the status.
+
+It runs bpfrec: what BPFREC names, or the one beside it; without it there is no audit and no text of filters.
+
+Status: 0 it is read to its end, 1 it isn't, 2 the arguments are wrong, 3 a file can't be read or written, 4 out of
+memory.
+"""
+
+
+def parser() -> Parser:
+    """The arguments of bpfrec-info."""
+    made = Parser(prog=full_name("info"), description=ABOUT, epilog=MORE)
+    made.add_argument("recording", metavar="RECORDING")
+    made.add_argument("--json", action="store_true", help="prints the same as one object")
+    made.add_argument("--html", metavar="FILE", help="writes a page: timelines, filters and the numbers")
+    return made
+
+
+def write_page(path: str, name: str, recording: Recording, audit: Audit, beside: Optional[Beside]) -> None:
+    """Writes the page of a recording of this name; not in the place of the recording or of its facts."""
+    for what, taken in (("RECORDING", name), ("RECORDING.json", f"{name}.json")):
+        if os.path.exists(path) and os.path.exists(taken) and os.path.samefile(path, taken):
+            raise OSError(0, f"it is {what} itself", path)
+    try:
+        with open(path, "w", encoding="utf-8") as file:
+            file.write(page(os.path.basename(name), recording, audit, beside))
+    except OSError as error:
+        error.filename = error.filename or path
+        raise
+
+
+def run(words: list[str]) -> int:
+    """Tells what is in a recording: the status."""
+    given = parser().parse_args(words)
+    audit = audit_of(given.recording)
+    # An audit that says yes has summed all data.
+    recording = read(given.recording, not audit.is_yes())
+    beside = facts_beside(given.recording)
+    if given.json:
+        say(json.dumps(object_of(recording, audit.answer, beside), indent=2) + "\n")
+    elif not given.html:
+        say(text_page(recording, audit, beside))
+    if given.html:
+        write_page(given.html, given.recording, recording, audit, beside)
+    return 1 if recording.damage_count else 0

@@ -1,0 +1,231 @@
+"""What is gathered of a recording, packet by packet: counts, rates, gaps, versions of filters, and damaged places.
+
+What is kept doesn't grow with the recording. Times are ticks of 100 ns.
+"""
+
+from __future__ import annotations
+
+from bisect import bisect_left
+from collections import Counter, defaultdict
+from itertools import chain
+from operator import sub
+from typing import NamedTuple, Optional, Union
+
+from bpfrec_host.formats import ch11
+from bpfrec_host.formats.limits import MAX_VERSIONS, TICKS_A_SECOND
+
+# How many damaged places, gaps in sequence numbers and origins are told one by one; and how many gaps in time.
+MOST_PLACES, MOST_GAPS = 1_000, 100
+# Of the rates: how many seconds are known each. Of a timeline: the ticks of its finest bars, and how many of all are
+# known.
+MOST_SECONDS, FINEST, MOST_TIMES = 100_000, TICKS_A_SECOND // 1_000, 1_000
+KINDS: dict[type, str] = {ch11.Frames: "frames", ch11.Program: "program", ch11.End: "end", type(None): "other"}
+
+
+class Rates:
+    """How many frames have their counters in each `ticks` ticks; in twice as many where these would be too many."""
+
+    def __init__(self, ticks: int, most: int) -> None:
+        self.ticks, self.most = ticks, most
+        self.counts: defaultdict[int, int] = defaultdict(int)
+
+    def take(self, counters: list[int], is_rising: bool) -> None:
+        """Takes the counters of a packet."""
+        if is_rising:
+            self.take_rising(counters)
+        else:
+            for at, count in Counter(it // self.ticks for it in counters).items():
+                self.counts[at] += count
+        while len(self.counts) > self.most:
+            self.counts, self.ticks = self.wider(2 * self.ticks), 2 * self.ticks
+
+    def take_rising(self, counters: list[int]) -> None:
+        """Takes counters none of which is less than the one before."""
+        ticks, begin, end = self.ticks, 0, len(counters)
+        while begin < end:
+            at = counters[begin] // ticks
+            until = end if counters[-1] // ticks == at else bisect_left(counters, (at + 1) * ticks, begin)
+            self.counts[at] += until - begin
+            begin = until
+
+    def wider(self, ticks: int) -> defaultdict[int, int]:
+        """The counts of as many ticks, which are a multiple of its own."""
+        times = ticks // self.ticks
+        found: defaultdict[int, int] = defaultdict(int)
+        for at, count in self.counts.items():
+            found[at // times] += count
+        return found
+
+    def greatest(self) -> Optional[int]:
+        """The most frames of any of these times; None where there are no frames."""
+        return max(self.counts.values(), default=None)
+
+    def seconds(self) -> int:
+        """How many seconds each of these times has."""
+        return self.ticks // TICKS_A_SECOND
+
+
+class Gaps:
+    """The longest gaps between two frames, each with the counter at which it begins."""
+
+    def __init__(self) -> None:
+        self.longest = 0
+        self.kept: list[tuple[int, int]] = []
+
+    def take(self, counters: list[int], gaps: list[int], most: int) -> None:
+        """Takes the times before the frames of a packet, of which `most` is the longest."""
+        self.longest = max(self.longest, most)
+        if most <= TICKS_A_SECOND:
+            return
+        self.kept += [(gap, counter - gap) for gap, counter in zip(gaps, counters) if gap > TICKS_A_SECOND]
+        if len(self.kept) > MOST_GAPS:
+            self.kept = sorted(self.kept, reverse=True)[:MOST_GAPS]
+
+
+class Version(NamedTuple):
+    """A version of a channel's filter: its number, the first frame that met it, with its counter, and its
+    instructions."""
+
+    number: int
+    first: int
+    counter: int
+    insns: bytes
+
+
+class Channel:
+    """What a recording has of a channel."""
+
+    def __init__(self) -> None:
+        self.frames, self.bytes, self.marked, self.steps_back = 0, 0, 0, 0
+        self.first: Optional[int] = None
+        self.last = self.least = self.greatest = 0
+        self.rates, self.times, self.gaps = Rates(TICKS_A_SECOND, MOST_SECONDS), Rates(FINEST, MOST_TIMES), Gaps()
+        self.versions: list[Version] = []
+        self.version_count = 0
+        self.end: Optional[ch11.End] = None
+        self.end_counter = 0
+
+    def take(self, frames: ch11.Frames) -> None:
+        """Takes the frames of a packet."""
+        counters = frames.counters
+        if not counters:
+            return
+        if self.first is None:
+            self.first = self.last = self.least = self.greatest = counters[0]
+        gaps = list(map(sub, counters, chain((self.last,), counters)))
+        shortest, longest = min(gaps), max(gaps)
+        if shortest < 0:
+            self.steps_back += sum(it < 0 for it in gaps)
+        self.gaps.take(counters, gaps, longest)
+        for rates in (self.rates, self.times):
+            rates.take(counters, shortest >= 0)
+        least, greatest = (min(counters), max(counters)) if shortest < 0 else (counters[0], counters[-1])
+        self.least, self.greatest, self.last = min(self.least, least), max(self.greatest, greatest), counters[-1]
+        self.frames += len(counters)
+        self.bytes += frames.bytes
+        self.marked += frames.marked
+
+    def take_version(self, program: ch11.Program, counter: int) -> None:
+        """Takes the record of a version, with the counter of the first frame that met it."""
+        self.version_count += 1
+        if len(self.versions) < MAX_VERSIONS:
+            self.versions.append(Version(program.version, program.first, counter, program.insns))
+
+    def counters(self) -> Optional[tuple[int, int, int, int]]:
+        """The first, the last, the least and the greatest counter; None where there are no frames."""
+        return None if self.first is None else (self.first, self.last, self.least, self.greatest)
+
+    def span(self) -> Optional[int]:
+        """The ticks between the first frame and the last; None where there are no frames."""
+        return None if self.first is None else self.last - self.first
+
+    def mean_rate(self) -> Optional[float]:
+        """Frames a second, on the whole; None where no time goes by."""
+        is_known = self.frames > 1 and self.greatest > self.least
+        return self.frames * TICKS_A_SECOND / (self.greatest - self.least) if is_known else None
+
+    def longest_gap(self) -> Optional[int]:
+        """The longest time between two frames, in ticks; None where there are no two."""
+        return self.gaps.longest if self.frames > 1 else None
+
+    def offered(self) -> Optional[int]:
+        """How many frames the channel was offered; None without the record of its end."""
+        return None if self.end is None else self.end.offered
+
+    def dropped(self) -> Optional[int]:
+        """How many frames the filter dropped; None without the record of its end."""
+        return None if self.end is None else self.end.offered - self.end.kept
+
+    def last_offered(self) -> Optional[int]:
+        """The counter of the last frame that the channel was offered; None where that isn't known."""
+        return self.end_counter if self.end and self.end.offered else None
+
+
+class Missing(NamedTuple):
+    """Sequence numbers of a channel ID that are missing before the packet at a place."""
+
+    at: int
+    channel: int
+    first: int
+    missing: int
+
+
+class Recording:
+    """What a recording has on the whole, and of each channel."""
+
+    def __init__(self) -> None:
+        self.channels: defaultdict[int, Channel] = defaultdict(Channel)
+        self.kinds: Counter[str] = Counter()
+        self.bytes = 0
+        # By channel ID: the sequence number that comes next, and how many are missing.
+        self.next: dict[int, int] = {}
+        self.missing: Counter[int] = Counter()
+        self.gaps: list[Missing] = []
+        self.gap_count = 0
+        self.damages: list[ch11.Damage] = []
+        self.damage_count, self.damaged_bytes = 0, 0
+
+    def take(self, it: Union[ch11.Packet, ch11.Damage]) -> None:
+        """Takes a packet, or what stands in the place of packets."""
+        if isinstance(it, ch11.Damage):
+            self.take_damage(it)
+            return
+        header, what = it.header, it.what
+        self.bytes += len(it.bytes)
+        self.kinds[KINDS[type(what)]] += 1
+        self.follow(it)
+        if isinstance(what, ch11.Frames):
+            self.channels[header.channel].take(what)
+        elif isinstance(what, ch11.Program):
+            self.channels[what.channel].take_version(what, header.counter)
+        elif isinstance(what, ch11.End):
+            channel = self.channels[what.channel]
+            channel.end, channel.end_counter = what, header.counter
+
+    def follow(self, packet: ch11.Packet) -> None:
+        """Compares a packet's sequence number with that of the packet before it."""
+        channel, sequence = packet.header.channel, packet.header.sequence
+        wanted = self.next.get(channel, 0)
+        self.next[channel] = (sequence + 1) % 256
+        count = (sequence - wanted) % 256
+        if count:
+            self.missing[channel] += count
+            self.gap_count += 1
+            if len(self.gaps) < MOST_PLACES:
+                self.gaps.append(Missing(packet.at, channel, wanted, count))
+
+    def take_damage(self, damage: ch11.Damage) -> None:
+        """Counts bytes that are no packet."""
+        self.bytes += damage.length
+        self.damage_count, self.damaged_bytes = self.damage_count + 1, self.damaged_bytes + damage.length
+        if len(self.damages) < MOST_PLACES:
+            self.damages.append(damage)
+
+
+def read(path: str, is_summed: bool = True) -> Recording:
+    """What a recording has; its data checksums are summed where `is_summed` says so."""
+    recording = Recording()
+    with open(path, "rb") as file:
+        for it in ch11.Reader(file, is_summed).pieces():
+            recording.take(it)
+    return recording

@@ -1,0 +1,134 @@
+"""What is in a recording, as a page of HTML that wants nothing from outside."""
+
+from __future__ import annotations
+
+import os
+import tempfile
+from typing import Collection, Iterable, Iterator, Optional
+
+from bpfrec_host import program
+from bpfrec_host.formats.listing import listing_of
+from bpfrec_host.info.beside import Beside
+from bpfrec_host.info.contents import Channel, Recording
+from bpfrec_host.info.text import Row, number, on_a_line, rows_of, rows_of_whole, seconds
+from bpfrec_host.info.timeline import Axis, escaped, last_of, timeline
+
+STYLE = """
+:root { color-scheme: light dark; --ink: #1c2430; --soft: #566171; --line: #d4dae2; --paper: #fff; --box: #f2f4f7;
+  --bar: #2f6fb0; --even: #cfe0f1; --odd: #f3dfb8; --bad: #b3261e; }
+@media screen and (prefers-color-scheme: dark) { :root { --ink: #e6eaf0; --soft: #9aa6b5; --line: #39424e;
+  --paper: #14181d; --box: #1e242b; --bar: #6aa7e0; --even: #24405c; --odd: #554522; --bad: #ff8a80; } }
+* { box-sizing: border-box; }
+body { font: 16px/1.5 system-ui, sans-serif; color: var(--ink); background: var(--paper); max-width: 60rem;
+  margin: 0 auto; padding: 1rem; }
+h1 { font-size: 1.4rem; overflow-wrap: anywhere; } h2 { font-size: 1.15rem; margin: 2rem 0 .3rem; }
+h3 { font-size: 1rem; margin: 0; } .soft { color: var(--soft); }
+table { border-collapse: collapse; width: 100%; } td, th { text-align: left; padding: .2rem .8rem .2rem 0;
+  border-bottom: 1px solid var(--line); vertical-align: top; font-weight: normal; }
+th { color: var(--soft); width: 40%; } td { font-variant-numeric: tabular-nums; overflow-wrap: anywhere; }
+.bad { color: var(--bad); font-weight: 600; }
+.ends { display: flex; justify-content: space-between; gap: 1rem; font-size: .85rem; color: var(--soft);
+  font-variant-numeric: tabular-nums; }
+svg { width: 100%; height: 7.5rem; display: block; }
+.bar { fill: var(--bar); } .axis { stroke: var(--line); } .gap { stroke: var(--bad); stroke-width: 5; }
+.end { stroke: var(--ink); stroke-dasharray: 4 3; } line { vector-effect: non-scaling-stroke; }
+.strip { position: relative; height: 1.5rem; margin: .2rem 0; overflow: hidden; font-size: .85rem; }
+.strip span { position: absolute; top: 0; bottom: 0; overflow: hidden; padding-left: .2rem; min-width: 2px; }
+.even { background: var(--even); } .odd { background: var(--odd); }
+.filter { display: grid; grid-template-columns: minmax(11rem, 1fr) 3fr; gap: 1rem; margin: 1rem 0; }
+.filter > div { border-left: .4rem solid; padding-left: .6rem; font-variant-numeric: tabular-nums; }
+.filter .even { border-color: var(--even); background: none; } .filter .odd { border-color: var(--odd); background: none; }
+pre { background: var(--box); padding: .6rem; margin: 0; overflow-x: auto; font-size: .85rem; }
+@media (max-width: 40rem) { .filter { grid-template-columns: minmax(0, 1fr); gap: .4rem; } }
+@media print { body { max-width: none; padding: 0; font-size: 11pt; } * { print-color-adjust: exact;
+  -webkit-print-color-adjust: exact; } pre { white-space: pre-wrap; } .filter, svg, tr { break-inside: avoid; }
+  h2, h3 { break-after: avoid; } }
+"""
+LEGEND = (
+    "Bars are kept frames a second, red lines times of over a second without one, the dashed line is the end; below "
+    "them the versions of the filter."
+)
+
+
+class Texts:
+    """The texts of filters, each asked for once."""
+
+    def __init__(self) -> None:
+        self.known: dict[bytes, str] = {}
+
+    def text_of(self, insns: bytes) -> str:
+        """A filter's text, or its listing where it has none or the program isn't there."""
+        if insns not in self.known:
+            self.known[insns] = disassembled(listing_of(insns))
+        return self.known[insns]
+
+
+def disassembled(listing: str) -> str:
+    """The text of a listing, by `bpfrec dis`; or the listing itself."""
+    with tempfile.TemporaryFile() as file:
+        file.write(listing.encode())
+        file.seek(0)
+        try:
+            done = program.run("dis", "-", stdin=file)
+        except program.Missing:
+            return listing
+    return done.stdout.strip() if done.returncode == 0 and done.stdout else listing
+
+
+def table(rows: Iterable[Row], bad: Collection[str] = ()) -> str:
+    """Rows as a table, in which those of the names `bad` stand out."""
+    cells = (
+        f'<tr><th>{escaped(name)}</th><td{" class=bad" * (name in bad)}>{escaped(value)}</td></tr>'
+        for name, value in rows
+    )
+    return f"<table>{''.join(cells)}</table>"
+
+
+def filters(channel: Channel, axis: Axis, texts: Texts) -> Iterator[str]:
+    """Each version's span with its text beside it."""
+    for at, version in enumerate(channel.versions):
+        after = channel.versions[at + 1] if at + 1 < len(channel.versions) else None
+        to = f"to frame {number(after.first - 1)}" if after else "on"
+        ends = (version.counter, after.counter if after else last_of(channel))
+        begin, until = (seconds(it - axis.first) for it in ends)
+        yield (
+            f"<div class=filter><div class={('even', 'odd')[at % 2]}><h3>Version {version.number}</h3>"
+            f"<div>from frame {number(version.first)} {to}</div><div class=soft>{begin} to {until}</div></div>"
+            f"<pre>{escaped(texts.text_of(version.insns))}</pre></div>"
+        )
+    if channel.version_count > len(channel.versions):
+        yield f"<p>and {number(channel.version_count - len(channel.versions))} more versions</p>"
+
+
+def section(channel_id: int, channel: Channel, axis: Axis, texts: Texts, beside: Optional[Beside]) -> str:
+    """What the page has of a channel."""
+    bad = [] if channel.end else ["record of its end"]
+    return (
+        f"<section><h2>Channel {channel_id}</h2>{timeline(channel, axis)}{table(rows_of(channel, beside), bad)}"
+        f"{''.join(filters(channel, axis, texts))}</section>"
+    )
+
+
+def bad_rows(recording: Recording, audit: program.Audit, beside: Optional[Beside]) -> list[str]:
+    """The names of the rows that tell of a loss or of damage."""
+    return [
+        *["damaged places"] * bool(recording.damages),
+        *["missing sequence numbers"] * bool(recording.missing),
+        *["audit"] * (not audit.is_yes()),
+        *["frames lost"] * bool(beside and any(beside.known.losses.values())),
+    ]
+
+
+def page(name: str, recording: Recording, audit: program.Audit, beside: Optional[Beside] = None) -> str:
+    """The whole page of a recording of this name."""
+    axis, texts = Axis(recording.channels.values()), Texts()
+    whole = table(rows_of_whole(recording, audit, beside), bad_rows(recording, audit, beside))
+    span = f"Counters {number(axis.first)} to {number(axis.last)}, {seconds(axis.last - axis.first)}, in each timeline."
+    times = f" Times are UTC, from the facts in {on_a_line(os.path.basename(beside.path))}." if beside else ""
+    sections = (section(channel, it, axis, texts, beside) for channel, it in sorted(recording.channels.items()))
+    return (
+        "<!DOCTYPE html>\n<html lang=en><meta charset=utf-8>"
+        '<meta name=viewport content="width=device-width, initial-scale=1">'
+        f"<title>{escaped(name)}</title><style>{STYLE}</style><h1>{escaped(name)}</h1>{whole}"
+        f"<p>{escaped(span)} {escaped(LEGEND)}{escaped(times)}</p>{''.join(sections)}</html>\n"
+    )

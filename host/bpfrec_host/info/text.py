@@ -1,0 +1,130 @@
+"""What is in a recording, as a text; its rows are those of the page too."""
+
+from __future__ import annotations
+
+from typing import Iterator, Optional, Union
+
+from bpfrec_host.formats import ch11, facts
+from bpfrec_host.formats.limits import TICKS_A_SECOND
+from bpfrec_host.info.beside import Beside, time_of
+from bpfrec_host.info.contents import KINDS, MOST_PLACES, Channel, Missing, Recording
+from bpfrec_host.program import Audit
+
+# What is known, as a name and a value.
+Row = tuple[str, str]
+
+
+def number(value: Union[int, float, None]) -> str:
+    """A number for people: with commas, and a fraction's first digit."""
+    if value is None:
+        return "unknown"
+    return f"{value:,.1f}" if isinstance(value, float) else f"{value:,}"
+
+
+def seconds(ticks: Optional[int]) -> str:
+    """Ticks of 100 ns as seconds."""
+    if ticks is None:
+        return "unknown"
+    sign, ticks = "-" if ticks < 0 else "", abs(ticks)
+    return f"{sign}{ticks // TICKS_A_SECOND}.{ticks % TICKS_A_SECOND:07d} s"
+
+
+def on_a_line(given: str) -> str:
+    """A text that another wrote, with a question mark for what isn't to be seen on a line."""
+    return "".join(it if it.isprintable() else "?" for it in given)
+
+
+def origin_text(origin: facts.Origin) -> str:
+    """The moment of counter 0, from which counter on it holds, and by how much the clock was set."""
+    setting = f": the clock was set by {origin.set_by} s" if origin.set_by else ""
+    return f"{facts.utc_of(origin.moment)} from counter {number(origin.counter)} on{setting}"
+
+
+def rows_of(channel: Channel, beside: Optional[Beside]) -> list[Row]:
+    """What is known of a channel."""
+    mean, most, width = channel.mean_rate(), channel.rates.greatest(), channel.rates.seconds()
+    time = "a second" if width == 1 else f"{width} seconds"
+    return [
+        ("frames kept", number(channel.frames)),
+        ("bytes kept", number(channel.bytes)),
+        ("frames offered", number(channel.offered())),
+        ("dropped by the filter", number(channel.dropped())),
+        *counter_rows(channel, beside),
+        ("time between", seconds(channel.span())),
+        ("mean rate", f"{number(mean)} frames/s" if mean else "unknown"),
+        ("greatest rate", f"{number(most)} frames in {time}" if most else "unknown"),
+        ("longest gap", seconds(channel.longest_gap())),
+        ("counters that step back", number(channel.steps_back)),
+        ("frames with marks", number(channel.marked)),
+        ("versions of the filter", number(channel.version_count)),
+        ("record of its end", "there" if channel.end else "missing"),
+    ]
+
+
+def counter_rows(channel: Channel, beside: Optional[Beside]) -> Iterator[Row]:
+    """The first and the last counter of a channel, with their times where there are facts."""
+    first, last, least, greatest = channel.counters() or (None, None, None, None)
+    for name, counter in (("first", first), ("last", last)):
+        yield f"{name} counter", number(counter)
+        if beside:
+            yield f"{name} time", time_of(counter, beside) or "unknown"
+    if channel.steps_back:
+        yield "least, greatest counter", f"{number(least)}, {number(greatest)}"
+
+
+def beside_rows(beside: Beside) -> Iterator[Row]:
+    """What the facts beside a recording say."""
+    origins = beside.known.origins
+    lost = [f"{number(count)} {name}" for name, count in beside.known.losses.items() if count]
+    yield "facts", on_a_line(beside.path)
+    yield "host", on_a_line(beside.known.host)
+    for it in origins[:MOST_PLACES]:
+        yield "origin", origin_text(it)
+    if len(origins) > MOST_PLACES:
+        yield "origin", f"and {number(len(origins) - MOST_PLACES)} more"
+    yield "frames lost", ", ".join(lost) or "none"
+
+
+def place_of(gap: Missing) -> str:
+    """Where sequence numbers are missing."""
+    return f"{gap.missing} of channel ID {gap.channel} from {gap.first} at {gap.at}"
+
+
+def damage_of(damage: ch11.Damage) -> str:
+    """Where bytes are no packet."""
+    return f"{damage.fault.name} at {damage.fault.at} ({number(damage.length)} bytes)"
+
+
+def listed(texts: list[str], count: int) -> str:
+    """Texts of places, and how many more there are."""
+    more = count - len(texts)
+    return ", ".join([*texts, *([f"and {number(more)} more"] if more else [])]) or "none"
+
+
+def rows_of_whole(recording: Recording, audit: Audit, beside: Optional[Beside]) -> list[Row]:
+    """What is known of a recording on the whole."""
+    return [
+        ("bytes", number(recording.bytes)),
+        *((f"packets: {kind}", number(recording.kinds[kind])) for kind in KINDS.values()),
+        ("missing sequence numbers", listed([place_of(it) for it in recording.gaps], recording.gap_count)),
+        ("damaged places", listed([damage_of(it) for it in recording.damages], recording.damage_count)),
+        ("audit", str(audit)),
+        *(beside_rows(beside) if beside else []),
+    ]
+
+
+def text_page(recording: Recording, audit: Audit, beside: Optional[Beside] = None) -> str:
+    """All numbers, as a text."""
+    parts = [("", rows_of_whole(recording, audit, beside))]
+    for channel, it in sorted(recording.channels.items()):
+        versions = [
+            (f"version {known.number}", f"from frame {number(known.first)}, counter {number(known.counter)}")
+            for known in it.versions
+        ]
+        parts.append((f"channel {channel}", rows_of(it, beside) + versions))
+    found = []
+    for title, rows in parts:
+        indent = "  " if title else ""
+        found += [f"\n{title}"] if title else []
+        found += [f"{indent}{name:<26} {value}" for name, value in rows]
+    return "\n".join(found) + "\n"

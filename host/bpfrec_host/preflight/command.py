@@ -1,0 +1,101 @@
+"""The command line of bpfrec-preflight."""
+
+from __future__ import annotations
+
+import argparse
+import signal
+
+from bpfrec_host import program
+from bpfrec_host.ending import full_name, say, tell
+from bpfrec_host.formats.limits import MAX_NUMBER
+from bpfrec_host.formats.settings import Channel, NoReader, Settings, reader
+from bpfrec_host.preflight.inputs import judge_capture, judge_channel_feed, judge_feed, judge_filter, judge_shared_feeds
+from bpfrec_host.preflight.keys import judge_channel_keys, judge_ids, judge_top, read_settings
+from bpfrec_host.preflight.output import judge_memory, judge_out
+from bpfrec_host.preflight.report import NotJudged, Report
+from bpfrec_host.words import Parser
+
+ABOUT = """\
+Names, before a recording, all faults that `bpfrec record SETTINGS OUT` would answer, not only the first.
+
+Run it in the folder in which the recording will run, since paths are used as they are written. It judges
+
+- the settings, key by key;
+- each filter, by `bpfrec verify`, and each feed that is a file, to its end;
+- two channels whose feeds are one pipe or device;
+- OUT: whether it can be written, that it is none of the inputs, and how much room its disk has;
+- the memory that the buffers of the recording take at most, beside what is available.
+
+With --capture it records FEED through each filter into /dev/null, and says how many frames are kept.
+It creates nothing but temporary files, empties nothing, and opens no pipe, since that would wait for
+the pipe's other end.
+"""
+MORE = """\
+Each finding is a line on standard output, `FILE[:LINE]: [channel ID: ]what`; a channel without an ID
+is `channel table N`. What is no fault begins with `note:`. The last line is `N faults`. The status is
+0 where there is none, 1 where there are, and 2 where nothing was judged: the arguments are wrong, the
+program is missing, SETTINGS is a pipe, Python has no tomllib (3.11 is the first that has it) and no
+tomli, or its tomllib doesn't read what is new in TOML 1.1, which bpfrec reads; 3 where the findings
+can't be printed, and 4 where it is out of memory.
+
+It runs bin/bpfrec (make build), or what the environment's BPFREC names. Nothing of it is proved.
+"""
+
+
+def parser() -> Parser:
+    """The arguments of bpfrec-preflight."""
+    name = full_name("preflight")
+    made = Parser(
+        prog=name,
+        usage=f"{name} SETTINGS [--out OUT] [--capture FEED]",
+        description=ABOUT,
+        epilog=MORE,
+        allow_abbrev=False,
+    )
+    made.add_argument("settings", metavar="SETTINGS", help="the settings of the recording")
+    made.add_argument("--out", metavar="OUT", help="the file of the recording")
+    made.add_argument("--capture", metavar="FEED", help="a feed on which each filter is tried")
+    return made
+
+
+def judge(given: argparse.Namespace, report: Report) -> None:
+    """Judges all that is named."""
+    settings = read_settings(given.settings, report)
+    valid = [] if settings is None else judge_settings(settings, report)
+    if given.out is not None:
+        judge_out(given.out, given.settings, settings.channels if settings else [], report)
+    if given.capture is not None and judge_feed(given.capture, MAX_NUMBER, given.capture, report) and settings:
+        for channel in valid:
+            judge_capture(settings, channel, given.capture, report)
+
+
+def judge_settings(settings: Settings, report: Report) -> list[Channel]:
+    """Judges settings with their filters and feeds: the channels that have a valid filter."""
+    judge_top(settings, report)
+    for channel in settings.channels:
+        judge_channel_keys(settings, channel, report)
+    judge_ids(settings, report)
+    valid = []
+    for channel in settings.channels:
+        if judge_filter(settings, channel, report):
+            valid.append(channel)
+        judge_channel_feed(settings, channel, report)
+    judge_shared_feeds(settings, report)
+    judge_memory(settings, report)
+    return valid
+
+
+def run(words: list[str]) -> int:
+    """Names what is wrong: the status."""
+    # A reader of the findings may leave, as `head` does.
+    signal.signal(signal.SIGPIPE, signal.SIG_DFL)
+    given, report = parser().parse_args(words), Report()
+    try:
+        reader()
+        program.find()
+        judge(given, report)
+    except (NoReader, NotJudged, program.Missing) as why:
+        tell(f"preflight: {why}")
+        return 2
+    say(f"{report.faults} faults\n")
+    return 1 if report.faults else 0

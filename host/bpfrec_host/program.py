@@ -1,0 +1,72 @@
+"""The program bpfrec: where it is, and how it is run."""
+
+from __future__ import annotations
+
+import os
+import shutil
+import stat
+import subprocess
+from pathlib import Path
+from typing import IO, NamedTuple, Optional, Union
+
+
+class Missing(Exception):
+    """The program isn't there: what is missing."""
+
+
+class Audit(NamedTuple):
+    """The last line of what `bpfrec audit` said; or None, and why it wasn't asked."""
+
+    answer: Optional[str]
+    why_not: Optional[str]
+
+    def __str__(self) -> str:
+        return self.answer or self.why_not or ""
+
+    def is_yes(self) -> bool:
+        """Whether the recording was approved."""
+        return (self.answer or "").startswith("yes")
+
+
+def find() -> str:
+    """The path of the program: what BPFREC names in the environment, or else the one beside this package."""
+    named = os.environ.get("BPFREC")
+    found = shutil.which(named or beside())
+    if found is None:
+        raise Missing(f"{named} is missing" if named else "bin/bpfrec is missing: make build makes it")
+    return os.path.abspath(found)
+
+
+def beside() -> Path:
+    """bin/bpfrec of the checkout that has this package; or where it is installed, as an archive in PREFIX/libexec/bpfrec,
+    that of PREFIX."""
+    holder = Path(__file__).resolve().parents[1]
+    return holder.parents[2 if holder.is_file() else 0] / "bin" / "bpfrec"
+
+
+def run(*words: str, stdin: Union[int, IO[bytes]] = subprocess.DEVNULL) -> subprocess.CompletedProcess[str]:
+    """Runs the program with these words to its end, and takes what it prints."""
+    return subprocess.run(
+        [find(), *words], stdin=stdin, capture_output=True, check=False, encoding="utf-8", errors="replace"
+    )
+
+
+def answer_of(done: subprocess.CompletedProcess[str]) -> str:
+    """All that a run printed, or its status where it printed nothing."""
+    return (done.stdout + done.stderr).strip() or f"status {done.returncode}"
+
+
+def audit_of(path: str) -> Audit:
+    """What the program's audit says of a recording, which must be a regular file: it is read twice."""
+    try:
+        if not stat.S_ISREG(os.stat(path).st_mode):
+            return Audit(None, "not asked: no regular file, which could be read twice")
+        # By standard input, so that the file may have any name.
+        with open(path, "rb") as recording:
+            done = run("audit", "-", stdin=recording)
+    except Missing:
+        return Audit(None, "not asked: bpfrec is missing")
+    except OSError as error:
+        return Audit(None, f"not asked: {error.strerror}")
+    lines = (done.stdout or done.stderr).strip().split("\n")
+    return Audit(lines[-1] or f"status {done.returncode}", None)

@@ -1,0 +1,133 @@
+"""bpfrec-salvage: what is left of a recording that was cut or damaged."""
+
+from __future__ import annotations
+
+import errno
+import os
+from typing import BinaryIO, NoReturn, Optional
+
+from bpfrec_host.ending import full_name, say, short_name, tell
+from bpfrec_host.formats import ch11
+from bpfrec_host.program import audit_of
+from bpfrec_host.words import Parser
+
+ABOUT = """\
+What is left of a recording that was cut or damaged: all packets that are whole, as they are.
+
+Copies the packets of DAMAGED before the first fault and, behind each damaged place, those that begin again with a
+right header, and with a right data checksum where they have one. It prints a line for each place where something
+was lost, as it finds it:
+
+  lost <bytes> at <place> after read <number> <Name>   bytes that are no packet, and what is wrong with the first
+  missing <n> of <channel> from <sequence> at <place>  sequence numbers of that channel ID that are missing before
+                                                       the packet at <place>, modulo 256, so more may be
+
+then `no end of <channel>` for each channel whose record of its end isn't there; where something was lost, what
+`bpfrec audit` says of OUT, or why it wasn't asked:
+
+  audit: <answer>                                      as audit: no 5 NoEnd 1; it is not asked where OUT is no
+                                                       regular file, or where bpfrec is missing
+
+and at last
+
+  kept <packets> packets <bytes> bytes, lost <bytes> bytes at <n> places
+
+Places are counted in bytes from the beginning of DAMAGED. `bpfrec list` and `bpfrec extract` read OUT. When the last
+lines are printed, OUT is on its disk.
+"""
+MORE = """\
+It runs bpfrec: what BPFREC names, or the one beside it.
+
+Status: 0 nothing was lost, 1 something was, 2 the arguments are wrong, 3 a file can't be read or written, and OUT
+isn't created where DAMAGED can't be opened, 4 out of memory.
+"""
+
+
+class SalvageParser(Parser):
+    """A parser that says in one line what salvage takes."""
+
+    def error(self, message: str) -> NoReturn:
+        name = full_name("salvage")
+        tell(f"{short_name('salvage')}: it takes DAMAGED and OUT: {name} --help has its words")
+        self.exit(2)
+
+
+class Left:
+    """What is left: the packets that were kept, and what they say is missing."""
+
+    def __init__(self) -> None:
+        self.packets, self.bytes = 0, 0
+        # By channel ID: the sequence number that comes next, and whether the record of the channel's end was there.
+        self.next: dict[int, int] = {}
+        self.has_end: dict[int, bool] = {}
+
+    def take(self, packet: ch11.Packet) -> Optional[str]:
+        """Takes a packet, and tells which sequence numbers are missing before it, as a line; None where none is."""
+        header, what = packet.header, packet.what
+        self.packets, self.bytes = self.packets + 1, self.bytes + len(packet.bytes)
+        if what is not None:
+            channel = header.channel if isinstance(what, ch11.Frames) else what.channel
+            self.has_end[channel] = self.has_end.get(channel, False) or isinstance(what, ch11.End)
+        wanted = self.next.get(header.channel, 0)
+        self.next[header.channel] = (header.sequence + 1) % 256
+        missing = (header.sequence - wanted) % 256
+        return f"missing {missing} of {header.channel} from {wanted} at {packet.at}" if missing else None
+
+    def lines(self) -> list[str]:
+        """Which channels have no end, as lines."""
+        return [f"no end of {channel}" for channel, has_end in sorted(self.has_end.items()) if not has_end]
+
+
+def salvage(damaged: BinaryIO, out: BinaryIO) -> bool:
+    """Copies what is whole, and prints what was lost: whether nothing was."""
+    left, places, lost, is_missing = Left(), 0, 0, False
+    for it in ch11.Reader(damaged).pieces():
+        if isinstance(it, ch11.Damage):
+            say(f"lost {it.length} at {it.fault.at} after read {it.fault.number} {it.fault.name}\n")
+            places, lost = places + 1, lost + it.length
+            continue
+        out.write(it.bytes)
+        missing = left.take(it)
+        if missing:
+            say(f"{missing}\n")
+            is_missing = True
+    force(out)
+    told = left.lines()
+    is_whole = not (told or places or is_missing)
+    # By its descriptor, so that it may have any name, and another one meanwhile.
+    told += [] if is_whole else [f"audit: {audit_of(f'/proc/self/fd/{out.fileno()}')}"]
+    told.append(f"kept {left.packets} packets {left.bytes} bytes, lost {lost} bytes at {places} places")
+    say("".join(f"{line}\n" for line in told))
+    return is_whole
+
+
+def force(out: BinaryIO) -> None:
+    """Forces a file to its disk; a pipe or a device that says that it can't be is passed over."""
+    out.flush()
+    try:
+        os.fsync(out.fileno())
+    except OSError as error:
+        if error.errno != errno.EINVAL:
+            raise
+
+
+def parser() -> Parser:
+    """The arguments of bpfrec-salvage."""
+    made = SalvageParser(prog=full_name("salvage"), description=ABOUT, epilog=MORE)
+    made.add_argument("damaged", metavar="DAMAGED")
+    made.add_argument("out", metavar="OUT")
+    return made
+
+
+def run(words: list[str]) -> int:
+    """Copies what is left of a recording: the status."""
+    given = parser().parse_args(words)
+    with open(given.damaged, "rb") as damaged:
+        if os.path.exists(given.out) and os.path.samefile(given.out, given.damaged):
+            raise OSError(0, "it is DAMAGED itself", given.out)
+        try:
+            with open(given.out, "wb") as out:
+                return 0 if salvage(damaged, out) else 1
+        except OSError as error:
+            error.filename = error.filename or given.out
+            raise

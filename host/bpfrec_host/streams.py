@@ -1,0 +1,133 @@
+"""Files and pipes as they are converted: read as their bytes come, and written in large pieces."""
+
+from __future__ import annotations
+
+import os
+import stat
+from typing import Callable, Optional
+
+from bpfrec_host.ending import say, tell
+
+READ_LEN = 1 << 18
+# So many parts at most wait for a write.
+PARTS_A_WRITE = 256
+
+
+class Refused(Exception):
+    """What is wrong with an input, an output or an argument, and where."""
+
+    status = 1
+
+
+class Unreadable(Refused):
+    """Facts that can't be read."""
+
+    status = 3
+
+
+class Input:
+    """The bytes of a file as they come: those that are there are data[at:], and place is where data begins."""
+
+    def __init__(self, path: str) -> None:
+        self.name = path
+        self.data = b""
+        self.at = 0
+        self.place = 0
+        self.before_waiting: Callable[[], None] = lambda: None
+        try:
+            self.descriptor = 0 if path == "-" else os.open(path, os.O_RDONLY)
+            self.waits = not stat.S_ISREG(os.fstat(self.descriptor).st_mode)
+        except OSError as fault:
+            raise Refused(f"{path}: {fault.strerror}") from None
+
+    def more(self) -> bool:
+        """Whether further bytes came; before it waits for them, what is ready is written."""
+        if self.waits:
+            self.before_waiting()
+        try:
+            read = os.read(self.descriptor, READ_LEN)
+        except OSError as fault:
+            raise Refused(f"{self.name}: {fault.strerror}") from None
+        self.place += self.at
+        self.data = self.data[self.at :] + read
+        self.at = 0
+        return bool(read)
+
+    def has(self, length: int) -> bool:
+        """Whether that many bytes are there, or come."""
+        while len(self.data) - self.at < length:
+            if not self.more():
+                return False
+        return True
+
+    def is_at_end(self) -> bool:
+        """Whether all bytes that came are read."""
+        return len(self.data) == self.at
+
+    def where(self) -> int:
+        """The place in the file of the next byte."""
+        return self.place + self.at
+
+    def cut_short(self) -> Refused:
+        """The fault of an input that ends within a record."""
+        return Refused(f"{self.name}: cut short at byte {self.place + len(self.data)}")
+
+
+class Output:
+    """A file that is written in large pieces. It must not be the input, nor the file of facts."""
+
+    def __init__(self, path: str, source: Optional[Input] = None, facts: Optional[str] = None) -> None:
+        self.name = path
+        self.parts: list[bytes] = []
+        try:
+            self.descriptor = 1 if path == "-" else self.create(source, facts)
+        except OSError as fault:
+            raise Refused(f"{path}: {fault.strerror}") from None
+        if source:
+            source.before_waiting = self.flush
+
+    def create(self, source: Optional[Input], facts: Optional[str]) -> int:
+        """The descriptor of the file, which is emptied only once it is known to be no input."""
+        descriptor = os.open(self.name, os.O_WRONLY | os.O_CREAT, 0o666)
+        if stat.S_ISREG(os.fstat(descriptor).st_mode):
+            if source and os.path.sameopenfile(descriptor, source.descriptor):
+                raise Refused(f"{self.name}: the output is the input")
+            if facts and os.path.samestat(os.fstat(descriptor), os.stat(facts)):
+                raise Refused(f"{self.name}: the output is the file of facts")
+            os.ftruncate(descriptor, 0)
+        return descriptor
+
+    def write(self, part: bytes) -> None:
+        """Takes a part, which is written with others."""
+        self.parts.append(part)
+        if len(self.parts) >= PARTS_A_WRITE:
+            self.flush()
+
+    def flush(self) -> None:
+        """Writes all parts that were taken."""
+        left = memoryview(b"".join(self.parts))
+        self.parts.clear()
+        try:
+            while left:
+                left = left[os.write(self.descriptor, left) :]
+        except OSError as fault:
+            raise Refused(f"{self.name}: {fault.strerror}") from None
+
+    def close(self) -> None:
+        """Writes what is left, and closes the file."""
+        self.flush()
+        try:
+            if self.descriptor != 1:
+                os.close(self.descriptor)
+        except OSError as fault:
+            raise Refused(f"{self.name}: {fault.strerror}") from None
+
+    def tell(self, line: str) -> None:
+        """Prints what was done: on standard output, or on standard error where that is the output itself."""
+        if self.name == "-":
+            tell(line)
+            return
+        try:
+            say(f"{line}\n")
+        except OSError as fault:
+            raise Refused(f"-: {fault.strerror}") from None
