@@ -1,26 +1,25 @@
-#!/usr/bin/env python3
-"""Tries that a recording is the same with and without host/bin/live --prefilter; outside the gate.
+"""Tries that a recording is the same with and without host/bin/live --prefilter.
 
-usage: dev/trials/check_prefilter.py [CHECK..]
-
-Each listing has an interface of its own, over which mixed frames come in and go out. Two recordings run over all of these
-interfaces at once, one of them with --prefilter, and what they kept is compared frame for frame. A scratch word that is read
-before it is set is refused when a program is verified, so no listing of these has one. It wants root, bin/bpfrec and bin/capture
-(make build), and Debian's iproute2 and tcpdump, and says what is missing. It takes about ten seconds. A CHECK runs alone;
---help names them.
+Each listing has an interface of its own, over which mixed frames come in and go out. Two recordings run over all of
+these interfaces at once, one of them with --prefilter, and what they kept is compared frame for frame. A scratch word
+that is read before it is set is refused when a program is verified, so no listing of these has one.
 """
 
 import re
-import subprocess
-import sys
 import time
 from collections import Counter
+from collections.abc import Callable
+from dataclasses import dataclass
 from pathlib import Path
 
-import support
-from support import BPFREC, LIVE, Running, extracted, judge, judge_quietly, records, run, send, wait_for
+import pytest
+from frames import records
+from namespace import make_many_pairs, send, wait_until_up
+from recordings import YES, extracted, folder_of
+from support import BPFREC, LIVE, Running, judge, judge_quietly, outcome, run, wait_for
 
-WANTED = {"ip": "iproute2", "tcpdump": "tcpdump"}
+WANTED = {"bin/bpfrec": "make build", "bin/capture": "make build", "ip": "iproute2", "tcpdump": "tcpdump"}
+pytestmark = pytest.mark.timed
 EXPRESSIONS = {
     "tcpdump: udp port 53": "udp port 53",
     "tcpdump: vlan": "vlan",
@@ -66,7 +65,7 @@ LONG = {
     "4,087 instructions with ret a": long_text(MOST - AHEAD - BEHIND, True),
     "4,088 instructions with ret a": long_text(MOST - AHEAD - BEHIND + 1, True),
 }
-
+NAMES = [*EXPRESSIONS, *TEXTS, *LONG]
 
 # ---- frames
 
@@ -76,7 +75,7 @@ def ipv4(port: int, protocol: int = 17) -> bytes:
     return head + port.to_bytes(2, "big") + (4_000).to_bytes(2, "big") + bytes.fromhex("00100000")
 
 
-def payloads() -> list:
+def payloads() -> list[bytes]:
     """What follows the addresses: with and without tags."""
     plain = [
         b"\x08\x00" + ipv4(53),
@@ -99,7 +98,7 @@ def payloads() -> list:
     return [tag + data for data in plain for tag in tags]
 
 
-def mixed_frames() -> list:
+def mixed_frames() -> list[bytes]:
     """Frames of all these kinds, cut or padded to many lengths, with their numbers in their senders' addresses."""
     kinds = payloads()
     lengths = [60, 61, 62, 63, 64, 68, 100, 1_514]
@@ -118,11 +117,22 @@ def mixed_frames() -> list:
 # ---- the recordings
 
 
-def make_listings(work: Path) -> dict:
+@dataclass
+class Kept:
+    """What two recordings of the same frames kept, without --prefilter and with it."""
+
+    sent: int
+    told: str
+    # How many frames were offered to each channel, and the frames that it kept.
+    offered_alone: list[int]
+    offered: list[int]
+    alone: list[list[bytes]]
+    both: list[list[bytes]]
+
+
+def make_listings(work: Path) -> dict[str, Path]:
     """The paths of the listings, by their names."""
-    made = {}
-    for name, expression in EXPRESSIONS.items():
-        made[name] = run("tcpdump", "-y", "EN10MB", "-ddd", expression)
+    made = {name: run("tcpdump", "-y", "EN10MB", "-ddd", it) for name, it in EXPRESSIONS.items()}
     for name, text in {**TEXTS, **LONG}.items():
         (work / "text").write_text(text)
         made[name] = run(BPFREC, "asm", work / "text")
@@ -134,25 +144,9 @@ def make_listings(work: Path) -> dict:
     return paths
 
 
-def check_unset(work: Path) -> None:
-    """A scratch word that is read before it is set isn't 0, but a fault that is told before anything is recorded."""
-    (work / "text").write_text("ld M[3]\nadd #1\nret a\n")
-    (work / "unset").write_text(run(BPFREC, "asm", work / "text"))
-    done = subprocess.run([BPFREC, "verify", work / "unset"], capture_output=True, text=True, timeout=support.SECONDS)
-    judge(
-        "a scratch word that is read before it is set is refused",
-        done.stdout.startswith("refused 8 Unset"),
-        done.stdout,
-    )
-    (work / "live.toml").write_text(f'[[channel]]\nid = 1\nfilter = "{work}/unset"\n')
-    running = Running(work, LIVE, "--quiet", "--prefilter", work / "live.toml", work / "unset.ch11", "rx0=1")
-    judge("by a recording too", running.ended()[0] in (1, 3) and not (work / "unset.ch11").exists(), running.told())
-
-
-def record(work: Path, name: str, paths: dict, words: list) -> tuple:
+def begin(work: Path, name: str, paths: dict[str, Path], words: list) -> tuple[Running, Path]:
     """Begins a recording of all interfaces; gives what runs and its OUT."""
-    here, out = work / name, work / f"{name}.ch11"
-    (here / "private").mkdir(parents=True)
+    here, out = folder_of(work, name), work / f"{name}.ch11"
     settings = here / "live.toml"
     channels = [f'[[channel]]\nid = {at + 1}\nfilter = "{path}"\n' for at, path in enumerate(paths.values())]
     settings.write_text("limit = 65536\n" + "".join(channels))
@@ -164,57 +158,83 @@ def record(work: Path, name: str, paths: dict, words: list) -> tuple:
     return running, out
 
 
-def ended(running: Running, name: str) -> tuple:
-    """What it told, and how many frames were offered to each channel."""
+def offered_by(running: Running, name: str) -> list[int]:
+    """Ends a recording: how many frames were offered to each channel."""
     running.interrupt()
     status, printed = running.ended()
-    judge(f"{name}: status 0, and the audit says yes", status == 0 and printed.endswith("yes other 0\n"))
-    return running.told(), [int(it) for it in re.findall(r"channel \d+ versions 1 offered (\d+) ", printed)]
+    judge(f"{name}: status 0, and the audit says yes", status == 0 and printed.endswith(f"{YES}\n"), running.told())
+    return [int(it) for it in re.findall(r"channel \d+ versions 1 offered (\d+) ", printed)]
 
 
-def check_same(work: Path) -> None:
+def frames_of(work: Path, out: Path, count: int) -> list[list[bytes]]:
+    return [[it.frame for it in records(extracted(work, out, at + 1))] for at in range(count)]
+
+
+@pytest.fixture(scope="module")
+def kept(place: Path, entering: Callable) -> Kept:
+    """Both recordings."""
+    with entering():
+        paths, frames = make_listings(place), mixed_frames()
+        make_many_pairs("fy", "fx", len(paths))
+        for at in range(len(paths)):
+            wait_until_up(f"fx{at}")
+        alone, its_out = begin(place, "alone", paths, [])
+        both, other_out = begin(place, "prefiltered", paths, ["--prefilter"])
+        for at in range(len(paths)):
+            for way in ("fy", "fx"):
+                send(f"{way}{at}", frames)
+        time.sleep(0.5)
+        offered_alone, offered = offered_by(alone, "without --prefilter"), offered_by(both, "with --prefilter")
+    found = [frames_of(place, it, len(paths)) for it in (its_out, other_out)]
+    return Kept(2 * len(frames), both.told(), offered_alone, offered, *found)
+
+
+# ---- the trials
+
+
+@pytest.mark.parametrize("name", NAMES)
+def test_same_frames(kept: Kept, name: str) -> None:
     """What is recorded is the same with and without --prefilter."""
-    paths, frames = make_listings(work), mixed_frames()
-    support.make_many_pairs("fy", "fx", len(paths))
-    for at in range(len(paths)):
-        wait_for("the pair is up", lambda: "LOWER_UP" in run("ip", "link", "show", f"fx{at}"))
-    alone, its_out = record(work, "alone", paths, [])
-    both, other_out = record(work, "prefiltered", paths, ["--prefilter"])
-    for at in range(len(paths)):
-        for way in ("fy", "fx"):
-            send(f"{way}{at}", frames)
-    time.sleep(0.5)
-    _, offered_alone = ended(alone, "without --prefilter")
-    told, offered = ended(both, "with --prefilter")
-    for at, name in enumerate(paths):
-        kept, too = ([it[2] for it in records(extracted(work, out, at + 1))] for out in (its_out, other_out))
-        lost = (Counter(kept) - Counter(too)).total()
-        judge(
-            f"{name}: {len(too)} frames of {2 * len(frames)} with --prefilter, {len(kept)} without, {lost} of which are lost, "
-            f"and {offered_alone[at] - offered[at]} stayed in the kernel",
-            kept == too and len(kept) > 0,
-        )
-    judge("the kernel drops some", sum(offered) < sum(offered_alone) * 9 // 10)
-    judge_long(told, paths, offered, offered_alone)
+    at = NAMES.index(name)
+    alone, both = kept.alone[at], kept.both[at]
+    lost = (Counter(alone) - Counter(both)).total()
+    judge(
+        f"{name}: {len(both)} frames of {kept.sent} with --prefilter, {len(alone)} without, {lost} of which are lost, "
+        f"and {kept.offered_alone[at] - kept.offered[at]} stayed in the kernel",
+        alone == both and len(alone) > 0,
+    )
 
 
-def judge_long(told: str, paths: dict, offered: list, offered_alone: list) -> None:
+def test_kernel_drops(kept: Kept) -> None:
+    judge("the kernel drops some", sum(kept.offered) < sum(kept.offered_alone) * 9 // 10)
+
+
+def test_too_long(kept: Kept) -> None:
     """A program that has no room in the kernel runs in the recorder alone, and that is said."""
-    said = re.findall(rf"capture: fx(\d+): (\S+): {TOO_LONG}\n", told)
-    names = list(paths)
+    said = re.findall(rf"capture: fx(\d+): (\S+): {TOO_LONG}\n", kept.told)
     judge(
         "what is too long for the kernel is said",
-        sorted(names[int(at)] for at, _ in said) == sorted(SAID_TOO_LONG),
-        told,
+        sorted(NAMES[int(at)] for at, _ in said) == sorted(SAID_TOO_LONG),
+        kept.told,
     )
-    for at, name in enumerate(names):
-        judge_quietly(
+    for name in LONG:
+        at = NAMES.index(name)
+        judge(
             f"{name} runs {'in the recorder alone' if name in SAID_TOO_LONG else 'in the kernel'}",
-            (offered[at] == offered_alone[at]) == (name in SAID_TOO_LONG) or name not in LONG,
+            (kept.offered[at] == kept.offered_alone[at]) == (name in SAID_TOO_LONG),
         )
 
 
-CHECKS = [check_unset, check_same]
-
-if __name__ == "__main__":
-    sys.exit(support.main(__doc__, CHECKS, WANTED))
+def test_unset_word(work: Path, namespace: None) -> None:
+    """A scratch word that is read before it is set isn't 0, but a fault that is told before anything is recorded."""
+    (work / "text").write_text("ld M[3]\nadd #1\nret a\n")
+    (work / "unset").write_text(run(BPFREC, "asm", work / "text"))
+    done = outcome(BPFREC, "verify", work / "unset")
+    judge(
+        "a scratch word that is read before it is set is refused",
+        done.stdout.startswith("refused 8 Unset"),
+        done.stdout,
+    )
+    (work / "live.toml").write_text(f'[[channel]]\nid = 1\nfilter = "{work}/unset"\n')
+    running = Running(work, LIVE, "--quiet", "--prefilter", work / "live.toml", work / "unset.ch11", "rx0=1")
+    judge("by a recording too", running.ended()[0] in (1, 3) and not (work / "unset.ch11").exists(), running.told())

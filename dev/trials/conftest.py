@@ -1,0 +1,83 @@
+"""What pytest gives to each trial: a folder, a network namespace, and a look at what is missing here."""
+
+import contextlib
+import os
+import signal
+import sys
+import tempfile
+from collections.abc import Callable, Iterator
+from pathlib import Path
+
+import pytest
+
+sys.dont_write_bytecode = True
+import namespace as namespaces
+import support
+
+ENDED_BY = 128
+
+
+def end_by_signal(number: int, _) -> None:
+    pytest.exit(f"ended by {signal.Signals(number).name}", returncode=ENDED_BY + number)
+
+
+def pytest_configure(config: pytest.Config) -> None:
+    # A shell that starts this in the background ignores INT, and so would all that is tried.
+    signal.signal(signal.SIGINT, signal.default_int_handler)
+    for number in (signal.SIGTERM, signal.SIGHUP):
+        signal.signal(number, end_by_signal)
+
+
+@pytest.fixture(autouse=True, scope="module")
+def at_hand(request: pytest.FixtureRequest) -> None:
+    """Leaves a trial out that wants what isn't here, by the table WANTED of its file."""
+    lacking = support.missing(getattr(request.module, "WANTED", {}))
+    if lacking:
+        pytest.skip(f"it wants {', '.join(lacking)}")
+
+
+def made_folder() -> Iterator[Path]:
+    with tempfile.TemporaryDirectory(prefix="bpfrec_trial_", ignore_cleanup_errors=True) as folder:
+        (Path(folder) / "private").mkdir()
+        yield Path(folder)
+
+
+@pytest.fixture
+def work() -> Iterator[Path]:
+    """A folder of the trial's own, with a folder for the temporary files of what it runs."""
+    yield from made_folder()
+
+
+@pytest.fixture(scope="module")
+def place() -> Iterator[Path]:
+    """A folder for what the trials of a file share."""
+    yield from made_folder()
+
+
+@contextlib.contextmanager
+def entered() -> Iterator[None]:
+    """A network namespace while it lasts; what wants it is left out where none can be made."""
+    if os.geteuid() != 0:
+        pytest.skip("it wants root, for a network namespace")
+    with contextlib.ExitStack() as stack:
+        try:
+            stack.enter_context(namespaces.own_namespace())
+        except OSError as error:
+            pytest.skip(f"no network namespace can be made here: {error}")
+        support.run("ip", "link", "set", "lo", "up")
+        yield
+
+
+@pytest.fixture
+def namespace() -> Iterator[None]:
+    """A network namespace of the trial's own, with the pairs tx0 and rx0, tx1 and rx1."""
+    with entered():
+        namespaces.make_pair(0)
+        namespaces.make_pair(1)
+        yield
+
+
+@pytest.fixture(scope="session")
+def entering() -> Callable[[], contextlib.AbstractContextManager[None]]:
+    """For what a file's trials share: a namespace without interfaces, while it lasts."""
+    return entered

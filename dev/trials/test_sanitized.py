@@ -1,0 +1,116 @@
+"""Tries bin/capture under the sanitizers of gcc and clang, and its readers of capture files with drawn bytes.
+
+Under the sanitizers of addresses and of undefined behaviour it goes through the trials test_capture*.py and
+test_convert*.py; under that of threads two interfaces go over to other feeds again and again; and for a minute
+libFuzzer gives the readers of capture files what it draws from capture/fuzz/corpus/. A report of any of them is wrong.
+"""
+
+import os
+import signal
+import sys
+import time
+from pathlib import Path
+
+import pytest
+from namespace import send_together
+from support import ROOT, TRIALS, Reader, Running, judge, judge_quietly, outcome, pipe_at
+
+WANTED = {
+    "bin/bpfrec": "make build",
+    "bin/capture": "make build",
+    "gcc": "gcc",
+    "clang": "clang",
+    "ip": "iproute2",
+    "tshark": "tshark",
+    "dumpcap": "wireshark-common",
+    "tcpdump": "tcpdump",
+}
+pytestmark = pytest.mark.timed
+SOURCES = sorted((ROOT / "capture/src").glob("*.c"))
+FUZZ = ROOT / "capture/fuzz"
+FUZZ_SECONDS = int(os.environ.get("FUZZ_SECONDS", "60"))
+FLAGS = ["-g", "-O1", "-std=gnu11", "-fno-omit-frame-pointer"]
+FILES = sorted(it.name for topic in ("capture", "convert") for it in TRIALS.glob(f"test_{topic}*.py"))
+SWITCHES = 50
+PATIENCE = 500
+
+
+def built(folder: Path, compiler: str, sanitizers: str, sources: list[Path]) -> Path:
+    """A program of these sources, under these sanitizers, by the name that it has else."""
+    made = folder / "capture"
+    more = [] if sanitizers == "thread" else ["-fno-sanitize-recover=undefined"]
+    words = [compiler, *FLAGS, f"-fsanitize={sanitizers}", *more, "-o", made, *sources, "-lpcap", "-lpthread"]
+    done = outcome(*words, seconds=PATIENCE)
+    judge_quietly(f"capture is built with {sanitizers}", done.returncode == 0, done.stderr[-2000:])
+    return made
+
+
+@pytest.fixture(scope="module")
+def of_addresses(place: Path) -> Path:
+    """The capture under the sanitizers of addresses and of undefined behaviour, for everybody to run."""
+    place.chmod(0o755)
+    return built(place, "gcc", "address,undefined", SOURCES)
+
+
+@pytest.fixture
+def reports(work: Path) -> Path:
+    """A folder for reports."""
+    folder = work / "reports"
+    folder.mkdir()
+    for each in (work, folder):
+        each.chmod(0o777)
+    return folder
+
+
+def reporting_to(folder: Path) -> dict[str, str]:
+    """The variables by which sanitizers write their reports there."""
+    names = ("ASAN_OPTIONS", "UBSAN_OPTIONS", "TSAN_OPTIONS")
+    # What a run that was refused has not freed by its end is no fault.
+    return {name: f"log_path={folder}/report:detect_leaks=0" for name in names}
+
+
+def judge_no_report(folder: Path) -> None:
+    told = "".join(it.read_text(errors="replace")[:2000] for it in sorted(folder.iterdir()))
+    judge("no report", not told, told)
+
+
+@pytest.mark.parametrize("file", FILES)
+def test_addresses(of_addresses: Path, reports: Path, file: str) -> None:
+    """Feeds of files, and live captures, under the sanitizers of addresses and of undefined behaviour."""
+    env = {**os.environ, **reporting_to(reports), "CAPTURE": str(of_addresses)}
+    done = outcome(sys.executable, "-m", "pytest", TRIALS / file, cwd=ROOT, env=env, seconds=PATIENCE)
+    judge(f"{file} under the address sanitizer", done.returncode == 0, done.stdout[-4000:] + done.stderr[-800:])
+    judge_no_report(reports)
+
+
+def test_threads(work: Path, reports: Path, namespace: None) -> None:
+    """Two interfaces that go over to other feeds, under the thread sanitizer."""
+    capture = built(work, "gcc", "thread", SOURCES)
+    pipes = [pipe_at(work, name) for name in ("0.pipe", "1.pipe")]
+    readers = [Reader(it) for it in pipes]
+    running = Running(work, capture, *(f"rx{at}={it}" for at, it in enumerate(pipes)), adds=reporting_to(reports))
+    running.wait_until_told("origin")
+    for turn in range(SWITCHES):
+        send_together(200 * turn, 200)
+        readers += [Reader(pipe_at(work, it.name)) for it in pipes]
+        running.process.send_signal(signal.SIGUSR1)
+        time.sleep(0.02)
+    running.interrupt()
+    status = running.ended()[0]
+    judge("two interfaces go over to other feeds under the thread sanitizer", status == 0, running.told()[-800:])
+    judge_no_report(reports)
+
+
+def test_readers(work: Path) -> None:
+    """The readers of capture files, with bytes that are drawn from a corpus."""
+    sources = [FUZZ / "readers.c", *(it for it in SOURCES if it.name != "main.c")]
+    fuzzer, drawn = built(work, "clang", "fuzzer,address,undefined", sources), work / "drawn"
+    drawn.mkdir()
+    limits = [f"-max_total_time={FUZZ_SECONDS}", "-rss_limit_mb=2048", "-timeout=10", f"-artifact_prefix={work}/"]
+    done = outcome(fuzzer, *limits, drawn, FUZZ / "corpus", errors="replace", seconds=PATIENCE)
+    runs = [it for it in done.stderr.splitlines() if it.startswith("Done ")]
+    judge(
+        f"the readers of capture files take what is drawn: {runs[-1] if runs else ''}",
+        done.returncode == 0,
+        done.stderr[-2000:],
+    )
