@@ -26,30 +26,25 @@ WANTED = {
     "tcpdump": "tcpdump",
 }
 pytestmark = pytest.mark.timed
-SOURCES = sorted((ROOT / "capture/src").glob("*.c"))
-FUZZ = ROOT / "capture/fuzz"
+CORPUS = ROOT / "capture/fuzz/corpus"
 FUZZ_SECONDS = int(os.environ.get("FUZZ_SECONDS", "60"))
-FLAGS = ["-g", "-O1", "-std=gnu11", "-fno-omit-frame-pointer"]
 FILES = sorted(it.name for topic in ("capture", "convert") for it in TRIALS.glob(f"test_{topic}*.py"))
 SWITCHES = 50
 PATIENCE = 500
 
 
-def built(folder: Path, compiler: str, sanitizers: str, sources: list[Path]) -> Path:
-    """A program of these sources, under these sanitizers, by the name that it has else."""
-    made = folder / "capture"
-    more = [] if sanitizers == "thread" else ["-fno-sanitize-recover=undefined"]
-    words = [compiler, *FLAGS, f"-fsanitize={sanitizers}", *more, "-o", made, *sources, "-lpcap", "-lpthread"]
-    done = outcome(*words, seconds=PATIENCE)
-    judge_quietly(f"capture is built with {sanitizers}", done.returncode == 0, done.stderr[-2000:])
-    return made
+def built(folder: Path, target: str, program: str) -> Path:
+    """A program of capture/Makefile, by its target."""
+    done = outcome("make", "-s", "-C", ROOT / "capture", target, f"BIN={folder}", seconds=PATIENCE)
+    judge_quietly(f"make {target} builds {program}", done.returncode == 0, done.stderr[-2000:])
+    return folder / target / program
 
 
 @pytest.fixture(scope="module")
 def of_addresses(place: Path) -> Path:
     """The capture under the sanitizers of addresses and of undefined behaviour, for everybody to run."""
     place.chmod(0o755)
-    return built(place, "gcc", "address,undefined", SOURCES)
+    return built(place, "addresses", "capture")
 
 
 @pytest.fixture
@@ -85,7 +80,7 @@ def test_addresses(of_addresses: Path, reports: Path, file: str) -> None:
 
 def test_threads(work: Path, reports: Path, namespace: None) -> None:
     """Two interfaces that go over to other feeds, under the thread sanitizer."""
-    capture = built(work, "gcc", "thread", SOURCES)
+    capture = built(work, "threads", "capture")
     pipes = [pipe_at(work, name) for name in ("0.pipe", "1.pipe")]
     readers = [Reader(it) for it in pipes]
     running = Running(work, capture, *(f"rx{at}={it}" for at, it in enumerate(pipes)), adds=reporting_to(reports))
@@ -103,11 +98,10 @@ def test_threads(work: Path, reports: Path, namespace: None) -> None:
 
 def test_readers(work: Path) -> None:
     """The readers of capture files, with bytes that are drawn from a corpus."""
-    sources = [FUZZ / "readers.c", *(it for it in SOURCES if it.name != "main.c")]
-    fuzzer, drawn = built(work, "clang", "fuzzer,address,undefined", sources), work / "drawn"
+    fuzzer, drawn = built(work, "fuzzer", "readers"), work / "drawn"
     drawn.mkdir()
     limits = [f"-max_total_time={FUZZ_SECONDS}", "-rss_limit_mb=2048", "-timeout=10", f"-artifact_prefix={work}/"]
-    done = outcome(fuzzer, *limits, drawn, FUZZ / "corpus", errors="replace", seconds=PATIENCE)
+    done = outcome(fuzzer, *limits, drawn, CORPUS, errors="replace", seconds=PATIENCE)
     runs = [it for it in done.stderr.splitlines() if it.startswith("Done ")]
     judge(
         f"the readers of capture files take what is drawn: {runs[-1] if runs else ''}",
