@@ -6,7 +6,7 @@ from pathlib import Path
 import pytest
 from clock import Clock, Sender, capture_with, judge_frames, judge_steps, judge_times, origins_told
 from frames import numbers_in, records
-from recordings import YES, extracted, facts_of, judge_parts, parts_of, recordings, settings_of
+from recordings import YES, extracted, facts_of, parts_of, recordings, settings_of
 from support import LIVE, MILLISECOND, SECOND, Running, judge, nanoseconds
 
 WANTED = {
