@@ -12,6 +12,7 @@ import pytest
 
 sys.dont_write_bytecode = True
 import namespace as namespaces
+import recorder
 import support
 
 ENDED_BY = 128
@@ -52,6 +53,12 @@ def work() -> Iterator[Path]:
 def place() -> Iterator[Path]:
     """A folder for what the trials of a file share."""
     yield from made_folder()
+
+
+@pytest.fixture(scope="module")
+def long_feed(place: Path) -> Path:
+    """A feed of a million frames."""
+    return recorder.make_feed(place / "long.feed", recorder.MANY)
 
 
 @contextlib.contextmanager

@@ -4,6 +4,7 @@ A trial is a test of pytest in a file test_*.py. The other modules beside this o
 namespace.py, recordings.py, clock.py and disks.py.
 """
 
+import ast
 import os
 import re
 import shutil
@@ -51,6 +52,12 @@ def missing(wanted: dict) -> list:
     packages = sorted({wanted[name] for name in lacking if name not in BUILT})
     found = [f"{name} ({wanted[name]})" for name in lacking if name in BUILT]
     return found + ([f"apt-get install {' '.join(packages)}"] if packages else [])
+
+
+def judge_syntax(*files: Path) -> None:
+    for file in files:
+        ast.parse(file.read_text(), feature_version=(3, 8))
+    judge(f"{', '.join(it.name for it in files)} have the syntax of Python 3.8", True)
 
 
 def run(*words: object, seconds: float = SECONDS, **more) -> str:

@@ -1,0 +1,243 @@
+"""Tries the OUT of `record`, `extract` and `upgrade`: full and failing disks, names of an input, and standard streams."""
+
+import errno
+import os
+import resource
+import signal
+import subprocess
+from collections.abc import Callable
+from pathlib import Path
+
+import pytest
+from recorder import ONE_FRAME, RECORDINGS, make_feed, record, write_settings
+from support import BPFREC, TRIALS, judge, judge_quietly, outcome, run
+
+WANTED = {"bin/bpfrec": "make build", "cc": "gcc"}
+pytestmark = pytest.mark.timed
+FRAMES = 100
+REPORT = f"channel 1 versions 1 offered {FRAMES} kept {FRAMES} SourceEnd\n"
+
+# ---- full disks
+
+
+def test_full_device(work: Path, long_feed: Path) -> None:
+    full = record(write_settings(work, [long_feed], ["all"]), "/dev/full")
+    judge("/dev/full", (full.returncode, full.stdout, full.stderr) == (1, "", "run 2 Output 0 0\n"), full)
+
+
+def test_file_that_may_not_grow(work: Path, long_feed: Path) -> None:
+    """Past a million bytes, with standard input closed: the numbers that are told are those of the file."""
+
+    def limited() -> None:
+        signal.signal(signal.SIGXFSZ, signal.SIG_IGN)
+        resource.setrlimit(resource.RLIMIT_FSIZE, (1_000_000, 1_000_000))
+        os.close(0)
+
+    out = work / "limited.ch11"
+    done = outcome(BPFREC, "record", write_settings(work, [long_feed], ["all"]), out, preexec_fn=limited)
+    told = done.stderr.split()
+    judge("a file that may not grow", done.returncode == 1 and told[:1] + told[2:3] == ["run", "Output"], done)
+    pieces, rest = told[3:]
+    os.truncate(out, out.stat().st_size - int(rest))
+    listed = outcome(BPFREC, "list", out)
+    judge("what it says is whole is whole", listed.stdout.splitlines()[-1:] == [f"packets {pieces} other 0"], listed)
+
+
+# ---- a recording's fault, and OUT
+
+
+def runs_into(recording: Path, out: Path) -> list[tuple]:
+    """`extract` and `upgrade` of a recording in a file and as standard input: what each run is, and its status, and
+    what it printed and told."""
+    runs = []
+    for file in [str(recording), "-"]:
+        for words in [["extract", file, "1"], ["upgrade", file]]:
+            with open(recording, "rb") as given:
+                told = outcome(BPFREC, *words, out, stdin=given)
+            runs.append((f"{words[0]} {'-' if file == '-' else 'FILE'}", (told.returncode, told.stdout, told.stderr)))
+    return runs
+
+
+@pytest.mark.parametrize("what", ["below_a_file", "of_a_long_name", "of_a_loop_of_links"])
+def test_fault_order(work: Path, what: str) -> None:
+    """A recording's fault goes before an OUT that can't be looked at, which is a fault where OUT is created."""
+    loop = work / "loop"
+    loop.symlink_to(loop)
+    (work / "all").write_bytes(b"")
+    out = {"below_a_file": work / "all/out", "of_a_long_name": work / ("n" * 300), "of_a_loop_of_links": loop}[what]
+    cases = [
+        (RECORDINGS / "cut_to_210.ch11", (1, "", "read 1 Truncated 180\n")),
+        (RECORDINGS / "two_versions.ch11", (3, "", f"file {out}\n")),
+    ]
+    for recording, wanted in cases:
+        for name, told in runs_into(recording, out):
+            judge(f"{name} of {recording.name} into an OUT {what}", told == wanted, told)
+
+
+def test_damaged_into_itself(work: Path) -> None:
+    """An OUT that is the recording goes before its fault."""
+    damaged, own = (RECORDINGS / "cut_to_210.ch11").read_bytes(), work / "own_damaged.ch11"
+    own.write_bytes(damaged)
+    for name, told in runs_into(own, own):
+        refused = told == (3, "", f"file {own}\n") and own.read_bytes() == damaged
+        judge(f"{name} of a damaged recording into itself is refused before it is read", refused, told)
+
+
+# ---- what is on the disk
+
+
+@pytest.fixture(scope="module")
+def failing_fsync(place: Path) -> Path:
+    """The library of dev/trials/failing_fsync.c."""
+    library = place / "failing_fsync.so"
+    run("cc", "-O2", "-Wall", "-shared", "-fPIC", "-o", library, TRIALS / "failing_fsync.c", "-ldl")
+    return library
+
+
+def forced_by(words: list, given: Path, library: Path, error: int) -> tuple:
+    """A run whose forcing of files to their disks fails with an error, unless that is 0: its status, what it
+    printed and told, and the lines of dev/trials/failing_fsync.c."""
+    forced, printed = library.with_name("forced.lines"), library.with_name("forced.printed")
+    forced.write_text("")
+    env = {"LD_PRELOAD": str(library), "FORCED": str(forced)} | ({"FORCED_ERROR": str(error)} if error else {})
+    with open(given, "rb") as given_bytes, open(printed, "wb") as output:
+        done = outcome(BPFREC, *words, stdin=given_bytes, stdout=output, stderr=subprocess.PIPE, env=env)
+    return done.returncode, printed.read_text(), done.stderr, forced.read_text()
+
+
+def forced_run(work: Path, command: str, given: Path) -> tuple[list, str, bytes]:
+    """A command without its OUT, the line that it prints, and what it makes."""
+    file = "-" if given != Path("/dev/null") else RECORDINGS / "two_versions.ch11"
+    if command == "extract":
+        return ["extract", file, "1"], "frames 1 passed 0\n", ONE_FRAME
+    if command == "upgrade":
+        made = (RECORDINGS / "two_versions_checked.ch11").read_bytes()
+        return ["upgrade", file], "upgraded 4 copied 0\n", made
+    settings, plain = write_settings(work, [make_feed(work / "forced.feed", FRAMES)], ["all"]), work / "forced.plain"
+    report = record(settings, plain).stdout
+    return ["record", settings], report, plain.read_bytes()
+
+
+@pytest.mark.parametrize(
+    "command, from_input",
+    [("record", False), ("extract", False), ("upgrade", False), ("extract", True), ("upgrade", True)],
+    ids=["record", "extract", "upgrade", "extract_of_input", "upgrade_of_input"],
+)
+def test_forced(work: Path, failing_fsync: Path, command: str, from_input: bool) -> None:
+    """What a command made is forced to its disk before it prints, and where that fails it prints nothing else."""
+    given, out = RECORDINGS / "two_versions.ch11" if from_input else Path("/dev/null"), work / "forced.out"
+    words, line, made = forced_run(work, command, given)
+    # the whole of OUT, and nothing is printed yet
+    forced = f"{len(made)} 0 {out}\n"
+    told = forced_by([*words, out], given, failing_fsync, 0)
+    judge(
+        f"{command} forces OUT to its disk before it prints",
+        told == (0, line, "", forced) and out.read_bytes() == made,
+        told,
+    )
+    for error in [errno.EIO, errno.ENOSPC]:
+        told = forced_by([*words, out], given, failing_fsync, error)
+        judge(
+            f"and prints nothing else where that fails ({errno.errorcode[error]})",
+            told == (3, "", f"file {out}\n", forced),
+            told,
+        )
+    told = forced_by([*words, out], given, failing_fsync, errno.EINVAL)
+    judge("but goes on where OUT has no disk (EINVAL)", told == (0, line, "", forced), told)
+
+
+# ---- an OUT that is an input
+
+
+@pytest.fixture
+def own(work: Path) -> Path:
+    """Settings of a feed and a filter, all of them in the folder that is worked in."""
+    make_feed(work / "own.feed", FRAMES)
+    return write_settings(work, ["own.feed"], ["all"], "own.toml")
+
+
+@pytest.mark.parametrize("name", ["own.toml", "all", "own.feed"])
+@pytest.mark.parametrize("link", [os.symlink, os.link], ids=["symlink", "link"])
+def test_out_is_input(work: Path, own: Path, name: str, link: Callable) -> None:
+    """An OUT that is an input is refused, by whatever name, and keeps its bytes; a namesake elsewhere isn't."""
+    before = (work / name).read_bytes()
+    link(work / name, work / "linked")
+    for other in [name, f"./{name}", "linked"]:
+        told = record(own, other, cwd=work)
+        refused = (told.returncode, told.stdout, told.stderr) == (3, "", f"file {other}\n")
+        judge(f"OUT {other} is refused", refused and (work / name).read_bytes() == before, told)
+    (work / "elsewhere").mkdir()
+    judge(f"OUT elsewhere/{name} is written", record(own, f"elsewhere/{name}", cwd=work).returncode == 0)
+
+
+def test_outs(work: Path, own: Path) -> None:
+    """A new file, a device, a pipe, and standard output with the report after the recording."""
+    judge("a new OUT", record(own, "new.ch11", cwd=work).returncode == 0)
+    whole = (work / "new.ch11").read_bytes()
+    wanted = f"{REPORT}wrote 3 {len(whole)}\n"
+    done = record(own, "/dev/null", cwd=work)
+    judge("OUT /dev/null, for a trial of filters", (done.returncode, done.stdout) == (0, wanted), done)
+    os.mkfifo(work / "out.pipe")
+    with subprocess.Popen(["cat", str(work / "out.pipe")], stdout=subprocess.PIPE) as cat:
+        done = record(own, "out.pipe", cwd=work)
+        judge("OUT a pipe", (done.returncode, done.stdout, cat.stdout.read()) == (0, wanted, whole), done)
+    done = record(own, "/dev/stdout", text=False)
+    judge("OUT /dev/stdout", (done.returncode, done.stdout) == (0, whole + wanted.encode()), done.returncode)
+
+
+@pytest.mark.parametrize(
+    "how, out",
+    [
+        ("> stream.lines", "stream.lines"),
+        (">> stream.lines", "/dev/stdout"),
+        ("< stream.lines", "./stream.lines"),
+    ],
+    ids=["written", "appended", "read"],
+)
+def test_out_is_stream(work: Path, own: Path, how: str, out: str) -> None:
+    """A file that a standard stream is, is no OUT: what is printed would be written over it."""
+    lines = work / "stream.lines"
+    lines.write_text("set 9 nowhere\n")
+    kept = b"" if how.startswith("> ") else lines.read_bytes()
+    told = outcome("sh", "-c", f"{BPFREC} record {own} {out} {how}", cwd=work, stdin=subprocess.DEVNULL)
+    refused = (told.returncode, told.stderr) == (3, f"file {out}\n")
+    judge(f"OUT {out} with {how} is refused", refused and lines.read_bytes() == kept, told)
+
+
+def test_out_of_extract_is_stream(work: Path, own: Path) -> None:
+    judge_quietly("it records", record(own, work / "new.ch11").returncode == 0)
+    recording = (work / "new.ch11").read_bytes()
+    with open(work / "new.ch11", "rb") as given:
+        told = outcome(BPFREC, "extract", "-", "1", "new.ch11", stdin=given, cwd=work)
+    judge(
+        "OUT that is a standard stream's file is refused",
+        told.returncode == 3 and (work / "new.ch11").read_bytes() == recording,
+        told,
+    )
+
+
+def test_out_is_own_pipe(work: Path, own: Path) -> None:
+    os.mkfifo(work / "own.pipe")
+    piped = write_settings(work, ["own.pipe"], ["all"], "own_pipe.toml")
+    with subprocess.Popen(["sh", "-c", f"cat {work / 'own.feed'} > {work / 'own.pipe'}"]):
+        told = record(piped, "own.pipe", cwd=work)
+    judge(
+        "OUT that is the pipe of a channel is refused", (told.returncode, told.stderr) == (3, "file own.pipe\n"), told
+    )
+
+
+@pytest.mark.parametrize("link", [os.symlink, os.link], ids=["symlink", "link"])
+def test_into_itself(work: Path, own: Path, link: Callable) -> None:
+    """A recording isn't extracted or upgraded into itself by another name, and settings aren't recorded into."""
+    same, other = work / "same.ch11", work / "other.ch11"
+    recording = (RECORDINGS / "two_versions.ch11").read_bytes()
+    same.write_bytes(recording)
+    link(same, other)
+    for words in (["extract", same, "1"], ["upgrade", same]):
+        told = outcome(BPFREC, *words, other)
+        is_refused = (told.returncode, told.stderr) == (3, f"file {other}\n")
+        judge(f"{words[0]} into itself is refused", is_refused and same.read_bytes() == recording, told)
+    other.unlink()
+    link(own, other)
+    told = record(own, other)
+    judge("settings aren't recorded into", (told.returncode, told.stderr) == (3, f"file {other}\n"), told)
