@@ -1,6 +1,5 @@
 """Tries host/bin/convert on pcapng files, by hand and of editcap and mergecap, and `capture -r` beside it."""
 
-import os
 import random
 import shutil
 from pathlib import Path
@@ -26,7 +25,7 @@ from pcapng import (
     simple_packet,
     with_wrong_sequences,
 )
-from support import CAPTURE, CONVERT, ROOT, judge, judge_quietly, outcome, run
+from support import CAPTURE, CONVERT, judge, judge_quietly, outcome, run
 
 WANTED = {
     "bin/capture": "make build",
@@ -37,28 +36,6 @@ WANTED = {
 }
 FRAMES = 2_000
 DAMAGED = 300
-# Compares the check sequences that bin/capture computes by a processor's products with those by its tables, at each
-# length and place; prints how many, 0 where the processor has no such products.
-BOTH_WAYS = """
-#include "check_sequence.c"
-#include <stdio.h>
-#include <stdlib.h>
-int main(void)
-{
-    static unsigned char bytes[16384 + 16];
-    long compared = 0;
-    prepare_check_sequences();
-    for (size_t i = 0; i < sizeof bytes; i++)
-        bytes[i] = (unsigned char)rand();
-#ifdef FOLDING
-    for (size_t len = 0; len <= 16384 && can_fold; len += len < 2100 ? 1 : 119)
-        for (size_t at = 0; at < 16; at++, compared++)
-            if (remainder_of(bytes + at, len, ~(uint32_t)len) != by_tables(bytes + at, len, ~(uint32_t)len))
-                return printf("%zu bytes at %zu\\n", len, at), 1;
-#endif
-    return printf("%ld\\n", compared) < 0;
-}
-"""
 
 # ---- by hand
 
@@ -229,11 +206,3 @@ def test_damaged_beside_capture(work: Path) -> None:
         judge_quietly(f"a damaged file, kept as /tmp/test_convert.pcap: {mine[1:]} {theirs[1:]}", mine == theirs)
         refused += mine[3] != 0
     judge(f"of {DAMAGED} damaged files {refused} are refused with the same words", 0 < refused < DAMAGED)
-
-
-def test_sums_both_ways(work: Path) -> None:
-    (work / "sums.c").write_text(BOTH_WAYS)
-    words = ["-std=gnu11", "-O2", "-I", ROOT / "capture/src", "-o", work / "sums", work / "sums.c"]
-    run(os.environ.get("CC", "cc"), *words)
-    compared = run(work / "sums").strip()
-    judge(f"check sequences by products are those by tables, {compared} times", compared.isdigit(), compared)
