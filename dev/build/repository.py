@@ -16,7 +16,7 @@ sys.dont_write_bytecode = True
 ROOT = Path(__file__).resolve().parents[2]
 RT = shlex.split(os.environ.get("RT", "rt"))
 # What is checked beside the crates.
-CHECKS = tuple(f"dev/checks/{it}" for it in ("links.py", "examples.sh", "uses.py", "man.py", "packages.py", "unused.py"))
+CHECKS = tuple(f"dev/checks/{it}" for it in ("links.py", "examples.sh", "uses.py", "man.py", "packages.py", "unused.py", "limits.py", "python39.py"))
 # What is checked of the program once it is built, and where it stands then.
 MEMORY, PROGRAM = "dev/trials/check_memory.py", Path("crates/bpfrec/out/bpfrec")
 # The files and folders of a crate that a step reads, and the folder that steps of edits read too.

@@ -595,20 +595,25 @@ def check_damaged_facts(work: pathlib.Path) -> None:
 
 
 def check_alone(work: pathlib.Path) -> None:
-    """host/bin/convert by itself, without facts.py beside it."""
-    alone, feed, capture = work / "alone/feed", work / "in.feed", work / "alone.pcap"
+    """The tools as one file, which is copied by itself."""
+    alone, feed, capture = work / "alone/bpfrec-convert", work / "in.feed", work / "alone.pcap"
     alone.parent.mkdir()
-    shutil.copy(CONVERT, alone)
-    run(alone, "to-pcap", "--origin", "1764590400.25", feed, capture)
+    run(ROOT / "dev/package/make_host.py", alone)
+    run(sys.executable, alone, "to-pcap", "--origin", "1764590400.25", feed, capture)
     judge(
-        "host/bin/convert works alone",
+        "one file works alone",
         times_of(capture.read_bytes()) == moments_by([("1764590400.25", 0)], counters(feed.read_bytes())),
     )
-    told = refusal(alone, "to-pcap", "--facts", work / "in.json", feed, capture)
-    judge("but for --facts", told == "convert: --facts wants facts.py in the folder of this program")
+    (work / "alone.json").write_text(json.dumps(facts_of(("1764590400.250000000", 0))))
+    run(sys.executable, alone, "to-pcap", "--facts", work / "alone.json", feed, capture)
+    judge(
+        "also with --facts",
+        times_of(capture.read_bytes()) == moments_by([("1764590400.25", 0)], counters(feed.read_bytes())),
+    )
     judge(
         "and leaves nothing beside it",
-        [it.name for it in alone.parent.iterdir()] == ["feed"] and not (CONVERT.parent / "__pycache__").exists(),
+        [it.name for it in alone.parent.iterdir()] == ["bpfrec-convert"]
+        and not list((ROOT / "host").rglob("__pycache__")),
     )
 
 
@@ -707,11 +712,11 @@ def check_faults(work: pathlib.Path) -> None:
 
 
 def check_versions() -> None:
-    """host/bin/convert is Python 3.8, and what it imports."""
-    for path in (CONVERT, CONVERT.parent / "facts.py"):
-        ast.parse(path.read_text(), feature_version=(3, 8))
-    judge("host/bin/convert has the syntax of Python 3.8", True)
-    olds = ["python3.8", *map(str, pathlib.Path.home().glob(".pyenv/versions/3.8.*/bin/python3.8"))]
+    """host/bin/convert is Python 3.9, and what it imports."""
+    for path in (CONVERT, *(ROOT / "host/bpfrec_host").rglob("*.py")):
+        ast.parse(path.read_text(), feature_version=(3, 9))
+    judge("host/bin/convert has the syntax of Python 3.9", True)
+    olds = ["python3.9", *map(str, pathlib.Path.home().glob(".pyenv/versions/3.9.*/bin/python3.9"))]
     for old in filter(shutil.which, olds):
         if subprocess.run([old, "--version"], capture_output=True).returncode == 0:
             with tempfile.NamedTemporaryFile() as made, tempfile.NamedTemporaryFile() as facts:
@@ -719,7 +724,7 @@ def check_versions() -> None:
                 facts.write(json.dumps(facts_of(("1764590400.250000000", 0))).encode())
                 facts.flush()
                 told_of_facts = run(old, CONVERT, "to-pcap", "--facts", facts.name, made.name, "/dev/null")
-            judge("and runs by Python 3.8", told.startswith("frames 10\n0 0 ") and told_of_facts == "frames 10\n")
+            judge("and runs by Python 3.9", told.startswith("frames 10\n0 0 ") and told_of_facts == "frames 10\n")
 
 
 # ---- beside capture -r

@@ -33,6 +33,7 @@ from bpfrec_host import salvage
 from bpfrec_host.formats import ch11
 from bpfrec_host.info import as_json
 from bpfrec_host.info import command as info
+from bpfrec_host.info.beside import time_of
 
 ROOT = Path(__file__).resolve().parents[2]
 BPFREC, INFO, SALVAGE, FEED = (
@@ -788,7 +789,7 @@ def check_times(work, draw, recording):
         origins = origins_of_draw(draw, max(it["last_counter"] for it in bare.values()))
         beside.write_text(json.dumps(facts_of_run(origins)))
         known = info.facts_beside(str(path))
-        told = found.facts(answer[0], known)["channels"]
+        told = as_json.object_of(found, answer[0], known)["channels"]
         for name, it in bare.items():
             wanted = [time_by(origins, it[f"{which}_counter"]) for which in ("first", "last")]
             judge_quietly(
@@ -802,9 +803,7 @@ def check_times(work, draw, recording):
             *(it + step for _, it, _ in origins for step in (-1, 0, 1)),
         ]:
             if 0 <= counter < 2**48:
-                judge_quietly(
-                    f"counter {counter} of {origins}", info.time_of(counter, known) == time_by(origins, counter)
-                )
+                judge_quietly(f"counter {counter} of {origins}", time_of(counter, known) == time_by(origins, counter))
         judge_quietly("text and page", info.text_page(found, answer, known) and info.page("x", found, answer, known))
     seconds = [draw.randrange(-(10**10), 10**11) for _ in range(20)]
     days = run(
@@ -849,13 +848,13 @@ def check_damaged_facts(work, draw):
             "text, page and JSON",
             info.text_page(found, answer, known)
             and info.page("x", found, answer, known)
-            and json.dumps(found.facts(answer[0], known)),
+            and json.dumps(as_json.object_of(found, answer[0], known)),
         )
         if not is_refused:
             origins = [(it["origin"], it["counter"], None) for it in told["origins"]]
             judge_quietly(
                 f"facts {turn}: {origins}",
-                found.facts(answer[0], known)["channels"][1]["first_time"] == time_by(origins, 32),
+                as_json.object_of(found, answer[0], known)["channels"][1]["first_time"] == time_by(origins, 32),
             )
         if by_process:
             done = [run(INFO, path), run(INFO, "--json", path), run(INFO, "--html", work / "x.html", path)]
