@@ -43,9 +43,9 @@ _bpfrec() {
 _bpfrec_tool() {
     local options='' kind=''
     case $1 in
-        bpfrec-live) options='--every --size --sync --force --no-audit --strict --prefilter --origin --buffer --direction --no-promiscuous --clock --check-sequence --quiet --help' kind=toml ;;
+        bpfrec-live) options='--prefilter --force --no-audit --strict --every --size --sync --quiet --no-promiscuous --origin --buffer --direction --clock --check-sequence --help' kind=toml ;;
         bpfrec-capture) options='-r --origin --buffer --direction --prefilter --no-promiscuous --clock --check-sequence --interface --quiet --strict --hold --events --parent --help' kind='*' ;;
-        bpfrec-convert) options='from-pcap to-pcap show make --origin --facts --interface --drop-check-sequence --help' kind='*' ;;
+        bpfrec-convert) options='from-pcap to-pcap show make --origin --interface --facts --drop-check-sequence --help' kind='*' ;;
         bpfrec-info) options='--json --html --help' kind=ch11 ;;
         bpfrec-salvage) options='--help' kind=ch11 ;;
         bpfrec-preflight) options='--out --capture --help' kind=toml ;;

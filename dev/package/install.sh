@@ -5,11 +5,11 @@ set -euo pipefail
 usage='usage: PREFIX=.. DESTDIR=.. dev/package/install.sh [--uninstall]
 
 Installs bin/bpfrec, which make build makes, and bin/capture, where it is built, below PREFIX (/usr/local by
-itself): programs in bin/, the tools in libexec/bpfrec/ with links in bin/ (bpfrec-convert, bpfrec-info and so on),
-the page bpfrec(1), completions for bash, zsh and fish, examples and documents in share/doc/bpfrec/, and a unit
-for systemd in lib/systemd/system/. What stands in DESTDIR, if it is set, is put ahead of PREFIX.
-With --uninstall all of it is removed, and the folders that only it has. ZSH names another folder than
-share/zsh/site-functions.
+default): programs in bin/, the tools in libexec/bpfrec/ with links in bin/ (bpfrec-convert, bpfrec-info and so on;
+those in Python are one file, bpfrec-host.pyz), the page bpfrec(1), completions for bash, zsh and fish, examples
+and documents in share/doc/bpfrec/, and a unit for systemd in lib/systemd/system/. What stands in DESTDIR, if it is
+set, is put ahead of PREFIX. With --uninstall all of it is removed, and the folders that only it has. ZSH names
+another folder than share/zsh/site-functions.
 
 Status: 0 done, 2 wrong words, 3 something to install is missing or not proved, else that of the command that
 failed.'
@@ -17,20 +17,17 @@ failed.'
 cd "$(dirname "$0")/../.." || exit 3
 PREFIX=${PREFIX:-/usr/local} DESTDIR=${DESTDIR:-} ZSH=${ZSH:-share/zsh/site-functions}
 to=$DESTDIR$PREFIX
-tools=(convert info live preflight salvage)
-names=(capture "${tools[@]}")
+# The tools in Python, and all.
+tools=(convert info preflight salvage)
+names=(capture live "${tools[@]}")
 
-# Each file, as its mode, where it stands here, and where it goes.
+# Each file, as its mode, where it stands here or what it is made of, and where it goes.
 files() {
-    local tool file
+    local file
     echo "755 bin/bpfrec bin/bpfrec"
     echo "755 bin/capture libexec/bpfrec/bpfrec-capture"
-    for tool in "${tools[@]}"; do
-        echo "755 host/bin/$tool libexec/bpfrec/bpfrec-$tool"
-    done
-    for file in ch11.py facts.py; do
-        echo "644 host/bin/$file libexec/bpfrec/$file"
-    done
+    echo "755 host/bin/live libexec/bpfrec/bpfrec-live"
+    echo "755 host/bpfrec_host libexec/bpfrec/bpfrec-host.pyz"
     echo "644 man/bpfrec.1 share/man/man1/bpfrec.1"
     echo "644 completions/bpfrec.bash share/bash-completion/completions/bpfrec"
     echo "644 completions/_bpfrec $ZSH/_bpfrec"
@@ -44,11 +41,16 @@ files() {
     echo "644 examples/bpfrec.service lib/systemd/system/bpfrec.service"
 }
 
+# file_of NAME: the file that is a tool
+file_of() {
+    [[ " ${tools[*]} " == *" $1 "* ]] && echo bpfrec-host.pyz || echo "bpfrec-$1"
+}
+
 # Each link, as where it leads and where it stands.
 links() {
     local name
     for name in "${names[@]}"; do
-        echo "../libexec/bpfrec/bpfrec-$name bin/bpfrec-$name"
+        echo "../libexec/bpfrec/$(file_of "$name") bin/bpfrec-$name"
         echo "bpfrec.1 share/man/man1/bpfrec-$name.1"
         echo "bpfrec share/bash-completion/completions/bpfrec-$name"
         echo "bpfrec.fish share/fish/vendor_completions.d/bpfrec-$name.fish"
@@ -58,6 +60,18 @@ links() {
 # Whether a program was built from its proof, which the compiler notes in the section .comment.
 is_proved() {
     tr '\0' '\n' < "$1" | LC_ALL=C grep -ax 'rattle logic=[0-9a-f]\{64\}' > /dev/null
+}
+
+# install_host MODE FILE: makes the file of the tools in Python
+install_host() {
+    if ! command -v python3 > /dev/null; then
+        echo "python3 is missing, so ${tools[*]/#/bpfrec-} aren't installed"
+        return
+    fi
+    install -d "$(dirname "$2")"
+    rm -f "$2"
+    dev/package/make_host.py "$2"
+    chmod "$1" "$2"
 }
 
 install_all() {
@@ -72,15 +86,17 @@ install_all() {
     while read -r mode from at; do
         if [[ $from == bin/capture && ! -x $from ]]; then
             echo "bin/capture isn't built, so bpfrec-capture isn't installed and bpfrec-live can't record interfaces"
-            continue
+        elif [[ $from == host/bpfrec_host ]]; then
+            install_host "$mode" "$to/$at"
+        else
+            install -D -m "$mode" "$from" "$to/$at"
         fi
-        install -D -m "$mode" "$from" "$to/$at"
     done < <(files)
     # The unit runs what is installed.
     sed -i "s|/opt/bpfrec/host/bin/live|$PREFIX/bin/bpfrec-live|; s|^# It takes the repository at .* and settings at|# It takes settings at|" \
         "$to/lib/systemd/system/bpfrec.service"
     while read -r from at; do
-        [[ $from == */bpfrec-capture && ! -e $to/libexec/bpfrec/bpfrec-capture ]] || ln -sfn "$from" "$to/$at"
+        [[ $from == */libexec/* && ! -e $to/bin/$from ]] || ln -sfn "$from" "$to/$at"
     done < <(links)
 }
 

@@ -55,7 +55,7 @@ Architecture: $architecture
 Maintainer: bpfrec <root@localhost>
 Installed-Size: $(du -sk --exclude DEBIAN "$root" | cut -f 1)
 Depends: libc6 (>= $(libc_version bin/bpfrec))
-Recommends: python3 (>= 3.8)${package:+, $package}
+Recommends: python3 (>= 3.9), python3 (>= 3.11) | python3-tomli${package:+, $package}
 Suggests: tcpdump, wireshark
 Section: net
 Priority: optional

@@ -1,13 +1,19 @@
 """The page bpfrec(1) and the completions of shells, made of the program's help as it stands in its source and of the
-tables of docs/user/FORMATS.md. dev/package/make_man.py writes them, dev/checks/man.py compares them."""
+tables of docs/user/FORMATS.md, and of the arguments that the tools take. dev/package/make_man.py writes them, dev/checks/man.py compares them."""
+import importlib
 import re
+import sys
 import textwrap
 from pathlib import Path
 from typing import NamedTuple
 
 ROOT = Path(__file__).resolve().parents[2]
+sys.path.insert(0, str(ROOT / "host"))
+from bpfrec_host.__main__ import TOOLS as PYTHON_TOOLS
+
 COMMANDS, HELP = ROOT / "crates/rec_words/src/command_line.rt", ROOT / "crates/rec_words/src/command_line/help.rt"
 FORMATS = ROOT / "docs/user/FORMATS.md"
+LIVE, CAPTURE = ROOT / "host/bin/live", ROOT / "capture/src/words.c"
 # The day of the page's last change, which pages have.
 DATE = "2026-11-25"
 # The sections whose tables the page has, where the first column is one of these.
@@ -49,81 +55,58 @@ class Tool(NamedTuple):
     kinds: list
 
 
-TOOLS = {
-    "live": Tool(
-        "records network interfaces, and audits the recording",
-        "SETTINGS OUT INTERFACE=CHANNEL..",
-        [
-            "--every",
-            "--size",
-            "--sync",
-            "--force",
-            "--no-audit",
-            "--strict",
-            "--prefilter",
-            "--origin",
-            "--buffer",
-            "--direction",
-            "--no-promiscuous",
-            "--clock",
-            "--check-sequence",
-            "--quiet",
-            "--help",
-        ],
-        ["toml", "ch11"],
-    ),
-    "capture": Tool(
-        "makes feeds of interfaces, as their frames come, and of captures",
-        "INTERFACE=PIPE..",
-        [
-            "-r",
-            "--origin",
-            "--buffer",
-            "--direction",
-            "--prefilter",
-            "--no-promiscuous",
-            "--clock",
-            "--check-sequence",
-            "--interface",
-            "--quiet",
-            "--strict",
-            "--hold",
-            "--events",
-            "--parent",
-            "--help",
-        ],
-        [],
-    ),
-    "convert": Tool(
-        "makes feeds from captures and back, and shows their records",
-        "from-pcap|to-pcap|show|make ..",
-        [
-            "from-pcap",
-            "to-pcap",
-            "show",
-            "make",
-            "--origin",
-            "--facts",
-            "--interface",
-            "--drop-check-sequence",
-            "--help",
-        ],
-        [],
-    ),
-    "info": Tool(
-        "tells what is in a recording, as a text, as JSON or as a page",
-        "[--json] [--html FILE] RECORDING",
-        ["--json", "--html", "--help"],
-        ["ch11"],
-    ),
-    "salvage": Tool("copies what is left of a damaged recording", "DAMAGED OUT", ["--help"], ["ch11"]),
-    "preflight": Tool(
-        "names all that is wrong with settings before a recording",
-        "SETTINGS [--out OUT] [--capture FEED]",
-        ["--out", "--capture", "--help"],
-        ["toml"],
-    ),
+# The tools that aren't Python: what they do, their words, and where their options stand.
+OTHER_TOOLS = {
+    "live": ("records network interfaces, and audits the recording", "SETTINGS OUT INTERFACE=CHANNEL..", LIVE),
+    "capture": ("makes feeds of interfaces, as their frames come, and of captures", "INTERFACE=PIPE..", CAPTURE),
 }
+# The files that a word of a tool is.
+WORD_KINDS = {"SETTINGS": "toml", "OUT": "ch11", "RECORDING": "ch11", "DAMAGED": "ch11"}
+
+
+def tools():
+    """The tools by their names: those in Python as their parsers have them."""
+    found = {
+        name: Tool(about, words, options_in(file), kinds_of(words))
+        for name, (about, words, file) in OTHER_TOOLS.items()
+    }
+    for name, tool in PYTHON_TOOLS.items():
+        parser = importlib.import_module(tool.module).parser()
+        words = words_of(parser)
+        found[name] = Tool(tool.about, words, list(dict.fromkeys([*options_of(parser), "--help"])), kinds_of(words))
+    return found
+
+
+def words_of(parser):
+    """What a tool takes, as its parser says, without the option for help."""
+    _, _, *words = parser.format_usage().split()
+    found = " ".join(it for it in words if it != "[-h]")
+    return re.sub("[{}]", "", found).replace(",", "|").replace("...", "..")
+
+
+def options_of(parser):
+    """The commands and the long options of a parser and of its commands, but for help."""
+    for action in parser._actions:
+        if isinstance(action.choices, dict):
+            yield from action.choices
+            for command in action.choices.values():
+                yield from options_of(command)
+        yield from (it for it in action.option_strings if it.startswith("--") and it != "--help")
+
+
+def options_in(file):
+    """The options that a tool takes, as its source has them: a label of bash's `case`, or a line of a help text in C."""
+    text = file.read_text()
+    body = text[text.index("read_words() {") :].split("\n}\n")[0] if file == LIVE else ""
+    labels = re.findall(r"^ {12}(-[^)]*)\)", body, re.MULTILINE) or re.findall(r'^ {4}"  (-\S+)', text, re.MULTILINE)
+    found = dict.fromkeys(it for label in labels for it in re.findall(r"--[a-z-]+", label) if it != "--help")
+    return [*(["-r"] if "] -r FILE" in text else []), *found, "--help"]
+
+
+def kinds_of(words):
+    """The endings of the files that the words of a tool are."""
+    return [WORD_KINDS[it] for it in re.findall(r"[A-Z]+", words) if it in WORD_KINDS]
+
 
 # Which files a word of a command takes, by what its help says of it: the first that fits.
 KINDS = [
@@ -142,6 +125,8 @@ def kind_of(word):
     """The ending of the files that a word takes; nothing where it takes none, and `*` where it isn't known."""
     return next((kind for said, kind in KINDS if said in word.help.lower()), "*")
 
+
+TOOLS = tools()
 
 # ---- the program's help
 

@@ -47,6 +47,7 @@ class SalvageParser(Parser):
     """A parser that says in one line what salvage takes."""
 
     def error(self, message: str) -> NoReturn:
+        """Ends where the arguments are wrong."""
         name = full_name("salvage")
         tell(f"{short_name('salvage')}: it takes DAMAGED and OUT: {name} --help has its words")
         self.exit(2)
@@ -125,9 +126,14 @@ def run(words: list[str]) -> int:
     with open(given.damaged, "rb") as damaged:
         if os.path.exists(given.out) and os.path.samefile(given.out, given.damaged):
             raise OSError(0, "it is DAMAGED itself", given.out)
-        try:
-            with open(given.out, "wb") as out:
-                return 0 if salvage(damaged, out) else 1
-        except OSError as error:
-            error.filename = error.filename or given.out
-            raise
+        return 0 if salvage_into(given.out, damaged) else 1
+
+
+def salvage_into(path: str, damaged: BinaryIO) -> bool:
+    """Copies what is whole into a file; whose fault has its name, where it has no other."""
+    try:
+        with open(path, "wb") as out:
+            return salvage(damaged, out)
+    except OSError as error:
+        error.filename = error.filename or path
+        raise

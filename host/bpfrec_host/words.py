@@ -17,9 +17,11 @@ class Parser(argparse.ArgumentParser):
         super().__init__(**more)  # type: ignore[arg-type]
 
     def print_help(self, file: Optional[IO[str]] = None) -> None:
+        """Prints the help on standard output."""
         say(self.format_help())
 
     def error(self, message: str) -> NoReturn:
+        """Says what is wrong with the arguments, and ends."""
         tell(f"{self.format_usage()}{self.prog}: error: {message}")
         self.exit(2)
 

@@ -5,28 +5,30 @@ from __future__ import annotations
 import argparse
 
 from bpfrec_host.convert.moments import moment_of, origin_of
-from bpfrec_host.convert.runs import SHOWN_BYTES, from_pcap, make, show, to_pcap
+from bpfrec_host.convert.runs import MIN_WIRE_LEN, SHOWN_BYTES, from_pcap, make, show, to_pcap
 from bpfrec_host.ending import short_name, tell
+from bpfrec_host.formats.limits import CHECK_SEQUENCE_LEN, MAX_FRAME_LEN, MIN_FRAME_LEN
 from bpfrec_host.streams import Refused
 from bpfrec_host.words import Parser, natural
 
-ABOUT = """\
+ABOUT = f"""\
 Makes feeds for bpfrec from captures, captures from feeds, and sample feeds; shows what a feed has.
 
 A feed holds the records of Ethernet frames, one after the other: a counter (6 bytes, little-endian,
 ticks of the 10 MHz relative time counter of IRIG 106), marks (1 byte: bit 0 says that the check
 sequence is wrong, bit 1 that the frame is damaged otherwise), the frame's length (2 bytes,
-little-endian, 18 to 16,383), and the frame with its 4-byte check sequence.
+little-endian, {MIN_FRAME_LEN} to {MAX_FRAME_LEN:,}), and the frame with its {CHECK_SEQUENCE_LEN}-byte check sequence.
 
 As a file, `-` is standard input or output. It wants Python 3.9 or later, and nothing beside it.
 Nothing of this tool is proved; bpfrec itself reads no captures and computes no check sequence.
 """
-FROM_PCAP = """Makes a feed from a capture of Ethernet: a classic pcap file (both byte orders, micro- and nanoseconds) or a
-    pcapng file, of which each section and interface is read. Frames of less than 60 bytes are padded as on the wire,
-    check sequences are computed where the capture has none, and frames whose check sequence is wrong are marked. From
-    a pipe each frame is written before the next one is waited for. Prints `frames <n> passed <m>`, on standard error
-    where the feed is standard output: m frames were cut short by the capture, or have fewer bytes than a frame or more
-    than 16,379. A file that is damaged or ends in the middle is refused, and then OUT.feed has the frames before."""
+FROM_PCAP = f"""Makes a feed from a capture of Ethernet: a classic pcap file (both byte orders, micro- and nanoseconds) or a
+    pcapng file, of which each section and interface is read. Frames of less than {MIN_WIRE_LEN} bytes are padded as on
+    the wire, check sequences are computed where the capture has none, and frames whose check sequence is wrong are
+    marked. From a pipe each frame is written before the next one is waited for. Prints `frames <n> passed <m>`, on
+    standard error where the feed is standard output: m frames were cut short by the capture, or have fewer bytes than a
+    frame or more than {MAX_FRAME_LEN - CHECK_SEQUENCE_LEN:,}. A file that is damaged or ends in the middle is refused,
+    and then OUT.feed has the frames before."""
 TO_PCAP = """Makes a classic pcap file (nanoseconds, little-endian) from a feed, such as `bpfrec extract` writes. Marks have
     no place in it. Prints `frames <n>`, on standard error where the capture is standard output. A frame whose time is
     before 1970, or past 2106-02-07, is refused. The status is 3 where the FILE of --facts can't be read, and 1 where it
@@ -53,7 +55,7 @@ def add_from_pcap(commands: "Commands[Parser]") -> None:
         metavar="WHEN",
         type=origin_of,
         default="first",
-        help="the moment of counter 0: first (the first frame, by itself), zero (1970-01-01), now, or a time, "
+        help="the moment of counter 0: first (the first frame, the default), zero (1970-01-01), now, or a time, "
         "as 1764590400.25 or 2025-12-01T12:00:00.25Z; with the same origin the counters of several captures agree",
     )
     made.add_argument(
@@ -73,7 +75,7 @@ def add_to_pcap(commands: "Commands[Parser]") -> None:
         metavar="WHEN",
         type=moment_of,
         default="zero",
-        help="the moment of counter 0, as of from-pcap or as bin/capture told it; by itself zero (1970-01-01)",
+        help="the moment of counter 0, as of from-pcap or as bin/capture told it; zero (1970-01-01) by default",
     )
     times.add_argument(
         "--facts",

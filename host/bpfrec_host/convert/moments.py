@@ -8,7 +8,6 @@ import re
 import time
 from typing import Callable, Optional
 
-from bpfrec_host.formats import facts
 from bpfrec_host.formats.limits import NANOSECONDS_A_SECOND, NANOSECONDS_A_TICK
 from bpfrec_host.streams import Input, Refused, Unreadable
 
@@ -48,6 +47,9 @@ def moments_by_origin(origin: int) -> Callable[[int], Optional[int]]:
 
 def moments_by_facts(path: str, feed: str) -> Callable[[int], Optional[int]]:
     """The moment of each counter of a feed, by the facts of a recording; None before their first origin."""
+    # Here, since most conversions need no facts.
+    from bpfrec_host.formats import facts
+
     if path == feed == "-":
         raise Refused("standard input can't be the feed and the facts")
     try:

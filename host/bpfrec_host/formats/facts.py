@@ -124,11 +124,16 @@ def losses_in(told: Any) -> dict[str, int]:
     sums = dict.fromkeys(LOST, 0)
     for at, it in enumerate(told, 1):
         for name in LOST:
-            count: Any = it.get(name) if isinstance(it, dict) else None
-            if not is_number(count, 0, MAX_COUNT):
-                raise NoFacts(f"loss {at} of {len(told)}: {name} is no number from 0 to {MAX_COUNT}")
-            sums[name] += count
+            sums[name] += count_in(it, name, f"loss {at} of {len(told)}")
     return sums
+
+
+def count_in(loss: Any, name: str, place: str) -> int:
+    """How many frames a loss says that were lost in one way."""
+    count: Any = loss.get(name) if isinstance(loss, dict) else None
+    if not is_number(count, 0, MAX_COUNT):
+        raise NoFacts(f"{place}: {name} is no number from 0 to {MAX_COUNT}")
+    return int(count)
 
 
 def read(path: Union[str, int]) -> Facts:

@@ -4,6 +4,7 @@ from __future__ import annotations
 
 import struct
 import zlib
+from itertools import chain
 from typing import BinaryIO, Iterator, NamedTuple, Optional
 
 from bpfrec_host.formats.limits import MAX_COUNTER, MAX_FRAME_LEN, MAX_MARKS, MIN_FRAME_LEN, RECORD_HEAD_LEN
@@ -51,30 +52,39 @@ def head_fault(marks: int, length: int) -> Optional[str]:
 
 def read_records(feed: Input) -> Iterator[Record]:
     """The records of a feed, each as soon as all of it has come."""
+    return chain.from_iterable(read_pieces(feed))
+
+
+def read_pieces(feed: Input) -> Iterator[list[Record]]:
+    """The same, in lists of those that came together."""
     while feed.has(RECORD_HEAD_LEN):
-        yield from records_there(feed)
+        records, fault = records_there(feed)
+        yield records
+        if fault:
+            raise fault
         if len(feed.data) - feed.at >= RECORD_HEAD_LEN and not feed.more():
             raise feed.cut_short()
     if not feed.is_at_end():
         raise feed.cut_short()
 
 
-def records_there(feed: Input) -> Iterator[Record]:
-    """The records that are there as a whole."""
+def records_there(feed: Input) -> tuple[list[Record], Optional[Refused]]:
+    """The records that are there as a whole, and the fault behind them."""
     # Each frame of a large file comes through here, so names are local.
-    unpack, head_len = RECORD_HEAD.unpack_from, RECORD_HEAD_LEN
-    data, at, end = feed.data, feed.at, len(feed.data)
+    unpack, head_len, found = RECORD_HEAD.unpack_from, RECORD_HEAD_LEN, list[Record]()
+    data, at, end, add = feed.data, feed.at, len(feed.data), found.append
     while end - at >= head_len:
         low, high, marks, length = unpack(data, at)
         if not MIN_FRAME_LEN <= length <= MAX_FRAME_LEN or marks > MAX_MARKS:
             what = f"length {length}" if head_fault(marks, length) == "Length" else f"marks {marks}"
-            raise Refused(f"{feed.name}: {what} of the record at byte {feed.place + at}")
+            return found, Refused(f"{feed.name}: {what} of the record at byte {feed.place + at}")
         stop = at + head_len + length
         if stop > end:
             break
-        yield Record(high << 32 | low, marks, data[at + head_len : stop])
+        add(Record(high << 32 | low, marks, data[at + head_len : stop]))
         at = stop
     feed.at = at
+    return found, None
 
 
 def end_of(feed: BinaryIO) -> FeedEnd:

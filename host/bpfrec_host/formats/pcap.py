@@ -3,6 +3,7 @@
 from __future__ import annotations
 
 import struct
+from itertools import chain
 from typing import Any, Callable, Iterator, Optional
 
 from bpfrec_host.formats.limits import CHECK_SEQUENCE_LEN, NANOSECONDS_A_SECOND
@@ -43,17 +44,24 @@ def frames(capture: Input, chosen: Optional[int]) -> Iterator[Captured]:
     judge_link_type(capture, link & 0xFFFF, 0)
     length = 2 * (link >> CHECK_SEQUENCE_WORDS_SHIFT) if link & HAS_CHECK_SEQUENCE else 0
     judge_check_sequence_len(capture, length)
-    return records(capture, struct.Struct(order + "IIII").unpack_from, nanoseconds_a_unit, bool(length))
+    unpack = struct.Struct(order + "IIII").unpack_from
+    return chain.from_iterable(records(capture, unpack, nanoseconds_a_unit, bool(length)))
 
 
 # The four numbers before a frame: seconds, units of a second, the captured length and the frame's.
 Unpack = Callable[[bytes, int], tuple[Any, ...]]
 
 
-def records(capture: Input, unpack: Unpack, nanoseconds_a_unit: int, has_check_sequence: bool) -> Iterator[Captured]:
-    """The frames behind the head of a capture, each as soon as all of it has come."""
+def records(
+    capture: Input, unpack: Unpack, nanoseconds_a_unit: int, has_check_sequence: bool
+) -> Iterator[list[Captured]]:
+    """The frames behind the head of a capture, each as soon as all of it has come, in lists of those that came
+    together."""
     while capture.has(CAPTURED_HEAD_LEN):
-        yield from records_there(capture, unpack, nanoseconds_a_unit, has_check_sequence)
+        frames_there, fault = records_there(capture, unpack, nanoseconds_a_unit, has_check_sequence)
+        yield frames_there
+        if fault:
+            raise fault
         if len(capture.data) - capture.at >= CAPTURED_HEAD_LEN and not capture.more():
             raise capture.cut_short()
     if not capture.is_at_end():
@@ -62,22 +70,24 @@ def records(capture: Input, unpack: Unpack, nanoseconds_a_unit: int, has_check_s
 
 def records_there(
     capture: Input, unpack: Unpack, nanoseconds_a_unit: int, has_check_sequence: bool
-) -> Iterator[Captured]:
-    """The frames that are there as a whole."""
+) -> tuple[list[Captured], Optional[Refused]]:
+    """The frames that are there as a whole, and the fault behind them."""
     # Each frame of a large file comes through here, so names are local.
-    data, at, end, head_len = capture.data, capture.at, len(capture.data), CAPTURED_HEAD_LEN
+    data, at, end, head_len, found = capture.data, capture.at, len(capture.data), CAPTURED_HEAD_LEN, list[Captured]()
+    add = found.append
     while end - at >= head_len:
         seconds, units, captured, length = unpack(data, at)
         if captured > MAX_CAPTURED_LEN:
-            raise Refused(f"{capture.name}: captured length {captured} at byte {capture.place + at}")
+            return found, Refused(f"{capture.name}: captured length {captured} at byte {capture.place + at}")
         start = at + head_len
         stop = start + captured
         if stop > end:
             break
         nanoseconds = seconds * NANOSECONDS_A_SECOND + units * nanoseconds_a_unit
-        yield nanoseconds, captured >= length, has_check_sequence, 0, data[start:stop]
+        add((nanoseconds, captured >= length, has_check_sequence, 0, data[start:stop]))
         at = stop
     capture.at = at
+    return found, None
 
 
 def judge_link_type(capture: Input, link_type: int, number: int) -> None:

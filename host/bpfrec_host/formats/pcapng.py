@@ -3,7 +3,7 @@
 from __future__ import annotations
 
 import struct
-from typing import Iterator, NamedTuple, Optional
+from typing import Iterator, Optional
 
 from bpfrec_host.formats.limits import CHECK_SEQUENCE_LEN, MARK_CHECK_SEQUENCE, MARK_OTHER_FAULT, NANOSECONDS_A_SECOND
 from bpfrec_host.formats.pcap import MAX_CAPTURED_LEN, Captured, judge_check_sequence_len, judge_link_type
@@ -64,16 +64,6 @@ class Interface:
             self.check_sequence_len = CHECK_SEQUENCE_LEN if is_bits else value[0]
 
 
-class Packet(NamedTuple):
-    """A block of a frame: its interface, its time, how many bytes were captured of how many, and where they begin."""
-
-    number: int
-    units: int
-    captured: int
-    length: int
-    begin: int
-
-
 def begins_pcapng(head: bytes) -> bool:
     """Whether four bytes begin a pcapng file."""
     return bool(struct.unpack("<I", head)[0] == SECTION_BLOCK)
@@ -96,7 +86,7 @@ class Blocks:
     def __init__(self, capture: Input, chosen: Optional[int]) -> None:
         self.capture = capture
         self.chosen = chosen
-        self.order = "<"
+        self.set_order("<")
         self.is_found = False
         self.interfaces: list[Interface] = []
         self.ready: dict[int, Interface] = {}
@@ -109,7 +99,7 @@ class Blocks:
             if not capture.has(length):
                 raise capture.cut_short()
             data, at = capture.data, capture.at
-            (again,) = struct.unpack_from(self.order + "I", data, at + length - BLOCK_TAIL_LEN)
+            (again,) = self.unpack_len(data, at + length - BLOCK_TAIL_LEN)
             if again != length:
                 raise self.refused(f"block lengths {length} and {again}")
             frame = self.frame(kind, data, at, at + length - BLOCK_TAIL_LEN)
@@ -121,6 +111,13 @@ class Blocks:
         if self.chosen is not None and not self.is_found:
             raise Refused(f"{capture.name}: no interface {self.chosen}")
 
+    def set_order(self, order: str) -> None:
+        """Sets the byte order of a section, `<` or `>`."""
+        self.order = order
+        self.unpack_head = struct.Struct(order + "II").unpack_from
+        self.unpack_len = struct.Struct(order + "I").unpack_from
+        self.unpack_packet = struct.Struct(order + "IIIII").unpack_from
+
     def refused(self, what: str) -> Refused:
         """A fault of the block that is read."""
         return Refused(f"{self.capture.name}: {what} at byte {self.capture.where()}")
@@ -128,10 +125,10 @@ class Blocks:
     def head(self) -> tuple[int, int]:
         """The type and the length of the next block."""
         capture = self.capture
-        kind, length = struct.unpack_from(self.order + "II", capture.data, capture.at)
+        kind, length = self.unpack_head(capture.data, capture.at)
         if kind == SECTION_BLOCK:
             self.read_byte_order()
-            (length,) = struct.unpack_from(self.order + "I", capture.data, capture.at + 4)
+            (length,) = self.unpack_len(capture.data, capture.at + 4)
         if length % 4 or not MIN_BLOCK_LENS.get(kind, MIN_BLOCK_LEN) <= length <= MAX_BLOCK_LEN:
             raise self.refused(f"block length {length}")
         return kind, length
@@ -140,22 +137,21 @@ class Blocks:
         """Reads the byte order of a section, which its own length is written in already."""
         if not self.capture.has(MIN_BLOCK_LEN):
             raise self.capture.cut_short()
-        for self.order in "<>":
-            (magic,) = struct.unpack_from(self.order + "I", self.capture.data, self.capture.at + BLOCK_HEAD_LEN)
+        for order in "<>":
+            (magic,) = struct.unpack_from(order + "I", self.capture.data, self.capture.at + BLOCK_HEAD_LEN)
             if magic == BYTE_ORDER_MAGIC:
+                self.set_order(order)
                 return
         raise self.refused("byte order of the section")
 
     def frame(self, kind: int, data: bytes, at: int, end: int) -> Optional[Captured]:
         """The frame of a block, where it has one of an interface that is read; what others say is kept."""
         if kind == PACKET_BLOCK:
-            number, high, low, captured, length = struct.unpack_from(self.order + "IIIII", data, at + 8)
-            return self.packet(Packet(number, high << 32 | low, captured, length, at + 28), data, end)
+            return self.packet(self.unpack_packet(data, at + 8), data, at + 28, end)
         if kind == SIMPLE_PACKET_BLOCK:
             return self.simple(data, at, end)
         if kind == OLD_PACKET_BLOCK:
-            number, high, low, captured, length = struct.unpack_from(self.order + "H2xIIII", data, at + 8)
-            return self.packet(Packet(number, high << 32 | low, captured, length, at + 28), data, end)
+            return self.packet(struct.unpack_from(self.order + "H2xIIII", data, at + 8), data, at + 28, end)
         if kind == SECTION_BLOCK:
             self.begin_section(data, at)
         elif kind == INTERFACE_BLOCK:
@@ -196,9 +192,10 @@ class Blocks:
         if captured > min(room, MAX_CAPTURED_LEN):
             raise self.refused(f"captured length {captured}")
 
-    def packet(self, packet: Packet, data: bytes, end: int) -> Optional[Captured]:
-        """The frame of a block with a time."""
-        number, units, captured, length, begin = packet
+    def packet(self, head: tuple[int, ...], data: bytes, begin: int, end: int) -> Optional[Captured]:
+        """The frame of a block with a time, whose head is the number of its interface, its time in two words, and how
+        many bytes were captured of how many; these begin at `begin`."""
+        number, high, low, captured, length = head
         interface = self.ready.get(number) or self.interface(number)
         if not interface:
             return None
@@ -211,7 +208,7 @@ class Blocks:
             marks |= MARK_OTHER_FAULT if flags & FLAGS_OTHER_FAULTS else 0
         judge_check_sequence_len(self.capture, check_sequence_len)
         a_second = interface.units_a_second()
-        seconds, rest = divmod(units, a_second)
+        seconds, rest = divmod(high << 32 | low, a_second)
         nanoseconds = rest * NANOSECONDS_A_SECOND // a_second
         nanoseconds += (seconds + interface.seconds_before) * NANOSECONDS_A_SECOND
         return nanoseconds, captured >= length, check_sequence_len > 0, marks, data[begin : begin + captured]

@@ -7,9 +7,10 @@ import os
 from typing import Optional
 
 from bpfrec_host.ending import full_name, say
+from bpfrec_host.formats.limits import MAX_VERSIONS
 from bpfrec_host.info.as_json import object_of
 from bpfrec_host.info.beside import Beside, facts_beside
-from bpfrec_host.info.contents import Recording, read
+from bpfrec_host.info.contents import MOST_PLACES, MOST_SECONDS, Recording, read
 from bpfrec_host.info.page import page
 from bpfrec_host.info.text import text_page
 from bpfrec_host.program import Audit, audit_of
@@ -29,11 +30,11 @@ Where the facts of the recording stand beside it, as RECORDING.json, it tells fr
 moment of counter 0) with the counter from which on it holds, the frames that were lost, and of each channel the times
 of its first and last frame. These times are UTC. The time between two frames goes by their counters.
 """
-MORE = """\
+MORE = f"""\
 In JSON lengths of time are ticks of 100 ns, and what isn't known is null, as all that facts would say where there are
-none. Where over a hundred thousand seconds have frames, rates are of longer times, which are said. Of gaps, damaged
-places and origins the first thousand are told one by one, of a channel's versions as many as a recorder writes,
-1,024; all are counted.
+none. Where over {MOST_SECONDS:,} seconds have frames, rates are of longer times, which are said. Of gaps, damaged
+places and origins the first {MOST_PLACES:,} are told one by one, of a channel's versions as many as a recorder writes,
+{MAX_VERSIONS:,}; all are counted.
 
 A RECORDING.json that can't be read, or has no facts of a recording, is told on standard error, and changes neither
 the rest nor the status.

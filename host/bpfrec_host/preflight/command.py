@@ -6,7 +6,7 @@ import argparse
 import signal
 
 from bpfrec_host import program
-from bpfrec_host.ending import full_name, say, tell
+from bpfrec_host.ending import full_name, say, short_name, tell
 from bpfrec_host.formats.limits import MAX_NUMBER
 from bpfrec_host.formats.settings import Channel, NoReader, Settings, reader
 from bpfrec_host.preflight.inputs import judge_capture, judge_channel_feed, judge_feed, judge_filter, judge_shared_feeds
@@ -44,10 +44,9 @@ It runs bin/bpfrec (make build), or what the environment's BPFREC names. Nothing
 
 def parser() -> Parser:
     """The arguments of bpfrec-preflight."""
-    name = full_name("preflight")
     made = Parser(
-        prog=name,
-        usage=f"{name} SETTINGS [--out OUT] [--capture FEED]",
+        prog=short_name("preflight"),
+        usage=f"{full_name('preflight')} SETTINGS [--out OUT] [--capture FEED]",
         description=ABOUT,
         epilog=MORE,
         allow_abbrev=False,

@@ -96,21 +96,26 @@ def equal_frames(data: bytes, count: int) -> Optional[Frames]:
 
 def other_frames(data: bytes, count: int) -> Frames:
     """Frames of any lengths, one after the other."""
+    try:
+        return frames_along(data, count)
+    except struct.error:
+        raise BadBody from None
+
+
+def frames_along(data: bytes, count: int) -> Frames:
+    """The same, where a frame's head may be past the end, which `struct` then says."""
     at, size, least, words, length, unpack = BODY_WORD_LEN, 0, MAX_FRAME_LEN, 0, 0, FRAME.unpack_from
     counters: list[int] = []
     add = counters.append
-    try:
-        for _ in repeat(None, count):
-            counter, word = unpack(data, at)
-            add(counter)
-            words |= word
-            length = word & LENGTH_BITS
-            size += length
-            if length < least:
-                least = length
-            at += length + FRAME_HEADER_LEN + 1 & -2
-    except struct.error:
-        raise BadBody from None
+    for _ in repeat(None, count):
+        counter, word = unpack(data, at)
+        add(counter)
+        words |= word
+        length = word & LENGTH_BITS
+        size += length
+        if length < least:
+            least = length
+        at += length + FRAME_HEADER_LEN + 1 & -2
     # The last frame's filler may be missing.
     if at != len(data) and (at != len(data) + 1 or not length & 1):
         raise BadBody

@@ -1,0 +1,47 @@
+#!/usr/bin/env python3
+"""Makes one file of the Python tools, host/bpfrec_host, which runs as the tool that it is called by the name of.
+
+usage: dev/package/make_host.py FILE
+
+FILE is an archive that Python runs: a link to it, or a copy, with the name bpfrec-info is that tool, and so on; and
+`FILE info` is too. The same sources make the same bytes: the files stand by their names, and have one time.
+
+Status: 0 made, 2 the arguments are wrong.
+"""
+import io
+import sys
+import zipapp
+import zipfile
+from pathlib import Path
+
+PACKAGE = Path(__file__).resolve().parents[2] / "host" / "bpfrec_host"
+INTERPRETER = "/usr/bin/env python3"
+MAIN = "import sys\n\nfrom bpfrec_host.__main__ import main\n\nsys.exit(main())\n"
+# The earliest that an archive can have, and what may be done with its files.
+TIME, MODE = (1980, 1, 1, 0, 0, 0), 0o644 << 16
+
+
+def archive():
+    """The archive of the package and of what calls it."""
+    files = {f"{PACKAGE.name}/{it.relative_to(PACKAGE)}": it.read_text() for it in PACKAGE.rglob("*.py")}
+    made = io.BytesIO()
+    # Not compressed, so that no version of a library is in its bytes.
+    with zipfile.ZipFile(made, "w", zipfile.ZIP_STORED) as into:
+        for name, text in sorted({**files, "__main__.py": MAIN}.items()):
+            info = zipfile.ZipInfo(name, TIME)
+            info.create_system, info.external_attr = 3, MODE
+            into.writestr(info, text)
+    made.seek(0)
+    return made
+
+
+def main():
+    if len(sys.argv) != 2 or sys.argv[1] in ("-h", "--help"):
+        print(__doc__.strip())
+        return 0 if {"-h", "--help"} & set(sys.argv) else 2
+    zipapp.create_archive(archive(), sys.argv[1], INTERPRETER)
+    return 0
+
+
+if __name__ == "__main__":
+    sys.exit(main())
