@@ -7,6 +7,8 @@ def damaged(draw: random.Random, data: bytes) -> bytes:
     """A file with some bytes changed, taken out, put in twice or cut off."""
     made = bytearray(data)
     for _ in range(draw.randrange(1, 4)):
+        if not made:
+            break
         near = len(made) if draw.random() < 0.5 else min(200, len(made))
         at, kind = draw.randrange(near), draw.randrange(5)
         if kind == 0:
