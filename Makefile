@@ -31,7 +31,7 @@ quick: ## all tests, compiled with checks and run, with no proof: minutes, also 
 crate: ## one crate: its proof, its edits that must fail, its tests; as make crate C=rec_lane
 	@dev/build/crate.py $(C)
 
-trials: ## what runs the built program, its tools, interfaces and disks: make trials, or dev/trials/run.py NAME..
+trials: ## what runs the built program, its tools, interfaces and disks; one alone: pytest dev/trials -k NAME
 	@dev/trials/run.py
 
 test: ## all proofs, all tests and stored runs, over kept work, and the edits of what changed

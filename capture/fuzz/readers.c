@@ -1,4 +1,4 @@
-/* Gives drawn bytes to the readers of capture files, as libFuzzer asks for it; dev/trials/check_sanitized.py builds and
+/* Gives drawn bytes to the readers of capture files, as libFuzzer asks for it; dev/trials/test_sanitized.py builds and
  * runs it. */
 #define _GNU_SOURCE
 #include "../src/capture_file.h"

@@ -3,7 +3,7 @@
 
 usage: dev/checks/packages.py [--write]
 
-Each package that a script of dev/trials/ names in its table WANTED must be in the list.
+Each package that a file of dev/trials/ names in its table WANTED must be in the list.
 """
 import re
 import sys
@@ -27,7 +27,7 @@ def table(packages):
 
 
 def wanted():
-    """Each package that a script wants, with the script."""
+    """Each package that a file of trials wants, with the file."""
     for file in sorted((ROOT / "dev" / "trials").iterdir()):
         text = file.read_text(errors="replace") if file.is_file() else ""
         found = re.search(r"^WANTED = \{(.*?)\}", text, re.MULTILINE | re.DOTALL)

@@ -13,7 +13,7 @@ from bpfrec_host.__main__ import TOOLS as PYTHON_TOOLS
 
 COMMANDS, HELP = ROOT / "crates/rec_words/src/command_line.rt", ROOT / "crates/rec_words/src/command_line/help.rt"
 FORMATS = ROOT / "docs/user/FORMATS.md"
-LIVE, CAPTURE = ROOT / "host/bin/live", ROOT / "capture/src/words.c"
+LIVE, CAPTURE = ROOT / "host/bin/live", ROOT / "capture/src/arguments.c"
 # The day of the page's last change, which pages have.
 DATE = "2026-11-25"
 # The sections whose tables the page has, where the first column is one of these.

@@ -37,7 +37,9 @@ import threading
 import time
 from pathlib import Path
 
-ROOT = Path(__file__).resolve().parents[2]
+from frames import counted_feed
+from support import BPFREC, DROPS_ALL, KEEPS_ALL, ROOT
+
 FRAMES, FEW, CHANGES = 100_000, 1_000, 100
 MOST_CHANNELS = 64
 MOST_INSNS = 4_096
@@ -47,7 +49,6 @@ SECONDS = 100
 CLAIM = bytes.fromhex("25eb0100 fcffffff 00000000 08000001 00000000 000029ec")
 ADDRESSES = 64_000_000
 MOST_AT_ONCE = 65_536
-KEEPS, DROPS = "1,6 0 0 1,", "1,6 0 0 0,"
 # A line that is answered at once: whoever gets the answer knows that the control waits for lines.
 NO_LINE, NO_LINE_ANSWER = b"x\n", b"refused 0 Line\n"
 COUNTS = ("growths", "recording", "late", "refused", "largest", "started", "running", "left")
@@ -57,8 +58,7 @@ PREFIX = "bpfrec-memory-" + 12 * "longer-"
 
 def frames_of(count, first=0):
     """The feed of so many frames of 64 bytes, whose counters are their numbers."""
-    body = bytes(range(64))
-    return b"".join(i.to_bytes(6, "little") + b"\0\x40\0" + body for i in range(first, first + count))
+    return counted_feed([bytes(range(64))] * count, first)
 
 
 class Checks:
@@ -79,8 +79,8 @@ class Checks:
             "-ldl",
         ]
         subprocess.run(words, check=True)
-        (work / "keeps").write_text(KEEPS)
-        (work / "drops").write_text(DROPS)
+        (work / "keeps").write_text(KEEPS_ALL)
+        (work / "drops").write_text(DROPS_ALL)
 
     def judge(self, what, holds, seen=""):
         print(f"{'ok' if holds else 'WRONG'}: {what}{'' if holds else f': {seen}'}", flush=True)
@@ -379,7 +379,7 @@ def main():
     if len(words) > 1 or words in (["-h"], ["--help"]):
         print(__doc__.strip())
         return 0 if words in (["-h"], ["--help"]) else 2
-    program = Path(words[0] if words else ROOT / "bin/bpfrec").resolve()
+    program = Path(words[0] if words else BPFREC).resolve()
     if not os.access(program, os.X_OK):
         print(f"{program} is not there: run `make build` first")
         return 2

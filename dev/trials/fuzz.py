@@ -29,7 +29,9 @@ import time
 from dataclasses import dataclass, field
 from pathlib import Path
 
-ROOT = Path(__file__).resolve().parents[2]
+from frames import feed_of, sum_of
+from support import BPFREC, ROOT
+
 DATA = ROOT / "crates/bpfrec_cases/data"
 ADDRESS_SPACE = 2**30
 SECONDS_A_RUN = 20
@@ -329,13 +331,6 @@ def drawn_frames(draw):
     ]
 
 
-def feed_of(frames):
-    return b"".join(
-        counter.to_bytes(6, "little") + bytes([marks]) + len(content).to_bytes(2, "little") + content
-        for counter, marks, content in frames
-    )
-
-
 class Corpus:
     """The samples of the repository, by kind."""
 
@@ -417,7 +412,7 @@ def with_sums(draw, recording):
     """The same, mostly with the right checksums in each packet that still begins with the sync pattern."""
     recording, at = bytearray(recording), 0
     while draw.random() < 0.98 and recording[at : at + 2] == b"\x25\xeb" and len(recording) >= at + 24:
-        recording[at + 22 : at + 24] = sum_of(recording[at : at + 22], 2)
+        recording[at + 22 : at + 24] = sum_of(recording[at : at + 22], 2).to_bytes(2, "little")
         end = at + max(int.from_bytes(recording[at + 4 : at + 8], "little"), 24)
         if draw.random() < 0.9:
             set_data_sum(recording, at, end)
@@ -425,16 +420,10 @@ def with_sums(draw, recording):
     return bytes(recording)
 
 
-def sum_of(data, width):
-    """The sum of the words of so many bytes, as such a word."""
-    words = (int.from_bytes(data[at : at + width], "little") for at in range(0, len(data), width))
-    return (sum(words) % 256**width).to_bytes(width, "little")
-
-
 def set_data_sum(recording, at, end):
     """Makes the data checksum of a packet right, where it has one and is whole."""
     if recording[at + 14] & 3 == 3 and at + 28 <= end <= len(recording):
-        recording[end - 4 : end] = sum_of(recording[at + 24 : end - 4], 4)
+        recording[end - 4 : end] = sum_of(recording[at + 24 : end - 4], 4).to_bytes(4, "little")
 
 
 def readings(run, recording):
@@ -708,7 +697,7 @@ def main():
     parser.add_argument("--seconds", type=int, default=60)
     parser.add_argument("--files", type=int, default=0)
     parser.add_argument("--keep", type=Path, default=ROOT / "bin/fuzz")
-    parser.add_argument("program", nargs="?", default=str(ROOT / "bin/bpfrec"))
+    parser.add_argument("program", nargs="?", default=str(BPFREC))
     words = parser.parse_args()
     if not os.access(words.program, os.X_OK):
         sys.exit(f"{words.program} is not there: run `make build` first")

@@ -25,7 +25,8 @@ import sys
 import tempfile
 from pathlib import Path
 
-ROOT = Path(__file__).resolve().parents[2]
+from support import BPFREC, ROOT
+
 DATA = ROOT / "crates/bpfrec_cases/data"
 VIEW = "ffffffffffff0200000000010806"
 FEED = "feed"
@@ -152,7 +153,7 @@ def main():
     if len(sys.argv) > 2 + len(TESTS) or sys.argv[1:] in (["-h"], ["--help"]):
         print(__doc__.strip())
         return 0 if len(sys.argv) == 2 else 2
-    made = [ROOT / "bin/bpfrec"] + [ROOT / f"crates/{crate}/out/{crate}_tests" for crate in TESTS]
+    made = [BPFREC] + [ROOT / f"crates/{crate}/out/{crate}_tests" for crate in TESTS]
     program, *tests = map(os.path.abspath, sys.argv[1:] + made[len(sys.argv) - 1 :])
     hows = ["`make build`"] + [f"`rt test` in crates/{crate}" for crate in TESTS]
     for needed, how in zip([program, *tests], hows):

@@ -25,7 +25,7 @@ PYTHON = "/usr/bin/python3"
 WANTED = {"pytest": "python3-pytest"}
 FILES = sorted((ROOT / "dev" / "trials").glob("test_*.py"))
 # The longest that a file may take, and that it may take to end once it was told to, in seconds.
-PATIENCE, ENDING = 600, 10
+PATIENCE, ENDING = 900, 10
 # Those that take longest begin first.
 LONGEST = ("test_soak", "test_fuzz")
 # The statuses of pytest that say that all trials were run.

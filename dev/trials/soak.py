@@ -22,8 +22,9 @@ import time
 from dataclasses import dataclass
 from pathlib import Path
 
-ROOT = Path(__file__).resolve().parents[2]
-BPFREC = ROOT / "bin/bpfrec"
+from frames import record_of
+from support import BPFREC
+
 CHANNELS = 64
 FRAMES_A_SECOND = 40
 MOST_GROWTH_KIB = 1_024
@@ -57,16 +58,16 @@ class Feed:
         began = time.monotonic()
         with open(self.pipe, "wb", buffering=0) as pipe:
             while time.monotonic() - began < self.seconds:
-                pipe.write(frame_record(draw, self.given))
+                pipe.write(drawn_record(draw, self.given))
                 self.given += 1
                 time.sleep(1 / FRAMES_A_SECOND)
             pipe.write(self.damage)
 
 
-def frame_record(draw, counter):
+def drawn_record(draw, counter):
     length = draw.choice([18, 64, 300, 1518])
     content = draw.randbytes(12) + draw.choice([b"\x08\x06", b"\x08\x00"]) + draw.randbytes(length - 14)
-    return counter.to_bytes(6, "little") + b"\0" + length.to_bytes(2, "little") + content
+    return record_of(counter, content)
 
 
 def make_feeds(work, seconds, draw):

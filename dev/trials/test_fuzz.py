@@ -4,7 +4,7 @@ import sys
 
 from support import BPFREC, TRIALS, judge, outcome
 
-WANTED = {"bin/bpfrec": "make build", "prlimit": "util-linux", "time": "time"}
+WANTED = {"bin/bpfrec": "make build", "time": "time"}
 SECONDS = 60
 
 

@@ -1,0 +1,201 @@
+"""Tries the manual page, install and uninstall, and the Debian package.
+
+The package is unpacked into an empty folder and records there. Where DEBIAN_ROOT names a folder with a clean Debian, as
+`debootstrap --variant=minbase bookworm FOLDER` makes one (as root), it is installed there by dpkg, records, and is
+removed.
+"""
+
+import os
+import shutil
+import subprocess
+import sys
+from pathlib import Path
+
+import pytest
+from support import BPFREC, ROOT, judge, outcome
+
+sys.path.insert(0, str(ROOT / "dev/package"))
+import manual
+
+WANTED = {"bin/bpfrec": "make build", "man": "man-db", "mandoc": "mandoc", "dpkg-deb": "dpkg"}
+PAGE = ROOT / "man/bpfrec.1"
+SETTINGS = '[[channel]]\nid = 1\nfeed = "one.feed"\nfilter = "all"\n'
+FACTS = '{"facts": 1, "host": "fc1", "origins": [{"origin": "1764590400.250000000", "counter": 0}], "losses": []}'
+PREFIX = "/opt/bpfrec"
+PATIENCE = 120
+YES = "channel 1 programs 1 frames 60 offered 60\nyes other 0\n"
+
+
+def ran(*words: object, **more) -> tuple[int, str]:
+    """The status of a run, and what it printed on both streams."""
+    streams = {"stdout": subprocess.PIPE, "stderr": subprocess.STDOUT}
+    done = outcome(*words, **{**streams, "seconds": PATIENCE, **more})
+    return done.returncode, done.stdout
+
+
+# ---- the page
+
+
+def test_help() -> None:
+    done = ran(ROOT / "dev/checks/man.py", BPFREC)
+    judge("the page and the completions are of the program's help, which it prints", done[0] == 0, done)
+
+
+def test_mandoc() -> None:
+    done = ran("mandoc", "-Tlint", PAGE)
+    judge("mandoc -Tlint finds nothing", done == (0, ""), done)
+
+
+def test_man() -> None:
+    env = {**os.environ, "LC_ALL": "C.UTF-8", "MANWIDTH": "80"}
+    warned = outcome("man", "--warnings", "-l", PAGE, env=env)
+    judge("man -l finds nothing", (warned.returncode, warned.stderr) == (0, ""), warned.stderr)
+    status, text = ran("man", "-l", PAGE, env=env)
+    wanted = [f"bpfrec {it.name}" for it in manual.Help().commands]
+    wanted += ["DataChecksum", "16,424 to 524,284", "refused 8 Unset", "no 3 NotAccepted", "bpfrec-info", "SourceEnd"]
+    lacking = [it for it in wanted if it not in text]
+    judge("it has each command, and the tables of the formats", status == 0 and not lacking, lacking)
+
+
+# ---- what is installed
+
+
+def record_in(folder: Path, programs: object, *before: object) -> tuple[int, str]:
+    """Records by the installed programs, in that folder: the audit's answer."""
+    (folder / "all").write_text("1,6 0 0 1,")
+    (folder / "s.toml").write_text(SETTINGS)
+    shutil.copy(ROOT / "examples/feeds/one.feed", folder / "one.feed")
+    words = [*before, f"{programs}/bpfrec", "record", "s.toml", "one.ch11"]
+    status, told = ran(*words, cwd=folder, stdin=subprocess.DEVNULL)
+    judge("it records", status == 0 and told.startswith("channel 1 versions 1 offered 60 kept 60 SourceEnd\n"), told)
+    return ran(*before, f"{programs}/bpfrec", "audit", "one.ch11", cwd=folder)
+
+
+def judge_tools(folder: Path, programs: Path) -> None:
+    """The tools as they are installed, which find the program that is."""
+    env = {it: value for it, value in os.environ.items() if it not in ("BPFREC", "CAPTURE")}
+
+    def by(tool: str, *words: object) -> tuple[int, str]:
+        return ran(programs / f"bpfrec-{tool}", *words, cwd=folder, env=env)
+
+    told = by("info", "one.ch11")[1]
+    judge("info finds the program", "audit                      yes other 0" in told, told)
+    judge("salvage", by("salvage", "one.ch11", "kept.ch11")[1].endswith("lost 0 bytes at 0 places\n"))
+    judge("convert", by("convert", "to-pcap", "one.feed", "one.pcap") == (0, "frames 60\n"))
+    (folder / "one.ch11.json").write_text(FACTS)
+    told = by("convert", "to-pcap", "--facts", "one.ch11.json", "one.feed", "one.pcap")
+    judge("convert finds what reads facts", told == (0, "frames 60\n"), told)
+    told = by("info", "one.ch11")[1]
+    judge("info too", "  first time                 2025-12-01T12:00:00.2500000Z\n" in told, told)
+    (folder / "one.ch11.json").write_text("")
+    told = by("info", "one.ch11")[1]
+    judge("and names itself", "bpfrec-info: one.ch11.json: no facts of a recording: " in told, told)
+    judge("preflight finds the program", by("preflight", "s.toml")[1].endswith("0 faults\n"))
+    wanted = folder / "none.toml"
+    judge("live finds the program", by("live", wanted, "out") == (3, f"file {wanted}\n"))
+
+
+def judge_names(programs: Path) -> None:
+    """Each tool that is installed names itself in its help."""
+    for name in [it for it in manual.TOOLS if (programs / f"bpfrec-{it}").exists()]:
+        status, told = ran(programs / f"bpfrec-{name}", "--help")
+        judge(f"bpfrec-{name} --help", status == 0 and "usage: " in told and f"host/bin/{name}" not in told, told)
+    judge("live names itself", "usage: bpfrec-live" in ran(programs / "bpfrec-live", "--help")[1])
+
+
+def made(target: str, dest: Path) -> None:
+    words = [f"PREFIX={PREFIX}", f"DESTDIR={dest}"]
+    status, told = ran("make", "-s", "-C", ROOT, target, *words)
+    judge(f"make {target}", status == 0, told)
+
+
+def files_in(folder: Path) -> list[Path]:
+    return [it for it in folder.rglob("*") if not it.is_dir() or it.is_symlink()]
+
+
+def test_install(work: Path) -> None:
+    dest, field = work / "dest", work / "field"
+    made("install", dest)
+    programs = Path(f"{dest}{PREFIX}/bin")
+    field.mkdir()
+    answer = record_in(field, programs)
+    judge("the audit says yes", answer == (0, YES), answer)
+    judge_tools(field, programs)
+    judge_names(programs)
+    for name in ("bpfrec", "bpfrec-info"):
+        status, found = ran("man", "-M", f"{dest}{PREFIX}/share/man", "-w", name)
+        judge(f"man finds {name}", status == 0 and f"{dest}{PREFIX}/share/man/man1/bpfrec" in found, found)
+    unit = Path(f"{dest}{PREFIX}/lib/systemd/system/bpfrec.service").read_text()
+    judge("the unit runs what is installed", f"{PREFIX}/bin/bpfrec-live" in unit and "/opt/bpfrec/tools" not in unit)
+    judge(
+        "no link leads nowhere, and nothing is left beside",
+        all(it.exists() for it in files_in(dest)) and not list(dest.rglob("__pycache__")),
+    )
+
+
+def test_uninstall(work: Path) -> None:
+    """After two installs nothing is left but what is another's."""
+    dest = work / "dest"
+    top = Path(f"{dest}{PREFIX}")
+    made("install", dest)
+    (top / "libexec/bpfrec/other").write_text("another's")
+    made("install", dest)
+    made("uninstall", dest)
+    judge("nothing is left but what is another's", files_in(dest) == [top / "libexec/bpfrec/other"], files_in(dest))
+    judge("and no folder of its own", not (top / "share/doc/bpfrec").exists())
+
+
+def test_unproved(work: Path) -> None:
+    """A program that wasn't built from its proof isn't installed."""
+    top = work / "unproved"
+    (top / "dev/package").mkdir(parents=True)
+    (top / "bin").mkdir()
+    shutil.copy(ROOT / "dev/package/install.sh", top / "dev/package")
+    shutil.copy("/bin/true", top / "bin/bpfrec")
+    status, told = ran(top / "dev/package/install.sh", env={**os.environ, "DESTDIR": str(top / "dest")})
+    judge(
+        "a program that isn't proved is refused",
+        status == 3 and "wasn't built from its proof" in told and not (top / "dest").exists(),
+        told,
+    )
+
+
+# ---- the package
+
+
+@pytest.fixture(scope="module")
+def package() -> Path:
+    status, told = ran("make", "-s", "-C", ROOT, "deb")
+    made_file = ROOT / told.strip().split("\n")[-1]
+    judge("make deb", status == 0 and made_file.suffix == ".deb" and made_file.exists(), told)
+    return made_file
+
+
+def test_package(work: Path, package: Path) -> None:
+    unpacked, field = work / "unpacked", work / "field"
+    done = ran("dpkg-deb", "-x", package, unpacked)
+    judge("it unpacks into an empty folder", done[0] == 0, done)
+    field.mkdir()
+    judge("and what is unpacked records", record_in(field, unpacked / "usr/bin")[1].endswith("yes other 0\n"))
+    judge_tools(field, unpacked / "usr/bin")
+    judge_names(unpacked / "usr/bin")
+
+
+def test_dpkg(request: pytest.FixtureRequest) -> None:
+    if not os.environ.get("DEBIAN_ROOT"):
+        pytest.skip("an installation by dpkg wants a clean Debian in DEBIAN_ROOT")
+    root, package = Path(os.environ["DEBIAN_ROOT"]), request.getfixturevalue("package")
+    inside = root / "root/field"
+    inside.mkdir(exist_ok=True)
+    shutil.copy(package, root / "root/bpfrec.deb")
+    status, told = ran("chroot", root, "dpkg", "-i", "/root/bpfrec.deb")
+    judge("dpkg installs it on a clean machine", status == 0, told)
+    there = ["chroot", root, "sh", "-c", 'cd /root/field && exec "$@"', "sh"]
+    answer = record_in(inside, "/usr/bin", *there)
+    judge("and it records there", answer == (0, YES), answer)
+    judge(
+        "dpkg removes it",
+        ran("chroot", root, "dpkg", "-P", "bpfrec")[0] == 0
+        and not (root / "usr/bin/bpfrec").exists()
+        and not (root / "usr/libexec/bpfrec").exists(),
+    )
