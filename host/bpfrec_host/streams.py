@@ -60,6 +60,19 @@ class Input:
                 return False
         return True
 
+    def held(self, at: int, length: int) -> tuple[bytes, int, int]:
+        """Goes on to data[at:], once that has `length` bytes or ends before: data, at, and the length of data then."""
+        self.at = at
+        self.has(length)
+        return self.data, self.at, len(self.data)
+
+    def needed(self, at: int, length: int) -> tuple[bytes, int, int]:
+        """The same, where an input that ends before is cut short."""
+        self.at = at
+        if not self.has(length):
+            raise self.cut_short()
+        return self.data, self.at, len(self.data)
+
     def is_at_end(self) -> bool:
         """Whether all bytes that came are read."""
         return len(self.data) == self.at

@@ -5,8 +5,9 @@ from __future__ import annotations
 import argparse
 
 from bpfrec_host.convert.moments import moment_of, origin_of
-from bpfrec_host.convert.runs import MIN_WIRE_LEN, SHOWN_BYTES, from_pcap, make, show, to_pcap
+from bpfrec_host.convert.runs import SHOWN_BYTES, from_pcap, show, to_pcap
 from bpfrec_host.ending import short_name, tell
+from bpfrec_host.formats.feed import MIN_WIRE_LEN
 from bpfrec_host.formats.limits import CHECK_SEQUENCE_LEN, MAX_FRAME_LEN, MIN_FRAME_LEN
 from bpfrec_host.streams import Refused
 from bpfrec_host.words import Parser, natural
@@ -102,7 +103,15 @@ def add_make(commands: "Commands[Parser]") -> None:
     made.add_argument("seed", metavar="SEED", type=natural)
     made.add_argument("count", metavar="COUNT", type=natural)
     made.add_argument("output", metavar="OUT.feed")
-    made.set_defaults(run=lambda given: make(given.seed, given.count, given.output))
+    made.set_defaults(run=run_make)
+
+
+def run_make(given: argparse.Namespace) -> None:
+    """Runs make."""
+    # Here, since no other command wants what draws.
+    from bpfrec_host.convert.samples import make
+
+    make(given.seed, given.count, given.output)
 
 
 def parser() -> Parser:

@@ -3,7 +3,6 @@
 from __future__ import annotations
 
 import argparse
-import calendar
 import re
 import time
 from typing import Callable, Optional
@@ -26,8 +25,11 @@ def moment_of(word: str) -> int:
     found = MOMENT.match(word)
     if not found or bool(found[2]) != bool(found[4]):
         raise argparse.ArgumentTypeError(f"{word} is no time")
+    # Here, since few moments are dates.
+    from calendar import timegm
+
     try:
-        seconds = int(found[1]) if found[1] else calendar.timegm(time.strptime(found[2], "%Y-%m-%dT%H:%M:%S"))
+        seconds = int(found[1]) if found[1] else timegm(time.strptime(found[2], "%Y-%m-%dT%H:%M:%S"))
     except ValueError:
         raise argparse.ArgumentTypeError(f"{word} is no time") from None
     if seconds < 0 or found[2] and found[2][17:] > "59":

@@ -1,16 +1,14 @@
-"""What the commands of bpfrec-convert do."""
+"""Feeds from captures and back, and the lines of a feed."""
 
 from __future__ import annotations
 
-import random
 import signal
 import zlib
 from typing import Iterator, Optional
 
 from bpfrec_host.convert.moments import captured_time, moments_by_facts, moments_by_origin
-from bpfrec_host.convert.samples import sample_frame
 from bpfrec_host.formats import pcap, pcapng
-from bpfrec_host.formats.feed import CHECK_SEQUENCE, RECORD_HEAD, Record, check_sequence, read_records, write_record
+from bpfrec_host.formats.feed import CHECK_SEQUENCE, MIN_WIRE_LEN, RECORD_HEAD, read_records
 from bpfrec_host.formats.limits import (
     CHECK_SEQUENCE_LEN,
     MARK_CHECK_SEQUENCE,
@@ -24,12 +22,8 @@ from bpfrec_host.streams import PARTS_A_WRITE, Input, Output, Refused
 
 # A frame's addresses and type.
 ETHERNET_HEADER_LEN = 14
-# On the wire a frame has at least 64 bytes with its check sequence.
-MIN_WIRE_LEN = 60
 MIN_WIRE_PADDING = bytes(MIN_WIRE_LEN)
 SHOWN_BYTES = 24
-# The ticks between two sample frames.
-LEAST_PAUSE, MOST_PAUSE = 100, 10_100
 
 
 def captured_frames(capture: Input, chosen: Optional[int]) -> Iterator[Captured]:
@@ -52,24 +46,26 @@ def write_captured(captures: Iterator[Captured], origin: Optional[int], feed: Ou
     """Writes the records of captured frames: how many, and how many frames were passed."""
     # Each frame of a large file comes through here, so names are local and what is common comes first.
     pack, pack_sequence, crc32, extend = RECORD_HEAD.pack, CHECK_SEQUENCE.pack, zlib.crc32, feed.parts.extend
+    a_tick, most_counter, least_wire, added = NANOSECONDS_A_TICK, MAX_COUNTER, MIN_WIRE_LEN, CHECK_SEQUENCE_LEN
+    least, most, a_write = MIN_FRAME_LEN, MAX_FRAME_LEN, PARTS_A_WRITE - 1
     counter = frames = passed = 0
     for nanoseconds, is_whole, has_check_sequence, marks, frame in captures:
         if nanoseconds is not None:
             origin = nanoseconds if origin is None else origin
-            counter = (nanoseconds - origin) // NANOSECONDS_A_TICK & MAX_COUNTER
+            counter = (nanoseconds - origin) // a_tick & most_counter
         if has_check_sequence:
-            bare, sequence = frame[:-CHECK_SEQUENCE_LEN], frame[-CHECK_SEQUENCE_LEN:]
+            bare, sequence = frame[:-added], frame[-added:]
             marks |= 0 if pack_sequence(crc32(bare)) == sequence else MARK_CHECK_SEQUENCE
         else:
-            bare = frame if len(frame) >= MIN_WIRE_LEN else padded(frame)
+            bare = frame if len(frame) >= least_wire else padded(frame)
             sequence = pack_sequence(crc32(bare))
-        length = len(bare) + CHECK_SEQUENCE_LEN
-        if not is_whole or not MIN_FRAME_LEN <= length <= MAX_FRAME_LEN:
+        length = len(bare) + added
+        if not is_whole or not least <= length <= most:
             passed += 1
             continue
         extend((pack(counter & 0xFFFFFFFF, counter >> 32, marks, length), bare, sequence))
         frames += 1
-        if not frames & PARTS_A_WRITE - 1:
+        if not frames & a_write:
             feed.flush()
     return frames, passed
 
@@ -116,16 +112,3 @@ def show(path: str) -> None:
             lines.write(f"{counter} {marks} {len(frame)} {frame[:SHOWN_BYTES].hex()}\n".encode())
     finally:
         lines.flush()
-
-
-def make(seed: int, count: int, output: str) -> None:
-    """Writes a feed of sample frames, the same for the same seed, and prints their number."""
-    draw = random.Random(seed)
-    counter = 0
-    feed = Output(output)
-    for _ in range(count):
-        frame = sample_frame(draw).ljust(MIN_WIRE_LEN, b"\0")
-        write_record(feed, Record(counter, 0, frame + check_sequence(frame)))
-        counter += LEAST_PAUSE + int(draw.random() * (MOST_PAUSE - LEAST_PAUSE))
-    feed.close()
-    feed.tell(f"frames {count}")

@@ -1,9 +1,12 @@
-"""Sample frames: ARP, and UDP over IPv4."""
+"""Feeds of sample frames: ARP, and UDP over IPv4."""
 
 from __future__ import annotations
 
 import random
 import struct
+
+from bpfrec_host.formats.feed import MIN_WIRE_LEN, Record, check_sequence, write_record
+from bpfrec_host.streams import Output
 
 SOURCE = bytes.fromhex("020000000001")
 TARGET = bytes.fromhex("020000000002")
@@ -13,6 +16,8 @@ GROUP, TO_GROUP = bytes((239, 1, 2, 3)), bytes.fromhex("01005e010203")
 SENDER, RECEIVER = bytes((10, 0, 0, 1)), bytes((10, 0, 0, 2))
 # The tag of VLAN 100.
 VLAN_TAG = b"\x81\x00\x00\x64"
+# The ticks between two frames.
+LEAST_PAUSE, MOST_PAUSE = 100, 10_100
 SOURCE_PORT, FIRST_PORT, PORTS, MOST_PAYLOAD = 50_000, 50_001, 4, 400
 
 
@@ -48,3 +53,16 @@ def sample_frame(draw: random.Random) -> bytes:
         return TO_GROUP + SOURCE + b"\x08\x00" + udp_datagram(SENDER, GROUP, port, payload)
     tag = VLAN_TAG if kind < 0.4 else b""
     return TARGET + SOURCE + tag + b"\x08\x00" + udp_datagram(SENDER, RECEIVER, port, payload)
+
+
+def make(seed: int, count: int, output: str) -> None:
+    """Writes a feed of sample frames, the same for the same seed, and prints their number."""
+    draw = random.Random(seed)
+    counter = 0
+    feed = Output(output)
+    for _ in range(count):
+        frame = sample_frame(draw).ljust(MIN_WIRE_LEN, b"\0")
+        write_record(feed, Record(counter, 0, frame + check_sequence(frame)))
+        counter += LEAST_PAUSE + int(draw.random() * (MOST_PAUSE - LEAST_PAUSE))
+    feed.close()
+    feed.tell(f"frames {count}")

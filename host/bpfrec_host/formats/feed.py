@@ -4,7 +4,6 @@ from __future__ import annotations
 
 import struct
 import zlib
-from itertools import chain
 from typing import BinaryIO, Iterator, NamedTuple, Optional
 
 from bpfrec_host.formats.limits import MAX_COUNTER, MAX_FRAME_LEN, MAX_MARKS, MIN_FRAME_LEN, RECORD_HEAD_LEN
@@ -13,6 +12,8 @@ from bpfrec_host.streams import Input, Output, Refused
 # A record's head: its counter, in 32 and 16 bits, its marks, and its frame's length.
 RECORD_HEAD = struct.Struct("<IHBH")
 CHECK_SEQUENCE = struct.Struct("<I")
+# On the wire a frame has at least 64 bytes with its check sequence.
+MIN_WIRE_LEN = 60
 
 
 class Record(NamedTuple):
@@ -50,41 +51,31 @@ def head_fault(marks: int, length: int) -> Optional[str]:
     return "Marks" if marks > MAX_MARKS else None
 
 
+def refused(feed: Input, at: int, marks: int, length: int) -> Refused:
+    """The fault of a record's head at data[at:]."""
+    what = f"length {length}" if head_fault(marks, length) == "Length" else f"marks {marks}"
+    return Refused(f"{feed.name}: {what} of the record at byte {feed.place + at}")
+
+
 def read_records(feed: Input) -> Iterator[Record]:
     """The records of a feed, each as soon as all of it has come."""
-    return chain.from_iterable(read_pieces(feed))
-
-
-def read_pieces(feed: Input) -> Iterator[list[Record]]:
-    """The same, in lists of those that came together."""
-    while feed.has(RECORD_HEAD_LEN):
-        records, fault = records_there(feed)
-        yield records
-        if fault:
-            raise fault
-        if len(feed.data) - feed.at >= RECORD_HEAD_LEN and not feed.more():
-            raise feed.cut_short()
-    if not feed.is_at_end():
-        raise feed.cut_short()
-
-
-def records_there(feed: Input) -> tuple[list[Record], Optional[Refused]]:
-    """The records that are there as a whole, and the fault behind them."""
     # Each frame of a large file comes through here, so names are local.
-    unpack, head_len, found = RECORD_HEAD.unpack_from, RECORD_HEAD_LEN, list[Record]()
-    data, at, end, add = feed.data, feed.at, len(feed.data), found.append
+    unpack, head_len, least, most = RECORD_HEAD.unpack_from, RECORD_HEAD_LEN, MIN_FRAME_LEN, MAX_FRAME_LEN
+    data, at, end = feed.held(feed.at, head_len)
     while end - at >= head_len:
         low, high, marks, length = unpack(data, at)
-        if not MIN_FRAME_LEN <= length <= MAX_FRAME_LEN or marks > MAX_MARKS:
-            what = f"length {length}" if head_fault(marks, length) == "Length" else f"marks {marks}"
-            return found, Refused(f"{feed.name}: {what} of the record at byte {feed.place + at}")
+        if not least <= length <= most or marks > MAX_MARKS:
+            raise refused(feed, at, marks, length)
         stop = at + head_len + length
         if stop > end:
-            break
-        add(Record(high << 32 | low, marks, data[at + head_len : stop]))
+            data, at, end = feed.needed(at, head_len + length)
+            continue
+        yield Record(high << 32 | low, marks, data[at + head_len : stop])
         at = stop
-    feed.at = at
-    return found, None
+        if end - at < head_len:
+            data, at, end = feed.held(at, head_len)
+    if at < end:
+        raise feed.cut_short()
 
 
 def end_of(feed: BinaryIO) -> FeedEnd:

@@ -3,7 +3,6 @@
 from __future__ import annotations
 
 import struct
-from itertools import chain
 from typing import Any, Callable, Iterator, Optional
 
 from bpfrec_host.formats.limits import CHECK_SEQUENCE_LEN, NANOSECONDS_A_SECOND
@@ -45,49 +44,34 @@ def frames(capture: Input, chosen: Optional[int]) -> Iterator[Captured]:
     length = 2 * (link >> CHECK_SEQUENCE_WORDS_SHIFT) if link & HAS_CHECK_SEQUENCE else 0
     judge_check_sequence_len(capture, length)
     unpack = struct.Struct(order + "IIII").unpack_from
-    return chain.from_iterable(records(capture, unpack, nanoseconds_a_unit, bool(length)))
+    return records(capture, unpack, nanoseconds_a_unit, bool(length))
 
 
 # The four numbers before a frame: seconds, units of a second, the captured length and the frame's.
 Unpack = Callable[[bytes, int], tuple[Any, ...]]
 
 
-def records(
-    capture: Input, unpack: Unpack, nanoseconds_a_unit: int, has_check_sequence: bool
-) -> Iterator[list[Captured]]:
-    """The frames behind the head of a capture, each as soon as all of it has come, in lists of those that came
-    together."""
-    while capture.has(CAPTURED_HEAD_LEN):
-        frames_there, fault = records_there(capture, unpack, nanoseconds_a_unit, has_check_sequence)
-        yield frames_there
-        if fault:
-            raise fault
-        if len(capture.data) - capture.at >= CAPTURED_HEAD_LEN and not capture.more():
-            raise capture.cut_short()
-    if not capture.is_at_end():
-        raise capture.cut_short()
-
-
-def records_there(
-    capture: Input, unpack: Unpack, nanoseconds_a_unit: int, has_check_sequence: bool
-) -> tuple[list[Captured], Optional[Refused]]:
-    """The frames that are there as a whole, and the fault behind them."""
+def records(capture: Input, unpack: Unpack, nanoseconds_a_unit: int, has_check_sequence: bool) -> Iterator[Captured]:
+    """The frames behind the head of a capture, each as soon as all of it has come."""
     # Each frame of a large file comes through here, so names are local.
-    data, at, end, head_len, found = capture.data, capture.at, len(capture.data), CAPTURED_HEAD_LEN, list[Captured]()
-    add = found.append
+    head_len, most, a_second = CAPTURED_HEAD_LEN, MAX_CAPTURED_LEN, NANOSECONDS_A_SECOND
+    data, at, end = capture.held(capture.at, head_len)
     while end - at >= head_len:
         seconds, units, captured, length = unpack(data, at)
-        if captured > MAX_CAPTURED_LEN:
-            return found, Refused(f"{capture.name}: captured length {captured} at byte {capture.place + at}")
+        if captured > most:
+            raise Refused(f"{capture.name}: captured length {captured} at byte {capture.place + at}")
         start = at + head_len
         stop = start + captured
         if stop > end:
-            break
-        nanoseconds = seconds * NANOSECONDS_A_SECOND + units * nanoseconds_a_unit
-        add((nanoseconds, captured >= length, has_check_sequence, 0, data[start:stop]))
+            data, at, end = capture.needed(at, head_len + captured)
+            continue
+        nanoseconds = seconds * a_second + units * nanoseconds_a_unit
+        yield nanoseconds, captured >= length, has_check_sequence, 0, data[start:stop]
         at = stop
-    capture.at = at
-    return found, None
+        if end - at < head_len:
+            data, at, end = capture.held(at, head_len)
+    if at < end:
+        raise capture.cut_short()
 
 
 def judge_link_type(capture: Input, link_type: int, number: int) -> None:
