@@ -14,14 +14,17 @@ import os
 import random
 import statistics
 import subprocess
+import sys
 import tempfile
 import time
 from pathlib import Path
 
 ROOT = Path(__file__).resolve().parent.parent
+sys.path.insert(0, str(ROOT / "dev/trials"))
+from frames import HEAD, record_of
+
 BPFREC, INFO, SALVAGE = (ROOT / it for it in ("bin/bpfrec", "host/bin/info", "host/bin/salvage"))
 LENGTHS = {"64": (64, 64), "60 to 80": (60, 80), "300": (300, 300), "1,500": (1_500, 1_500)}
-HEAD = bytes.fromhex("020000000002 020000000001 88b5")
 
 
 def write_feed(path, least, most, size):
@@ -32,7 +35,7 @@ def write_feed(path, least, most, size):
         while written < size:
             counter += draw.randrange(50, 200)
             frame = frames[draw.randint(least, most)]
-            parts.append(counter.to_bytes(6, "little") + b"\0" + len(frame).to_bytes(2, "little") + frame)
+            parts.append(record_of(counter, frame))
             if len(parts) == 10_000:
                 written += feed.write(b"".join(parts))
                 parts.clear()

@@ -24,11 +24,13 @@ import subprocess
 import sys
 import tempfile
 import time
-import zlib
 from dataclasses import dataclass
 from pathlib import Path
 
 ROOT = Path(__file__).resolve().parent.parent
+sys.path.insert(0, str(ROOT / "dev/trials"))
+from frames import with_check_sequence, write_feed
+
 LENGTHS = {"64": [64], "300": [300], "1500": [1500], "mix": [64, 64, 64, 300, 300, 600, 1500]}
 POOL = 4_096
 PORT = 53
@@ -54,7 +56,7 @@ def ethernet_frame(draw, length, port):
         bytes([10, 0, 1, draw.randrange(1, 255)]),
     )
     view = bytes([2, 0, 0, 0, 0, 1, 2, 0, 0, 0, 0, 2, 8, 0]) + ip + udp + draw.randbytes(length - 46)
-    return view + zlib.crc32(view).to_bytes(4, "little")
+    return with_check_sequence(view)
 
 
 def frames_of(lengths, count):
@@ -62,12 +64,6 @@ def frames_of(lengths, count):
     draw = random.Random(2)
     pool = [ethernet_frame(draw, draw.choice(lengths), PORT if at % 32 == 0 else 1_024 + at) for at in range(POOL)]
     return ((10 * at, pool[at % POOL]) for at in range(count))
-
-
-def write_feed(path, frames):
-    with open(path, "wb", buffering=1 << 20) as feed:
-        for counter, frame in frames:
-            feed.write(counter.to_bytes(6, "little") + b"\0" + len(frame).to_bytes(2, "little") + frame)
 
 
 def write_capture(path, frames):

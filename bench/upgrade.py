@@ -17,6 +17,10 @@ import subprocess
 import sys
 import tempfile
 import time
+from pathlib import Path
+
+sys.path.insert(0, str(Path(__file__).resolve().parent.parent / "dev/trials"))
+from frames import frames_packet
 
 ROUNDS = 5
 
@@ -30,18 +34,8 @@ FRAMES, LENGTH = 42, 1_518
 
 def packet():
     """A packet of frames without a data checksum."""
-    frame = bytes(8) + LENGTH.to_bytes(4, "little") + bytes(at % 251 for at in range(LENGTH))
-    body = FRAMES.to_bytes(4, "little") + frame * FRAMES
-    filler = bytes(-len(body) % 4)
-    lengths = [24 + len(body) + len(filler), len(body)]
-    header = (
-        bytes.fromhex("25eb0100")
-        + b"".join(it.to_bytes(4, "little") for it in lengths)
-        + bytes.fromhex("08000068")
-        + bytes(6)
-    )
-    total = sum(int.from_bytes(header[at : at + 2], "little") for at in range(0, 22, 2))
-    return header + (total % 2**16).to_bytes(2, "little") + body + filler
+    frame = bytes(at % 251 for at in range(LENGTH))
+    return frames_packet([(0, 0, frame)] * FRAMES, 0, 0, False)
 
 
 def seconds_of(words, out):

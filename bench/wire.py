@@ -14,13 +14,10 @@ build), bin/send_frames (make bin/send_frames), and Debian's iproute2, tcpdump a
 to TMPDIR: in memory (TMPDIR=/dev/shm) no disk is measured with it.
 """
 import argparse
-import array
-import fcntl
 import os
 import re
 import shutil
 import signal
-import socket
 import statistics
 import struct
 import subprocess
@@ -30,6 +27,10 @@ import time
 from pathlib import Path
 
 ROOT = Path(__file__).resolve().parent.parent
+sys.path.insert(0, str(ROOT / "dev/trials"))
+import namespace
+from frames import HEAD
+
 LIVE, FEED, CAPTURE, SENDER = (
     ROOT / it for it in ("host/bin/live", "host/bin/convert", "bin/capture", "bin/send_frames")
 )
@@ -50,23 +51,9 @@ def run(*words):
     return subprocess.run([str(it) for it in words], check=True, capture_output=True, text=True).stdout
 
 
-def turn_offloads_off(interface):
-    """What `ethtool -K INTERFACE tso off gso off gro off` does: no frames are joined."""
-    with socket.socket(socket.AF_INET, socket.SOCK_DGRAM) as asked:
-        for command in (0x1F, 0x24, 0x2C):
-            value = array.array("I", [command, 0])
-            fcntl.ioctl(asked, 0x8946, struct.pack("16sP16x", interface.encode(), value.buffer_info()[0]))
-
-
 def make_pair():
     run("ip", "link", "set", "lo", "up")
-    run("ip", "link", "add", "tx0", "type", "veth", "peer", "name", "rx0")
-    for interface in ("tx0", "rx0"):
-        quiet = Path(f"/proc/sys/net/ipv6/conf/{interface}/disable_ipv6")
-        if quiet.exists():
-            quiet.write_text("1")
-        turn_offloads_off(interface)
-        run("ip", "link", "set", interface, "up")
+    namespace.make_pair(0)
     time.sleep(0.5)
 
 
@@ -205,11 +192,10 @@ def time_wire(work, words):
 
 def write_capture(path, length, frames):
     """A capture of numbered frames without their check sequences."""
-    head = bytes.fromhex("020000000002 020000000001 88b5")
     with open(path, "wb", buffering=1 << 20) as capture:
         capture.write(struct.pack("<IHHiIII", 0xA1B23C4D, 2, 4, 0, 0, 262_144, 1))
         for number in range(frames):
-            frame = head + number.to_bytes(8, "big") + bytes(length - 4 - 22)
+            frame = HEAD + number.to_bytes(8, "big") + bytes(length - 4 - 22)
             capture.write(
                 struct.pack("<IIII", number // 1_000_000, number % 1_000_000 * 1_000, len(frame), len(frame)) + frame
             )

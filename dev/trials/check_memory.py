@@ -38,7 +38,7 @@ import time
 from pathlib import Path
 
 from frames import counted_feed
-from support import BPFREC, DROPS_ALL, KEEPS_ALL, ROOT
+from support import BPFREC, DROPS_ALL, KEEPS_ALL, TRIALS, shared_library
 
 FRAMES, FEW, CHANGES = 100_000, 1_000, 100
 MOST_CHANNELS = 64
@@ -66,19 +66,8 @@ class Checks:
 
     def __init__(self, program, work):
         self.program, self.work, self.wrong = str(program), work, 0
-        self.library, self.counts = work / "failing_malloc.so", work / "counts"
-        words = [
-            "cc",
-            "-O2",
-            "-Wall",
-            "-shared",
-            "-fPIC",
-            "-o",
-            self.library,
-            ROOT / "dev/trials/failing_malloc.c",
-            "-ldl",
-        ]
-        subprocess.run(words, check=True)
+        self.counts = work / "counts"
+        self.library = shared_library(TRIALS / "failing_malloc.c", work / "failing_malloc.so")
         (work / "keeps").write_text(KEEPS_ALL)
         (work / "drops").write_text(DROPS_ALL)
 

@@ -9,7 +9,7 @@ from pathlib import Path
 
 from frames import Record, numbered, numbers_in
 from namespace import socket_into
-from support import CAPTURE, MILLISECOND, SECOND, TRIALS, judge_quietly, nanoseconds, origin_told, run
+from support import CAPTURE, MILLISECOND, SECOND, TRIALS, judge_quietly, nanoseconds, origin_told, shared_library
 
 
 class Clock:
@@ -73,9 +73,7 @@ def library_folder() -> tempfile.TemporaryDirectory:
 @functools.cache
 def preloaded() -> Path:
     """The library of dev/trials/set_clock.c."""
-    made = Path(library_folder().name) / "set_clock.so"
-    run("cc", "-std=gnu11", "-O2", "-shared", "-fPIC", "-o", made, TRIALS / "set_clock.c", "-ldl")
-    return made
+    return shared_library(TRIALS / "set_clock.c", Path(library_folder().name) / "set_clock.so")
 
 
 def capture_with(work: Path, adds: dict) -> Path:

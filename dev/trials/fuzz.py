@@ -22,330 +22,26 @@ import argparse
 import os
 import random
 import re
-import subprocess
 import sys
 import tempfile
 import time
-from dataclasses import dataclass, field
 from pathlib import Path
 
-from frames import feed_of, sum_of
-from support import BPFREC, ROOT
-
-DATA = ROOT / "crates/bpfrec_cases/data"
-ADDRESS_SPACE = 2**30
-SECONDS_A_RUN = 20
-MOST_MEMORY_KIB = 2_048
-
-# ---- what each command may answer: for each status, what stands on standard output and error
-
-NAMES = r"(BadOpcode|BadScratch|ZeroDivisor|JumpOut) \d+"
-REFUSED = rf"refused (1 Empty|2 TooLong|[3-6] {NAMES}|7 NoReturn|8 Unset \d+ \d+( \d+)+)\n"
-LISTING = r"listing (1 Syntax \d+|2 Count \d+ \d+|3 Range \d+)\n"
-READ = r"read (1 Truncated|2 Sync|3 Checksum|4 Length|5 Body|8 DataChecksum) \d+\n"
-ASM_FAULTS = r"Syntax|Number|UnknownMnemonic|OperandNotAllowed|LabelMissing|LabelTwice|Backward|TooFar"
-ASM = rf"asm ([1-8] ({ASM_FAULTS}) line \d+|9 TooLong)\n"
-DIS = r"dis (1 NoForm|2 JumpOut) \d+\n"
-SETTINGS = r"settings (1 Syntax|2 Unknown .*|3 Missing \w+|4 Value \w+|5 Channels|6 SameChannel \d+)\n"
-INSN = r"\d+ \d+ \d+ \d+,"
-WHAT = r"frames \d+|program \d+ \d+ \d+ \d+|end \d+ \d+ \d+|other"
-PACKETS = rf"(\d+ \d+ [0-9a-f]{{2}} \d+ \d+ \d+ \d+ ({WHAT})\n)*packets \d+ other \d+\n"
-NO = r"no (1 NoProgram \d+|2 BadProgram \d+|3 NotAccepted \d+ \d+|4 Order \d+|5 NoEnd \d+|6 Counts \d+)\n"
-YES = r"(channel \d+ programs \d+ frames \d+ offered \d+\n)*yes other \d+\n"
-ENDING = r"SourceEnd|CountFull|SourceFault (Truncated|Length|Marks|Device)"
-REPORT = rf"(channel \d+ versions \d+ offered \d+ kept \d+ ({ENDING})\n)+wrote \d+ \d+\n"
-ANSWERS = r"(installed \d+ \d+ \d+\n|refused \d+ (Line|File|Listing|Program|NoChannel|VersionsFull)\n)*"
-REFUSALS = r"NoChannel|Closed|RingFull|NothingToSend|NothingToWrite|VersionsFull|CountFull"
-EVENT = (
-    r"took \d+ \d+ \d+|installed \d+ \d+|sent (program \d+|frames \d+|end)|wrote [0-9a-f]+|"
-    rf"closed \d+ \d+|refused [1-7] ({REFUSALS})"
+from frames import feed_of
+from fuzz_answers import Case, Runner, Wrong
+from fuzz_inputs import (
+    DATA,
+    TOKENS,
+    Corpus,
+    damaged,
+    drawn_frames,
+    drawn_program,
+    frames_in,
+    listing_of,
+    set_data_sum,
+    with_sums,
 )
-EVENTS = rf"(({EVENT})\n)*"
-FILE = (3, "", r"file .*\n")
-ALLOWED = {
-    "asm": [(0, rf"\d+,({INSN})*\n", ""), (1, "", ASM), FILE],
-    "dis": [(0, r"([^\n]+\n)*", ""), (1, "", LISTING), (1, "", DIS), FILE],
-    "verify": [(0, r"valid \d+\n", ""), (1, REFUSED, ""), (1, "", LISTING), FILE],
-    "run": [(0, r"\d+ \d+\n", ""), (1, REFUSED, ""), (1, "", LISTING), (1, "", r"view\n"), FILE],
-    "": [(0, r"\d+ \d+\n", ""), (1, REFUSED, ""), (1, "", LISTING), (1, "", r"view\n"), FILE],
-    "list": [(0, PACKETS, ""), (1, "", READ), FILE],
-    "audit": [(0, YES, ""), (1, NO, ""), (1, "", READ), FILE],
-    "extract": [(0, r"frames \d+ passed \d+\n", ""), (1, "", READ), (2, "", r"(.*\n)+"), FILE],
-    "upgrade": [(0, r"upgraded \d+ copied \d+\n", ""), (1, "", READ), FILE],
-    # the rings of some settings don't fit the address space
-    "record": [(0, REPORT, ANSWERS), (1, "", LISTING), (1, REFUSED, ""), (2, "", SETTINGS), FILE, (4, "", "memory\n")],
-    "simulate": [(0, EVENTS, ""), (1, EVENTS, r"script line \d+\n"), FILE],
-}
-
-# ---- cases
-
-
-@dataclass
-class Case:
-    """The words of a run, the files that lie where it runs, and its standard input."""
-
-    words: list
-    files: dict = field(default_factory=dict)
-    input: bytes = b""
-
-    def command(self):
-        return self.words[0] if self.words else ""
-
-
-@dataclass
-class Answer:
-    """What a run answered, and the files that it left."""
-
-    status: int
-    output: str
-    errors: str
-    folder: Path
-
-    def file(self, name):
-        path = self.folder / name
-        return path.read_bytes() if path.exists() else None
-
-
-class Wrong(Exception):
-    """A case that was answered as it must not be."""
-
-
-class Runner:
-    """Runs cases of the program, each in the same folder, and remembers what memory they took."""
-
-    def __init__(self, program, folder):
-        self.folder, self.peak_file = folder / "run", folder / "peak"
-        self.folder.mkdir()
-        self.words = ["prlimit", f"--as={ADDRESS_SPACE}", "time", "-f", "%M", "-o", self.peak_file, program]
-        self.inputs = set()
-        self.empty, self.over = {}, {}
-
-    def answer(self, case):
-        """Runs a case, and judges the form of its answer and the memory that it took."""
-        empty = self.peak_of_empty(case)
-        self.inputs.add(hash((tuple(sorted(case.files.items())), case.input)))
-        ran, peak = self.run(case)
-        command = case.command()
-        self.over[command] = max(self.over.get(command, 0), peak - empty)
-        if peak > empty + MOST_MEMORY_KIB:
-            raise Wrong(f"{peak} KiB of memory, {empty} on an empty file")
-        output, errors = ran.stdout.decode(errors="replace"), ran.stderr.decode(errors="replace")
-        for status, on_output, on_errors in ALLOWED[command]:
-            if ran.returncode == status and re.fullmatch(on_output, output) and re.fullmatch(on_errors, errors):
-                return Answer(ran.returncode, output, errors, self.folder)
-        raise Wrong(f"status {ran.returncode}\n-- output\n{output[:2000]}\n-- errors\n{errors[:2000]}")
-
-    def run(self, case):
-        """Runs a case in a fresh folder: how it ended, and the most memory that it took, in KiB."""
-        for old in self.folder.iterdir():
-            old.unlink()
-        for name, content in case.files.items():
-            (self.folder / name).write_bytes(content)
-        try:
-            ran = subprocess.run(
-                [*self.words, *case.words],
-                input=case.input,
-                capture_output=True,
-                cwd=self.folder,
-                timeout=SECONDS_A_RUN,
-            )
-        except subprocess.TimeoutExpired:
-            raise Wrong(f"no answer within {SECONDS_A_RUN} seconds") from None
-        return ran, int(self.peak_file.read_text().split()[-1])
-
-    def peak_of_empty(self, case):
-        """The memory that the command takes on an empty file, and `record` on empty feeds."""
-        files = {
-            name: b"" if name in ("in", "feed", "one.feed") and case.words[1] != name else content
-            for name, content in case.files.items()
-        }
-        key = hash(tuple(sorted(files.items())))
-        if case.command() != "record":
-            files, key = dict.fromkeys(case.files, b""), case.command()
-        if key not in self.empty:
-            self.empty[key] = self.run(Case(case.words, files))[1]
-        return self.empty[key]
-
-
-# ---- inputs, drawn and damaged
-
-CODES = [
-    0x00,
-    0x01,
-    0x02,
-    0x03,
-    0x04,
-    0x05,
-    0x06,
-    0x07,
-    0x0C,
-    0x14,
-    0x15,
-    0x16,
-    0x1D,
-    0x20,
-    0x24,
-    0x25,
-    0x28,
-    0x2C,
-    0x30,
-    0x34,
-    0x35,
-    0x3C,
-    0x40,
-    0x44,
-    0x45,
-    0x48,
-    0x50,
-    0x54,
-    0x5C,
-    0x60,
-    0x61,
-    0x64,
-    0x6C,
-    0x74,
-    0x80,
-    0x81,
-    0x84,
-    0x87,
-    0x94,
-    0x9C,
-    0xA4,
-    0xAC,
-    0xB1,
-]
-WORDS = [0, 1, 2, 4, 12, 14, 15, 16, 31, 32, 254, 255, 256, 2048, 2054, 65535, 2**31, 2**32 - 1]
-TOKENS = [
-    b"ldh",
-    b"ld",
-    b"ldb",
-    b"ldx",
-    b"ldxb",
-    b"st",
-    b"stx",
-    b"jmp",
-    b"ja",
-    b"jeq",
-    b"jne",
-    b"jlt",
-    b"jle",
-    b"jgt",
-    b"jge",
-    b"jset",
-    b"add",
-    b"sub",
-    b"mul",
-    b"div",
-    b"mod",
-    b"neg",
-    b"and",
-    b"or",
-    b"xor",
-    b"lsh",
-    b"rsh",
-    b"tax",
-    b"txa",
-    b"ret",
-    b"[12]",
-    b"[x + 1]",
-    b"M[0]",
-    b"M[15]",
-    b"#0x806",
-    b"#1",
-    b"#-1",
-    b"x",
-    b"a",
-    b"len",
-    b"#len",
-    b"4*([14]&0xf)",
-    b",",
-    b":",
-    b"drop",
-    b"yes",
-    b"no",
-    b"\n",
-    b";",
-    b"/*",
-    b"*/",
-    b"0",
-    b"08",
-    b"4294967296",
-    b"%x",
-]
-
-
-def drawn_program(draw):
-    """Instructions most of which have a legal code and a target in the program."""
-    count = draw.choice([0, 1, 2, 3, 5, 8, 20, draw.randrange(1, 60)])
-    insns = []
-    for at in range(count):
-        code = draw.choice(CODES) if draw.random() < 0.98 else draw.randrange(0x200)
-        left = max(count - at - 2, 0)
-        k = draw.randrange(left + 1) if code == 5 and draw.random() < 0.95 else draw.choice(WORDS)
-        if code in (2, 3, 0x60, 0x61) and draw.random() < 0.95:
-            k %= 16
-        test = code & 7 == 5 and code != 5
-        jump = [draw.randrange(min(left, 255) + 1) if test else 0 for _ in range(2)]
-        insns.append([code, *jump, k])
-    if insns and draw.random() < 0.9:
-        insns[-1] = draw.choice([[6, 0, 0, 0], [6, 0, 0, 2**32 - 1], [0x16, 0, 0, 0]])
-    return insns
-
-
-def listing_of(insns):
-    return (",".join([str(len(insns)), *(" ".join(map(str, insn)) for insn in insns)]) + ",").encode()
-
-
-def damaged(draw, content):
-    """Some bytes set, taken out, put in twice or cut off."""
-    content = bytearray(content)
-    for _ in range(draw.choice([1, 1, 2, 5])):
-        at = draw.randrange(len(content) + 1)
-        match draw.randrange(5):
-            case 0 if at < len(content):
-                content[at] = draw.choice([0, 1, 9, 10, 32, 44, 45, 48, 57, 127, 128, 255, draw.randrange(256)])
-            case 1:
-                del content[at : at + draw.choice([1, 2, 4, 60])]
-            case 2:
-                content[at:at] = content[at : at + draw.choice([1, 8, 60, 300])]
-            case 3:
-                content[at:at] = bytes(draw.choice([b"\n", b",", b" ", b"\r", b"-", b"99999999999", b"\xff", b"#"]))
-            case _ if draw.random() < 0.3:
-                del content[at:]
-    return bytes(content)
-
-
-def drawn_frames(draw):
-    """Frames as (counter, marks, bytes)."""
-    count = draw.choice([0, 1, 2, 7, 40])
-    lengths = [18, 19, 60, 300, 1518, 16383]
-    return [
-        (
-            draw.choice([0, 16, 2**48 - 1, draw.randrange(2**48)]),
-            draw.randrange(4),
-            draw.choice([b"\xff", b"\x00", bytes([draw.randrange(256)])]) * 12
-            + draw.choice([b"\x08\x06", b"\x08\x00", b"\x86\xdd"])
-            + draw.randbytes(draw.choice(lengths) - 14),
-        )
-        for _ in range(count)
-    ]
-
-
-class Corpus:
-    """The samples of the repository, by kind."""
-
-    def __init__(self):
-        def read(*patterns):
-            return [path.read_bytes() for pattern in patterns for path in sorted(DATA.glob(pattern)) if path.is_file()]
-
-        self.texts = read("filters/*.bpf", "texts/*.bpf")
-        self.listings = read("*")
-        self.recordings = read("recordings/*.ch11")
-        self.scripts = read("scripts/*.script") + [
-            path.read_bytes() for path in sorted((ROOT / "examples").glob("*.script"))
-        ]
-        self.settings = read("records/*.toml")
-
+from support import BPFREC, ROOT
 
 # ---- what two answers must agree on
 
@@ -406,24 +102,6 @@ def recordings(run, draw, corpus):
     if draw.random() < 0.9:
         recording = with_sums(draw, damaged(draw, recording))
     readings(run, recording)
-
-
-def with_sums(draw, recording):
-    """The same, mostly with the right checksums in each packet that still begins with the sync pattern."""
-    recording, at = bytearray(recording), 0
-    while draw.random() < 0.98 and recording[at : at + 2] == b"\x25\xeb" and len(recording) >= at + 24:
-        recording[at + 22 : at + 24] = sum_of(recording[at : at + 22], 2).to_bytes(2, "little")
-        end = at + max(int.from_bytes(recording[at + 4 : at + 8], "little"), 24)
-        if draw.random() < 0.9:
-            set_data_sum(recording, at, end)
-        at = end
-    return bytes(recording)
-
-
-def set_data_sum(recording, at, end):
-    """Makes the data checksum of a packet right, where it has one and is whole."""
-    if recording[at + 14] & 3 == 3 and at + 28 <= end <= len(recording):
-        recording[end - 4 : end] = sum_of(recording[at + 24 : end - 4], 4).to_bytes(4, "little")
 
 
 def readings(run, recording):
@@ -542,18 +220,6 @@ def refused_output(run, words, out, files):
     refused = run(Case([*words, out], files))
     if refused.errors != f"file {out}\n" or any(refused.file(name) != content for name, content in files.items()):
         raise Wrong(f"an output that is the input {out} isn't refused, or was changed")
-
-
-def frames_in(feed):
-    """The frames of a feed, up to its first fault."""
-    at = 0
-    while len(feed) - at >= 9:
-        counter, marks = int.from_bytes(feed[at : at + 6], "little"), feed[at + 6]
-        length = int.from_bytes(feed[at + 7 : at + 9], "little")
-        if not 18 <= length <= 16383 or marks > 3 or len(feed) - at - 9 < length:
-            return
-        yield counter, marks, feed[at + 9 : at + 9 + length]
-        at += 9 + length
 
 
 def scripts(run, draw, corpus):

@@ -70,10 +70,7 @@ def process_of(out: Path, program: Path, word: str = "") -> int:
     found: list[int] = []
 
     def is_found() -> bool:
-        for pid, words in processes_of(out).items():
-            with contextlib.suppress(OSError):
-                if os.path.samefile(f"/proc/{pid}/exe", program) and word in words:
-                    found.append(pid)
+        found.extend(pid for pid, words in processes_of(out).items() if runs(pid, program) and word in words)
         return bool(found)
 
     wait_for(lambda: f"{program.name} {word} runs", is_found)
@@ -82,13 +79,22 @@ def process_of(out: Path, program: Path, word: str = "") -> int:
 
 def is_recording(out: Path, file: Path) -> bool:
     """Whether the recorder of a run has this file open."""
-    for pid in processes_of(out):
-        with contextlib.suppress(OSError):
-            if os.path.samefile(f"/proc/{pid}/exe", BPFREC):
-                opened = [os.readlink(it) for it in Path(f"/proc/{pid}/fd").iterdir()]
-                if str(file) in opened:
-                    return True
-    return False
+    return any(has_open(pid, file) for pid in processes_of(out) if runs(pid, BPFREC))
+
+
+def runs(pid: int, program: Path) -> bool:
+    """Whether a process runs this program."""
+    try:
+        return os.path.samefile(f"/proc/{pid}/exe", program)
+    except OSError:
+        return False
+
+
+def has_open(pid: int, file: Path) -> bool:
+    try:
+        return str(file) in [os.readlink(it) for it in Path(f"/proc/{pid}/fd").iterdir()]
+    except OSError:
+        return False
 
 
 def nothing_left(work: Path) -> bool:

@@ -25,7 +25,7 @@ import sys
 import tempfile
 from pathlib import Path
 
-from support import BPFREC, ROOT
+from support import BPFREC, ROOT, TRIALS, shared_library
 
 DATA = ROOT / "crates/bpfrec_cases/data"
 VIEW = "ffffffffffff0200000000010806"
@@ -161,21 +161,7 @@ def main():
             print(f"{needed} is not there: run {how} first")
             return 2
     with tempfile.TemporaryDirectory() as work:
-        library = f"{work}/failing_malloc.so"
-        subprocess.run(
-            [
-                "cc",
-                "-O2",
-                "-Wall",
-                "-shared",
-                "-fPIC",
-                "-o",
-                library,
-                str(ROOT / "dev/trials/failing_malloc.c"),
-                "-ldl",
-            ],
-            check=True,
-        )
+        library = str(shared_library(TRIALS / "failing_malloc.c", Path(work) / "failing_malloc.so"))
         named = [(built, name) for built, names in zip(tests, TESTS.values()) for name in names]
         of_tests = [growths_of_test(built, name, library, f"{work}/growths") for built, name in named]
         counts = [growths_of(program, words, text, library, f"{work}/growths") for words, text in samples()]

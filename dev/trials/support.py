@@ -74,6 +74,13 @@ def outcome(*words: object, seconds: float = SECONDS, **more) -> subprocess.Comp
     return subprocess.run(given, timeout=seconds, **{"text": True, **streams, **more})
 
 
+def shared_library(source: Path, made: Path) -> Path:
+    """A library of a C file, which can be preloaded."""
+    compiler = os.environ.get("CC", "cc")
+    run(compiler, "-std=gnu11", "-O2", "-Wall", "-shared", "-fPIC", "-o", made, source, "-ldl", seconds=60)
+    return made
+
+
 def wait_for(what: str | Callable[[], str], holds: Callable[[], object], seconds: float = SECONDS) -> None:
     """Waits until it holds; `what` is a text, or makes one when it is wanted."""
     __tracebackhide__ = True

@@ -12,7 +12,7 @@ from pathlib import Path
 import pytest
 from frames import FRAMES, body_of, end_packet, frames_packet, packet_of, program_packet
 from reading import SAMPLES, SEED, facts_of, packets_of, recording_of_three, salvaged
-from support import BPFREC, INFO, SALVAGE, judge, judge_quietly, outcome, run
+from support import BPFREC, INFO, SALVAGE, judge, judge_quietly, outcome, run, shared_library
 
 WANTED = {"bin/bpfrec": "make build", "cc": "gcc"}
 DAMAGED = 1_000
@@ -210,7 +210,7 @@ def test_lines(work: Path) -> None:
 def test_forced(work: Path) -> None:
     """What salvage made is on its disk before its last lines are printed; where that fails, there are none."""
     (work / "fsync.c").write_text(FSYNC)
-    run(os.environ.get("CC", "cc"), "-O2", "-shared", "-fPIC", "-o", work / "fsync.so", work / "fsync.c")
+    shared_library(work / "fsync.c", work / "fsync.so")
     cut, out = work / "forced.ch11", work / "forced_out.ch11"
     cut.write_bytes(SAMPLES[1].read_bytes()[:-1])
     plain = outcome(SALVAGE, cut, out)

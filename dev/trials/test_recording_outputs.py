@@ -10,7 +10,7 @@ from pathlib import Path
 
 import pytest
 from recorder import ONE_FRAME, RECORDINGS, make_feed, record, write_settings
-from support import BPFREC, TRIALS, judge, judge_quietly, outcome, run
+from support import BPFREC, TRIALS, judge, judge_quietly, outcome, shared_library
 
 WANTED = {"bin/bpfrec": "make build", "cc": "gcc"}
 pytestmark = pytest.mark.timed
@@ -89,9 +89,7 @@ def test_damaged_into_itself(work: Path) -> None:
 @pytest.fixture(scope="module")
 def failing_fsync(place: Path) -> Path:
     """The library of dev/trials/failing_fsync.c."""
-    library = place / "failing_fsync.so"
-    run("cc", "-O2", "-Wall", "-shared", "-fPIC", "-o", library, TRIALS / "failing_fsync.c", "-ldl")
-    return library
+    return shared_library(TRIALS / "failing_fsync.c", place / "failing_fsync.so")
 
 
 def forced_by(words: list, given: Path, library: Path, error: int) -> tuple:

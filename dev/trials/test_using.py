@@ -11,7 +11,7 @@ import re
 import subprocess
 import threading
 import time
-from collections.abc import Callable
+from collections.abc import Callable, Iterator
 from typing import NamedTuple
 
 import pytest
@@ -111,20 +111,27 @@ def run_all(wanted: dict[int, Command]) -> dict[int, str]:
     return dict(zip(wanted, parts))
 
 
+@contextlib.contextmanager
+def interfaces(entering: Callable) -> Iterator[None]:
+    """A namespace with both interfaces, at which frames arrive."""
+    with entering():
+        for name in ("eth0", "eth1"):
+            make_interface(name)
+        sending = Sending()
+        yield
+        sending.end()
+
+
 @pytest.fixture(scope="module")
 def shell(entering: Callable) -> Shell:
     """All commands that can be run here, in a namespace where one can be made."""
     lacking = {kind: support.missing(wanted) for kind, wanted in WANTED_BY.items()}
     left_out = {kind: f"it wants {', '.join(it)}" for kind, it in lacking.items() if it}
     with contextlib.ExitStack() as stack:
-        if "live" not in left_out:
-            try:
-                stack.enter_context(entering())
-                for name in ("eth0", "eth1"):
-                    make_interface(name)
-                stack.callback(Sending().end)
-            except pytest.skip.Exception as why:
-                left_out["live"] = str(why)
+        try:
+            stack.enter_context(interfaces(entering) if "live" not in left_out else contextlib.nullcontext())
+        except pytest.skip.Exception as why:
+            left_out["live"] = str(why)
         return Shell(run_all({at: it for at, it in enumerate(COMMANDS) if it.kind not in left_out}), left_out)
 
 
