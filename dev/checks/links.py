@@ -23,7 +23,7 @@ from pathlib import Path
 ROOT = Path(__file__).resolve().parents[2]
 CRATES = {it.name for it in (ROOT / "crates").iterdir() if (it / "src").is_dir()}
 ENDINGS = (".rt", ".antt", ".md", ".edit", ".txt")
-MADE = re.compile(r"(^|/)(bin|out)(/|$)|^/tmp/")
+MADE = re.compile(r"^bin(/|$)|(^|/)out(/|$)|^/tmp/")
 NO_PATH = re.compile(r"[\s*?<>{}()|$'\"=;,…]|\.\.|://|^[-~@#]|^/(usr|opt|dev|proc)/")
 ITEM = re.compile(r"(\w+)((?:::\w+)+)")
 CRATE_FOLDERS = {"specs/", "proofs/", "src/", "must-fail/", "data/"}

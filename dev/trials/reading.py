@@ -1,8 +1,6 @@
 """What trials of host/bin/info and host/bin/salvage share: these tools as modules, for many calls, and recordings."""
 
 import contextlib
-import importlib.machinery
-import importlib.util
 import io
 import json
 import os
@@ -10,30 +8,22 @@ import random
 import sys
 import tempfile
 from pathlib import Path
-from types import ModuleType
 
 from frames import HEAD, feed_of, with_check_sequence
 from recorder import RECORDINGS, record, write_settings
-from support import CONVERT, INFO, ROOT, SALVAGE, judge_quietly, run
+from support import CONVERT, ROOT, judge_quietly, run
 
-sys.path.insert(0, str(ROOT / "host" / "bin"))
-import ch11
+sys.path.insert(0, str(ROOT / "host"))
+from bpfrec_host import salvage
+from bpfrec_host.formats import ch11
+from bpfrec_host.info import as_json
+from bpfrec_host.info import command as info
+from bpfrec_host.info.beside import time_of
 
-__all__ = ["ch11", "info", "salvage"]
+__all__ = ["as_json", "ch11", "info", "salvage", "time_of"]
 # The same recording without data checksums and with them.
 SAMPLES = [RECORDINGS / it for it in ("two_versions.ch11", "two_versions_checked.ch11")]
 SEED = 1
-
-
-def module_of(tool: Path) -> ModuleType:
-    """A tool as a module."""
-    loader = importlib.machinery.SourceFileLoader(tool.name, str(tool))
-    made = importlib.util.module_from_spec(importlib.util.spec_from_loader(tool.name, loader))
-    loader.exec_module(made)
-    return made
-
-
-info, salvage = module_of(INFO), module_of(SALVAGE)
 
 
 def facts_of(recording: Path) -> dict:
@@ -43,7 +33,7 @@ def facts_of(recording: Path) -> dict:
     judge_quietly(
         f"text and page of {recording}", info.text_page(found, answer) and info.page("recording", found, answer)
     )
-    return json.loads(json.dumps(found.facts(answer[0])))
+    return json.loads(json.dumps(as_json.object_of(found, answer[0])))
 
 
 def salvaged(data: bytes) -> tuple[bytes, str]:

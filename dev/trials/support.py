@@ -56,8 +56,8 @@ def missing(wanted: dict) -> list:
 
 def judge_syntax(*files: Path) -> None:
     for file in files:
-        ast.parse(file.read_text(), feature_version=(3, 8))
-    judge(f"{', '.join(it.name for it in files)} have the syntax of Python 3.8", True)
+        ast.parse(file.read_text(), feature_version=(3, 9))
+    judge(f"{', '.join(it.name for it in files)} have the syntax of Python 3.9", True)
 
 
 def run(*words: object, seconds: float = SECONDS, **more) -> str:

@@ -14,7 +14,7 @@ import pytest
 from expected_facts import facts_of_run
 from frames import counters, records
 from pcapng import MICROSECONDS, NANOSECONDS, capture_head, captured, rewritten, with_wrong_sequences
-from support import CAPTURE, CONVERT, judge, judge_syntax, outcome, run
+from support import CAPTURE, CONVERT, ROOT, judge, judge_syntax, outcome, run
 
 WANTED = {
     "bin/capture": "make build",
@@ -251,21 +251,21 @@ def test_show(work: Path) -> None:
         judge(f"show: {told}", done.returncode == 1 and done.stderr.strip().endswith(told), done)
 
 
-# ---- Python 3.8
+# ---- Python 3.9
 
 
 def test_syntax() -> None:
-    judge_syntax(CONVERT, CONVERT.parent / "facts.py")
+    judge_syntax(CONVERT, *(ROOT / "host/bpfrec_host").rglob("*.py"))
 
 
-def test_python_38(work: Path) -> None:
-    olds = ["python3.8", *map(str, Path.home().glob(".pyenv/versions/3.8.*/bin/python3.8"))]
+def test_python_39(work: Path) -> None:
+    olds = ["python3.9", *map(str, Path.home().glob(".pyenv/versions/3.9.*/bin/python3.9"))]
     found = [it for it in olds if shutil.which(it) and outcome(it, "--version").returncode == 0]
     if not found:
-        pytest.skip("Python 3.8 isn't here to run it")
+        pytest.skip("Python 3.9 isn't here to run it")
     made, facts = work / "made.feed", work / "facts.json"
     facts.write_text(json.dumps(facts_of_run([("1764590400.250000000", 0, None)])))
     for old in found:
         told = run(old, CONVERT, "make", 1, 10, made) + run(old, CONVERT, "show", made)
         told_of_facts = run(old, CONVERT, "to-pcap", "--facts", facts, made, "/dev/null")
-        judge("it runs by Python 3.8", told.startswith("frames 10\n0 0 ") and told_of_facts == "frames 10\n", told)
+        judge("it runs by Python 3.9", told.startswith("frames 10\n0 0 ") and told_of_facts == "frames 10\n", told)

@@ -2,7 +2,7 @@
 
 import json
 import random
-import shutil
+import sys
 from pathlib import Path
 
 import pytest
@@ -11,7 +11,7 @@ from damage import damaged
 from expected_facts import THREE_ORIGINS, facts_of_run, moments_by
 from frames import counters, feed_of
 from pcapng import frame_of, times_of, whole
-from support import CONVERT, judge, judge_quietly, outcome, run
+from support import CONVERT, ROOT, judge, judge_quietly, outcome, run
 
 WANTED = {"tshark": "tshark"}
 DAMAGED = 150
@@ -231,19 +231,14 @@ def few_facts() -> dict:
 
 
 def test_alone(work: Path, feed: Path) -> None:
-    """host/bin/convert by itself, without facts.py beside it."""
-    alone, capture = work / "alone/feed", work / "alone.pcap"
+    """The tools as one file, which is copied by itself."""
+    alone, capture, facts = work / "alone/bpfrec-convert", work / "alone.pcap", work / "alone.json"
     alone.parent.mkdir()
-    shutil.copy(CONVERT, alone)
-    run(alone, "to-pcap", "--origin", "1764590400.25", feed, capture)
-    judge(
-        "host/bin/convert works alone",
-        times_of(capture.read_bytes()) == moments_by([("1764590400.25", 0)], counters(feed.read_bytes())),
-    )
-    done = outcome(alone, "to-pcap", "--facts", work / "in.json", feed, capture)
-    told = "convert: --facts wants facts.py in the folder of this program\n"
-    judge("but for --facts", (done.returncode, done.stderr) == (1, told), done)
-    judge(
-        "and leaves nothing beside it",
-        [it.name for it in alone.parent.iterdir()] == ["feed"] and not (CONVERT.parent / "__pycache__").exists(),
-    )
+    run(ROOT / "dev/package/make_host.py", alone)
+    facts.write_text(json.dumps(facts_of_run([("1764590400.250000000", 0, None)])))
+    wanted = moments_by([("1764590400.25", 0)], counters(feed.read_bytes()))
+    for words in (["--origin", "1764590400.25"], ["--facts", facts]):
+        run(sys.executable, alone, "to-pcap", *words, feed, capture)
+        judge(f"one file works alone, with {words[0]}", times_of(capture.read_bytes()) == wanted)
+    judge("and leaves nothing beside it", [it.name for it in alone.parent.iterdir()] == ["bpfrec-convert"])
+    judge("nor in the repository", not list((ROOT / "host").rglob("__pycache__")))

@@ -12,7 +12,7 @@ from pathlib import Path
 import pytest
 from frames import body_of, program_packet
 from reading import SAMPLES, ch11, facts_of, recording_of_three
-from support import BPFREC, CONVERT, INFO, ROOT, judge, judge_quietly, judge_syntax, outcome, run
+from support import BPFREC, CONVERT, INFO, ROOT, SALVAGE, judge, judge_quietly, judge_syntax, outcome, run
 
 WANTED = {"bin/bpfrec": "make build", "capinfos": "wireshark-common", "tshark": "tshark"}
 # A second in a recording's ticks.
@@ -227,4 +227,4 @@ def test_without_program() -> None:
 
 
 def test_syntax() -> None:
-    judge_syntax(*(ROOT / "host/bin" / it for it in ("info", "salvage", "ch11.py", "facts.py")))
+    judge_syntax(INFO, SALVAGE, *(ROOT / "host/bpfrec_host").rglob("*.py"))

@@ -37,21 +37,17 @@ each_sample = pytest.mark.parametrize("sample", SAMPLES, ids=["without_sums", "w
 
 
 def judge_salvage(work: Path, data: bytes, what: str) -> tuple[bytes, str]:
-    """What is kept is listed whole, each packet of it stands in what was damaged, the counts add up, and the audit says
-    what was foretold."""
+    """What is kept is listed whole, each packet of it stands in what was damaged, the counts add up, and salvage says
+    what the audit does."""
     kept, told = salvaged(data)
     (work / "kept.ch11").write_bytes(kept)
-    listed, audit = outcome(BPFREC, "list", work / "kept.ch11"), outcome(BPFREC, "audit", work / "kept.ch11").stdout
+    listed, audit = outcome(BPFREC, "list", work / "kept.ch11"), outcome(BPFREC, "audit", work / "kept.ch11")
     lost = int(told.split("lost ")[-1].split()[0])
     judge_quietly(f"{what}: {told}{listed.stderr}", listed.returncode == 0 and len(kept) + lost == len(data))
     run(BPFREC, "extract", work / "kept.ch11", 1, "/dev/null")
     judge_quietly(f"{what}: a packet is made up", all(it.bytes in data for it in packets_of(kept)))
-    is_no, is_lost = audit.startswith("no"), told.count("\n") > 1
-    judge_quietly(f"{what}: {told} but {audit}", is_no or "audit will say no" not in told)
-    judge_quietly(
-        f"{what}: {audit} isn't foretold by {told}",
-        not is_no or not is_lost or "audit will say no" in told or "audit may say no" in told,
-    )
+    answer = f"audit: {(audit.stdout or audit.stderr).splitlines()[-1]}\n"
+    judge_quietly(f"{what}: {told} but {answer}", (answer if told.count("\n") > 1 else "") in told)
     return kept, told
 
 
@@ -198,7 +194,7 @@ def test_lines(work: Path) -> None:
     done = outcome(SALVAGE, work / "lines.ch11", work / "kept.ch11")
     wanted = (
         f"lost {len(parts[2])} at {second} after read 8 DataChecksum\nmissing 1 of 1 from 1 at {second + len(parts[2])}\n"
-        f"lost 3 at {len(data) - len(parts[-1])} after read 1 Truncated\nno end of 1\naudit will say no: NoEnd of channel 1\n"
+        f"lost 3 at {len(data) - len(parts[-1])} after read 1 Truncated\nno end of 1\naudit: no 5 NoEnd 1\n"
         f"kept 4 packets {sum(map(len, (*parts[:2], *parts[3:5])))} bytes, lost {len(parts[2]) + 3} bytes at 2 places\n"
     )
     judge("what salvage prints", (done.returncode, done.stdout, done.stderr) == (1, wanted, ""), done)
@@ -228,7 +224,18 @@ def test_forced(work: Path) -> None:
             (done.returncode, done.stdout, done.stderr) == (status, printed, told),
             done,
         )
-    judge("a device that can't be forced is passed over", outcome(SALVAGE, cut, "/dev/null").stdout == plain.stdout)
+    wanted = plain.stdout.replace("audit: no 5 NoEnd 1", "audit: not asked: no regular file, which could be read twice")
+    judge("a device that can't be forced is passed over", outcome(SALVAGE, cut, "/dev/null").stdout == wanted)
+
+
+def test_salvage_without_program(work: Path) -> None:
+    """Where bpfrec can't be found, salvage says so."""
+    cut, out = work / "cut.ch11", work / "out.ch11"
+    cut.write_bytes(SAMPLES[1].read_bytes()[:-3])
+    plain = outcome(SALVAGE, cut, out)
+    without = outcome(SALVAGE, cut, out, env={**os.environ, "BPFREC": "/nowhere"})
+    wanted = plain.stdout.replace("audit: no 5 NoEnd 1", "audit: not asked: bpfrec is missing")
+    judge("without bpfrec salvage says so", (without.returncode, without.stdout) == (1, wanted), without)
 
 
 def test_refusals(work: Path) -> None:

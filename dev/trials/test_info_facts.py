@@ -19,7 +19,7 @@ from expected_facts import (
     time_by,
     value_of,
 )
-from reading import SAMPLES, SEED, facts_of, info, recording_of_three
+from reading import SAMPLES, SEED, as_json, facts_of, info, recording_of_three, time_of
 from support import INFO, judge, judge_quietly, outcome, run
 
 WANTED = {"bin/bpfrec": "make build"}
@@ -177,19 +177,19 @@ def judge_times(path: Path, bare: dict, found, answer: tuple, origins: list, cou
     """The times of channels, and of counters, by these origins."""
     put_beside(path, facts_of_run(origins))
     known = info.facts_beside(str(path))
-    told = found.facts(answer[0], known)["channels"]
+    told = as_json.object_of(found, answer[0], known)["channels"]
     for name, it in bare.items():
         wanted = [time_by(origins, it[f"{which}_counter"]) for which in ("first", "last")]
         got = [told[int(name)]["first_time"], told[int(name)]["last_time"]]
         judge_quietly(f"channel {name} of {origins}: {got}, {wanted}", got == wanted)
     for counter in [*counters, *(it + step for _, it, _ in origins for step in (-1, 0, 1))]:
         if 0 <= counter < 2**48:
-            judge_quietly(f"counter {counter} of {origins}", info.time_of(counter, known) == time_by(origins, counter))
+            judge_quietly(f"counter {counter} of {origins}", time_of(counter, known) == time_by(origins, counter))
     judge_quietly("text and page", info.text_page(found, answer, known) and info.page("x", found, answer, known))
 
 
 def test_drawn_times(work: Path) -> None:
-    """The times of three channels by drawn origins, and of drawn counters, beside those of facts.py."""
+    """The times of three channels by drawn origins, and of drawn counters, beside those of bpfrec_host."""
     path, draw = recording_of_three(work), random.Random(SEED)
     bare = facts_of(path)["channels"]
     found, answer = info.read(str(path)), info.audit_of(str(path))
@@ -202,7 +202,7 @@ def test_drawn_times(work: Path) -> None:
 
 
 def test_days() -> None:
-    """facts.py's own days beside those of `date`."""
+    """The days of bpfrec_host beside those of `date`."""
     draw = random.Random(SEED)
     seconds = [draw.randrange(-(10**10), 10**11) for _ in range(20)]
     given = "".join(f"@{it}\n" for it in seconds)
@@ -237,7 +237,7 @@ def judge_damaged(turn: int, sample: Path, data: bytes) -> bool:
         and lines.count("\n") == is_refused
         and (f": {beside}: no facts of a recording: " in lines) == is_refused,
     )
-    said = found.facts(answer[0], known)
+    said = as_json.object_of(found, answer[0], known)
     pages = [info.text_page(found, answer, known), info.page("x", found, answer, known), json.dumps(said)]
     judge_quietly("text, page and JSON", all(pages))
     if not is_refused:
