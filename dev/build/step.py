@@ -22,6 +22,7 @@ import shutil
 import sys
 import tempfile
 
+from groups import grouped, tried_together
 from repository import crates, edits_of, hash_of, toolchain
 from steps import Step
 
@@ -182,9 +183,22 @@ def tests(crate, flags, _words):
     return status or (0 if rt.run(crate, True) else 1)
 
 
+def tried(crate, mine, flags, kept):
+    """Tries edits, some in one check and the others alone: each with its verdict and what to say."""
+    found = {}
+    for group in grouped(crate.folder, mine):
+        together = tried_together(crate, group, flags, kept)
+        found.update({edit: (REFUSED[1], text) for edit, text in together.items()})
+        for edit, _ in group:
+            if edit not in found:
+                found[edit] = rt.must_fail(crate, edit, flags, kept)
+        print(f"so far: {len(found)} of {len(mine)} edits tried", flush=True)
+    return found
+
+
 def edits(crate, _flags, words):
-    """Tries a part of the crate's edits, each over the work of those before it, which begins with what
-    the crate's own proof keeps; with the first part, whether a contract is one that no call can meet."""
+    """Tries a part of the crate's edits, over the work of those before them, which begins with what the
+    crate's own proof keeps; with the first part, whether a contract is one that no call can meet."""
     part, parts = map(int, words[0].split("/"))
     good, bad = edits_of(crate.name)
     for it in bad:
@@ -193,12 +207,10 @@ def edits(crate, _flags, words):
     with tempfile.TemporaryDirectory(prefix="rt-edits-") as room:
         kept = f"{room}/kept"
         shutil.copytree(f"{crate.folder}/out/incremental", kept)
-        tried = []
-        for it in mine:
-            tried.append(rt.must_fail(crate, it, flags, kept))
-            print(f"so far: {len(tried)} of {len(mine)} edits tried", flush=True)
+        verdicts = tried(crate, mine, flags, kept)
         whole = rt.checked(crate, {}, [*flags, *[LOOKS_FOR_EMPTY] * (part == 1)], kept)
-    for edit, (verdict, text) in zip(mine, tried):
+    for edit in mine:
+        verdict, text = verdicts[edit]
         if verdict not in REFUSED or whole.returncode:
             verdict, text = rt.must_fail(crate, edit, flags)
         print(f"rt: {text}", flush=True)
