@@ -613,7 +613,7 @@ def check_alone(work: pathlib.Path) -> None:
     judge(
         "and leaves nothing beside it",
         [it.name for it in alone.parent.iterdir()] == ["bpfrec-convert"]
-        and not list((ROOT / "host").rglob("__pycache__")),
+        and not (CONVERT.parent / "__pycache__").exists(),
     )
 
 
