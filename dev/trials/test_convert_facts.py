@@ -241,4 +241,4 @@ def test_alone(work: Path, feed: Path) -> None:
         run(sys.executable, alone, "to-pcap", *words, feed, capture)
         judge(f"one file works alone, with {words[0]}", times_of(capture.read_bytes()) == wanted)
     judge("and leaves nothing beside it", [it.name for it in alone.parent.iterdir()] == ["bpfrec-convert"])
-    judge("nor in the repository", not list((ROOT / "host").rglob("__pycache__")))
+    judge("nor in the repository", not (CONVERT.parent / "__pycache__").exists())

@@ -7,7 +7,7 @@ import os
 import sys
 from typing import Callable, NamedTuple
 
-from bpfrec_host.ending import guarded
+from bpfrec_host.ending import guarded, say, tell
 
 
 class Tool(NamedTuple):
@@ -36,6 +36,17 @@ def run_tool(tool: str) -> int:
     return guarded(tool, command)
 
 
+def tell_tools() -> int:
+    """Says which tools there are: the status, which is 0 where that was asked for."""
+    lines = [f"  {name:<10} {it.about}" for name, it in TOOLS.items()]
+    text = "\n".join(["usage: bpfrec_host TOOL ..", "", *lines, "", "TOOL --help has the arguments of each."])
+    if sys.argv[1:] in (["-h"], ["--help"]):
+        say(f"{text}\n")
+        return 0
+    tell(text)
+    return 2
+
+
 def main() -> int:
     """Runs the tool that was called: the status."""
     called = os.path.basename(sys.argv[0])
@@ -44,11 +55,7 @@ def main() -> int:
         return run_tool(tool)
     if len(sys.argv) > 1 and sys.argv[1] in TOOLS:
         return run_tool(sys.argv.pop(1))
-    is_asked = len(sys.argv) > 1 and sys.argv[1] in ("-h", "--help")
-    lines = [f"  {name:<10} {it.about}" for name, it in TOOLS.items()]
-    text = "\n".join(["usage: bpfrec_host TOOL ..", "", *lines, "", "TOOL --help has the words of each."])
-    print(text, file=sys.stdout if is_asked else sys.stderr)
-    return 0 if is_asked else 2
+    return guarded("bpfrec_host", tell_tools)
 
 
 if __name__ == "__main__":

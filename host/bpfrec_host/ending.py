@@ -45,10 +45,10 @@ def tell(line: str) -> None:
     try:
         print(line, file=sys.stderr, flush=True)
     except OSError:
-        leave(2)
+        silence(2)
 
 
-def leave(stream: int) -> None:
+def silence(stream: int) -> None:
     """Puts the null device in the place of a stream, so that what it couldn't take isn't tried again at the end."""
     os.dup2(os.open(os.devnull, os.O_WRONLY), stream)
 
@@ -65,7 +65,7 @@ def hold_streams() -> None:
 
 def failed(tool: str, error: OSError) -> int:
     """Tells which file couldn't be read or written: the status for it."""
-    leave(1)
+    silence(1)
     if error.errno == errno.ENOMEM:
         tell(f"{tool}: out of memory")
         return MEMORY_STATUS

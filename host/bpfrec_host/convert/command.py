@@ -38,7 +38,7 @@ SHOW = f"""Prints a line for each record: the counter, the marks, the length of 
     frame's first {SHOWN_BYTES} bytes."""
 MAKE = "Makes a feed of COUNT sample frames, the same for the same SEED."
 
-Commands = argparse._SubParsersAction  # pylint: disable=protected-access
+Commands = argparse._SubParsersAction
 
 
 def add(commands: "Commands[Parser]", name: str, about: str, description: str) -> Parser:

@@ -55,10 +55,11 @@ def write_captured(captures: Iterator[Captured], origin: Optional[int], feed: Ou
             counter = (nanoseconds - origin) // a_tick & most_counter
         if has_check_sequence:
             bare, sequence = frame[:-added], frame[-added:]
-            marks |= 0 if pack_sequence(crc32(bare)) == sequence else MARK_CHECK_SEQUENCE
         else:
             bare = frame if len(frame) >= least_wire else padded(frame)
             sequence = pack_sequence(crc32(bare))
+        if has_check_sequence and pack_sequence(crc32(bare)) != sequence:
+            marks |= MARK_CHECK_SEQUENCE
         length = len(bare) + added
         if not is_whole or not least <= length <= most:
             passed += 1
