@@ -5,6 +5,7 @@ import random
 import time
 from collections.abc import Iterator
 from fractions import Fraction
+from typing import Any
 
 # Two hold from counter 32 on, of which the last counts; the clock was set back by an hour.
 THREE_ORIGINS = [
@@ -13,7 +14,7 @@ THREE_ORIGINS = [
     ("1764586800.250000123", 32, "-3600.749999877"),
 ]
 BEFORE_1970 = [("-3589.750000000", 0, None), ("10.000000000", 9, "3599.750000000")]
-ODD_VALUES = [None, True, False, -1, 0, 1, 2, 1.0, 1e300]
+ODD_VALUES: list[object] = [None, True, False, -1, 0, 1, 2, 1.0, 1e300]
 ODD_VALUES += [2**48 - 1, 2**48, 2**63 - 1, 2**63, 10**30]
 ODD_VALUES += ["", "x", "1", "-1.5", "0.0000000000", "-0.000000001", "+1.000000000", "1764590400.250000000\n"]
 ODD_VALUES += ["\u0661.000000000", "-62135596800.000000000", "-62135596800.000000001"]
@@ -62,7 +63,8 @@ def origin_at(origins: list, counter: int) -> Fraction | None:
 
 def moments_by(origins: list, counters: list[int]) -> list[int]:
     """The moment of each counter by origins, in nanoseconds, in the way of docs/user/FORMATS.md."""
-    return [int(origin_at(origins, it) * 10**9) + 100 * it for it in counters]
+    found = [(origin_at(origins, it), it) for it in counters]
+    return [int(origin * 10**9) + 100 * counter for origin, counter in found if origin is not None]
 
 
 def time_by(origins: list, counter: int) -> str | None:
@@ -86,7 +88,7 @@ def drawn_origins(draw: random.Random, most: int) -> list[tuple]:
     ]
     if draw.random() < 0.8:
         counters = [0, *sorted(counters)]
-    found = []
+    found: list[tuple] = []
     at = draw.choice([0, -3_589_750_000_000, draw.randrange(-(10**18), 10**19), 1_764_590_400_250_000_000])
     for counter in counters:
         sign, whole = "-" if at < 0 else "", abs(at)
@@ -150,7 +152,7 @@ def value_of(data: bytes) -> object:
 # ---- damage
 
 
-def places_in(value: object) -> Iterator[tuple]:
+def places_in(value: Any) -> Iterator[tuple]:
     """Each place of a value of JSON, as what holds it and by which key."""
     for key in value if isinstance(value, dict) else range(len(value)) if isinstance(value, list) else ():
         yield value, key

@@ -49,7 +49,7 @@ def record(settings: Path, out: object, **more) -> subprocess.CompletedProcess:
 
 def begin(settings: Path, out: object, **more) -> subprocess.Popen:
     """A recorder that runs, with its report in a pipe."""
-    streams = {"stdin": subprocess.DEVNULL, "stdout": subprocess.PIPE, "text": True}
+    streams: dict = {"stdin": subprocess.DEVNULL, "stdout": subprocess.PIPE, "text": True}
     return subprocess.Popen([str(BPFREC), "record", str(settings), str(out)], **{**streams, **more})
 
 
