@@ -15,14 +15,14 @@ use bpf_insn::MAX_INSNS;
 use std::alloc::Global;
 
 /// An instruction with its labels left open, and its line.
-#[derive(Clone, Copy, Debug)]
+#[derive(Clone, Copy)]
 pub(crate) struct Unlinked<'a> {
     pub(crate) template: Template<'a>,
     pub(crate) line: usize,
 }
 
 /// What the lines so far say.
-#[derive(Debug, Drop)]
+#[derive(Drop)]
 pub(crate) struct Draft<'a> {
     pub(crate) insns: Vec<Unlinked<'a>>,
     pub(crate) labels: LabelTable<'a>,

@@ -7,7 +7,7 @@ use std::alloc::{AllocError, Global};
 use std::collections::BTreeMap;
 
 /// The labels of a text, each with the index of the instruction after it.
-#[derive(Debug, Drop)]
+#[derive(Drop)]
 pub(crate) struct LabelTable<'a> {
     indexes: BTreeMap<&'a [u8], u32>,
 }

@@ -12,13 +12,13 @@ use crate::text::{Text, next_byte};
 use crate::token::{Token, check_tokens, next_token, skip_sign, take_name};
 
 /// The labels at the front of a line.
-#[derive(Clone, Copy, Debug)]
+#[derive(Clone, Copy)]
 pub(crate) struct Labels<'a> {
     text: Text<'a>,
 }
 
 /// What a line whose tokens have no fault reads as.
-#[derive(Clone, Copy, Debug)]
+#[derive(Clone, Copy)]
 pub(crate) struct Reading<'a> {
     /// Its labels, which name the next instruction of the text.
     pub(crate) labels: Labels<'a>,

@@ -6,7 +6,7 @@ ghost use Rattle.bpf_asm.specs.Mnemonics.{mnemonic_of, memory_mnemonic_of, jump_
 use bpf_insn::{Cond, Op};
 
 /// What the first name of an instruction says.
-#[derive(Clone, Copy, Debug, PartialEq, Eq)]
+#[derive(Clone, Copy, PartialEq, Eq)]
 pub(crate) enum Mnemonic {
     Ld,
     Ldi,

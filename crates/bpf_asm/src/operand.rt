@@ -10,7 +10,7 @@ use crate::token::{Token, is_at_end, next_token, skip_sign, take_name, take_numb
 use bpf_insn::Src;
 
 /// An operand by its shape.
-#[derive(Clone, Copy, Debug)]
+#[derive(Clone, Copy)]
 pub(crate) enum Operand<'a> {
     Nothing,
     /// `[k]`

@@ -11,7 +11,7 @@ use crate::operand::Operand;
 use bpf_insn::{Cond, Form, Size, Src};
 
 /// Where an instruction goes by labels. A label that is left out is the next instruction.
-#[derive(Clone, Copy, Debug, PartialEq, Eq)]
+#[derive(Clone, Copy, PartialEq, Eq)]
 pub(crate) enum Jump<'a> {
     /// It is no jump.
     NoJump,
@@ -22,7 +22,7 @@ pub(crate) enum Jump<'a> {
 }
 
 /// An instruction with its labels left open.
-#[derive(Clone, Copy, Debug)]
+#[derive(Clone, Copy)]
 pub(crate) struct Template<'a> {
     /// What it does.
     pub(crate) form: Form,

@@ -6,7 +6,7 @@ ghost use Rattle.bpf_asm.specs.Blanked.{is_line_feed, blank_of, without_comments
 ghost use Rattle.bpf_asm.specs.Views.{bytes_in, byte_count};
 
 /// What is left of a text.
-#[derive(Clone, Copy, Debug)]
+#[derive(Clone, Copy)]
 pub(crate) struct Text<'a> {
     /// The bytes that are left.
     pub(crate) bytes: &'a [u8],

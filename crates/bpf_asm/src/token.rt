@@ -12,7 +12,7 @@ use crate::number::read_number;
 use crate::text::{Text, next_byte};
 
 /// A token of a line.
-#[derive(Clone, Copy, Debug)]
+#[derive(Clone, Copy)]
 pub(crate) enum Token<'a> {
     Name(&'a [u8]),
     Number(u32),

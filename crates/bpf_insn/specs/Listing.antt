@@ -57,14 +57,18 @@ abbrev pub count_from : ℕ → Option (List Part) → Result ℕ ListingFault
 count_from at (Some (count ∷ [])) = field_of 65535 count
 count_from at _ = Err (Syntax at)
 
--- an instruction, from the numbers of the piece that begins at this offset
-abbrev pub insn_from : ℕ → Option (List Part) → Result Insn ListingFault
-insn_from at (Some (code ∷ jt ∷ jf ∷ k ∷ [])) = do
+-- an instruction of these four numbers
+abbrev pub insn_of_fields : Part → Part → Part → Part → Result Insn ListingFault
+insn_of_fields code jt jf k = do
   code ← field_of 65535 code
   jt ← field_of 255 jt
   jf ← field_of 255 jf
   k ← field_of 4294967295 k
   Ok (record { code = code; jt = jt; jf = jf; k = k })
+
+-- an instruction, from the numbers of the piece that begins at this offset
+abbrev pub insn_from : ℕ → Option (List Part) → Result Insn ListingFault
+insn_from at (Some (code ∷ jt ∷ jf ∷ k ∷ [])) = insn_of_fields code jt jf k
 insn_from at _ = Err (Syntax at)
 
 -- the count that a piece says

@@ -5,7 +5,7 @@ ghost use Rattle.std.specs.Char.{is_ascii_digit};
 ghost use Rattle.std.specs.Str.Parse.{digits_value};
 ghost use Rattle.bpf_insn.specs.Views.{stretch_data, pieces_in, words_in, numerals_in};
 ghost use Rattle.bpf_insn.specs.declared.parse.ListingFault.TheVariants.{Memory};
-ghost use Rattle.bpf_insn.specs.Listing.{listing, pieces_from, ReadsAnInsn, field_of, count_of, insn_of, is_listing_blank, is_padding, is_separator};
+ghost use Rattle.bpf_insn.specs.Listing.{listing, pieces_from, ReadsAnInsn, field_of, count_of, insn_of, insn_of_fields, is_listing_blank, is_padding, is_separator};
 
 use crate::insn::Insn;
 use crate::stretch::Stretch;
@@ -87,13 +87,38 @@ fn read_insn(piece: Stretch<'_>) -> Result<Insn, ListingFault>
         (λ fault. insn_of (stretch_data piece.entry) ≡ Err fault) }
 {
     let syntax = ListingFault::Syntax { at: piece.at };
-    let (code, rest) = next_numeral(piece).ok_or(syntax)?;
-    let (jt, rest) = next_numeral(rest).ok_or(syntax)?;
-    let (jf, rest) = next_numeral(rest).ok_or(syntax)?;
-    let (k, rest) = next_numeral(rest).ok_or(syntax)?;
+    let Some((code, rest)) = next_numeral(piece) else {
+        return Err(syntax);
+    };
+    let Some((jt, rest)) = next_numeral(rest) else {
+        return Err(syntax);
+    };
+    let Some((jf, rest)) = next_numeral(rest) else {
+        return Err(syntax);
+    };
+    let Some((k, rest)) = next_numeral(rest) else {
+        return Err(syntax);
+    };
     if next_word(rest).is_some() {
         return Err(syntax);
     }
+    read_fields(code, jt, jf, k)
+}
+
+/// An instruction of four numbers, each of which its field can hold.
+fn read_fields(
+    code: Stretch<'_>,
+    jt: Stretch<'_>,
+    jf: Stretch<'_>,
+    k: Stretch<'_>,
+) -> Result<Insn, ListingFault>
+    requires code { IsTrue (list_all is_ascii_digit code.bytes.now) }
+    requires jt { IsTrue (list_all is_ascii_digit jt.bytes.now) }
+    requires jf { IsTrue (list_all is_ascii_digit jf.bytes.now) }
+    requires k { IsTrue (list_all is_ascii_digit k.bytes.now) }
+    ensures { result ≡ insn_of_fields (stretch_data code.entry) (stretch_data jt.entry)
+        (stretch_data jf.entry) (stretch_data k.entry) }
+{
     Ok(Insn {
         code: read_field(code, u32::from(u16::MAX))? as u16,
         jt: read_field(jt, u32::from(u8::MAX))? as u8,

@@ -2,7 +2,7 @@
 ghost use Rattle.std.specs.Prelude.{◌≡◌, ◌+◌, ◌<◌, ◌≤◌, ◌^◌, length, take, drop};
 
 /// A part of a text: the offset of its first byte, and its bytes, which are borrowed.
-#[derive(Clone, Copy, Debug)]
+#[derive(Clone, Copy)]
 pub(crate) struct Stretch<'a> {
     pub(crate) at: usize,
     pub(crate) bytes: &'a [u8],

@@ -2,7 +2,7 @@
 ghost use Rattle.std.specs.Prelude.{ℕ, ◌≡◌, ◌↔◌, Some, None, slice_get, IfSome, IfNone, IsTrue};
 ghost use Rattle.bpf_insn.specs.Flow.{FormLeads};
 ghost use Rattle.bpf_insn.specs.Forms.{form};
-ghost use Rattle.bpf_insn.specs.Uses.{FormWritesWord};
+ghost use Rattle.bpf_insn.specs.Uses.{FormReadsWord, FormWritesWord};
 ghost use Rattle.bpf_insn.specs.declared.insn.Insn.{Insn};
 ghost use Rattle.bpf_verify.specs.ControlFlow.{Edge, ReadsWord, WritesWord};
 ghost use Rattle.bpf_verify.specs.ByForm.{IsAt};
@@ -16,8 +16,12 @@ pub(crate) fn instruction_at(insns: &[Insn], at: usize) -> Option<(Form, Insn)>
     ensures none { IfNone result ((insn : Insn)
         → slice_get insns.now at ≡ Some insn → form insn.code ≡ None) }
 {
-    let insn = *insns.get(at)?;
-    let form = form_of(insn)?;
+    let Some(&insn) = insns.get(at) else {
+        return None;
+    };
+    let Some(form) = form_of(insn) else {
+        return None;
+    };
     Some((form, insn))
 }
 
@@ -26,7 +30,7 @@ pub(crate) fn reads(insns: &[Insn], at: u16, word: u32) -> bool
     ensures { IsTrue result ↔ ReadsWord insns.now at word }
 {
     match instruction_at(insns, usize::from(at)) {
-        Some((form, insn)) => reads_scratch(form) && insn.k == word,
+        Some((form, insn)) => reads_word(form, insn, word),
         None => false,
     }
 }
@@ -52,6 +56,13 @@ fn leads_to(form: Form, insn: Insn, from: u16, to: u16) -> bool
         Targets::One(next) => to == next,
         Targets::Two(one, other) => to == one || to == other,
     }
+}
+
+/// Whether an instruction reads a scratch word.
+fn reads_word(form: Form, insn: Insn, word: u32) -> bool
+    ensures { IsTrue result ↔ FormReadsWord (Some form) insn word }
+{
+    reads_scratch(form) && insn.k == word
 }
 
 /// Whether an instruction writes a scratch word.

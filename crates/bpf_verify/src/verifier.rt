@@ -2,7 +2,7 @@
 ghost use Rattle.std.specs.Prelude.{ℕ, ◌≡◌, ◌+◌, ◌<◌, ◌≤◌, ◌⊎◌, ◌↔◌, length, Some, slice_get, MatchOption, IsOk, IfOk, IfErr, IfNone, IsTrue};
 ghost use Rattle.bpf_insn.specs.Bytes.{InRange, AreInRange};
 ghost use Rattle.bpf_insn.specs.Forms.{form};
-ghost use Rattle.bpf_verify.specs.Validity.{Valid, FormDividesByZero, EndsWithReturn};
+ghost use Rattle.bpf_verify.specs.Validity.{Valid, FormDividesByZero, FormReturns, EndsWithReturn};
 ghost use Rattle.bpf_verify.specs.ByForm.{FormUsesWordPastScratch};
 ghost use Rattle.bpf_verify.specs.Refusals.{Refuses, HasLength, BreaksAt, NoneBreaksBelow, IsWellFormed, NoUnsetReadBelow};
 ghost use Rattle.bpf_verify.specs.Flaws.{HasFlaw, BreaksAs};
@@ -142,7 +142,14 @@ fn ends_with_return(insns: &[Insn]) -> bool
     ensures { IsTrue result ↔ EndsWithReturn insns.now }
 {
     let last = insns[insns.len() - 1];
-    matches!(form_of(last), Some(Form::RetK | Form::RetA))
+    returns(form_of(last))
+}
+
+/// Whether an instruction of this form returns.
+fn returns(form: Option<Form>) -> bool
+    ensures { IsTrue result ↔ FormReturns form }
+{
+    matches!(form, Some(Form::RetK | Form::RetA))
 }
 
 /// The first read of a scratch word that some path leaves unset.
@@ -152,6 +159,8 @@ fn unset_read(insns: &[Insn]) -> Option<Flaw>
         (λ flaw. HasFlaw insns.now flaw) }
 {
     let masks = written_masks(insns);
-    let (at, word) = first_unset(insns, &masks)?;
+    let Some((at, word)) = first_unset(insns, &masks) else {
+        return None;
+    };
     Some(Flaw::Unset { at, word })
 }

@@ -11,7 +11,7 @@ use std::io::{self, ErrorKind, Write};
 use std::sync::{Mutex, Wait};
 
 /// How much of a recording went out.
-#[derive(Clone, Copy, Debug)]
+#[derive(Clone, Copy)]
 struct Gone {
     /// The packets that went out whole.
     whole: u64,

@@ -7,7 +7,7 @@ use std::io;
 use std::io::Read;
 
 /// Why a file gives no program.
-#[derive(Debug, Drop)]
+#[derive(Drop)]
 pub(crate) enum FilterFault {
     /// It can't be read, is no UTF-8, or is longer than a listing may be.
     File(io::Error),

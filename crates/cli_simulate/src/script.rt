@@ -15,7 +15,7 @@ use std::alloc::{AllocError, AllocFailed, Global};
 use std::sync::Arc;
 
 /// Why a line of a script isn't read.
-#[derive(Clone, Copy, Debug)]
+#[derive(Clone, Copy)]
 pub(crate) enum LineFault {
     /// It has another shape, or something in it is out of its range.
     Shape,
@@ -54,7 +54,7 @@ impl From<FromHexError> for LineFault {
 }
 
 /// What the first line sets for all channels.
-#[derive(Clone, Copy, Debug)]
+#[derive(Clone, Copy)]
 pub(crate) struct Recorder {
     pub(crate) limit: Limit,
     pub(crate) ring: usize,

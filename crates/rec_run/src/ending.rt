@@ -34,7 +34,7 @@ impl Ending {
 }
 
 /// How a worker ended.
-#[derive(Clone, Copy, Debug, PartialEq, Eq)]
+#[derive(Clone, Copy, PartialEq, Eq)]
 pub(crate) enum WorkerEnd {
     /// With this ending of its channel.
     Ended(Ending),

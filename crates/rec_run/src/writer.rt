@@ -21,7 +21,7 @@ use std::sync::Wait;
 use std::sync::atomic::AtomicU64;
 
 /// What the writer did.
-#[derive(Clone, Copy, Debug, PartialEq, Eq)]
+#[derive(Clone, Copy, PartialEq, Eq)]
 pub(crate) enum Wrote {
     /// There was nothing to write, or all is written.
     Nothing,

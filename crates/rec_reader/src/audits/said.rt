@@ -10,7 +10,7 @@ use crate::packet::Packet;
 use ch11_packet::{Frames, ProgramRecord, What};
 
 /// What a packet says of a channel. Frames and instructions are borrowed from it.
-#[derive(Debug, Drop)]
+#[derive(Drop)]
 pub(crate) enum Said<'a> {
     /// Frames of the channel.
     Frames(Frames<'a>),

@@ -39,7 +39,7 @@ pub struct Told {
 }
 
 /// A change as it was answered, with a share of its program.
-#[derive(Debug, Drop)]
+#[derive(Drop)]
 pub(crate) struct Logged {
     pub(crate) program: Arc<Verified, Global>,
     pub(crate) told: Told,

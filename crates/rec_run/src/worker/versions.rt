@@ -12,7 +12,7 @@ use std::alloc::Global;
 use std::sync::{Arc, Wait};
 
 /// A version that some frame met.
-#[derive(Debug, Drop)]
+#[derive(Drop)]
 pub(crate) struct MetVersion {
     pub(crate) version: u32,
     /// The number of the first frame that met it.
