@@ -2,16 +2,16 @@
 """Times `bpfrec list`, `bpfrec audit` and `bpfrec extract` on a recording without data checksums, and on the same
 one with a data checksum in each packet, beside `cat` of the same file.
 
-usage: bench/read_recording.py BPFREC BENCH [LENGTH [MEGABYTES]]
-
 BPFREC and BENCH are the programs that `dev/build/build.py` and `dev/build/build.py bench` leave in bin/. BENCH makes
 a recording of MEGABYTES (100) of packets that are full of frames of LENGTH (1518) bytes, in a
 temporary folder. Each command runs nine times, in turn with the others, with its output to a file there.
 It prints, for each, the best time and the median in milliseconds, and the memory of a further run by
 itself; and the time that the runs of the filter take by themselves, which the audit makes for each frame.
-At the end it says how many times as long each command took with data checksums, by the best times, and whether `list` and `audit` took less than 16 MB, and at best no longer than twice the
+At the end it says how many times as long each command took with data checksums, by the best times, and whether
+`list` and `audit` took less than 16 MB, and at best no longer than twice the
 best `cat` and the runs of the filter together; the status is 1 if one of them didn't.
 """
+import argparse
 import os
 import statistics
 import struct
@@ -75,52 +75,71 @@ def convert(path, out, with_sums):
             converted.write(header + body + trailer)
 
 
+def commands_on(bpfrec, recording, checked, feed):
+    """What is timed, by its name."""
+    return {
+        "cat": ["cat", recording],
+        "list": [bpfrec, "list", recording],
+        "audit": [bpfrec, "audit", recording],
+        "extract": [bpfrec, "extract", recording, "1", feed],
+        "list, sums": [bpfrec, "list", checked],
+        "audit, sums": [bpfrec, "audit", checked],
+        "extract, sums": [bpfrec, "extract", checked, "1", feed],
+    }
+
+
+def times_of(commands, work):
+    """The milliseconds of each command, in turn with the others."""
+    runs = {name: [] for name in commands}
+    for _ in range(ROUNDS):
+        for name, words in commands.items():
+            runs[name].append(run(words, f"{work}/{name}.out") * 1000)
+    return runs
+
+
+def print_times(runs, memory):
+    for name, times in runs.items():
+        best, median = min(times), statistics.median(times)
+        print(f"{name:14} best {best:7.1f} ms  median {median:7.1f} ms  memory {memory[name]:6.1f} MB")
+    for name in ("list", "audit", "extract"):
+        print(f"{name:14} {min(runs[f'{name}, sums']) / min(runs[name]):.2f} times as long with data checksums")
+
+
+def is_within(runs, memory, alone):
+    """Whether `list` and `audit` take no more than they may, which is printed."""
+    within = True
+    for name in ("list", "audit"):
+        times = min(runs[name]) / (min(runs["cat"]) + alone)
+        well = memory[name] < MOST_MEMORY and times <= MOST_TIMES
+        within = within and well
+        verdict = "as it should" if well else "TOO MUCH"
+        print(f"{name:14} {times:.2f} times cat and the filter, {memory[name]:.1f} MB: {verdict}")
+    return within
+
+
 def main():
-    if not 3 <= len(sys.argv) <= 5:
-        print(__doc__.strip())
-        return 2
-    bpfrec, bench = (os.path.abspath(it) for it in sys.argv[1:3])
-    length, megabytes = [*sys.argv[3:], *["1518", "100"][len(sys.argv) - 3 :]]
+    parser = argparse.ArgumentParser(description=__doc__, formatter_class=argparse.RawDescriptionHelpFormatter)
+    parser.add_argument("bpfrec", type=os.path.abspath)
+    parser.add_argument("bench", type=os.path.abspath)
+    parser.add_argument("length", nargs="?", default="1518", help="bytes of a frame (default 1518)")
+    parser.add_argument("megabytes", nargs="?", default="100", help="of the recording (default 100)")
+    words = parser.parse_args()
     with tempfile.TemporaryDirectory() as work:
         made, recording, checked = (f"{work}/{it}.ch11" for it in ("made", "recording", "checked"))
-        subprocess.run([bench, "recording", made, length, megabytes], check=True)
+        subprocess.run([words.bench, "recording", made, words.length, words.megabytes], check=True)
         convert(made, recording, False)
         convert(made, checked, True)
         os.remove(made)
-        size = os.path.getsize(recording)
-        commands = {
-            "cat": ["cat", recording],
-            "list": [bpfrec, "list", recording],
-            "audit": [bpfrec, "audit", recording],
-            "extract": [bpfrec, "extract", recording, "1", f"{work}/feed"],
-            "list, sums": [bpfrec, "list", checked],
-            "audit, sums": [bpfrec, "audit", checked],
-            "extract, sums": [bpfrec, "extract", checked, "1", f"{work}/feed"],
-        }
-        runs = {name: [] for name in commands}
-        for _ in range(ROUNDS):
-            for name, words in commands.items():
-                runs[name].append(run(words, f"{work}/{name}.out") * 1000)
-        print(f"a recording of {size:,} bytes, frames of {length}")
-        memory = {name: memory_of(words) for name, words in commands.items()}
-        for name, times in runs.items():
-            print(
-                f"{name:14} best {min(times):7.1f} ms  median {statistics.median(times):7.1f} ms  memory {memory[name]:6.1f} MB"
-            )
+        print(f"a recording of {os.path.getsize(recording):,} bytes, frames of {words.length}")
+        commands = commands_on(words.bpfrec, recording, checked, f"{work}/feed")
+        runs = times_of(commands, work)
+        memory = {name: memory_of(it) for name, it in commands.items()}
+        print_times(runs, memory)
         count = int(open(f"{work}/audit.out").read().split()[5])
-        alone = filter_runs(bench, work, int(length), count)
+        alone = filter_runs(words.bench, work, int(words.length), count)
         print(f"filter         {count:,} runs by themselves {alone:7.1f} ms")
-        for name in ("list", "audit", "extract"):
-            print(f"{name:14} {min(runs[f'{name}, sums']) / min(runs[name]):.2f} times as long with data checksums")
-        within = True
-        for name in ("list", "audit"):
-            times = min(runs[name]) / (min(runs["cat"]) + alone)
-            well = memory[name] < MOST_MEMORY and times <= MOST_TIMES
-            within = within and well
-            print(
-                f"{name:14} {times:.2f} times cat and the filter, {memory[name]:.1f} MB: {'as it should' if well else 'TOO MUCH'}"
-            )
-    return 0 if within else 1
+        return 0 if is_within(runs, memory, alone) else 1
 
 
-sys.exit(main())
+if __name__ == "__main__":
+    sys.exit(main())

@@ -149,16 +149,21 @@ def span(numbers):
     return f"{numbers.least:,} to {numbers.most:,}"
 
 
-def document_texts():
-    """What the document's tables have: the section, the first cell of a row, and what another of its cells says."""
-    it, top, channel = limits, limits.TOP_KEYS, limits.CHANNEL_KEYS
-    for key, numbers in {**top, **channel}.items():
+def settings_texts():
+    """What the tables of settings have."""
+    it = limits
+    for key, numbers in {**it.TOP_KEYS, **it.CHANNEL_KEYS}.items():
         if numbers:
             yield "Settings", f"`{key}`", span(numbers)
             yield "Settings", f"`{key}`", "a fault" if numbers.default is None else f"{numbers.default:,}"
     yield "Settings", "`channel`", f"{it.MIN_CHANNELS} to {it.MAX_CHANNELS} tables"
     yield "Settings", "`settings 5 Channels`", f"more than {it.MAX_CHANNELS}"
     yield "Settings", "`filter`", f"{it.MAX_LISTING_LEN:,} bytes"
+
+
+def feed_texts():
+    """What the tables of feeds, of filters and of facts beside a recording have."""
+    it = limits
     yield "Feed", "7, 8", f"{it.MIN_FRAME_LEN} to {it.MAX_FRAME_LEN:,}"
     yield "Feed", f"from {it.RECORD_HEAD_LEN}", "check sequence"
     yield "Feed", "Length", f"under {it.MIN_FRAME_LEN} or over {it.MAX_FRAME_LEN:,}"
@@ -167,6 +172,14 @@ def document_texts():
     yield "Lines that change a filter", "`refused <channel> File`", f"more than {it.MAX_LISTING_LEN:,} bytes"
     yield "Lines that change a filter", "`refused <channel> VersionsFull`", f"{it.MAX_VERSIONS:,} programs"
     yield "What `record` refuses", "SETTINGS, `filter`", f"more than {it.MAX_LISTING_LEN:,} bytes"
+    yield "Facts beside a recording", "`host`", f"at most {it.MAX_HOST_LEN} characters"
+    yield "Facts beside a recording", "`counter`", f"0 to 2^{it.COUNTER_BITS} - 1"
+    yield "Facts beside a recording", "`dropped`, `missed`, `skipped`", f"0 to 2^{it.MAX_COUNT.bit_length()} - 1"
+
+
+def script_texts():
+    """What the table of scripts has."""
+    it, top, channel = limits, limits.TOP_KEYS, limits.CHANNEL_KEYS
     limit_ring_version = "; ".join(span(top[key]) for key in ("limit", "ring", "version"))
     id_net_speed = "; ".join(span(channel[key]) for key in ("id", "net", "speed"))
     yield "Script", "`recorder <limit> <ring> <version>`", limit_ring_version
@@ -175,6 +188,11 @@ def document_texts():
     yield "Script", "`take <channel> <counter> <marks> <frame>`", f"marks 0 to {it.MAX_MARKS}"
     yield "Script", "`take <channel> <counter> <marks> <frame>`", f"below 2^{it.COUNTER_BITS}"
     yield "Script", "`refused 6 VersionsFull`", f"{it.MAX_VERSIONS:,} programs"
+
+
+def packet_texts():
+    """What the tables of packets have."""
+    it = limits
     yield "Packets", "0, 1", f"0x{it.SYNC_PATTERN:04X}"
     yield "Packets", "4 to 7", f"at least {it.HEADER_LEN}; at most {it.MAX_ETHERNET_PACKET_LEN:,}"
     yield "Packets", "15", f"0x{it.ETHERNET_DATA:02x} Ethernet data"
@@ -188,9 +206,12 @@ def document_texts():
     yield "Packets", "Length", f"the record of an end hasn't {it.END_RECORD_LEN} bytes"
     yield "Packets", "Short", f"fewer than {it.BODY_WORD_LEN} bytes"
     yield "Packets", "its length", f"{it.CHECKSUM_LEN} bytes more"
-    yield "Facts beside a recording", "`host`", f"at most {it.MAX_HOST_LEN} characters"
-    yield "Facts beside a recording", "`counter`", f"0 to 2^{it.COUNTER_BITS} - 1"
-    yield "Facts beside a recording", "`dropped`, `missed`, `skipped`", f"0 to 2^{it.MAX_COUNT.bit_length()} - 1"
+
+
+def document_texts():
+    """What the document's tables have: the section, the first cell of a row, and what another of its cells says."""
+    for texts in (settings_texts, feed_texts, script_texts, packet_texts):
+        yield from texts()
 
 
 def help_texts():

@@ -203,16 +203,21 @@ def feeds(run, draw, corpus):
     audited = run(Case(["audit", "in"], {"in": recording}))
     if audited.status != 0:
         raise Wrong(f"a recording isn't approved: {audited.output}")
-    offered = int(recorded.output.split()[5])
-    taken = [read_frame for read_frame in frames_in(feed)][:offered]
-    script = [f"recorder {limit} 4096 {version}", f"channel 7 {net} {speed} {most} {listing.decode()}"]
-    script += [f"take 7 {counter} {marks} {content.hex()}" for counter, marks, content in taken]
-    pieces = int(recorded.output.split()[-2])
-    script += ["close 7", *["send 7", "write 7"] * pieces]
-    simulated = run(Case(["simulate", "in"], {"in": "\n".join(script).encode()}))
-    wrote = "".join(re.findall(r"wrote (\w+)", simulated.output))
-    if bytes.fromhex(wrote) != recording:
+    head = [f"recorder {limit} 4096 {version}", f"channel 7 {net} {speed} {most} {listing.decode()}"]
+    if simulated(run, head, frames_in(feed), recorded.output) != recording:
         raise Wrong("record and simulate wrote other bytes")
+
+
+def simulated(run, head, frames, report):
+    """What a script writes that takes the frames which a report says were offered, as many pieces as it says."""
+    offered, pieces = int(report.split()[5]), int(report.split()[-2])
+    script = [
+        *head,
+        *(f"take 7 {counter} {marks} {content.hex()}" for counter, marks, content in list(frames)[:offered]),
+    ]
+    script += ["close 7", *["send 7", "write 7"] * pieces]
+    done = run(Case(["simulate", "in"], {"in": "\n".join(script).encode()}))
+    return bytes.fromhex("".join(re.findall(r"wrote (\w+)", done.output)))
 
 
 def refused_output(run, words, out, files):

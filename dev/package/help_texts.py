@@ -1,0 +1,141 @@
+"""What the program's help and the arguments of the tools say, as they stand in their sources."""
+import importlib
+import re
+import sys
+from pathlib import Path
+from typing import NamedTuple
+
+ROOT = Path(__file__).resolve().parents[2]
+sys.path.insert(0, str(ROOT / "host"))
+from bpfrec_host.__main__ import TOOLS as PYTHON_TOOLS
+
+COMMANDS, HELP = ROOT / "crates/rec_words/src/command_line.rt", ROOT / "crates/rec_words/src/command_line/help.rt"
+FORMATS = ROOT / "docs/user/FORMATS.md"
+LIVE, CAPTURE = ROOT / "host/bin/live", ROOT / "capture/src/arguments.c"
+
+
+class Word(NamedTuple):
+    name: str
+    help: str
+
+
+class Command(NamedTuple):
+    name: str
+    about: str
+    help: str
+    words: list
+
+
+class Tool(NamedTuple):
+    """A tool beside the program: what it does, its words, its options, and the kinds of files that it takes."""
+
+    about: str
+    words: str
+    options: list
+    kinds: list
+
+
+# The tools that aren't Python: what they do, their words, and where their options stand.
+OTHER_TOOLS = {
+    "live": ("records network interfaces, and audits the recording", "SETTINGS OUT INTERFACE=CHANNEL..", LIVE),
+    "capture": ("makes feeds of interfaces, as their frames come, and of captures", "INTERFACE=PIPE..", CAPTURE),
+}
+# The files that a word of a tool is.
+WORD_KINDS = {"SETTINGS": "toml", "OUT": "ch11", "RECORDING": "ch11", "DAMAGED": "ch11"}
+
+
+def tools():
+    """The tools by their names: those in Python as their parsers have them."""
+    found = {
+        name: Tool(about, words, options_in(file), kinds_of(words))
+        for name, (about, words, file) in OTHER_TOOLS.items()
+    }
+    for name, tool in PYTHON_TOOLS.items():
+        parser = importlib.import_module(tool.module).parser()
+        words = words_of(parser)
+        found[name] = Tool(tool.about, words, list(dict.fromkeys([*options_of(parser), "--help"])), kinds_of(words))
+    return found
+
+
+def words_of(parser):
+    """What a tool takes, as its parser says, without the option for help."""
+    _, _, *words = parser.format_usage().split()
+    found = " ".join(it for it in words if it != "[-h]")
+    return re.sub("[{}]", "", found).replace(",", "|").replace("...", "..")
+
+
+def options_of(parser):
+    """The commands and the long options of a parser and of its commands, but for help."""
+    for action in parser._actions:
+        if isinstance(action.choices, dict):
+            yield from action.choices
+            for command in action.choices.values():
+                yield from options_of(command)
+        yield from (it for it in action.option_strings if it.startswith("--") and it != "--help")
+
+
+def options_in(file):
+    """The options that a tool takes, as its source has them: a label of bash's `case`, or a line of a help text in C."""
+    text = file.read_text()
+    body = text[text.index("read_words() {") :].split("\n}\n")[0] if file == LIVE else ""
+    labels = re.findall(r"^ {12}(-[^)]*)\)", body, re.MULTILINE) or re.findall(r'^ {4}"  (-\S+)', text, re.MULTILINE)
+    found = dict.fromkeys(it for label in labels for it in re.findall(r"--[a-z-]+", label) if it != "--help")
+    return [*(["-r"] if "] -r FILE" in text else []), *found, "--help"]
+
+
+def kinds_of(words):
+    """The endings of the files that the words of a tool are."""
+    return [WORD_KINDS[it] for it in re.findall(r"[A-Z]+", words) if it in WORD_KINDS]
+
+
+# Which files a word of a command takes, by what its help says of it: the first that fits.
+KINDS = [
+    ("recording", "ch11"),
+    ("feed that", "feed"),
+    ("listing", "txt"),
+    ("filter in the text", "bpf"),
+    ("script", "script"),
+    ("feeds and filters", "toml"),
+    ("number", None),
+    ("hexadecimal", None),
+]
+
+
+def kind_of(word):
+    """The ending of the files that a word takes; nothing where it takes none, and `*` where it isn't known."""
+    return next((kind for said, kind in KINDS if said in word.help.lower()), "*")
+
+
+TOOLS = tools()
+
+
+def string_of(literal):
+    """What a string of the source says."""
+    text = re.sub(r"\\\n\s*", "", literal)
+    return re.sub(r"\\(.)", lambda it: {"n": "\n", "t": "\t"}.get(it[1], it[1]), text)
+
+
+class Help:
+    """The texts of the program's help."""
+
+    def __init__(self):
+        source = COMMANDS.read_text() + HELP.read_text()
+        quoted = r'"((?:[^"\\]|\\.)*)"'
+        texts = {name: string_of(it) for name, it in re.findall(rf"const (\w+): &str =\s*{quoted};", source, re.DOTALL)}
+        word = rf"WordTexts \{{\s*name: {quoted},\s*help: {quoted},\s*\}}"
+        words = {
+            name: Word(string_of(a), string_of(b))
+            for name, a, b in re.findall(rf"const (\w+): WordTexts = {word};", source)
+        }
+        named = dict(re.findall(r"HelpText::(\w+) => (\w+),", source))
+        table = source[source.index("const COMMANDS:") :]
+        self.about, self.statuses, self.version = texts["ABOUT"], texts["STATUSES"], texts["VERSION"]
+        self.commands = []
+        row = rf"CommandTexts \{{\s*name: {quoted},\s*usage: {quoted},\s*about: {quoted},\s*help: HelpText::(\w+),\s*words: &\[(.*?)\],\s*\}},"
+        for name, _, about, help_name, given in re.findall(row, table, re.DOTALL):
+            found = []
+            for it in re.finditer(rf"{word}|\b([A-Z_]+)\b(?=\s*[,\]]|\s*$)", given):
+                found.append(words[it[3]] if it[3] else Word(string_of(it[1]), string_of(it[2])))
+            self.commands.append(Command(name, string_of(about), texts[named[help_name]], found))
+        if len(self.commands) != table.count("    CommandTexts {") or not self.commands:
+            raise SystemExit(f"{COMMANDS.relative_to(ROOT)}: not every command of COMMANDS can be read")
