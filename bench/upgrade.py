@@ -1,8 +1,6 @@
 #!/usr/bin/env python3
 """Times `bpfrec upgrade` of a recording without data checksums beside `cp` of the same file.
 
-usage: bench/upgrade.py BPFREC [MEGABYTES]
-
 BPFREC is the program that `make build` leaves in bin/. The recording has MEGABYTES (1,024) of packets of 64,288
 bytes that are full of frames of 1,518 bytes, in a temporary folder (TMPDIR). `cp --reflink=never`, since a
 shared copy reads and writes nothing, with `sync` of the copy, since `upgrade` forces its file to the disk, and
@@ -11,6 +9,7 @@ with the least and the greatest time, how many times as long `upgrade` takes by 
 that it takes, beside that of one packet alone. The status is 1 if it takes over 1.6 times as long, or over a
 megabyte more than for one packet.
 """
+import argparse
 import os
 import statistics
 import subprocess
@@ -58,10 +57,11 @@ def memory_of(words):
 
 
 def main():
-    if not 2 <= len(sys.argv) <= 3:
-        print(__doc__.strip())
-        return 2
-    bpfrec, megabytes = os.path.abspath(sys.argv[1]), int([*sys.argv[2:], "1024"][0])
+    parser = argparse.ArgumentParser(description=__doc__, formatter_class=argparse.RawDescriptionHelpFormatter)
+    parser.add_argument("bpfrec", type=os.path.abspath, metavar="BPFREC")
+    parser.add_argument("megabytes", nargs="?", type=int, default=1024, metavar="MEGABYTES", help="1024 (default)")
+    words = parser.parse_args()
+    bpfrec, megabytes = words.bpfrec, words.megabytes
     with tempfile.TemporaryDirectory() as work:
         one, old, out = (f"{work}/{it}" for it in ("one.ch11", "old.ch11", "out"))
         content = packet()

@@ -1,12 +1,11 @@
 #!/usr/bin/env python3
 """Compares the numbers of host/bpfrec_host/formats/limits.py with those of the program.
 
-usage: dev/checks/limits.py
-
 Each number there must be that of the crates' constant, of the table of docs/user/FORMATS.md and of the program's help
 that are named here, and none may be left out. All are read as text, so nothing need be built. It prints each that
 differs, and the status is 1 where there is one.
 """
+import argparse
 import ast
 import functools
 import operator
@@ -274,9 +273,7 @@ def uncompared():
 
 
 def main():
-    if len(sys.argv) > 1:
-        print(__doc__.strip())
-        return 0 if {"-h", "--help"} & set(sys.argv) else 2
+    argparse.ArgumentParser(description=__doc__, formatter_class=argparse.RawDescriptionHelpFormatter).parse_args()
     found = [*differing_constants(), *differing_settings(), *differing_texts(), *uncompared()]
     for it in found:
         print(f"{FILE}: {it}")

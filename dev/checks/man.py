@@ -1,11 +1,10 @@
 #!/usr/bin/env python3
 """Compares man/bpfrec.1 and the completions with what dev/package/make_man.py would write.
 
-usage: dev/checks/man.py [PROGRAM]
-
 With PROGRAM, as bin/bpfrec, it also looks whether the help that it prints is the help that stands in the source: each
 command, its words and its text. The status is 1 where something differs.
 """
+import argparse
 import subprocess
 import sys
 from pathlib import Path
@@ -53,16 +52,11 @@ def printed(program, *words):
 
 
 def main():
-    words = sys.argv[1:]
-    if {"-h", "--help"} & set(words) or len(words) > 1:
-        print(__doc__.strip())
-        return 0 if {"-h", "--help"} & set(words) else 2
-    wrong = list(differing())
-    wrong += (
-        [f"{words[0]} prints other help than its source has: {it}" for it in printed_otherwise(words[0])]
-        if words
-        else []
-    )
+    parser = argparse.ArgumentParser(description=__doc__, formatter_class=argparse.RawDescriptionHelpFormatter)
+    parser.add_argument("program", nargs="?", metavar="PROGRAM", help="bin/bpfrec, whose help is compared too")
+    program, wrong = parser.parse_args().program, list(differing())
+    if program:
+        wrong += [f"{program} prints other help than its source has: {it}" for it in printed_otherwise(program)]
     print(
         "".join(f"{it}\n" for it in wrong) or "the page and the completions are those of the program's help\n", end=""
     )

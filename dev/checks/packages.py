@@ -1,10 +1,9 @@
 #!/usr/bin/env python3
 """Compares the packages that the README and the trials name with dev/package/packages.txt; --write writes the README's table.
 
-usage: dev/checks/packages.py [--write]
-
 Each package that a file of dev/trials/ names in its table WANTED must be in the list.
 """
+import argparse
 import re
 import sys
 from pathlib import Path
@@ -27,23 +26,22 @@ def table(packages):
 
 
 def wanted():
-    """Each package that a file of trials wants, with the file."""
-    for file in sorted((ROOT / "dev" / "trials").iterdir()):
-        text = file.read_text(errors="replace") if file.is_file() else ""
-        found = re.search(r"^WANTED = \{(.*?)\}", text, re.MULTILINE | re.DOTALL)
+    """Each package that a file of checks or trials wants, with the file."""
+    for file in sorted([*ROOT.glob("dev/checks/*.py"), *ROOT.glob("dev/trials/*.py")]):
+        found = re.search(r"^WANTED = \{(.*?)\}", file.read_text(), re.MULTILINE | re.DOTALL)
         for package in re.findall(r': "([a-z0-9.+-]+)"', found[1]) if found else []:
-            yield package, file.name
+            yield package, file.relative_to(ROOT)
 
 
 def main():
-    if sys.argv[1:] not in ([], ["--write"]):
-        print(__doc__.strip())
-        return 0 if {"-h", "--help"} & set(sys.argv) else 2
+    parser = argparse.ArgumentParser(description=__doc__, formatter_class=argparse.RawDescriptionHelpFormatter)
+    parser.add_argument("--write", action="store_true", help="writes the README's table")
+    writes = parser.parse_args().write
     packages, text = listed(), README.read_text()
     before, _, rest = text.partition(BEGIN)
     _, _, after = rest.partition(END)
     right = f"{before}{BEGIN}{table(packages)}{END}{after}"
-    if sys.argv[1:]:
+    if writes:
         README.write_text(right)
         return 0
     faults = (
@@ -52,9 +50,7 @@ def main():
         else ["README.md: its packages aren't those of dev/package/packages.txt: dev/checks/packages.py --write"]
     )
     names = {name for name, _, _ in packages}
-    faults += [
-        f"dev/trials/{script}: {it} isn't in dev/package/packages.txt" for it, script in wanted() if it not in names
-    ]
+    faults += [f"{script}: {it} isn't in dev/package/packages.txt" for it, script in wanted() if it not in names]
     print("\n".join(faults) or f"{len(packages)} packages, as README.md and the trials have them")
     return 1 if faults else 0
 

@@ -1,11 +1,10 @@
 #!/usr/bin/env python3
 """Checks that what users run, host/, has the syntax of Python 3.9, which long-lived distributions have.
 
-usage: dev/checks/python39.py
-
 It compiles each file of Python below host/ for that version and prints each that can't be, with its line; the status
 is 1 where there is one.
 """
+import argparse
 import ast
 import sys
 from pathlib import Path
@@ -22,9 +21,7 @@ def files():
 
 
 def main():
-    if len(sys.argv) > 1:
-        print(__doc__.strip())
-        return 0 if {"-h", "--help"} & set(sys.argv) else 2
+    argparse.ArgumentParser(description=__doc__, formatter_class=argparse.RawDescriptionHelpFormatter).parse_args()
     found, wrong = list(files()), []
     for path in found:
         try:

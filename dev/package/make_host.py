@@ -1,13 +1,12 @@
 #!/usr/bin/env python3
 """Makes one file of the Python tools, host/bpfrec_host, which runs as the tool that it is called by the name of.
 
-usage: dev/package/make_host.py FILE
-
 FILE is an archive that Python runs: a link to it, or a copy, with the name bpfrec-info is that tool, and so on; and
 `FILE info` is too. The same sources make the same bytes: the files stand by their names, and have one time.
 
 Status: 0 made, 2 the arguments are wrong.
 """
+import argparse
 import io
 import sys
 import zipapp
@@ -36,10 +35,9 @@ def archive():
 
 
 def main():
-    if len(sys.argv) != 2 or sys.argv[1] in ("-h", "--help"):
-        print(__doc__.strip())
-        return 0 if {"-h", "--help"} & set(sys.argv) else 2
-    zipapp.create_archive(archive(), sys.argv[1], INTERPRETER)
+    parser = argparse.ArgumentParser(description=__doc__, formatter_class=argparse.RawDescriptionHelpFormatter)
+    parser.add_argument("file", metavar="FILE")
+    zipapp.create_archive(archive(), parser.parse_args().file, INTERPRETER)
     return 0
 
 

@@ -1,9 +1,6 @@
 #!/usr/bin/env python3
 """Refuses memory and threads to the built program, and counts what it takes.
 
-usage: dev/trials/check_memory.py [PROGRAM]
-PROGRAM: bin/bpfrec, which `make build` makes
-
 By a malloc that is preloaded (dev/trials/failing_malloc.c, with cc):
 
 - a recording of 100,000 frames asks for no memory from the first bytes of its feed until it has ended, also
@@ -25,6 +22,7 @@ ask for 65,536 bytes at once at most.
 
 It takes some seconds, and dev/build/test.py and dev/build/gate.py run it. The status is 1 where something else happens.
 """
+import argparse
 import contextlib
 import errno
 import os
@@ -364,11 +362,9 @@ def feed_on(path):
 
 
 def main():
-    words = sys.argv[1:]
-    if len(words) > 1 or words in (["-h"], ["--help"]):
-        print(__doc__.strip())
-        return 0 if words in (["-h"], ["--help"]) else 2
-    program = Path(words[0] if words else BPFREC).resolve()
+    parser = argparse.ArgumentParser(description=__doc__, formatter_class=argparse.RawDescriptionHelpFormatter)
+    parser.add_argument("program", nargs="?", default=BPFREC, metavar="PROGRAM", help="bin/bpfrec (default)")
+    program = Path(parser.parse_args().program).resolve()
     if not os.access(program, os.X_OK):
         print(f"{program} is not there: run `make build` first")
         return 2

@@ -2,8 +2,6 @@
 """Runs the built program on drawn and damaged inputs of every kind, and keeps each case that it
 answers in a way that docs/user/FORMATS.md doesn't have.
 
-usage: dev/trials/fuzz.py [--seed N] [--seconds N] [--files N] [--keep FOLDER] [PROGRAM]
-
 PROGRAM is bin/bpfrec, which `make build` makes. Without --seconds it runs for 60 seconds, with --files
 until that many different inputs were drawn and run, without --seed from seed 1; a case with its answer
 goes to FOLDER (bin/fuzz), and the status is 1 if there is one.

@@ -2,11 +2,6 @@
 """Refuses each growth of memory of the built program, and of tests of calls that no command makes, in
 turn, and checks what they do then.
 
-usage: dev/trials/refused_growth.py [PROGRAM [RECORDER_TESTS [READING_TESTS]]]
-PROGRAM: bin/bpfrec, which `make build` makes
-RECORDER_TESTS: crates/recorder_tests/out/recorder_tests_tests, which `rt test` makes in crates/recorder_tests
-READING_TESTS: crates/reading_tests/out/reading_tests_tests, which `rt test` makes in crates/reading_tests
-
 Each command runs on each sample of crates/bpfrec_cases/data, and on words that are no command, first
 as it is and then with its 1st, 2nd, .. growth refused, by a malloc that is preloaded
 (dev/trials/failing_malloc.c). A run with a refused growth must end in one of two ways: with nothing on
@@ -19,6 +14,7 @@ The tests make a call that lacked memory again, and assert that it is answered t
 with its 1st, 2nd, .. growth refused, or end before its calls because what it needs itself lacked memory. The
 status is 1 where a run or a test does something else.
 """
+import argparse
 import os
 import subprocess
 import sys
@@ -150,11 +146,13 @@ def growths_of_test(tests, name, library, count):
 
 
 def main():
-    if len(sys.argv) > 2 + len(TESTS) or sys.argv[1:] in (["-h"], ["--help"]):
-        print(__doc__.strip())
-        return 0 if len(sys.argv) == 2 else 2
-    made = [BPFREC] + [ROOT / f"crates/{crate}/out/{crate}_tests" for crate in TESTS]
-    program, *tests = map(os.path.abspath, sys.argv[1:] + made[len(sys.argv) - 1 :])
+    parser = argparse.ArgumentParser(description=__doc__, formatter_class=argparse.RawDescriptionHelpFormatter)
+    parser.add_argument("program", nargs="?", default=BPFREC, metavar="PROGRAM", help="bin/bpfrec (default)")
+    for crate in TESTS:
+        made = ROOT / f"crates/{crate}/out/{crate}_tests"
+        where = f"which `rt test` makes in crates/{crate}"
+        parser.add_argument(crate, nargs="?", default=made, metavar=crate.upper(), help=where)
+    program, *tests = map(os.path.abspath, vars(parser.parse_args()).values())
     hows = ["`make build`"] + [f"`rt test` in crates/{crate}" for crate in TESTS]
     for needed, how in zip([program, *tests], hows):
         if not os.access(needed, os.X_OK):
@@ -177,4 +175,5 @@ def main():
     return 0
 
 
-sys.exit(main())
+if __name__ == "__main__":
+    sys.exit(main())

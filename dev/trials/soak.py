@@ -1,8 +1,6 @@
 #!/usr/bin/env python3
 """Records 64 channels from pipes for an hour, with a filter changed each second, and judges what is left.
 
-usage: dev/trials/soak.py [--seconds N] [--seed N]
-
 It wants bin/bpfrec (`make build`), and is no part of the gate. Each channel's pipe gets some frames a
 second; the feeds end at drawn moments, every fourth of them with a damaged record. Meanwhile the memory
 and the open descriptors of the process are read each second. At the end each line of the report must
