@@ -70,6 +70,10 @@ bin/pcap_filter bin/record_feed: bin/%: bench/%.c
 	@mkdir -p bin
 	$(CC) $(C_FLAGS) -o $@ $< -lpcap -lpthread
 
+bin/check_sequence: bench/check_sequence.c
+	@mkdir -p bin
+	$(CC) $(C_FLAGS) -o $@ $< -ldeflate -lz
+
 bin/send_frames: bench/send_frames.c
 	@mkdir -p bin
 	$(CC) $(C_FLAGS) -o $@ $<
