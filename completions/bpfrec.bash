@@ -42,7 +42,7 @@ _bpfrec() {
 
 _bpfrec_tool() {
     local options='' kind=''
-    case $1 in
+    case ${1##*/} in
         bpfrec-live) options='--prefilter --force --no-audit --strict --every --size --sync --quiet --no-promiscuous --origin --buffer --direction --clock --check-sequence --help' kind=toml ;;
         bpfrec-capture) options='-r --origin --buffer --direction --prefilter --no-promiscuous --clock --check-sequence --interface --quiet --strict --hold --events --parent --help' kind='*' ;;
         bpfrec-convert) options='from-pcap to-pcap show make --origin --interface --facts --drop-check-sequence --help' kind='*' ;;
@@ -50,7 +50,7 @@ _bpfrec_tool() {
         bpfrec-salvage) options='--help' kind=ch11 ;;
         bpfrec-preflight) options='--out --capture --help' kind=toml ;;
     esac
-    if [[ ${COMP_WORDS[COMP_CWORD]} == -* || $1 == bpfrec-convert && $COMP_CWORD == 1 ]]; then
+    if [[ ${COMP_WORDS[COMP_CWORD]} == -* || ${1##*/} == bpfrec-convert && $COMP_CWORD == 1 ]]; then
         _bpfrec_words "$options"
     else
         _bpfrec_files "$kind"

@@ -2,6 +2,7 @@
 #include "arguments.h"
 #include "capture_file.h"
 
+#include <errno.h>
 #include <getopt.h>
 #include <limits.h>
 #include <poll.h>
@@ -254,6 +255,14 @@ static int usual_buffer(int count) {
     return share >= USUAL_BUFFER ? USUAL_BUFFER : share > LEAST_BUFFER ? (int)share : LEAST_BUFFER;
 }
 
+/* The status. */
+static int show_usage(void) {
+    if (fputs(USAGE, stdout) >= 0 && fflush(stdout) == 0)
+        return 0;
+    tell("file -: %s", strerror(errno));
+    return 1;
+}
+
 int read_arguments(int argc, char **argv, struct arguments *arguments, int *is_done) {
     int option, has_origin = 0, status = 0;
     *arguments = (struct arguments){.interface = EVERY_INTERFACE, .is_promiscuous = 1};
@@ -263,7 +272,7 @@ int read_arguments(int argc, char **argv, struct arguments *arguments, int *is_d
     while (status == 0 && (option = getopt_long(argc, argv, "r:", OPTIONS, NULL)) != -1) {
         if (option == HELP) {
             *is_done = 1;
-            return fputs(USAGE, stdout) < 0 || fflush(stdout) != 0;
+            return show_usage();
         }
         if (option == '?' || arguments->routes == NULL || arguments->prefilters == NULL)
             return wrong("the words are wrong", "");

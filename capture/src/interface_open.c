@@ -5,8 +5,10 @@
 #include "privileges.h"
 
 #include <inttypes.h>
+#include <limits.h>
 #include <net/if.h>
 #include <pthread.h>
+#include <unistd.h>
 
 enum {
     /* Longer than any frame of a feed, so that a longer one is seen to be cut. */
@@ -19,12 +21,22 @@ static int refused(const char *name, const char *why) {
     return 0;
 }
 
+/* Says how the permission is given, to this program by its path. */
+static int refused_permission(const char *name) {
+    char path[PATH_MAX] = "bin/capture";
+    ssize_t len = readlink("/proc/self/exe", path, sizeof path - 1);
+    if (len > 0)
+        path[len] = 0;
+    tell("%s: no permission to capture: be root, or once setcap cap_net_raw=ep %s", name, path);
+    return 0;
+}
+
 /* Why an interface can't be captured, in one line. */
 static int refused_by(pcap_t *pcap, const char *name, int status) {
     switch (status) {
     case PCAP_ERROR_PERM_DENIED:
     case PCAP_ERROR_PROMISC_PERM_DENIED:
-        return refused(name, "no permission to capture: be root, or once setcap cap_net_raw=ep bin/capture");
+        return refused_permission(name);
     case PCAP_ERROR_NO_SUCH_DEVICE:
         return refused(name, "no such interface");
     case PCAP_ERROR_IFACE_NOT_UP:

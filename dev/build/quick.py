@@ -1,7 +1,7 @@
 #!/usr/bin/env python3
 """All tests, compiled with checks and run, with no proof: what to run after each change of a line.
 
-Checks the links, the examples, crates.txt and the manual page, and runs the tests of each crate that has some (or of
+Runs the checks of dev/checks/ that need no build, and the tests of each crate that has some (or of
 CRATE alone) by `rt try --test`, side by side. Three tests that go through many drawn frames get fewer
 of them (FEWER), on a copy of the files. The last line is `N passed, M failed`, of checks and tests.
 """

@@ -170,6 +170,8 @@ def main():
     parser = argparse.ArgumentParser(description=__doc__, formatter_class=argparse.RawDescriptionHelpFormatter)
     parser.add_argument("documents", nargs="*", type=Path, metavar="DOCUMENT", help="these alone")
     chosen = [it.resolve() for it in parser.parse_args().documents] or documents()
+    if lost := [it for it in chosen if not it.is_file()]:
+        parser.error(f"no such document: {lost[0]}")
     broken = 0
     for document in chosen:
         for number, reason in broken_in(document):

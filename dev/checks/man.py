@@ -5,6 +5,8 @@ With PROGRAM, as bin/bpfrec, it also looks whether the help that it prints is th
 command, its words and its text. The status is 1 where something differs.
 """
 import argparse
+import os
+import shutil
 import subprocess
 import sys
 from pathlib import Path
@@ -48,13 +50,15 @@ def printed_otherwise(program):
 
 
 def printed(program, *words):
-    return subprocess.run([program, *words], stdout=subprocess.PIPE, text=True).stdout
+    return subprocess.run([os.path.abspath(program), *words], stdout=subprocess.PIPE, text=True).stdout
 
 
 def main():
     parser = argparse.ArgumentParser(description=__doc__, formatter_class=argparse.RawDescriptionHelpFormatter)
     parser.add_argument("program", nargs="?", metavar="PROGRAM", help="bin/bpfrec, whose help is compared too")
     program, wrong = parser.parse_args().program, list(differing())
+    if program and not shutil.which(program):
+        parser.error(f"{program} is no program")
     if program:
         wrong += [f"{program} prints other help than its source has: {it}" for it in printed_otherwise(program)]
     print(

@@ -41,10 +41,10 @@ _bpfrec() {
 
 _bpfrec_tool() {
     local options='' kind=''
-    case $1 in
+    case ${1##*/} in
 @OPTIONS@
     esac
-    if [[ ${COMP_WORDS[COMP_CWORD]} == -* || $1 == bpfrec-convert && $COMP_CWORD == 1 ]]; then
+    if [[ ${COMP_WORDS[COMP_CWORD]} == -* || ${1##*/} == bpfrec-convert && $COMP_CWORD == 1 ]]; then
         _bpfrec_words "$options"
     else
         _bpfrec_files "$kind"

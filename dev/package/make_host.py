@@ -15,7 +15,15 @@ from pathlib import Path
 
 PACKAGE = Path(__file__).resolve().parents[2] / "host" / "bpfrec_host"
 INTERPRETER = "/usr/bin/env python3"
-MAIN = "import sys\n\nfrom bpfrec_host.__main__ import main\n\nsys.exit(main())\n"
+MAIN = """import sys
+
+if sys.version_info < (3, 9):
+    sys.stderr.write("bpfrec: the tools need Python 3.9 or later, and this is %d.%d\\n" % sys.version_info[:2])
+    sys.exit(2)
+from bpfrec_host.__main__ import main
+
+sys.exit(main())
+"""
 # The earliest that an archive can have, and what may be done with its files.
 TIME, MODE = (1980, 1, 1, 0, 0, 0), 0o644 << 16
 

@@ -172,6 +172,8 @@ def main():
     parser.add_argument("--seconds", type=int, default=3600)
     parser.add_argument("--seed", type=int, default=1)
     words = parser.parse_args()
+    if not BPFREC.exists():
+        parser.error(f"{BPFREC} is missing: make build makes it")
     with tempfile.TemporaryDirectory() as folder:
         work = Path(folder)
         sys.exit(0 if judge_all(work, *soak(work, words.seconds, random.Random(words.seed))) else 1)

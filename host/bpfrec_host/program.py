@@ -29,19 +29,23 @@ class Audit(NamedTuple):
 
 
 def find() -> str:
-    """The path of the program: what BPFREC names in the environment, or else the one beside this package."""
+    """The path of the program: what BPFREC names in the environment, or else the first of `places` that can be run."""
     named = os.environ.get("BPFREC")
-    found = shutil.which(named or beside())
-    if found is None:
-        raise Missing(f"{named} is missing" if named else "bin/bpfrec is missing: make build makes it")
-    return os.path.abspath(found)
+    found = [it for it in (shutil.which(name) for name in ([named] if named else places())) if it]
+    if not found:
+        raise Missing(f"{named or 'bpfrec'} is missing{'' if named else ': make build makes it, and BPFREC names it'}")
+    return os.path.abspath(found[0])
 
 
-def beside() -> Path:
-    """bin/bpfrec of the checkout that has this package; or where it is installed, as an archive in PREFIX/libexec/bpfrec,
-    that of PREFIX."""
+def places() -> list[str]:
+    """Where the program may be: in bin/ of the checkout that has this package; or where this is an archive, in bin/ of
+    the PREFIX that has it in libexec/bpfrec/, beside it, and on PATH."""
     holder = Path(__file__).resolve().parents[1]
-    return holder.parents[2 if holder.is_file() else 0] / "bin" / "bpfrec"
+    if not holder.is_file():
+        return [str(holder.parent / "bin" / "bpfrec")]
+    folder = holder.parent
+    is_installed = folder.parts[-2:] == ("libexec", "bpfrec")
+    return [*[str(folder.parent.parent / "bin" / "bpfrec")] * is_installed, str(folder / "bpfrec"), "bpfrec"]
 
 
 def run(*words: str, stdin: Union[int, IO[bytes]] = subprocess.DEVNULL) -> subprocess.CompletedProcess[str]:

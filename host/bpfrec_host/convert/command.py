@@ -6,7 +6,7 @@ import argparse
 
 from bpfrec_host.convert.moments import moment_of, origin_of
 from bpfrec_host.convert.runs import SHOWN_BYTES, from_pcap, show, to_pcap
-from bpfrec_host.ending import short_name, tell
+from bpfrec_host.ending import full_name, tell
 from bpfrec_host.formats.feed import MIN_WIRE_LEN
 from bpfrec_host.formats.limits import CHECK_SEQUENCE_LEN, MAX_FRAME_LEN, MIN_FRAME_LEN
 from bpfrec_host.streams import Refused
@@ -116,7 +116,7 @@ def run_make(given: argparse.Namespace) -> None:
 
 def parser() -> Parser:
     """The arguments of bpfrec-convert."""
-    made = Parser(prog=short_name("convert"), description=ABOUT)
+    made = Parser(prog=full_name("convert"), description=ABOUT)
     commands = made.add_subparsers(dest="command", required=True)
     add_from_pcap(commands)
     add_to_pcap(commands)
