@@ -57,6 +57,16 @@ links() {
     done
 }
 
+# What an installation from before had, and none has any more.
+remove_old() {
+    local name
+    rm -f "$to"/libexec/bpfrec/{ch11.py,facts.py,bpfrec-feed,bpfrec-info,bpfrec-preflight,bpfrec-salvage}
+    for name in bin/bpfrec-feed share/man/man1/bpfrec-feed.1 share/bash-completion/completions/bpfrec-feed \
+        share/fish/vendor_completions.d/bpfrec-feed.fish; do
+        rm -f "$to/$name"
+    done
+}
+
 # Whether a program was built from its proof, which the compiler notes in the section .comment.
 is_proved() {
     tr '\0' '\n' < "$1" | LC_ALL=C grep -ax 'rattle logic=[0-9a-f]\{64\}' > /dev/null
@@ -83,6 +93,7 @@ install_all() {
         echo "bin/bpfrec wasn't built from its proof, so it isn't installed: make build makes one that was" >&2
         exit 3
     fi
+    remove_old
     while read -r mode from at; do
         if [[ $from == bin/capture && ! -x $from ]]; then
             echo "bin/capture isn't built, so bpfrec-capture isn't installed and bpfrec-live can't record interfaces"
@@ -102,6 +113,7 @@ install_all() {
 
 uninstall_all() {
     local mode from at
+    remove_old
     while read -r mode from at; do
         rm -f "$to/$at"
     done < <(files)

@@ -145,6 +145,21 @@ def test_uninstall(work: Path) -> None:
     judge("and no folder of its own", not (top / "share/doc/bpfrec").exists())
 
 
+def test_older(work: Path) -> None:
+    """What an older installation had under names that are gone is removed."""
+    dest = work / "dest"
+    top = Path(f"{dest}{PREFIX}")
+    gone = [top / it for it in ("libexec/bpfrec/ch11.py", "libexec/bpfrec/bpfrec-feed", "share/man/man1/bpfrec-feed.1")]
+    for file in gone:
+        file.parent.mkdir(parents=True, exist_ok=True)
+        file.touch()
+    (top / "bin").mkdir()
+    (top / "bin/bpfrec-feed").symlink_to("../libexec/bpfrec/bpfrec-feed")
+    made("install", dest)
+    left = [it for it in [*gone, top / "bin/bpfrec-feed"] if os.path.lexists(it)]
+    judge("names that are gone are removed", not left, left)
+
+
 def test_unproved(work: Path) -> None:
     """A program that wasn't built from its proof isn't installed."""
     top = work / "unproved"
