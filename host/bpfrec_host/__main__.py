@@ -43,7 +43,7 @@ def tell_tools() -> int:
     if sys.argv[1:] in (["-h"], ["--help"]):
         say(f"{text}\n")
         return 0
-    tell(text)
+    tell(f"bpfrec_host: no such tool: {sys.argv[1]}" if sys.argv[1:] else text)
     return 2
 
 

@@ -76,7 +76,7 @@ def add_to_pcap(commands: "Commands[Parser]") -> None:
         metavar="WHEN",
         type=moment_of,
         default="zero",
-        help="the moment of counter 0, as of from-pcap or as bin/capture told it; zero (1970-01-01) by default",
+        help="the moment of counter 0, as of from-pcap or as capture told it; zero (1970-01-01) by default",
     )
     times.add_argument(
         "--facts",

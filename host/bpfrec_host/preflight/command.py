@@ -6,7 +6,7 @@ import argparse
 import signal
 
 from bpfrec_host import program
-from bpfrec_host.ending import full_name, say, short_name, tell
+from bpfrec_host.ending import full_name, say, tell
 from bpfrec_host.formats.limits import MAX_NUMBER
 from bpfrec_host.formats.settings import Channel, NoReader, Settings, reader
 from bpfrec_host.preflight.inputs import judge_capture, judge_channel_feed, judge_feed, judge_filter, judge_shared_feeds
@@ -38,14 +38,14 @@ program is missing, SETTINGS is a pipe, Python has no tomllib (3.11 is the first
 tomli, or its tomllib doesn't read what is new in TOML 1.1, which bpfrec reads; 3 where the findings
 can't be printed, and 4 where it is out of memory.
 
-It runs bin/bpfrec (make build), or what the environment's BPFREC names. Nothing of it is proved.
+It runs bpfrec: what BPFREC names, or the one beside it. Nothing of this tool is proved.
 """
 
 
 def parser() -> Parser:
     """The arguments of bpfrec-preflight."""
     made = Parser(
-        prog=short_name("preflight"),
+        prog=full_name("preflight"),
         usage=f"{full_name('preflight')} SETTINGS [--out OUT] [--capture FEED]",
         description=ABOUT,
         epilog=MORE,
