@@ -66,7 +66,8 @@ def test_files_in_bash(folder: Path, words: str) -> None:
 
 def test_tools_in_bash(folder: Path) -> None:
     judge("bash offers no file for a number", bash_offers(folder, "bpfrec", "extract", "one.ch11", "") == set())
-    judge("options of a tool", bash_offers(folder, "bpfrec-info", "--h") == {"--html", "--help"})
+    for called in ("bpfrec-info", "./bpfrec-info", "/usr/local/bin/bpfrec-info"):
+        judge(f"options of {called}", bash_offers(folder, called, "--h") == {"--html", "--help"})
     judge("files of a tool", bash_offers(folder, "bpfrec-salvage", "") == {"one.ch11", "sub"})
     judge("words of a tool", "to-pcap" in bash_offers(folder, "bpfrec-convert", "t"))
 
