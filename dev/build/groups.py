@@ -136,7 +136,7 @@ def is_goal_of(line, body):
 
 def refused_names(lines, name):
     """The functions of a crate that a check refuses for goals of their own, by their last names."""
-    refused = re.compile(rf"fn {name}::(?:\S+::)?(\w+): (?:no proof|not proved|could not)(?!: it calls )")
+    refused = re.compile(rf"fn {name}::(?:\S+::)?([^\s:]+): (?:no proof|not proved|could not)(?!: it calls )")
     return {it[1] for it in map(refused.match, lines) if it}
 
 
