@@ -4,8 +4,8 @@ Most edits change the body of one function. A function is proved by the contract
 of the changed functions names another, near or far, no edit can have another one refused, and one check tells of each.
 An edit counts as refused there if the prover says of its own function, and at its own lines, that a goal isn't proved,
 and of every function that no edit changes at most that it calls one of these.
-All others are tried alone, as the toolchain does it: what changes a definition, a constant, a contract or a method of
-a trait, and what wasn't refused so.
+All others are tried alone, as the toolchain does it: what changes a definition, a constant or what one may be made of
+(`const fn`), a contract or a method of a trait, and what wasn't refused so.
 """
 import functools
 import re
@@ -55,12 +55,13 @@ def begin_of_body(lines, first, indent):
 
 @functools.lru_cache(maxsize=None)
 def bodies(folder, path):
-    """The functions of a file of code that are no methods of a trait, each with the line where its body begins."""
+    """The functions of a file of code that are no methods of a trait and make no constants, each with the line where
+    its body begins."""
     lines = Path(folder, path).read_text(encoding="utf-8").split("\n")
     traits = [(first, last) for _, first, last in spans(lines, OF_TRAIT)]
     found = []
     for match, first, last in spans(lines, HEAD):
-        if not any(begin < first < end for begin, end in traits):
+        if "const fn" not in match[0] and not any(begin < first < end for begin, end in traits):
             body = Body(path, match[2], first_of_item(lines, first), last)
             found.append((body, begin_of_body(lines, first, match[1])))
     return found
