@@ -50,8 +50,8 @@ deb: ## a Debian package of the same: bin/bpfrec_<version>_<architecture>.deb
 	@dev/package/make_deb.sh
 
 refused-growth: build ## refuses each growth of memory of each command, and of calls beside them, in turn
-	cd crates/recorder_tests && $(RT) test -- without_memory
-	cd crates/reading_tests && $(RT) test -- without_memory
+	cd crates/test_recorder && $(RT) test -- without_memory
+	cd crates/test_reader && $(RT) test -- without_memory
 	dev/trials/refused_growth.py
 
 fuzz: build ## drawn and damaged inputs for an hour; SECONDS=60 for a minute, SEED=2 for others

@@ -18,7 +18,7 @@ from lanes import minutes, processors
 from repository import CHECKS, ROOT, RT, copy_to, crates
 
 # The file of the slow tests, what stands in it, and what stands there in a quick run.
-SLOW = "crates/slow_readings/src/tests/lane.rt"
+SLOW = "crates/test_slow_readings/src/tests/lane.rt"
 FEWER = [
     ("for _ in 0..20 {", "for _ in 0..2 {"),
     ("(100..=150).contains", "(1..=20).contains"),

@@ -22,13 +22,12 @@ WAY = [
     ("recording", ""),
     ("read again", "rec_reader"),
 ]
-TESTS = {"samples", "callers", "bench", "slow_readings", "full_size", "theorem_used", "bpfrec_cases"}
 WIDTH, MARGIN, BOX_HEIGHT, ROW, TOP = 1180, 20, 34, 74, 150
 # Where a crate's box has its middle, so that no line goes behind a box; one without a place stands at the left.
 PLACES = {
     "bpf_dis": 90, "bpf_asm": 90, "bpf_insn": 160, "bpf_machine": 240, "bpf_verify": 240,
-    "bpfrec": 440, "rec_cli": 440, "cli_filters": 370, "cli_reading": 510, "cli_simulate": 580, "cli_streams": 580,
-    "cli_recording": 650, "cli_record": 700, "rec_words": 500, "rec_reader": 760, "ch11_packet": 760, "eth_frame": 760,
+    "bpfrec": 440, "rec_cli": 440, "cli_filters": 360, "cli_reading": 490, "cli_simulate": 580, "cli_streams": 580,
+    "cli_record_streams": 690, "cli_record": 740, "rec_words": 500, "rec_reader": 760, "ch11_packet": 760, "eth_frame": 760,
     "rec_channel": 1010, "rec_lane": 1010, "rec_writer": 1010, "rec_core": 1010, "rec_run": 1010, "rec_theorem": 1010,
 }  # fmt: skip
 STYLE = """\
@@ -52,7 +51,7 @@ class Box(NamedTuple):
 
 
 def is_test(name):
-    return name in TESTS or name.endswith("_tests")
+    return name == "bench" or name.startswith("test_")
 
 
 def uses():

@@ -1,7 +1,7 @@
 #!/usr/bin/env python3
 """Checks that each caller on a crate's page is one that is proved, and that each that is proved stands on a page.
 
-A block of code of a page's section "A caller" must be a file of crates/callers/src/ without its first
+A block of code of a page's section "A caller" must be a file of crates/test_callers/src/ without its first
 lines, which say whose caller it is, or stand in the program's own src/main.rt. The status is 1 where a
 block or a file has no other half.
 """
@@ -11,7 +11,7 @@ import sys
 from pathlib import Path
 
 ROOT = Path(__file__).resolve().parents[2]
-CALLERS = ROOT / "crates/callers/src"
+CALLERS = ROOT / "crates/test_callers/src"
 MAIN = ROOT / "crates/bpfrec/src/main.rt"
 
 
@@ -35,7 +35,7 @@ def main():
     for page, block in found:
         if block not in proved.values() and block not in MAIN.read_text():
             print(
-                f"{page.relative_to(ROOT)}: its caller of {len(block.splitlines())} lines is no file of crates/callers/src"
+                f"{page.relative_to(ROOT)}: its caller of {len(block.splitlines())} lines is no file of crates/test_callers/src"
             )
             status = 1
     for file, text in proved.items():

@@ -10,7 +10,7 @@ import sys
 from pathlib import Path
 
 ROOT = Path(__file__).resolve().parents[2]
-EXAMPLES, DATA = ROOT / "examples", ROOT / "crates" / "bpfrec_cases" / "data"
+EXAMPLES, DATA = ROOT / "examples", ROOT / "crates" / "test_cases" / "data"
 # Each example with the copy that is tested.
 COPIES = {
     EXAMPLES / "arp.txt": DATA / "arp",

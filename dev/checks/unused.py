@@ -31,7 +31,7 @@ OTHER_LINES = ("use ", "pub use ", "pub mod ", "mod ", "infix", "--")
 GOALS = ("Answers", "Invariants", "Proof", "Checks")
 CALL = re.compile(r"^ *pub (?:const )?fn (\w+)")
 # Libraries that are there for tests and pages alone.
-FOR_TESTS = {"samples", "callers"}
+FOR_TESTS = {"test_samples", "test_callers"}
 # Public calls that the program makes no use of, and what they are there for.
 OFFERED = {
     "run_world": "the core, driven by a list of events: the theorem is stated of it",

@@ -3,7 +3,7 @@
 from frames import sum_of
 from support import ROOT
 
-DATA = ROOT / "crates/bpfrec_cases/data"
+DATA = ROOT / "crates/test_cases/data"
 CODES = bytes.fromhex(
     "00 01 02 03 04 05 06 07 0c 14 15 16 1d 20 24 25 28 2c 30 34 35 3c"
     "40 44 45 48 50 54 5c 60 61 64 6c 74 80 81 84 87 94 9c a4 ac b1"

@@ -10,7 +10,7 @@ from frames import counted_feed
 from support import BPFREC, DROPS_ALL, KEEPS_ALL, ROOT, outcome
 
 # Recordings of docs/user/FORMATS.md, and the one frame of theirs as a feed.
-RECORDINGS = ROOT / "crates/bpfrec_cases/data/recordings"
+RECORDINGS = ROOT / "crates/test_cases/data/recordings"
 ONE_FRAME = bytes.fromhex("200000000000 00 1200 ffffffffffff0200000000010806a1b2c3d4")
 # Those that keep half keep frames whose byte 20 is less than 128.
 LISTINGS = {

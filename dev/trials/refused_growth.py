@@ -2,7 +2,7 @@
 """Refuses each growth of memory of the built program, and of tests of calls that no command makes, in
 turn, and checks what they do then.
 
-Each command runs on each sample of crates/bpfrec_cases/data, and on words that are no command, first
+Each command runs on each sample of crates/test_cases/data, and on words that are no command, first
 as it is and then with its 1st, 2nd, .. growth refused, by a malloc that is preloaded
 (dev/trials/failing_malloc.c). A run with a refused growth must end in one of two ways: with nothing on
 standard output, `memory` on standard error, status 4 and no feed, or with the very answer of the run as
@@ -23,19 +23,19 @@ from pathlib import Path
 
 from support import BPFREC, ROOT, TRIALS, shared_library
 
-DATA = ROOT / "crates/bpfrec_cases/data"
+DATA = ROOT / "crates/test_cases/data"
 VIEW = "ffffffffffff0200000000010806"
 FEED = "feed"
 MEMORY = (4, b"", b"memory\n", None)
 MOST_GROWTHS = 20_000
 # the tests of each crate
 TESTS = {
-    "recorder_tests": [
+    "test_recorder": [
         "lane::each_frame_gives_the_pieces_that_are_certain",
         "lane::versions_end_packets_and_counters_may_fall",
         "world::an_event_without_memory_is_done_again",
     ],
-    "reading_tests": ["reader::a_call_without_memory_is_made_again"],
+    "test_reader": ["reader::a_call_without_memory_is_made_again"],
 }
 # how a test ends that lacks memory for what it makes beside its calls
 LACKED = ("AllocError", "AllocFailed { .. }", "Memory", "OutOfMemory")

@@ -166,7 +166,7 @@ def test_lines_are_writes(work: Path, short_feed: Path) -> None:
         ["extract", out, "1", work / "again.feed"],
         ["verify", work / "all"],
         ["run", work / "all", "00"],
-        ["simulate", ROOT / "crates/bpfrec_cases/data/scripts/changed_filter.script"],
+        ["simulate", ROOT / "crates/test_cases/data/scripts/changed_filter.script"],
         ["version"],
         ["verify", work / "bad"],
         ["list", work / "all"],

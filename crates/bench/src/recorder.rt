@@ -8,11 +8,12 @@ use bpf_verify::verify;
 use ch11_packet::Limit;
 use eth_frame::{FeedSource, Frame, write_feed};
 use rec_lane::LaneSpec;
-use rec_run::{Change, Control, ControlLog, Job, Told, jobs_ok, record};
+use rec_run::{Job, jobs_ok, record};
 use std::alloc::Global;
 use std::io::{self, Read, Write};
 use std::sync::{Arc, Wait};
 use std::thread::Threads;
+use test_samples::NoChanges;
 
 /// A filter that keeps each frame, and one that keeps none.
 const KEEPS: &str = "1,6 0 0 1,";
@@ -58,28 +59,6 @@ impl Write for Counted {
 
     fn flush(&mut self) -> io::Result<()> {
         Ok(())
-    }
-}
-
-/// A control that gives no change.
-#[derive(Drop)]
-struct NoChanges {
-    log: ControlLog,
-}
-
-impl Control for NoChanges {
-    ghost given = { λ c. c.log.given };
-
-    ghost answered = { λ c. c.log.answered };
-
-    ghost ended = { λ c. c.log.ended };
-
-    fn next(&mut self) -> Option<Change> {
-        self.log.end()
-    }
-
-    fn told(&mut self, told: &Told) {
-        self.log.tell(told);
     }
 }
 
@@ -129,9 +108,7 @@ fn run<R: Threads + Wait + Sync>(
     if !jobs_ok(jobs.as_slice()) {
         bail!("1 to 64 channels");
     }
-    let control = NoChanges {
-        log: ControlLog::new(alloc),
-    };
+    let control = NoChanges::new(alloc);
     match record(rt, alloc, jobs, 64, 8, control, Counted { bytes: 0 }) {
         Ok(done) => Ok(done.report.bytes),
         Err(_) => bail!("a recording that did not end"),

@@ -9,7 +9,7 @@ use Rattle.bpf_asm.specs.Templates.Jump.{NoJump, Branch}
 use Rattle.bpf_asm.specs.Grammar.{Shape}
 use Rattle.bpf_asm.specs.Denotes.{Denotes}
 use Rattle.bpf_asm.specs.Examples.{arp_text, arp_program}
-use Rattle.bpf_asm.proofs.Readings.{shape_is}
+use Rattle.bpf_asm.proofs.LineReadings.{shape_is}
 
 pub arp_denoted : Denotes arp_text arp_program
 unfolding targets

@@ -1,7 +1,9 @@
 -- From the lines that were read to the program or the first fault.
 -- idea: a draft is the whole of what its lines' shapes say, so each pass adds one line, or one instruction, to an equation
 -- of lists, and a fault found after well lines is the first fault of the text by definition
-use Rattle.std.proofs.Common.{ℕ, ◌+◌, ◌≡◌, ◌≢◌, ◌<◌, ◌≤◌, ◌⊎◌, inl, inr, List, [], ◌∷◌, ◌++◌, map, length, Option, None, Some, Result, Ok, Err, MatchResult, IfOk, IfErr, vec_len, Vec, Global, refl, sym, ◌∙◌, ap, arith, subst, append_assoc, take, drop, get_or, suc, add-one, take-suc, take-append-drop, length-take-le, drop-cons}
+use Rattle.std.proofs.Common.{ℕ, ◌+◌, ◌≡◌, ◌≢◌, ◌<◌, ◌≤◌, ◌⊎◌, inl, inr, List, [], ◌∷◌, ◌++◌, map, length, Option, None, Some, Result, Ok}
+use Rattle.std.proofs.Common.{Err, MatchResult, IfOk, IfErr, vec_len, Vec, Global, refl, sym, ◌∙◌, ap, arith, subst, append_assoc, take}
+use Rattle.std.proofs.Common.{drop, get_or, suc, add-one, take-suc, take-append-drop, length-take-le, drop-cons}
 use Rattle.std.specs.List.{cons_option}
 use Rattle.std.proofs.lemmas.List.{map-append, length-map}
 use Rattle.bpf_insn.specs.declared.insn.Insn.{Insn}
@@ -17,11 +19,12 @@ use Rattle.bpf_asm.specs.Templates.{Template}
 use Rattle.bpf_asm.specs.Lines.{Reading, reading_of}
 use Rattle.bpf_asm.specs.Grammar.{Shape, HasShape}
 use Rattle.bpf_asm.specs.Denotes.{HaveShapes, Label, labels_from, templates_of, IsInsn, AreInsns, Denotes}
-use Rattle.bpf_asm.specs.FirstFault.{in_line, names_of, Once, AreWell, LineBreaks, FaultInLine, AreFollowed, JumpBreaks, Misled, FirstFault, DenotesNone, KeepsSomething}
+use Rattle.bpf_asm.specs.FirstFault.{in_line, names_of, Once, AreWell, LineBreaks, FaultInLine, AreFollowed}
+use Rattle.bpf_asm.specs.FirstFault.{JumpBreaks, Misled, FirstFault, DenotesNone, KeepsSomething}
 use Rattle.bpf_asm.specs.FirstFault.LineBreaks.{InLabels, InInsn, InLength}
 use Rattle.bpf_asm.specs.Views.{insn_data, template_data, jump_data, unlinked_data}
 use Rattle.bpf_asm.specs.Drafts.{cons_numbered, numbered_templates, templates_in, BreaksAmong, label_shape, EndsLabels, IsDraftOf}
-use Rattle.bpf_asm.proofs.Readings.{shape_is, shape_read}
+use Rattle.bpf_asm.proofs.LineReadings.{shape_is, shape_read}
 use Rattle.bpf_asm.proofs.ShapeLists.{shapes_length, count, count_append, names_append, names_more, once_front, insns_more}
 use Rattle.bpf_asm.proofs.FirstFaults.{never_both, linked_denotes}
 

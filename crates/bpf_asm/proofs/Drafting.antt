@@ -1,7 +1,8 @@
 -- Line by line: what one more line makes of lines without a fault.
 -- idea: whether names stand twice is decided by searching each name in those after it; then one line has its shape or one
 -- of the four faults, by cases in the order in which they are judged
-use Rattle.std.proofs.Common.{ℕ, suc, ◌+◌, ◌≡◌, ◌≢◌, ◌<◌, ◌≤◌, ◌⊎◌, inl, inr, true, false, List, [], ◌∷◌, ◌++◌, map, length, Option, None, Some, Result, Ok, Err, refl, sym, ◌∙◌, ap, arith, subst, All, Contains, append_assoc, append-nil}
+use Rattle.std.proofs.Common.{ℕ, suc, ◌+◌, ◌≡◌, ◌≢◌, ◌<◌, ◌≤◌, ◌⊎◌, inl, inr, true, false, List, [], ◌∷◌, ◌++◌, map, length, Option, None}
+use Rattle.std.proofs.Common.{Some, Result, Ok, Err, refl, sym, ◌∙◌, ap, arith, subst, All, Contains, append_assoc, append-nil}
 use Rattle.std.specs.Str.{bytes_eq}
 use Rattle.std.proofs.lemmas.Bool.{cases_Bool, cases_lt}
 use Rattle.std.proofs.lemmas.List.Elements.{All-nil, All-cons, All-append, All-push, All-weaker, Contains-append_right}
@@ -18,7 +19,7 @@ use Rattle.bpf_asm.specs.Denotes.{Label, labels_from, index_after}
 use Rattle.bpf_asm.specs.FirstFault.{in_line, names_of, Once, LabelsOnce, LineBreaks, AreFollowed, IsEmpty, Unfollowed}
 use Rattle.bpf_asm.specs.FirstFault.LineBreaks.{InTokens, InLabels, InInsn, InLength}
 use Rattle.bpf_asm.specs.Drafts.{EndsLabels}
-use Rattle.bpf_asm.proofs.Readings.{shape_is, shape_read, fault_read, fault_is}
+use Rattle.bpf_asm.proofs.LineReadings.{shape_is, shape_read, fault_read, fault_is}
 use Rattle.bpf_asm.proofs.ShapeLists.{label_at, count, count_append, labels_more}
 
 -- a name stands in front, or nowhere: whether names stand once can be decided

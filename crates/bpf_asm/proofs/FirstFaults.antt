@@ -2,7 +2,8 @@
 -- idea: for never both, the shapes of a line are determined, so the faulty line, label or jump is met in the program's
 -- own list, where it has no fault; for one alone, two faults at different lines contradict that the earlier line is well;
 -- for either, the lines are scanned, and then the jumps, and each step goes on or gives the fault
-use Rattle.std.proofs.Common.{ℕ, ◌+◌, ◌≡◌, ◌≢◌, ◌<◌, ◌≤◌, ◌⊎◌, inl, inr, List, [], ◌∷◌, ◌++◌, map, length, Option, None, Some, Result, Ok, Err, refl, sym, ◌∙◌, ap, arith, subst, All, Contains, append_assoc, append-nil}
+use Rattle.std.proofs.Common.{ℕ, ◌+◌, ◌≡◌, ◌≢◌, ◌<◌, ◌≤◌, ◌⊎◌, inl, inr, List, [], ◌∷◌, ◌++◌, map, length, Option, None, Some}
+use Rattle.std.proofs.Common.{Result, Ok, Err, refl, sym, ◌∙◌, ap, arith, subst, All, Contains, append_assoc, append-nil}
 use Rattle.std.specs.List.{cons_option}
 use Rattle.std.proofs.lemmas.List.Elements.{All-head, All-tail, All-contains, Contains-append_left, Contains-append_right}
 use Rattle.bpf_insn.specs.declared.insn.Insn.{Insn}
@@ -16,12 +17,15 @@ use Rattle.bpf_asm.specs.Templates.{Template}
 use Rattle.bpf_asm.specs.Lines.{Reading, reading_of}
 use Rattle.bpf_asm.specs.Grammar.{Shape}
 use Rattle.bpf_asm.specs.Denotes.{HaveShapes, Label, labels_from, templates_of, IsInsn, AreInsns, DenotesBy, Denotes}
-use Rattle.bpf_asm.specs.FirstFault.{in_line, names_of, Once, AreWell, LabelsOnce, LineBreaks, FaultInLine, AreFollowed, IsEmpty, Unfollowed, FaultAtEnd, JumpBreaks, Misled, FaultInJump, FirstFaultOf, FirstFault}
+use Rattle.bpf_asm.specs.FirstFault.{in_line, names_of, Once, AreWell, LabelsOnce, LineBreaks, FaultInLine, AreFollowed, IsEmpty}
+use Rattle.bpf_asm.specs.FirstFault.{Unfollowed, FaultAtEnd, JumpBreaks, Misled, FaultInJump, FirstFaultOf, FirstFault}
 use Rattle.bpf_asm.specs.FirstFault.LineBreaks.{InTokens, InLabels, InInsn, InLength}
 use Rattle.bpf_asm.specs.Drafts.{EndsLabels}
 use Rattle.bpf_asm.proofs.Programs.{one_shapes}
-use Rattle.bpf_asm.proofs.Readings.{fault_read}
-use Rattle.bpf_asm.proofs.ShapeLists.{Same, Later, two_places, cut_shapes, one_more_shape, label_at, count, count_append, labels_append, templates_append, names_more, once_names, LabelledOnce, labels_once, names_once, insns_length, insn_within, insns_more}
+use Rattle.bpf_asm.proofs.LineReadings.{fault_read}
+use Rattle.bpf_asm.proofs.ShapeLists.{Same, Later, two_places, cut_shapes, one_more_shape, label_at, count}
+use Rattle.bpf_asm.proofs.ShapeLists.{count_append, labels_append, templates_append, names_more, once_names}
+use Rattle.bpf_asm.proofs.ShapeLists.{LabelledOnce, labels_once, names_once, insns_length, insn_within, insns_more}
 use Rattle.bpf_asm.proofs.JumpFaults.{insn_well, one_jump_fault, insn_step}
 use Rattle.bpf_asm.proofs.Drafting.{NextLine, NextOrBreaks, next_step, shape_well, ends_insn, ends_labels, ends_empty}
 

@@ -10,7 +10,8 @@ use Rattle.bpf_asm.specs.declared.mnemonic.Mnemonic.{Mnemonic}
 use Rattle.bpf_asm.specs.declared.mnemonic.Mnemonic.TheVariants.{Ld, Ldi, Ldx, Ldxb, Jmp, Test, Inverted, Alu, Neg, Ret}
 use Rattle.bpf_asm.specs.Tokens.{Token}
 use Rattle.bpf_asm.specs.Operands.{Operand, is_name}
-use Rattle.bpf_asm.specs.Operands.Operand.{Nothing, Absolute, Indexed, Scratch, Immediate, Bare, Word, HashWord, IndexRegister, Accumulator, Length, HeaderLength, Targets}
+use Rattle.bpf_asm.specs.Operands.Operand.{Nothing, Absolute, Indexed, Scratch, Immediate, Bare, Word, HashWord}
+use Rattle.bpf_asm.specs.Operands.Operand.{IndexRegister, Accumulator, Length, HeaderLength, Targets}
 use Rattle.bpf_asm.specs.Templates.{Template, plain_template, test_template, meaning_of, with_operand, template_of, NamesOne, NamesLabels, FitsForm}
 use Rattle.bpf_asm.specs.Templates.Jump.{NoJump, Always, Branch}
 use Rattle.bpf_asm.specs.Grammar.{IsOperand, WritesInsn}
@@ -51,7 +52,8 @@ header_fits : (is : Bool) (k : ℕ) → MakesFitting (cond is (plain_template fo
 header_fits true k = record { labels = refl; unused = used k }
 header_fits false k = tt
 
-fitting_test : (test : Cond) (src : Src) (k : ℕ) (holds fails : Option (List ℕ)) → (src ≡ X → k ≡ 0) → NamesOne holds fails → MakesFitting (test_template test src k holds fails)
+fitting_test : (test : Cond) (src : Src) (k : ℕ) (holds fails : Option (List ℕ)) → (src ≡ X → k ≡ 0) → NamesOne holds fails
+    → MakesFitting (test_template test src k holds fails)
 fitting_test test src k holds fails zero named = record { labels = (holds, fails, refl, named); unused = test_unused test src k zero }
 
 -- the rows of the table by operand: each text is checked for each mnemonic
@@ -108,7 +110,8 @@ template_fits : (mnemonic : Mnemonic) (operand : Operand) (ts : List Token) (tem
     → template_of mnemonic operand ≡ Some template → FitsForm template
 template_fits Jmp (Word name) ts template h e =
     fits_so (record { form = form.Ja; k = 0; jump = Always name }) template e (record { labels = (name, refl); unused = λ _. refl })
-template_fits mnemonic operand ts template h e = fits_made (with_operand mnemonic (meaning_of operand)) template e (row mnemonic (meaning_of operand) (meaning_right operand ts h))
+template_fits mnemonic operand ts template h e = fits_made (with_operand mnemonic (meaning_of operand)) template e
+    (row mnemonic (meaning_of operand) (meaning_right operand ts h))
 
 -- what the grammar has fits its form
 pub insn_fits : (template : Template) (ts : List Token) → WritesInsn template ts → FitsForm template

@@ -15,7 +15,7 @@ use Rattle.bpf_asm.specs.Grammar.{label_tokens}
 use Rattle.bpf_asm.specs.InsnFaults.{IsNoOperand, InsnBreaks, BeginsWithNoLabel, HasInsnFault, fault_reading}
 use Rattle.bpf_asm.specs.InsnFaults.InsnBreaks.{NoName, NoMnemonic, NoOperand, NotTaken}
 use Rattle.bpf_asm.proofs.Shapes.{operand_is, operand_read}
-use Rattle.bpf_asm.proofs.Readings.{labels_split, labels_back, NoLabel, read_as}
+use Rattle.bpf_asm.proofs.LineReadings.{labels_split, labels_back, NoLabel, read_as}
 
 no_operand : (ts : List Token) → operand_of ts ≡ None → IsNoOperand ts
 no_operand ts none = λ operand written. let read = operand_read operand ts written in cc

@@ -6,7 +6,7 @@ pub mod LineEnds
 pub mod Programs
 pub mod Shapes
 pub mod FormFits
-pub mod Readings
+pub mod LineReadings
 pub mod InsnFaults
 pub mod BlankedTexts
 pub mod Lexings
@@ -15,5 +15,5 @@ pub mod ShapeLists
 pub mod JumpFaults
 pub mod Drafting
 pub mod FirstFaults
-pub mod Tables
+pub mod LabelTables
 pub mod Assembling

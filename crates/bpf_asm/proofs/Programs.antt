@@ -1,5 +1,6 @@
 -- A text denotes at most one program.
-use Rattle.std.proofs.Common.{ℕ, ◌+◌, ◌≡◌, ◌<◌, ◌≢◌, ◌⊎◌, inl, inr, List, [], ◌∷◌, get_or, Option, None, Some, refl, sym, ◌∙◌, ap, arith, AllPairs, Contains, subst}
+use Rattle.std.proofs.Common.{ℕ, ◌+◌, ◌≡◌, ◌<◌, ◌≢◌, ◌⊎◌, inl, inr, List, [], ◌∷◌, get_or, Option, None}
+use Rattle.std.proofs.Common.{Some, refl, sym, ◌∙◌, ap, arith, AllPairs, Contains, subst}
 use Rattle.std.proofs.lemmas.Bool.{cases_order}
 use Rattle.std.proofs.lemmas.List.{get_or_default}
 use Rattle.bpf_insn.specs.declared.insn.Insn.{Insn}
@@ -8,7 +9,7 @@ use Rattle.bpf_insn.specs.Forms.{code_of}
 use Rattle.bpf_asm.specs.Templates.{Template, Jump}
 use Rattle.bpf_asm.specs.Templates.Jump.{NoJump, Always, Branch}
 use Rattle.bpf_asm.specs.Grammar.{Shape}
-use Rattle.bpf_asm.proofs.Readings.{one_shape}
+use Rattle.bpf_asm.proofs.LineReadings.{one_shape}
 use Rattle.bpf_asm.specs.Denotes.{HaveShapes, Label, labels_from, templates_of, Leads, BranchesToLabels, HasJumpFields, AreInsns, DenotesBy, Denotes}
 
 -- lines have one list of shapes
@@ -53,7 +54,8 @@ one_index labels name p q once h k = index_cases labels name p q once h k (cases
 one_offset : (labels : List Label) (at : ℕ) (name : List ℕ) (a b : ℕ) → Once labels → Leads labels at name a → Leads labels at name b → a ≡ b
 one_offset labels at name a b once h k = let e = one_index labels name (at + 1 + a) (at + 1 + b) once h k in omega arith
 
-one_branch : (labels : List Label) (at : ℕ) (target : Option (List ℕ)) (a b : ℕ) → Once labels → BranchesToLabels labels at target a → BranchesToLabels labels at target b
+one_branch : (labels : List Label) (at : ℕ) (target : Option (List ℕ)) (a b : ℕ) → Once labels → BranchesToLabels labels at target a
+    → BranchesToLabels labels at target b
     → a ≡ b
 one_branch labels at None a b once h k = h ∙ sym k
 one_branch labels at (Some name) a b once h k = one_offset labels at name a b once h.1 k.1

@@ -1,7 +1,8 @@
 -- Lists of lines and of their shapes: put together, cut, and what their labels and instructions are then.
 -- idea: each fact goes by induction over the first list; two elements of one list are compared by their fronts, so they are
 -- the same, or one stands in the front of the other
-use Rattle.std.proofs.Common.{ℕ, suc, ◌+◌, ◌≡◌, ◌≢◌, ◌<◌, ◌⊎◌, inl, inr, List, [], ◌∷◌, ◌++◌, map, length, Option, None, Some, refl, sym, ◌∙◌, ap, arith, subst, AllPairs, append_assoc, append-nil, length-append}
+use Rattle.std.proofs.Common.{ℕ, suc, ◌+◌, ◌≡◌, ◌≢◌, ◌<◌, ◌⊎◌, inl, inr, List, [], ◌∷◌, ◌++◌, map, length, Option, None, Some}
+use Rattle.std.proofs.Common.{refl, sym, ◌∙◌, ap, arith, subst, AllPairs, append_assoc, append-nil, length-append}
 use Rattle.std.specs.List.{cons_option}
 use Rattle.std.proofs.lemmas.List.{map-append, get_or-map, length-map, get_or_append_left}
 use Rattle.std.proofs.lemmas.List.Elements.{filter_map-append}

@@ -10,8 +10,11 @@ use Rattle.bpf_insn.specs.declared.form.Src.{Src}
 use Rattle.bpf_insn.specs.declared.form.Src.TheVariants.{K, X}
 use Rattle.bpf_asm.specs.Tokens.{Token}
 use Rattle.bpf_asm.specs.Tokens.Token.{NameToken, NumberToken, SignToken}
-use Rattle.bpf_asm.specs.Operands.{Operand, is_name, after_sign, first_number, first_name, at_end, number_in_brackets, after_x, after_index, indexed_operand, load_operand, second_target, targets, header_length, after_number, after_name, after_constant, after_hash, after_register, after_percent, operand_of}
-use Rattle.bpf_asm.specs.Operands.Operand.{Nothing, Absolute, Indexed, Scratch, Immediate, Bare, Word, HashWord, IndexRegister, Accumulator, Length, HeaderLength, Targets}
+use Rattle.bpf_asm.specs.Operands.{Operand, is_name, after_sign, first_number, first_name, at_end, number_in_brackets, after_x}
+use Rattle.bpf_asm.specs.Operands.{after_index, indexed_operand, load_operand, second_target, targets, header_length, after_number}
+use Rattle.bpf_asm.specs.Operands.{after_name, after_constant, after_hash, after_register, after_percent, operand_of}
+use Rattle.bpf_asm.specs.Operands.Operand.{Nothing, Absolute, Indexed, Scratch, Immediate, Bare, Word, HashWord}
+use Rattle.bpf_asm.specs.Operands.Operand.{IndexRegister, Accumulator, Length, HeaderLength, Targets}
 use Rattle.bpf_asm.specs.Grammar.{IsIndex, IsSource, IsOperand, target_tokens}
 
 bind_some : {A B : Type 0} (o : Option A) (f : A → Option B) (y : B) → option_and_then f o ≡ Some y → (x : A) × (o ≡ Some x) × (f x ≡ Some y)

@@ -1,5 +1,6 @@
 -- What the assembler's values stand for between its two passes, and what each step of a pass does to them.
-use Rattle.std.specs.Prelude.{ℕ, ◌+◌, ◌≡◌, ◌≤◌, ◌⊎◌, ◌↔◌, List, [], ◌∷◌, ◌++◌, map, length, Option, None, Some, Contains, Result, MatchResult, if◌then◌else◌, bytes_eq, vec_len}
+use Rattle.std.specs.Prelude.{ℕ, ◌+◌, ◌≡◌, ◌≤◌, ◌⊎◌, ◌↔◌, List, [], ◌∷◌, ◌++◌, map, length, Option, None, Some}
+use Rattle.std.specs.Prelude.{Contains, Result, MatchResult, if◌then◌else◌, bytes_eq, vec_len}
 use Rattle.std.specs.Global.{Vec}
 use Rattle.std.specs.BTreeMap.{get_by}
 use Rattle.std.specs.Cmp.Lexicographic.{slice_cmp}

@@ -9,7 +9,8 @@ use Rattle.bpf_insn.specs.declared.insn.TheConstants.{MAX_INSNS}
 use Rattle.bpf_asm.specs.declared.fault.LineFault.{LineFault}
 use Rattle.bpf_asm.specs.declared.fault.LineFault.TheVariants as line
 use Rattle.bpf_asm.specs.declared.fault.AsmFault.{AsmFault}
-use Rattle.bpf_asm.specs.declared.fault.AsmFault.TheVariants.{Syntax, Number, UnknownMnemonic, OperandNotAllowed, LabelMissing, LabelTwice, Backward, TooFar, TooLong}
+use Rattle.bpf_asm.specs.declared.fault.AsmFault.TheVariants.{Syntax, Number, UnknownMnemonic, OperandNotAllowed}
+use Rattle.bpf_asm.specs.declared.fault.AsmFault.TheVariants.{LabelMissing, LabelTwice, Backward, TooFar, TooLong}
 use Rattle.bpf_asm.specs.Blanked.{without_comments, lines_of}
 use Rattle.bpf_asm.specs.Tokens.{line_tokens}
 use Rattle.bpf_asm.specs.Templates.{Template, Jump}

@@ -7,7 +7,8 @@ use Rattle.bpf_asm.specs.declared.mnemonic.Mnemonic.{Mnemonic}
 use Rattle.bpf_asm.specs.Tokens.{Token, line_tokens}
 use Rattle.bpf_asm.specs.Tokens.Token.{NameToken, NumberToken, SignToken}
 use Rattle.bpf_asm.specs.Operands.{Operand}
-use Rattle.bpf_asm.specs.Operands.Operand.{Nothing, Absolute, Indexed, Scratch, Immediate, Bare, Word, HashWord, IndexRegister, Accumulator, Length, HeaderLength, Targets}
+use Rattle.bpf_asm.specs.Operands.Operand.{Nothing, Absolute, Indexed, Scratch, Immediate, Bare, Word, HashWord}
+use Rattle.bpf_asm.specs.Operands.Operand.{IndexRegister, Accumulator, Length, HeaderLength, Targets}
 use Rattle.bpf_asm.specs.Mnemonics.{mnemonic_of}
 use Rattle.bpf_asm.specs.Templates.{Template, template_of}
 use Rattle.bpf_asm.specs.Lines.{Reading}

@@ -10,7 +10,8 @@ use Rattle.bpf_insn.specs.Uses.{uses_k}
 use Rattle.bpf_asm.specs.declared.mnemonic.Mnemonic.{Mnemonic}
 use Rattle.bpf_asm.specs.declared.mnemonic.Mnemonic.TheVariants.{Ld, Ldi, Ldh, Ldb, Ldx, Ldxi, Ldxb, St, Stx, Jmp, Test, Inverted, Alu, Neg, Tax, Txa, Ret}
 use Rattle.bpf_asm.specs.Operands.{Operand, is_name}
-use Rattle.bpf_asm.specs.Operands.Operand.{Nothing, Absolute, Indexed, Scratch, Immediate, Bare, Word, HashWord, IndexRegister, Accumulator, Length, HeaderLength, Targets}
+use Rattle.bpf_asm.specs.Operands.Operand.{Nothing, Absolute, Indexed, Scratch, Immediate, Bare, Word, HashWord}
+use Rattle.bpf_asm.specs.Operands.Operand.{IndexRegister, Accumulator, Length, HeaderLength, Targets}
 
 -- where an instruction jumps to, by labels; None is the next instruction
 pub data Jump : Type 0 where

@@ -1,11 +1,11 @@
-pub mod Words
+pub mod WordTokens
 pub mod Numbers
-pub mod Pieces
+pub mod LinePieces
 pub mod Statements
 pub mod Lines
-pub mod Rows
+pub mod LabelRows
 pub mod ProgramTexts
-pub mod FirstFaults
+pub mod ProgramFaults
 pub mod TextPrograms
 pub mod LabelledTargets
 pub mod Targets

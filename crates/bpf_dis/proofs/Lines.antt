@@ -1,5 +1,6 @@
 -- The lines of a program are those that were written, and each has its shape.
-use Rattle.std.proofs.Common.{ℕ, ◌<◌, ◌^◌, ◌≡◌, Bool, true, false, not, ◌&&◌, eqb, codes, List, [], ◌∷◌, ◌++◌, Option, None, Some, refl, sym, ◌∙◌, ap, subst, append_assoc}
+use Rattle.std.proofs.Common.{ℕ, ◌<◌, ◌^◌, ◌≡◌, Bool, true, false, not, ◌&&◌, eqb, codes, List, [], ◌∷◌}
+use Rattle.std.proofs.Common.{◌++◌, Option, None, Some, refl, sym, ◌∙◌, ap, subst, append_assoc}
 use Rattle.std.specs.List.{list_all}
 use Rattle.std.proofs.lemmas.Bool.{and_parts, and_from, not-true, ne_eqb, eqb-false}
 use Rattle.std.proofs.lemmas.List.Folds.{list_all-append}
@@ -12,8 +13,8 @@ use Rattle.bpf_asm.specs.Templates.{Template}
 use Rattle.bpf_asm.specs.Templates.Jump.{NoJump}
 use Rattle.bpf_asm.specs.Grammar.{Shape, HasShape}
 use Rattle.bpf_dis.specs.ProgramText.{label_name, label_text, insn_text, form_text}
-use Rattle.bpf_dis.proofs.Pieces.{Piece, written, tokens, Fine, AreKept, is_kept, name_word, tokens_are, written_kept}
-use Rattle.bpf_dis.proofs.Pieces.Piece.{Word, Sign, Space}
+use Rattle.bpf_dis.proofs.LinePieces.{Piece, written, tokens, Fine, AreKept, is_kept, name_word, tokens_are, written_kept}
+use Rattle.bpf_dis.proofs.LinePieces.Piece.{Word, Sign, Space}
 use Rattle.bpf_dis.proofs.Statements.{Says, form_template, label_is_name}
 
 -- a byte that begins no comment

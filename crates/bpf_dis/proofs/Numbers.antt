@@ -1,5 +1,6 @@
 -- A number in decimal is one token of a line, and that number.
-use Rattle.std.proofs.Common.{ℕ, ◌<◌, ◌≤◌, ◌^◌, ◌≡◌, ◌⊎◌, inl, inr, true, false, eqb, leb, List, [], ◌∷◌, length, get_or, decimal, Some, Ok, refl, sym, ap, subst, arith}
+use Rattle.std.proofs.Common.{ℕ, ◌<◌, ◌≤◌, ◌^◌, ◌≡◌, ◌⊎◌, inl, inr, true, false, eqb, leb, List, [], ◌∷◌}
+use Rattle.std.proofs.Common.{length, get_or, decimal, Some, Ok, refl, sym, ap, subst, arith}
 use Rattle.std.specs.Char.{is_ascii_digit}
 use Rattle.std.specs.Str.Parse.{AllDigits, digits_value}
 use Rattle.std.proofs.lemmas.Bool.{cases_eq, and_from, le-leb, lt-ltb, ne_eqb}
@@ -8,7 +9,7 @@ use Rattle.std.proofs.lemmas.Str.Parse.{digit_from_value}
 use Rattle.bpf_asm.specs.Tokens.{token_of, number_token}
 use Rattle.bpf_asm.specs.Tokens.Token.{NumberToken}
 use Rattle.bpf_asm.specs.Numbers.{are_digits, spelled_number}
-use Rattle.bpf_dis.proofs.Words.{AreWords, digit_word}
+use Rattle.bpf_dis.proofs.WordTokens.{AreWords, digit_word}
 
 digit_is : (b : ℕ) (bs : List ℕ) → AllDigits 10 (b ∷ bs) → is_ascii_digit b ≡ true
 digit_is b bs h = let range = digit_from_value b h.0 in and_from _ _ (le-leb 48 b range.0) (le-leb b 57 range.1)

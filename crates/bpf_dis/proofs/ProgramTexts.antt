@@ -1,7 +1,8 @@
 -- The text of a program denotes the program.
 -- idea: the shapes of the lines are written down from the program, line by line, with a label where a jump leads; that these
 -- shapes denote the program is then three facts: labels are apart, targets have theirs, and codes and fields are the program's
-use Rattle.std.proofs.Common.{ℕ, suc, ◌+◌, ◌<◌, ◌≤◌, ◌^◌, ◌≡◌, ◌⊎◌, inl, inr, true, eqb, List, [], ◌∷◌, length, slice_get, Option, None, Some, All, Contains, refl, sym, ◌∙◌, subst, arith}
+use Rattle.std.proofs.Common.{ℕ, suc, ◌+◌, ◌<◌, ◌≤◌, ◌^◌, ◌≡◌, ◌⊎◌, inl, inr, true, eqb, List, [], ◌∷◌, length}
+use Rattle.std.proofs.Common.{slice_get, Option, None, Some, All, Contains, refl, sym, ◌∙◌, subst, arith}
 use Rattle.std.specs.List.{list_any}
 use Rattle.std.proofs.lemmas.Bool.{cases_lt, eq-eqb, or_left, or_right}
 use Rattle.std.proofs.lemmas.List.Folds.{list_any-append}
@@ -23,7 +24,7 @@ use Rattle.bpf_dis.proofs.Targets.{some_insn}
 use Rattle.bpf_insn.proofs.Codes.{code_is}
 use Rattle.bpf_dis.proofs.Statements.{EachKnown, fields, form_says, label_at}
 use Rattle.bpf_dis.proofs.Lines.{AreShown, shown_blanked, line_shown, line_first, insn_template, line_shape, IsLine, line_is}
-use Rattle.bpf_dis.proofs.Rows.{shapes_from, rows, has_label}
+use Rattle.bpf_dis.proofs.LabelRows.{shapes_from, rows, has_label}
 
 -- What is known of the instruction with this index in a program of n instructions.
 pub record SaidAt (n at : ℕ) (insn : Insn) : Type 0 where

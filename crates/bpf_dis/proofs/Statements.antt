@@ -1,11 +1,13 @@
 -- Each instruction's text is written as the grammar of a line has it.
 -- idea: a line is a list of pieces (names, numbers, signs, spaces), whose written form is the text and whose tokens are the
 -- grammar's by computing; each shape of operand has one lemma, and each form takes its shape's
-use Rattle.std.proofs.Common.{Contains, ℕ, ◌+◌, ◌<◌, ◌≤◌, ◌^◌, ◌≡◌, inl, true, codes, decimal, List, [], ◌∷◌, ◌++◌, Option, None, Some, option_and_then, if◌then◌else◌, refl, ap, arith}
+use Rattle.std.proofs.Common.{Contains, ℕ, ◌+◌, ◌<◌, ◌≤◌, ◌^◌, ◌≡◌, inl, true, codes, decimal, List, [], ◌∷◌, ◌++◌}
+use Rattle.std.proofs.Common.{Option, None, Some, option_and_then, if◌then◌else◌, refl, ap, arith}
 use Rattle.std.proofs.lemmas.List.{append-nil}
 use Rattle.bpf_insn.specs.declared.insn.Insn.{Insn}
 use Rattle.bpf_insn.specs.declared.form.Form.{Form}
-use Rattle.bpf_insn.specs.declared.form.Form.TheVariants.{LdImm, LdAbs, LdInd, LdMem, LdLen, LdxImm, LdxMem, LdxLen, LdxMsh, St, Stx, Alu, Neg, Ja, Test, RetK, RetA, Tax, Txa}
+use Rattle.bpf_insn.specs.declared.form.Form.TheVariants.{LdImm, LdAbs, LdInd, LdMem, LdLen, LdxImm, LdxMem, LdxLen, LdxMsh}
+use Rattle.bpf_insn.specs.declared.form.Form.TheVariants.{St, Stx, Alu, Neg, Ja, Test, RetK, RetA, Tax, Txa}
 use Rattle.bpf_insn.specs.declared.form.Size.{Size}
 use Rattle.bpf_insn.specs.declared.form.Size.TheVariants.{W, H, B}
 use Rattle.bpf_insn.specs.declared.form.Src.TheVariants.{K, X}
@@ -31,8 +33,8 @@ use Rattle.bpf_asm.specs.Grammar.{IsOperand, WritesInsn}
 use Rattle.bpf_asm.proofs.MnemonicNames.{takes, op_takes, cond_takes}
 use Rattle.bpf_dis.specs.ProgramText.{label_name, form_text}
 use Rattle.bpf_dis.proofs.Numbers.{decimal_words}
-use Rattle.bpf_dis.proofs.Pieces.{Piece, written, tokens, IsWordOf, Fine, is_name, name_word, number_word}
-use Rattle.bpf_dis.proofs.Pieces.Piece.{Word, Sign, Space}
+use Rattle.bpf_dis.proofs.LinePieces.{Piece, written, tokens, IsWordOf, Fine, is_name, name_word, number_word}
+use Rattle.bpf_dis.proofs.LinePieces.Piece.{Word, Sign, Space}
 
 -- A text is an instruction's: its pieces, and that the grammar has their tokens.
 pub record Says (text : List ℕ) (template : Template) : Type 0 where

@@ -1,5 +1,6 @@
 -- The indexes to which instructions may jump are those of each of them.
-use Rattle.std.proofs.Common.{ℕ, zero, suc, ◌+◌, ◌≡◌, ◌⊎◌, ◌↔◌, inl, inr, true, ◌||◌, eqb, List, [], ◌∷◌, slice_get, Some, Contains, refl, sym, ◌∙◌, subst, arith}
+use Rattle.std.proofs.Common.{ℕ, zero, suc, ◌+◌, ◌≡◌, ◌⊎◌, ◌↔◌, inl, inr, true, ◌||◌, eqb, List, []}
+use Rattle.std.proofs.Common.{◌∷◌, slice_get, Some, Contains, refl, sym, ◌∙◌, subst, arith}
 use Rattle.std.proofs.lemmas.Bool.{eqb-true, eq-eqb, or_cases, or_left, or_right}
 use Rattle.std.proofs.lemmas.List.Folds.{list_any-append, list_any_at}
 use Rattle.bpf_insn.specs.declared.insn.Insn.{Insn}

@@ -1,7 +1,8 @@
 -- The program of a text has a text.
 -- idea: the instruction of each line fits its form, so its fields can be said; labels stand before instructions, and a test
 -- names one label at least, so no target lies past the last instruction
-use Rattle.std.proofs.Common.{ℕ, zero, suc, ◌+◌, ◌<◌, ◌≤◌, ◌≡◌, ◌⊎◌, ◌↔◌, inl, inr, false, List, [], ◌∷◌, length, slice_get, Option, None, Some, All, refl, sym, ◌∙◌, subst, arith}
+use Rattle.std.proofs.Common.{ℕ, zero, suc, ◌+◌, ◌<◌, ◌≤◌, ◌≡◌, ◌⊎◌, ◌↔◌, inl, inr, false, List, [], ◌∷◌, length}
+use Rattle.std.proofs.Common.{slice_get, Option, None, Some, All, refl, sym, ◌∙◌, subst, arith}
 use Rattle.std.specs.List.{cons_option}
 use Rattle.std.proofs.lemmas.List.Elements.{All-contains}
 use Rattle.bpf_insn.specs.declared.insn.Insn.{Insn}
@@ -18,7 +19,7 @@ use Rattle.bpf_asm.specs.Templates.Jump.{NoJump, Always, Branch}
 use Rattle.bpf_asm.specs.Grammar.{Shape, WritesInsn, WritesInsnOrNone}
 use Rattle.bpf_asm.specs.Denotes.{Label, HaveShapes, labels_from, templates_of, Leads, BranchesToLabels, HasJumpFields, IsInsn, AreInsns, Denotes}
 use Rattle.bpf_dis.specs.Faults.{UnusedAreZero, FormIsSaid, HasText}
-use Rattle.bpf_dis.proofs.FirstFaults.{said_inside, here_out}
+use Rattle.bpf_dis.proofs.ProgramFaults.{said_inside, here_out}
 
 -- the laws of the crates below: each form has one code, and the instruction of a line fits its form
 abbrev OneCode : Type 0
@@ -79,7 +80,8 @@ test_inside n labels cond src at k holds fails insn within named unused h =
     let jf = branch_below n labels at fails insn.jf within h.1 next in
     ((λ e. h.2 ∙ unused e, λ e. cc), λ out. one_below n _ _ out.0 jt jf out.1 out.2)
 
-fields_so : (labels : List Label) (at k : ℕ) (jump other : Jump) (insn : Insn) → jump ≡ other → HasJumpFields labels at jump k insn → HasJumpFields labels at other k insn
+fields_so : (labels : List Label) (at k : ℕ) (jump other : Jump) (insn : Insn) → jump ≡ other → HasJumpFields labels at jump k insn
+    → HasJumpFields labels at other k insn
 fields_so labels at k jump other insn e h = let P : Jump → Type 0 = λ j. HasJumpFields labels at j k insn in subst P e h
 
 form_inside : (n : ℕ) (labels : List Label) (f : Form) (at k : ℕ) (jump : Jump) (insn : Insn) → AreWithin n labels → NamesLabels f jump

@@ -3,7 +3,8 @@
 use Rattle.std.specs.Prelude.{ℕ, ◌+◌, Bool, codes, decimal, if◌then◌else◌, List, [], ◌∷◌, ◌++◌, Option, None, Some}
 use Rattle.bpf_insn.specs.declared.insn.Insn.{Insn}
 use Rattle.bpf_insn.specs.declared.form.Form.{Form}
-use Rattle.bpf_insn.specs.declared.form.Form.TheVariants.{LdImm, LdAbs, LdInd, LdMem, LdLen, LdxImm, LdxMem, LdxLen, LdxMsh, St, Stx, Alu, Neg, Ja, Test, RetK, RetA, Tax, Txa}
+use Rattle.bpf_insn.specs.declared.form.Form.TheVariants.{LdImm, LdAbs, LdInd, LdMem, LdLen, LdxImm, LdxMem, LdxLen, LdxMsh}
+use Rattle.bpf_insn.specs.declared.form.Form.TheVariants.{St, Stx, Alu, Neg, Ja, Test, RetK, RetA, Tax, Txa}
 use Rattle.bpf_insn.specs.declared.form.Src.{Src}
 use Rattle.bpf_insn.specs.declared.form.Src.TheVariants.{K, X}
 use Rattle.bpf_insn.specs.Flow.{jump_targets}

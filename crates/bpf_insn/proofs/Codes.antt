@@ -2,7 +2,8 @@
 use Rattle.std.proofs.Common.{ℕ, ◌≡◌, ◌⊎◌, ◌↔◌, inl, inr, true, false, cond, eqb, Option, None, Some, refl, ◌∙◌, ap}
 use Rattle.std.proofs.lemmas.Bool.{cases_Bool, eqb-true}
 use Rattle.bpf_insn.specs.declared.form.Form.{Form}
-use Rattle.bpf_insn.specs.declared.form.Form.TheVariants.{LdImm, LdAbs, LdInd, LdMem, LdLen, LdxImm, LdxMem, LdxLen, LdxMsh, St, Stx, Alu, Neg, Ja, Test, RetK, RetA, Tax, Txa}
+use Rattle.bpf_insn.specs.declared.form.Form.TheVariants.{LdImm, LdAbs, LdInd, LdMem, LdLen, LdxImm, LdxMem, LdxLen, LdxMsh}
+use Rattle.bpf_insn.specs.declared.form.Form.TheVariants.{St, Stx, Alu, Neg, Ja, Test, RetK, RetA, Tax, Txa}
 use Rattle.bpf_insn.specs.declared.form.Size.TheVariants.{W, H, B}
 use Rattle.bpf_insn.specs.declared.form.Src.TheVariants.{K, X}
 use Rattle.bpf_insn.specs.declared.form.Op.TheVariants.{Add, Sub, Mul, Div, Or, And, Lsh, Rsh, Mod, Xor}
@@ -12,14 +13,16 @@ use Rattle.bpf_insn.specs.Forms.{form, code_of}
 same_form : (f g : Form) → Some f ≡ Some g → code_of f ≡ code_of g
 same_form f g e = let same : f ≡ g = cc in ap code_of same
 
-row_cases : (code c : ℕ) (f g : Form) (rest : Option Form) → c ≡ code_of f → (rest ≡ Some g → code ≡ code_of g) → (eqb code c ≡ true) ⊎ (eqb code c ≡ false) → cond (eqb code c) (Some f) rest ≡ Some g → code ≡ code_of g
+row_cases : (code c : ℕ) (f g : Form) (rest : Option Form) → c ≡ code_of f → (rest ≡ Some g → code ≡ code_of g) → (eqb code c ≡ true) ⊎ (eqb code c ≡ false)
+    → cond (eqb code c) (Some f) rest ≡ Some g → code ≡ code_of g
 row_cases code c f g rest is more (inl e) h =
     let one : Some f ≡ Some g = rw e at h in
     eqb-true code c e ∙ (is ∙ same_form f g one)
 row_cases code c f g rest is more (inr e) h = let other : rest ≡ Some g = rw e at h in more other
 
 -- one row of the table: the code is that row's, or the form is one of the rows after it
-row : (code c : ℕ) (f g : Form) (rest : Option Form) → c ≡ code_of f → (rest ≡ Some g → code ≡ code_of g) → cond (eqb code c) (Some f) rest ≡ Some g → code ≡ code_of g
+row : (code c : ℕ) (f g : Form) (rest : Option Form) → c ≡ code_of f → (rest ≡ Some g → code ≡ code_of g) → cond (eqb code c) (Some f) rest ≡ Some g
+    → code ≡ code_of g
 row code c f g rest is more h = row_cases code c f g rest is more (cases_Bool (eqb code c)) h
 
 none_left : (code : ℕ) (g : Form) → None ≡ Some g → code ≡ code_of g

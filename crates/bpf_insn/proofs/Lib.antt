@@ -1,9 +1,9 @@
 pub mod Codes
-pub mod Cuts
-pub mod Words
+pub mod ListingCuts
+pub mod ListingWords
 pub mod Listings
 pub mod Digits
-pub mod Pieces
+pub mod ListingPieces
 pub mod PrintedListings
 pub mod Ranges
 pub mod Equal

@@ -1,5 +1,6 @@
 -- A printed listing reads as the program that was printed: each piece stands alone between commas, and each number between spaces.
-use Rattle.std.proofs.Common.{ℕ, suc, ◌+◌, ◌-◌, ◌<◌, ◌≤◌, ◌^◌, ◌≡◌, Bool, true, false, ◌||◌, eqb, List, [], ◌∷◌, ◌++◌, map, length, get_or, decimal, flat_map, Some, Ok, All, subst, refl, sym, ◌∙◌, ap, arith, add-zero}
+use Rattle.std.proofs.Common.{ℕ, suc, ◌+◌, ◌-◌, ◌<◌, ◌≤◌, ◌^◌, ◌≡◌, Bool, true, false, ◌||◌, eqb, List, [], ◌∷◌, ◌++◌, map, length}
+use Rattle.std.proofs.Common.{get_or, decimal, flat_map, Some, Ok, All, subst, refl, sym, ◌∙◌, ap, arith, add-zero}
 use Rattle.std.specs.List.{list_all, suffix_len}
 use Rattle.std.specs.Char.{is_ascii_digit}
 use Rattle.std.specs.Str.Parse.{AllDigits, digits_value}
@@ -11,10 +12,11 @@ use Rattle.std.proofs.lemmas.List.Sums.{suffix_len_is}
 use Rattle.std.proofs.lemmas.Str.Parse.{digit_from_value}
 use Rattle.bpf_insn.specs.declared.insn.Insn.{Insn}
 use Rattle.bpf_insn.specs.Parts.{Part, cut, non_empty, without_ends, is_empty, with_byte}
-use Rattle.bpf_insn.specs.Listing.{listing, listing_of, pieces_from, words_from, is_separator, is_padding, is_listing_blank, numerals_of, insns_of, insn_of, count_of, count_from, insn_from, field_of}
+use Rattle.bpf_insn.specs.Listing.{listing, listing_of, pieces_from, words_from, is_separator, is_padding, is_listing_blank}
+use Rattle.bpf_insn.specs.Listing.{numerals_of, insns_of, insn_of, count_of, count_from, insn_from, field_of}
 use Rattle.bpf_insn.specs.Printed.{insn_numbers, listing_text}
 use Rattle.bpf_insn.specs.Bytes.{InRange}
-use Rattle.bpf_insn.proofs.Cuts.{filled_some}
+use Rattle.bpf_insn.proofs.ListingCuts.{filled_some}
 
 -- none of these bytes is picked
 abbrev pub NonePicked : (ℕ → Bool) → List ℕ → Type 0
@@ -31,7 +33,8 @@ cut_front : (p : ℕ → Bool) (at s : ℕ) (a rest : List ℕ) → NonePicked p
 cut_front p at s [] rest none picked = rw picked (rw add-zero refl)
 cut_front p at s (b ∷ bs) rest none picked =
     let far : at + 1 + length bs + 1 ≡ at + suc (length bs) + 1 = omega arith in
-    rw none.0 (ap (λ parts. with_byte at b parts) (cut_front p (at + 1) s bs rest none.1 picked) ∙ ap (λ n. record { at = at; bytes = b ∷ bs } ∷ cut p n rest) far)
+    rw none.0 (ap (λ parts. with_byte at b parts) (cut_front p (at + 1) s bs rest none.1 picked)
+    ∙ ap (λ n. record { at = at; bytes = b ∷ bs } ∷ cut p n rest) far)
 
 -- where nothing is cut there is one part
 cut_whole : (p : ℕ → Bool) (at : ℕ) (a : List ℕ) → NonePicked p a → cut p at a ≡ record { at = at; bytes = a } ∷ []
@@ -114,7 +117,8 @@ back_last p (b ∷ c ∷ bs) h =
 
 no_suffix : (p : ℕ → Bool) (xs : List ℕ) → NoBack p xs → suffix_len p xs ≡ 0
 no_suffix p xs h =
-    suffix_len_is p xs (length xs) 0 (omega arith) (λ k low high. absurd (omega (arith, low, high))) (λ _. back_last p xs h) ∙ (let e : length xs - length xs ≡ 0 = omega arith in e)
+    suffix_len_is p xs (length xs) 0 (omega arith) (λ k low high. absurd (omega (arith, low, high))) (λ _. back_last p xs h)
+    ∙ (let e : length xs - length xs ≡ 0 = omega arith in e)
 
 -- numbers with spaces between them, put together from the first on
 abbrev pub nested : List ℕ → List ℕ → List ℕ → List ℕ → List ℕ
@@ -125,7 +129,8 @@ numbers_nested i =
     append_assoc (decimal i.code ++ 32 ∷ decimal i.jt) (32 ∷ decimal i.jf) (32 ∷ decimal i.k)
     ∙ append_assoc (decimal i.code) (32 ∷ decimal i.jt) (32 ∷ decimal i.jf ++ 32 ∷ decimal i.k)
 
-filled_four : (w x y z : Part) → is_empty w.bytes ≡ false → is_empty x.bytes ≡ false → is_empty y.bytes ≡ false → is_empty z.bytes ≡ false → non_empty (w ∷ x ∷ y ∷ z ∷ []) ≡ w ∷ x ∷ y ∷ z ∷ []
+filled_four : (w x y z : Part) → is_empty w.bytes ≡ false → is_empty x.bytes ≡ false → is_empty y.bytes ≡ false → is_empty z.bytes ≡ false
+    → non_empty (w ∷ x ∷ y ∷ z ∷ []) ≡ w ∷ x ∷ y ∷ z ∷ []
 filled_four w x y z hw hx hy hz = rw (hw, hx, hy, hz) refl
 
 -- the four words of an instruction
@@ -141,16 +146,19 @@ words_nested at a b c d j k l m ha hb hc hd =
     let three = cut_front is_listing_blank third 32 c d hc.blanks refl ∙ ap (λ ps. record { at = third; bytes = c } ∷ ps) last in
     let two = cut_front is_listing_blank second 32 b (c ++ 32 ∷ d) hb.blanks refl ∙ ap (λ ps. record { at = second; bytes = b } ∷ ps) three in
     let all = cut_front is_listing_blank at 32 a (b ++ 32 ∷ (c ++ 32 ∷ d)) ha.blanks refl ∙ ap (λ ps. record { at = at; bytes = a } ∷ ps) two in
-    ap non_empty all ∙ filled_four (record { at = at; bytes = a }) (record { at = second; bytes = b }) (record { at = third; bytes = c }) (record { at = fourth; bytes = d }) ha.some hb.some hc.some hd.some
+    ap non_empty all ∙ filled_four (record { at = at; bytes = a }) (record { at = second; bytes = b }) (record { at = third; bytes = c })
+    (record { at = fourth; bytes = d }) ha.some hb.some hc.some hd.some
 
-numerals_four : (w x y z : Part) → list_all is_ascii_digit w.bytes ≡ true → list_all is_ascii_digit x.bytes ≡ true → list_all is_ascii_digit y.bytes ≡ true → list_all is_ascii_digit z.bytes ≡ true
+numerals_four : (w x y z : Part) → list_all is_ascii_digit w.bytes ≡ true → list_all is_ascii_digit x.bytes ≡ true → list_all is_ascii_digit y.bytes ≡ true
+    → list_all is_ascii_digit z.bytes ≡ true
     → numerals_of (w ∷ x ∷ y ∷ z ∷ []) ≡ Some (w ∷ x ∷ y ∷ z ∷ [])
 numerals_four w x y z hw hx hy hz = rw (hw, hx, hy, hz) refl
 
 field_is : (most n : ℕ) (word : Part) → digits_value 10 word.bytes ≡ n → n ≤ most → field_of most word ≡ Ok n
 field_is most n word value within = rw value (rw (le-leb n most within) refl)
 
-insn_said : (at : ℕ) (w x y z : Part) (i : Insn) → field_of 65535 w ≡ Ok i.code → field_of 255 x ≡ Ok i.jt → field_of 255 y ≡ Ok i.jf → field_of 4294967295 z ≡ Ok i.k
+insn_said : (at : ℕ) (w x y z : Part) (i : Insn) → field_of 65535 w ≡ Ok i.code → field_of 255 x ≡ Ok i.jt → field_of 255 y ≡ Ok i.jf
+    → field_of 4294967295 z ≡ Ok i.k
     → insn_from at (Some (w ∷ x ∷ y ∷ z ∷ [])) ≡ Ok i
 insn_said at w x y z i code jt jf k = rw (code, jt, jf, k) refl
 
@@ -180,8 +188,10 @@ count_said at n few =
     ap (λ ws. count_from at (numerals_of ws)) words ∙ (ap (λ ws. count_from at ws) numerals ∙ field_is 65535 n word d.value few)
 
 -- a piece with no padding at its ends stays as it is
-kept : (at : ℕ) (b : ℕ) (bs : List ℕ) → is_padding b ≡ false → NoBack is_padding (b ∷ bs) → without_ends is_padding (record { at = at; bytes = b ∷ bs }) ≡ record { at = at; bytes = b ∷ bs }
-kept at b bs front back = let all : length (b ∷ bs) - 0 ≡ length (b ∷ bs) = omega arith in rw front (rw (add-zero, no_suffix is_padding (b ∷ bs) back) (rw all (ap (λ xs. record { at = at; bytes = xs }) (take-length (b ∷ bs)))))
+kept : (at : ℕ) (b : ℕ) (bs : List ℕ) → is_padding b ≡ false → NoBack is_padding (b ∷ bs)
+    → without_ends is_padding (record { at = at; bytes = b ∷ bs }) ≡ record { at = at; bytes = b ∷ bs }
+kept at b bs front back = let all : length (b ∷ bs) - 0 ≡ length (b ∷ bs) = omega arith in
+    rw front (rw (add-zero, no_suffix is_padding (b ∷ bs) back) (rw all (ap (λ xs. record { at = at; bytes = xs }) (take-length (b ∷ bs)))))
 
 -- bytes between commas that no comma parts: a piece
 record IsPiece (bytes : List ℕ) : Type 0 where
@@ -192,11 +202,13 @@ record IsPiece (bytes : List ℕ) : Type 0 where
   back : NoBack is_padding bytes
   whole : NonePicked is_separator bytes
 
-piece_first : (at : ℕ) (bytes rest : List ℕ) → IsPiece bytes → pieces_from at (bytes ++ 44 ∷ rest) ≡ record { at = at; bytes = bytes } ∷ pieces_from (at + length bytes + 1) rest
+piece_first : (at : ℕ) (bytes rest : List ℕ) → IsPiece bytes
+    → pieces_from at (bytes ++ 44 ∷ rest) ≡ record { at = at; bytes = bytes } ∷ pieces_from (at + length bytes + 1) rest
 piece_first at bytes rest piece =
     let part : Part = record { at = at; bytes = bytes } in
     let same : without_ends is_padding part ≡ part =
-    subst (λ bs. NoBack is_padding bs → without_ends is_padding (record { at = at; bytes = bs }) ≡ record { at = at; bytes = bs }) (sym piece.is) (kept at piece.first piece.others piece.front) piece.back in
+    subst (λ bs. NoBack is_padding bs → without_ends is_padding (record { at = at; bytes = bs }) ≡ record { at = at; bytes = bs }) (sym piece.is)
+    (kept at piece.first piece.others piece.front) piece.back in
     let some : is_empty bytes ≡ false = ap is_empty piece.is in
     ap (λ ps. non_empty (map (without_ends is_padding) ps)) (cut_front is_separator at 44 bytes rest piece.whole refl)
     ∙ (ap (λ p. non_empty (p ∷ map (without_ends is_padding) (cut is_separator (at + length bytes + 1) rest))) same
@@ -226,8 +238,16 @@ nested_piece a b c d j k l m ha hb hc hd =
       others = first.1.0;
       is = first.1.1.0;
       front = first.1.1.1;
-      back = back_append is_padding a (32 ∷ (b ++ 32 ∷ (c ++ 32 ∷ d))) (back_append is_padding (32 ∷ b) (32 ∷ (c ++ 32 ∷ d)) (back_append is_padding (32 ∷ c) (32 ∷ d) (back_append is_padding (32 ∷ []) d (back_none is_padding d hd.some hd.paddings))));
-      whole = none_append is_separator a _ ha.separators (refl, none_append is_separator b _ hb.separators (refl, none_append is_separator c _ hc.separators (refl, hd.separators)));
+      back = back_append is_padding a (32 ∷ (b ++ 32 ∷ (c ++ 32 ∷ d)))
+          (back_append is_padding (32 ∷ b) (32 ∷ (c ++ 32 ∷ d)) (back_append is_padding (32 ∷ c) (32 ∷ d)
+          (back_append is_padding (32 ∷ []) d (back_none is_padding d hd.some hd.paddings))));
+      whole = none_append is_separator a _ ha.separators (
+        refl,
+        none_append is_separator b _ hb.separators (
+          refl,
+          none_append is_separator c _ hc.separators (refl, hd.separators),
+        ),
+      );
     }
 
 insn_piece : (i : Insn) → InRange i → IsPiece (insn_numbers i)
@@ -253,6 +273,7 @@ reads_back p few all =
     let rest : List ℕ = flat_map (λ i. insn_numbers i ++ 44 ∷ []) p in
     let text = listing_text p in
     let pieces : pieces_from 0 text ≡ record { at = 0; bytes = decimal n } ∷ pieces_from (0 + length (decimal n) + 1) rest =
-    ap (λ bytes. pieces_from 0 bytes) (append_assoc (decimal n) (44 ∷ []) rest) ∙ piece_first 0 (decimal n) rest (count_piece n (decimal n) (decimal_is n (omega (arith, few)))) in
+    ap (λ bytes. pieces_from 0 bytes) (append_assoc (decimal n) (44 ∷ []) rest)
+    ∙ piece_first 0 (decimal n) rest (count_piece n (decimal n) (decimal_is n (omega (arith, few)))) in
     ap (λ ps. listing_of (length text) ps) pieces
     ∙ rw (count_said 0 n few, insns_read (0 + length (decimal n) + 1) p all) (rw (eq-eqb n n refl) refl)

@@ -1,10 +1,12 @@
 -- What values of the code are as data.
-use Rattle.std.specs.Prelude.{ℕ, List, [], ◌∷◌, Option}
+use Rattle.std.specs.Prelude.{ℕ, ◌||◌, Bool, not, List, [], ◌∷◌, Option}
 use Rattle.bpf_insn.specs.declared.stretch.Stretch.{Stretch}
+use Rattle.bpf_insn.specs.declared.parse.Span.{Span}
+use Rattle.bpf_insn.specs.declared.parse.Span.TheVariants.{Gap, Piece, Blanks, Word}
 use Rattle.bpf_insn.specs.declared.flow.Targets.{Targets}
 use Rattle.bpf_insn.specs.declared.flow.Targets.TheVariants.{Nowhere, One, Two}
 use Rattle.bpf_insn.specs.Parts.{Part}
-use Rattle.bpf_insn.specs.Listing.{pieces_from, words_from, numerals_of}
+use Rattle.bpf_insn.specs.Listing.{pieces_from, words_from, numerals_of, is_separator, is_padding, is_listing_blank}
 
 -- the indexes
 abbrev pub targets_data : Targets → List ℕ
@@ -27,3 +29,10 @@ words_in stretch = words_from stretch.at stretch.bytes.now
 -- these words where each is a number
 abbrev pub numerals_in : Stretch → Option (List Part)
 numerals_in stretch = numerals_of (words_in stretch)
+
+-- whether a byte of a listing is of this kind
+abbrev pub is_in_span : Span → ℕ → Bool
+is_in_span Gap = λ byte. is_separator byte || is_padding byte
+is_in_span Piece = λ byte. not (is_separator byte)
+is_in_span Blanks = λ byte. is_listing_blank byte
+is_in_span Word = λ byte. not (is_listing_blank byte)

@@ -1,9 +1,9 @@
 //! Reads a numeric listing: its program, or its first fault.
 ghost use Rattle.std.specs.Prelude.{◌≡◌, ◌+◌, ◌≤◌, ◌<◌, ◌^◌, ◌⊎◌, ◌∷◌, [], ◌||◌, length, not, MatchResult, MatchOption, IfOk, IfErr, IfSome, Ok, Err, SomeIff, ◌↔◌, IsTrue};
-ghost use Rattle.std.specs.List.{list_all, prefix_len, position_or_len, suffix_len};
+ghost use Rattle.std.specs.List.{list_all, prefix_len, suffix_len};
 ghost use Rattle.std.specs.Char.{is_ascii_digit};
 ghost use Rattle.std.specs.Str.Parse.{digits_value};
-ghost use Rattle.bpf_insn.specs.Views.{stretch_data, pieces_in, words_in, numerals_in};
+ghost use Rattle.bpf_insn.specs.Views.{stretch_data, pieces_in, words_in, numerals_in, is_in_span};
 ghost use Rattle.bpf_insn.specs.declared.parse.ListingFault.TheVariants.{Memory};
 ghost use Rattle.bpf_insn.specs.Listing.{listing, pieces_from, ReadsAnInsn, field_of, count_of, insn_of, insn_of_fields, is_listing_blank, is_padding, is_separator};
 
@@ -162,11 +162,11 @@ fn next_piece(text: Stretch<'_>) -> Option<(Stretch<'_>, Stretch<'_>)>
         (λ r. pieces_in text.entry ≡ stretch_data r.0 ∷ pieces_in r.1) }
     ensures shorter { IfSome result (λ r. length r.1.bytes.now < length text.entry.bytes.now) }
 {
-    let (_, text) = text.split_at(gap_len(text.bytes));
+    let (_, text) = text.split_at(Span::Gap.len_in(text.bytes));
     if text.bytes.is_empty() {
         return None;
     }
-    let (padded, rest) = text.split_at(piece_len(text.bytes));
+    let (padded, rest) = text.split_at(Span::Piece.len_in(text.bytes));
     let (piece, _) = padded.split_at(padded.bytes.len() - end_padding_len(padded.bytes));
     Some((piece, rest))
 }
@@ -198,33 +198,46 @@ fn next_word(piece: Stretch<'_>) -> Option<(Stretch<'_>, Stretch<'_>)>
         (words_in piece.entry ≡ [])
         (λ r. words_in piece.entry ≡ stretch_data r.0 ∷ words_in r.1) }
 {
-    let (_, piece) = piece.split_at(blanks_len(piece.bytes));
+    let (_, piece) = piece.split_at(Span::Blanks.len_in(piece.bytes));
     if piece.bytes.is_empty() {
         return None;
     }
-    Some(piece.split_at(word_len(piece.bytes)))
+    Some(piece.split_at(Span::Word.len_in(piece.bytes)))
 }
 
-/// The number of separators and padding bytes in front.
-fn gap_len(bytes: &[u8]) -> usize
-    ensures length { result ≡ prefix_len (λ b. is_separator b || is_padding b) bytes.now }
-    ensures within { result ≤ length bytes.now }
-{
-    bytes
-        .iter()
-        .take_while(|byte| is_separator_byte(**byte) || is_padding_byte(**byte))
-        .count()
+/// Bytes of a listing that stand together.
+#[derive(Clone, Copy)]
+enum Span {
+    /// Separators and padding, before a piece.
+    Gap,
+    /// Bytes up to the next separator.
+    Piece,
+    /// Blanks, before a word.
+    Blanks,
+    /// Bytes up to the next blank.
+    Word,
 }
 
-/// The number of bytes before the first separator.
-fn piece_len(bytes: &[u8]) -> usize
-    ensures length { result ≡ position_or_len is_separator bytes.now }
-    ensures within { result ≤ length bytes.now }
-{
-    bytes
-        .iter()
-        .take_while(|byte| !is_separator_byte(**byte))
-        .count()
+impl Span {
+    /// Whether a byte is of this kind.
+    fn has(self, byte: u8) -> bool
+        ensures { result ≡ is_in_span self byte }
+    {
+        match self {
+            Span::Gap => is_separator_byte(byte) || is_padding_byte(byte),
+            Span::Piece => !is_separator_byte(byte),
+            Span::Blanks => is_blank_byte(byte),
+            Span::Word => !is_blank_byte(byte),
+        }
+    }
+
+    /// The number of bytes of this kind in front.
+    fn len_in(self, bytes: &[u8]) -> usize
+        ensures length { result ≡ prefix_len (is_in_span self) bytes.now }
+        ensures within { result ≤ length bytes.now }
+    {
+        bytes.iter().take_while(|byte| self.has(**byte)).count()
+    }
 }
 
 /// The number of padding bytes at the end.
@@ -236,28 +249,6 @@ fn end_padding_len(bytes: &[u8]) -> usize
         .iter()
         .rev()
         .take_while(|byte| is_padding_byte(**byte))
-        .count()
-}
-
-/// The number of blanks in front.
-fn blanks_len(bytes: &[u8]) -> usize
-    ensures length { result ≡ prefix_len is_listing_blank bytes.now }
-    ensures within { result ≤ length bytes.now }
-{
-    bytes
-        .iter()
-        .take_while(|byte| is_blank_byte(**byte))
-        .count()
-}
-
-/// The number of bytes before the first blank.
-fn word_len(bytes: &[u8]) -> usize
-    ensures length { result ≡ position_or_len is_listing_blank bytes.now }
-    ensures within { result ≤ length bytes.now }
-{
-    bytes
-        .iter()
-        .take_while(|byte| !is_blank_byte(**byte))
         .count()
 }
 

@@ -1,4 +1,4 @@
-pub mod Words
+pub mod ScratchWords
 pub mod Effects
 pub mod Paths
 pub mod Reached

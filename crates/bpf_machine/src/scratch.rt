@@ -31,7 +31,7 @@ impl Scratch {
 
     /// A word.
     #[inline(always)]
-    #[tactic(auto, using(crate::proofs::Words::words_read))]
+    #[tactic(auto, using(crate::proofs::ScratchWords::words_read))]
     pub(crate) fn recall(&self, at: usize) -> u32
         requires { at < SCRATCH_WORDS }
         ensures { slice_get self.now at ≡ Some (Some result) }
@@ -41,7 +41,7 @@ impl Scratch {
 
     /// Sets a word.
     #[inline(always)]
-    #[tactic(auto, using(crate::proofs::Words::words_set))]
+    #[tactic(auto, using(crate::proofs::ScratchWords::words_set))]
     pub(crate) fn store(&mut self, at: usize, word: u32)
         requires { at < SCRATCH_WORDS }
         ensures { self.new ≡ slice_set self.old at (Some word) }

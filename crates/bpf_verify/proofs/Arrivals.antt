@@ -1,5 +1,6 @@
 -- Paths taken apart and put together at their last edge, and how a word arrives unwritten at a place: by an edge from an earlier one.
-use Rattle.std.proofs.Common.{ℕ, suc, zero, ◌+◌, ◌<◌, ◌≤◌, ◌≡◌, ◌≢◌, ◌⊎◌, ◌↔◌, slice_set, inl, inr, List, [], ◌∷◌, ◌++◌, length, Option, None, Some, refl, sym, ◌∙◌, ap, subst, arith}
+use Rattle.std.proofs.Common.{ℕ, suc, zero, ◌+◌, ◌<◌, ◌≤◌, ◌≡◌, ◌≢◌, ◌⊎◌, ◌↔◌, slice_set, inl, inr, List, [], ◌∷◌}
+use Rattle.std.proofs.Common.{◌++◌, length, Option, None, Some, refl, sym, ◌∙◌, ap, subst, arith}
 use Rattle.std.specs.Prelude.{slice_index, replicate}
 use Rattle.std.specs.Int.{bit_at}
 use Rattle.std.proofs.lemmas.Option.{slice_get_within}
@@ -15,7 +16,7 @@ use Rattle.bpf_insn.specs.Flow.{FormLeads}
 use Rattle.bpf_verify.specs.ControlFlow.{Edge, GoesByEdges, IsPath, WritesWord, NoneWrites}
 use Rattle.bpf_verify.specs.ByForm.{IsAt}
 use Rattle.bpf_verify.specs.Masks.{ArrivesUnset, IsClear}
-use Rattle.bpf_verify.proofs.Places.{here, there}
+use Rattle.bpf_verify.proofs.InsnPlaces.{here, there}
 
 form_forward : (o : Option Form) (i : Insn) (from to : ℕ) → FormLeads o i from to → from < to
 form_forward None i from to h = absurd h
@@ -32,7 +33,8 @@ edge_forward p from to e = form_forward (form e.0.code) e.0 from to e.2
 pub edge_inside : (p : List Insn) (from to : ℕ) → Edge p from to → from < length p
 edge_inside p from to e = slice_get_within p from e.0 e.1
 
-goes_snoc : (p : List Insn) (xs : List ℕ) (from to : ℕ) → GoesByEdges p (xs ++ from ∷ []) → Edge p from to → to < length p → GoesByEdges p ((xs ++ from ∷ []) ++ to ∷ [])
+goes_snoc : (p : List Insn) (xs : List ℕ) (from to : ℕ) → GoesByEdges p (xs ++ from ∷ []) → Edge p from to → to < length p
+    → GoesByEdges p ((xs ++ from ∷ []) ++ to ∷ [])
 goes_snoc p [] from to goes edge within = (edge, within)
 goes_snoc p (x ∷ []) from to goes edge within = (goes.0, (edge, within))
 goes_snoc p (x ∷ y ∷ ys) from to goes edge within = (goes.0, goes_snoc p (y ∷ ys) from to goes.1 edge within)
@@ -70,7 +72,8 @@ empty_or_last (x ∷ xs) = elim (empty_or_last xs) as (λ _. (x ∷ xs ≡ []) �
 abbrev pub ArrivesFromBelow : List Insn → ℕ → ℕ → ℕ → Type 0
 ArrivesFromBelow p bound at word = (at ≡ 0) ⊎ ((from : ℕ) × (from < bound) × ArrivesUnset p from word × Edge p from at × (WritesWord p from word → ⊥))
 
-arrives_last : (p : List Insn) (bound at word : ℕ) → at ≤ bound → (earlier : List ℕ) → IsPath p (earlier ++ at ∷ []) → NoneWrites p earlier word → ArrivesFromBelow p bound at word
+arrives_last : (p : List Insn) (bound at word : ℕ) → at ≤ bound → (earlier : List ℕ) → IsPath p (earlier ++ at ∷ []) → NoneWrites p earlier word
+    → ArrivesFromBelow p bound at word
 arrives_last p bound at word enough earlier path none = elim (empty_or_last earlier) as (λ _. ArrivesFromBelow p bound at word) [
   | inl e ↦ let path' : IsPath p (at ∷ []) = subst (λ xs. IsPath p (xs ++ at ∷ [])) e path in inl path'.0
   | inr h ↦
@@ -80,7 +83,8 @@ arrives_last p bound at word enough earlier path none = elim (empty_or_last earl
       inr (h.1, below, (h.0 ++ h.1 ∷ [], (h.0, refl, apart.0, unwritten.0)), apart.1, unwritten.1)
 ]
 
-arrives_next : (p : List Insn) (from at word : ℕ) → at < length p → ArrivesUnset p from word → Edge p from at → (WritesWord p from word → ⊥) → ArrivesUnset p at word
+arrives_next : (p : List Insn) (from at word : ℕ) → at < length p → ArrivesUnset p from word → Edge p from at → (WritesWord p from word → ⊥)
+    → ArrivesUnset p at word
 arrives_next p from at word within arrives edge none =
     let by = arrives.1 in
     let path = subst (λ xs. IsPath p xs) by.1 by.2 in (
@@ -167,7 +171,8 @@ arrives_after p at to word f i before after mask handed stands inside told here_
 pub first_arrives_alone : (p : List Insn) (word mask : ℕ) → mask ≡ 0 → IsClear mask word ↔ ArrivesFromBelow p 0 0 word
 first_arrives_alone p word mask e = (λ clear. inl refl, λ arrives. subst (λ m. IsClear m word) (sym e) (bit_at-zero word))
 
-pub others_not_reached : (p : List Insn) (to word mask : ℕ) → (to ≡ 0 → ⊥) → word < SCRATCH_WORDS → mask ≡ 65535 → IsClear mask word ↔ ArrivesFromBelow p 0 to word
+pub others_not_reached : (p : List Insn) (to word mask : ℕ) → (to ≡ 0 → ⊥) → word < SCRATCH_WORDS → mask ≡ 65535 → IsClear mask word
+    ↔ ArrivesFromBelow p 0 to word
 others_not_reached p to word mask ne below e =
     let one : bit_at mask word ≡ 1 = subst (λ m. bit_at m word ≡ 1) (sym e) (bit_at_ones 16 word below) in (
       λ clear. let bad : 1 ≡ 0 = sym one ∙ clear in absurd (omega (arith, bad)),
@@ -175,7 +180,8 @@ others_not_reached p to word mask ne below e =
     )
 
 -- the masks before the first instruction: none of its bits is set at the first place, all are at the others
-pub first_masks_arrive : (p : List Insn) (n to word : ℕ) → to < n → word < SCRATCH_WORDS → IsClear (slice_index (slice_set (replicate n 65535) 0 0) to) word ↔ ArrivesFromBelow p 0 to word
+pub first_masks_arrive : (p : List Insn) (n to word : ℕ) → to < n → word < SCRATCH_WORDS → IsClear (slice_index (slice_set (replicate n 65535) 0 0) to) word
+    ↔ ArrivesFromBelow p 0 to word
 first_masks_arrive p n zero word inside below =
     first_arrives_alone p word _ (get_or-set_same (replicate n 65535) 0 0 0 (rw length-replicate inside))
 first_masks_arrive p n (suc to) word inside below =

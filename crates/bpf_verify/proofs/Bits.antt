@@ -19,7 +19,11 @@ clear_set mask k w h =
 min_zero : (a b : ℕ) → (min a b ≡ 0) ↔ ((a ≡ 0) ⊎ (b ≡ 0))
 min_zero zero b = (λ z. inl refl, λ s. omega arith)
 min_zero (suc a) zero = (λ z. inr refl, λ s. omega arith)
-min_zero (suc a) (suc b) = (λ z. absurd (omega (arith, z)), λ s. elim s as (λ _. min (suc a) (suc b) ≡ 0) [ inl e ↦ absurd (omega (arith, e)) | inr e ↦ absurd (omega (arith, e)) ])
+min_zero (suc a) (suc b) = (
+  λ z. absurd (omega (arith, z)),
+  λ s. elim s
+      as (λ _. min (suc a) (suc b) ≡ 0) [ inl e ↦ absurd (omega (arith, e)) | inr e ↦ absurd (omega (arith, e)) ],
+)
 
 -- a bit of a conjunction is clear where it is in one of the two
 pub clear_and : (a b w : ℕ) → (bit_at (bit_and a b) w ≡ 0) ↔ ((bit_at a w ≡ 0) ⊎ (bit_at b w ≡ 0))

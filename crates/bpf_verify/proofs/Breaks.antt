@@ -11,9 +11,8 @@ use Rattle.bpf_verify.specs.Validity.{FormDividesByZero, LacksForm, UsesWordPast
 use Rattle.bpf_verify.specs.ByForm.{IsAt, FormUsesWordPastScratch}
 use Rattle.bpf_verify.specs.declared.flaw.Flaw.{Flaw}
 use Rattle.bpf_verify.specs.declared.flaw.Flaw.TheVariants.{BadOpcode, BadScratch, ZeroDivisor, JumpOut}
-use Rattle.bpf_verify.specs.Refusals.{BreaksAt, HasLength, NoneBreaksBelow}
-use Rattle.bpf_verify.specs.Flaws.{BreaksAs, HasFlaw}
-use Rattle.bpf_verify.proofs.Places.{here, there}
+use Rattle.bpf_verify.specs.Flaws.{BreaksAs, BreaksAt, HasFlaw, HasLength, NoneBreaksBelow}
+use Rattle.bpf_verify.proofs.InsnPlaces.{here, there}
 
 pub read_is_k : (f : Form) (i : Insn) (word : ℕ) → FormReadsWord (Some f) i word → i.k ≡ word
 read_is_k LdMem i word reads = reads
@@ -61,7 +60,15 @@ uses_word_past_scratch p at i f stands uses = (
 -- the first condition that an instruction breaks, where none before it breaks one, is the flaw
 pub breaks_first : (p : List Insn) (at : ℕ) (flaw : Flaw) → HasLength p → NoneBreaksBelow p at → BreaksAs p at flaw → HasFlaw p flaw
 breaks_first p at (BadOpcode place) long below breaks = (long, subst (NoneBreaksBelow p) (sym breaks.0) below, subst (LacksForm p) (sym breaks.0) breaks.1)
-breaks_first p at (BadScratch place) long below breaks = (long, subst (NoneBreaksBelow p) (sym breaks.0) below, subst (UsesWordPastScratch p) (sym breaks.0) breaks.1)
-breaks_first p at (ZeroDivisor place) long below breaks = (long, subst (NoneBreaksBelow p) (sym breaks.0) below, subst (DividesByZero p) (sym breaks.0) breaks.1)
+breaks_first p at (BadScratch place) long below breaks = (
+  long,
+  subst (NoneBreaksBelow p) (sym breaks.0) below,
+  subst (UsesWordPastScratch p) (sym breaks.0) breaks.1,
+)
+breaks_first p at (ZeroDivisor place) long below breaks = (
+  long,
+  subst (NoneBreaksBelow p) (sym breaks.0) below,
+  subst (DividesByZero p) (sym breaks.0) breaks.1,
+)
 breaks_first p at (JumpOut place) long below breaks = (long, subst (NoneBreaksBelow p) (sym breaks.0) below, subst (JumpsOut p) (sym breaks.0) breaks.1)
 breaks_first p at _ long below breaks = absurd breaks

@@ -1,4 +1,4 @@
-pub mod Places
+pub mod InsnPlaces
 pub mod Breaks
 pub mod Valid
 pub mod WellFormed

@@ -10,9 +10,8 @@ use Rattle.bpf_verify.specs.ControlFlow.{ReadsWord, UnsetReadAt}
 use Rattle.bpf_verify.specs.Validity.{Valid}
 use Rattle.bpf_verify.specs.ByForm.{IsAt}
 use Rattle.bpf_verify.specs.Masks.{IsClear, ShowsUnset}
-use Rattle.bpf_verify.specs.Refusals.{IsWellFormed, NoUnsetReadBelow}
-use Rattle.bpf_verify.specs.Flaws.{HasFlaw}
-use Rattle.bpf_verify.proofs.Places.{here, there}
+use Rattle.bpf_verify.specs.Flaws.{HasFlaw, IsWellFormed, NoUnsetReadBelow}
+use Rattle.bpf_verify.proofs.InsnPlaces.{here, there}
 use Rattle.bpf_verify.proofs.Breaks.{read_is_k}
 use Rattle.bpf_verify.proofs.Valid.{valid_from}
 use Rattle.bpf_verify.proofs.WellFormed.{read_below}

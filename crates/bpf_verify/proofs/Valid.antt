@@ -6,7 +6,8 @@ use Rattle.bpf_verify.specs.declared.fault.VerifyFault.{VerifyFault}
 use Rattle.bpf_verify.specs.declared.fault.VerifyFault.TheVariants.{Empty, TooLong, BadOpcode, BadScratch, ZeroDivisor, JumpOut, NoReturn, Unset}
 use Rattle.bpf_verify.specs.ControlFlow.{ReadsWord}
 use Rattle.bpf_verify.specs.Validity.{Valid}
-use Rattle.bpf_verify.specs.Refusals.{BreaksAt, IsWellFormed, NoUnsetReadBelow, Refuses}
+use Rattle.bpf_verify.specs.Flaws.{BreaksAt, IsWellFormed, NoUnsetReadBelow}
+use Rattle.bpf_verify.specs.Refusals.{Refuses}
 
 inside : (p : List Insn) (at : ℕ) → BreaksAt p at → at < length p
 inside p at (inl (inl lacks)) = slice_get_within p at lacks.0 lacks.1
@@ -28,7 +29,8 @@ valid_from p formed none = record {
   divisors = λ at zero. unbroken p formed at (inr (inl zero));
   targets = λ at out. unbroken p formed at (inr (inr out));
   ends = formed.ends;
-  no_unset_read = λ path word unset. let reads : ReadsWord p unset.0 word = unset.1.3 in none unset.0 path word (slice_get_within p unset.0 reads.0 reads.1) unset.1;
+  no_unset_read = λ path word unset. let reads : ReadsWord p unset.0 word = unset.1.3 in
+      none unset.0 path word (slice_get_within p unset.0 reads.0 reads.1) unset.1;
 }
 
 -- a program of which a refusal is true is not valid

@@ -31,7 +31,8 @@ ends_walk p at (next ∷ rest) word last (x ∷ xs) e goes reads none =
     ((goes.0, subst (λ y. WritesWord p y word → ⊥) same none.0), ends_walk p next rest word last xs tail goes.1 reads none.1)
 
 -- an unset read begins with the first instruction and walks on from there
-pub unset_walks : (p : List Insn) (path : List ℕ) (first : ℕ) (rest : List ℕ) (word : ℕ) → path ≡ first ∷ rest → UnsetRead p path word ↔ ((first ≡ 0) × WalksUnset p first rest word)
+pub unset_walks : (p : List Insn) (path : List ℕ) (first : ℕ) (rest : List ℕ) (word : ℕ) → path ≡ first ∷ rest → UnsetRead p path word
+    ↔ ((first ≡ 0) × WalksUnset p first rest word)
 unset_walks p path first rest word is = subst (λ xs. UnsetRead p xs word ↔ ((first ≡ 0) × WalksUnset p first rest word)) (sym is) (
   λ unset. let at = unset.1 in (at.2.0, ends_walk p first rest word unset.0 at.0 at.1 at.2.1 at.3 at.4),
   λ walk. let ends = walk_ends p first rest word walk.1 in (ends.0, (ends.1, ends.2, (walk.0, ends.3), ends.4, ends.5)),

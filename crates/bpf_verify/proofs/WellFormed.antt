@@ -11,8 +11,8 @@ use Rattle.bpf_verify.specs.ControlFlow.{ReadsWord, WritesWord}
 use Rattle.bpf_insn.specs.Flow.{FormJumps}
 use Rattle.bpf_verify.specs.Validity.{FormReturns}
 use Rattle.bpf_verify.specs.ByForm.{IsAt}
-use Rattle.bpf_verify.specs.Refusals.{IsWellFormed}
-use Rattle.bpf_verify.proofs.Places.{here, there}
+use Rattle.bpf_verify.specs.Flaws.{IsWellFormed}
+use Rattle.bpf_verify.proofs.InsnPlaces.{here, there}
 use Rattle.bpf_verify.proofs.Valid.{unbroken}
 
 below_or_past : (a b : ℕ) → (a < b) ⊎ (b ≤ a)
@@ -22,13 +22,16 @@ pub has_form : (p : List Insn) (at : ℕ) (i : Insn) → IsWellFormed p → slic
 has_form p at i formed is none = unbroken p formed at (inl (inl (i, is, none)))
 
 pub read_below : (p : List Insn) (at word : ℕ) → IsWellFormed p → ReadsWord p at word → word < SCRATCH_WORDS
-read_below p at word formed reads = elim (below_or_past word SCRATCH_WORDS) as (λ _. word < SCRATCH_WORDS) [ inl below ↦ below | inr past ↦ absurd (unbroken p formed at (inl (inr (word, inl reads, past)))) ]
+read_below p at word formed reads = elim (below_or_past word SCRATCH_WORDS)
+    as (λ _. word < SCRATCH_WORDS) [ inl below ↦ below | inr past ↦ absurd (unbroken p formed at (inl (inr (word, inl reads, past)))) ]
 
 pub write_below : (p : List Insn) (at word : ℕ) → IsWellFormed p → WritesWord p at word → word < SCRATCH_WORDS
-write_below p at word formed writes = elim (below_or_past word SCRATCH_WORDS) as (λ _. word < SCRATCH_WORDS) [ inl below ↦ below | inr past ↦ absurd (unbroken p formed at (inl (inr (word, inr writes, past)))) ]
+write_below p at word formed writes = elim (below_or_past word SCRATCH_WORDS)
+    as (λ _. word < SCRATCH_WORDS) [ inl below ↦ below | inr past ↦ absurd (unbroken p formed at (inl (inr (word, inr writes, past)))) ]
 
 -- an instruction leads by a jump, or to the next place without a return
-jumps_or_next : (f : Form) (i : Insn) (from to : ℕ) → FormLeads (Some f) i from to → FormJumps (Some f) i from to ⊎ ((to ≡ from + 1) × (FormReturns (Some f) → ⊥))
+jumps_or_next : (f : Form) (i : Insn) (from to : ℕ) → FormLeads (Some f) i from to
+    → FormJumps (Some f) i from to ⊎ ((to ≡ from + 1) × (FormReturns (Some f) → ⊥))
 jumps_or_next RetK i from to h = absurd h
 jumps_or_next RetA i from to h = absurd h
 jumps_or_next Ja i from to h = inl h

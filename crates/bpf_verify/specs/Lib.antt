@@ -1,6 +1,6 @@
 pub mod ControlFlow
 pub mod Validity
-pub mod Refusals
 pub mod ByForm
 pub mod Masks
 pub mod Flaws
+pub mod Refusals

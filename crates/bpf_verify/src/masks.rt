@@ -4,7 +4,7 @@ ghost use Rattle.std.specs.Prelude.{ℕ, ◌≡◌, ◌≢◌, ◌^◌, ◌<◌,
 ghost use Rattle.bpf_insn.specs.Flow.{FormLeads};
 ghost use Rattle.bpf_insn.specs.Uses.{FormWritesWord};
 ghost use Rattle.bpf_verify.specs.ControlFlow.{ReadsWord};
-ghost use Rattle.bpf_verify.specs.Refusals.{IsWellFormed, NoUnsetReadBelow};
+ghost use Rattle.bpf_verify.specs.Flaws.{IsWellFormed, NoUnsetReadBelow};
 ghost use Rattle.bpf_verify.specs.ByForm.{IsAt};
 ghost use Rattle.bpf_verify.specs.Masks.{IsClear, ArrivesUnset, ShowsUnset, MaskAfter, PassesMask};
 

@@ -4,8 +4,8 @@ ghost use Rattle.bpf_insn.specs.Bytes.{InRange, AreInRange};
 ghost use Rattle.bpf_insn.specs.Forms.{form};
 ghost use Rattle.bpf_verify.specs.Validity.{Valid, FormDividesByZero, FormReturns, EndsWithReturn};
 ghost use Rattle.bpf_verify.specs.ByForm.{FormUsesWordPastScratch};
-ghost use Rattle.bpf_verify.specs.Refusals.{Refuses, HasLength, BreaksAt, NoneBreaksBelow, IsWellFormed, NoUnsetReadBelow};
-ghost use Rattle.bpf_verify.specs.Flaws.{HasFlaw, BreaksAs};
+ghost use Rattle.bpf_verify.specs.Refusals.{Refuses};
+ghost use Rattle.bpf_verify.specs.Flaws.{HasFlaw, BreaksAs, BreaksAt, HasLength, IsWellFormed, NoneBreaksBelow, NoUnsetReadBelow};
 
 use crate::fault::{Refused, VerifyFault};
 use crate::flaw::Flaw;

@@ -1,5 +1,6 @@
 -- What the fields of a body and of its builder hold, and how a frame is added.
-use Rattle.std.proofs.Common.{◌≡◌, ℕ, zero, suc, ◌+◌, ◌*◌, ◌/◌, ◌%◌, ◌^◌, ◌<◌, ◌≤◌, List, [], ◌∷◌, ◌++◌, length, map, drop, Some, refl, sym, ap, subst, ◌∙◌, append_assoc, arith}
+use Rattle.std.proofs.Common.{◌≡◌, ℕ, zero, suc, ◌+◌, ◌*◌, ◌/◌, ◌%◌, ◌^◌, ◌<◌, ◌≤◌, List, [], ◌∷◌, ◌++◌, length}
+use Rattle.std.proofs.Common.{map, drop, Some, refl, sym, ap, subst, ◌∙◌, append_assoc, arith}
 use Rattle.std.specs.Prelude.{All, IsTrue, nat_le, slice_get, slice_set}
 use Rattle.std.specs.Int.{w32, to_le_bytes}
 use Rattle.std.specs.List.{sum_by, flat_map}
@@ -17,19 +18,28 @@ use Rattle.ch11_packet.specs.Sums.{body_sum}
 use Rattle.ch11_packet.specs.PacketLen.{packet_len}
 use Rattle.ch11_packet.specs.Frames.{frame_bytes, frame_len, data_bytes, data_len}
 use Rattle.ch11_packet.specs.FramesRead.{body_frame, frame_in, first_reads, SpellsBody}
-use Rattle.ch11_packet.specs.Building.{EthernetBody, IsEthernetBody, body_of, OpenBody, open_of, Fits, first_counter, frames_in, HoldsFrames, HasRoom, IsBlank, IsOpen, IsSealed}
+use Rattle.ch11_packet.specs.Building.{EthernetBody, IsEthernetBody, body_of, OpenBody, open_of, Fits}
+use Rattle.ch11_packet.specs.Building.{first_counter, frames_in, HoldsFrames, HasRoom, IsBlank, IsOpen, IsSealed}
 use Rattle.ch11_packet.proofs.FrameBytes.{length-frame_bytes, Begins-written, first_reads-flat_map}
 use Rattle.ch11_packet.proofs.FirstFrames.{length-first_reads}
 
 -- ---- sizes
 
-pub length-frames : (net speed : ℕ) (frames : List FrameData) → length (flat_map (frame_bytes net speed) frames) ≡ sum_by (λ frame. frame_len (length frame.bytes)) frames
+pub length-frames : (net speed : ℕ) (frames : List FrameData)
+    → length (flat_map (frame_bytes net speed) frames) ≡ sum_by (λ frame. frame_len (length frame.bytes)) frames
 length-frames net speed [] = refl
 length-frames net speed (f ∷ fs) =
-    omega (arith, length-append (frame_bytes net speed f) (flat_map (frame_bytes net speed) fs), length-frame_bytes net speed f, length-frames net speed fs, sum_by-cons (λ (frame : FrameData). frame_len (length frame.bytes)) f fs)
+    omega (
+      arith,
+      length-append (frame_bytes net speed f) (flat_map (frame_bytes net speed) fs),
+      length-frame_bytes net speed f,
+      length-frames net speed fs,
+      sum_by-cons (λ (frame : FrameData). frame_len (length frame.bytes)) f fs,
+    )
 
 -- the bytes are as many as the body's
-pub length-Holds : (word : ℕ) (frames : List FrameData) (net speed : ℕ) (bytes : List ℕ) → HoldsFrames word frames net speed bytes → length bytes ≡ data_len frames
+pub length-Holds : (word : ℕ) (frames : List FrameData) (net speed : ℕ) (bytes : List ℕ) → HoldsFrames word frames net speed bytes
+    → length bytes ≡ data_len frames
 length-Holds word frames net speed bytes holds =
     omega (arith, ap length holds.bytes_are, length-frames net speed frames)
 
@@ -44,7 +54,8 @@ few_frames (f ∷ fs) each =
 -- ---- the frames that are held
 
 -- the frames that are found in the bytes are those that they hold
-pub frames_in-Holds : (word count : ℕ) (frames : List FrameData) (net speed : ℕ) (bytes : List ℕ) → HoldsFrames word frames net speed bytes → count ≡ length frames → frames_in count bytes ≡ frames
+pub frames_in-Holds : (word count : ℕ) (frames : List FrameData) (net speed : ℕ) (bytes : List ℕ) → HoldsFrames word frames net speed bytes
+    → count ≡ length frames → frames_in count bytes ≡ frames
 unfolding frames_in
 frames_in-Holds word count frames net speed bytes holds many =
     ap (λ n. frames_in n bytes) many
@@ -61,14 +72,18 @@ pub ruleset frames_counted = (length-frames_in)
 
 -- ---- an open body
 
-pub length-IsOpen : (count net speed limit room : ℕ) (bytes : List ℕ) → IsOpen count net speed limit room bytes → length bytes ≡ data_len (frames_in count bytes)
+pub length-IsOpen : (count net speed limit room : ℕ) (bytes : List ℕ) → IsOpen count net speed limit room bytes
+    → length bytes ≡ data_len (frames_in count bytes)
 length-IsOpen count net speed limit room bytes is = length-Holds 0 (frames_in count bytes) net speed bytes is.holds
 
 -- the frames that contracts see take the bytes behind the word
-pub open_len : (count net speed limit room : ℕ) (bytes : List ℕ) (body : OpenBody) → IsOpen count net speed limit room bytes → open_of (frames_in count bytes) net speed limit ≡ body → data_len body.frames ≡ length bytes
-open_len count net speed limit room bytes body is e = subst (λ (b : OpenBody). data_len b.frames ≡ length bytes) e (sym (length-IsOpen count net speed limit room bytes is))
+pub open_len : (count net speed limit room : ℕ) (bytes : List ℕ) (body : OpenBody) → IsOpen count net speed limit room bytes
+    → open_of (frames_in count bytes) net speed limit ≡ body → data_len body.frames ≡ length bytes
+open_len count net speed limit room bytes body is e = subst (λ (b : OpenBody). data_len b.frames ≡ length bytes) e
+    (sym (length-IsOpen count net speed limit room bytes is))
 
-pub open_count : (count net speed limit : ℕ) (bytes : List ℕ) (body : OpenBody) → open_of (frames_in count bytes) net speed limit ≡ body → length body.frames ≡ count
+pub open_count : (count net speed limit : ℕ) (bytes : List ℕ) (body : OpenBody) → open_of (frames_in count bytes) net speed limit ≡ body
+    → length body.frames ≡ count
 open_count count net speed limit bytes body e = subst (λ (b : OpenBody). length b.frames ≡ count) e (length-frames_in count bytes)
 
 -- a body of no frames
@@ -82,7 +97,8 @@ IsOpen-none net speed limit room bytes e n s roomy = record {
 }
 
 -- the body of no frames in an empty buffer
-pub open_blank : (net speed limit room more : ℕ) (old new : List ℕ) → IsBlank limit room old → new ≡ old ++ to_le_bytes w32 0 → room ≤ more → net < 2 ^ 8 → speed ≤ MAX_SPEED → IsOpen 0 net speed limit more new
+pub open_blank : (net speed limit room more : ℕ) (old new : List ℕ) → IsBlank limit room old → new ≡ old ++ to_le_bytes w32 0 → room ≤ more → net < 2 ^ 8
+    → speed ≤ MAX_SPEED → IsOpen 0 net speed limit more new
 open_blank net speed limit room more old new is added roomy n s =
     IsOpen-none net speed limit more new (added ∙ ap (λ l. l ++ to_le_bytes w32 0) is.empty) n s
     (record { least = is.roomy.least; most = is.roomy.most; enough = omega (arith, is.roomy.enough) })
@@ -101,7 +117,8 @@ Holds-push : (frames : List FrameData) (frame : FrameData) (net speed : ℕ) (ol
 Holds-push frames frame net speed old new holds is added = record {
   bytes_are = added ∙ ap (λ l. l ++ frame_bytes net speed frame) holds.bytes_are
       ∙ append_assoc (to_le_bytes w32 0) (flat_map (frame_bytes net speed) frames) (frame_bytes net speed frame)
-      ∙ ap (λ l. to_le_bytes w32 0 ++ l) (ap (λ l. flat_map (frame_bytes net speed) frames ++ l) (sym (append-nil (frame_bytes net speed frame))) ∙ sym (flat_map-append (frame_bytes net speed) frames (frame ∷ [])));
+      ∙ ap (λ l. to_le_bytes w32 0 ++ l) (ap (λ l. flat_map (frame_bytes net speed) frames ++ l) (sym (append-nil (frame_bytes net speed frame)))
+      ∙ sym (flat_map-append (frame_bytes net speed) frames (frame ∷ [])));
   in_range = All-push IsFrame frames frame holds.in_range is;
   net_fits = holds.net_fits;
   speed_fits = holds.speed_fits;
@@ -191,7 +208,8 @@ IsSealed-IsOpen count net speed limit room sum old new is some written summed =
     }
 
 -- a sealed body is in range
-pub IsEthernetBody-IsSealed : (count net speed limit room sum : ℕ) (bytes : List ℕ) → IsSealed count net speed limit room sum bytes → IsEthernetBody (body_of (frames_in count bytes) net speed limit)
+pub IsEthernetBody-IsSealed : (count net speed limit room sum : ℕ) (bytes : List ℕ) → IsSealed count net speed limit room sum bytes
+    → IsEthernetBody (body_of (frames_in count bytes) net speed limit)
 IsEthernetBody-IsSealed count net speed limit room sum bytes is =
     let many = length-frames_in count bytes in
     let size = length-Holds count (frames_in count bytes) net speed bytes is.holds in
@@ -209,7 +227,8 @@ IsEthernetBody-IsSealed count net speed limit room sum bytes is =
     }
 
 -- what a sealed body's bytes are
-pub bytes-IsSealed : (count net speed limit room sum : ℕ) (bytes : List ℕ) → IsSealed count net speed limit room sum bytes → bytes ≡ data_bytes net speed (frames_in count bytes)
+pub bytes-IsSealed : (count net speed limit room sum : ℕ) (bytes : List ℕ) → IsSealed count net speed limit room sum bytes
+    → bytes ≡ data_bytes net speed (frames_in count bytes)
 unfolding data_bytes
 bytes-IsSealed count net speed limit room sum bytes is =
     is.holds.bytes_are ∙ ap (λ n. to_le_bytes w32 n ++ flat_map (frame_bytes net speed) (frames_in count bytes)) (sym (length-frames_in count bytes))
@@ -223,7 +242,8 @@ first_counter-fits [] each = omega arith
 first_counter-fits (f ∷ fs) each = (All-head IsFrame f fs each).counter
 
 -- a body that is written is a body of its frames
-pub SpellsBody-written : (body : EthernetBody) → IsEthernetBody body → SpellsBody (map (body_frame body.net body.speed) body.frames) (data_bytes body.net body.speed body.frames)
+pub SpellsBody-written : (body : EthernetBody) → IsEthernetBody body
+    → SpellsBody (map (body_frame body.net body.speed) body.frames) (data_bytes body.net body.speed body.frames)
 unfolding data_bytes
 SpellsBody-written body is =
     let many = length-map body.frames (body_frame body.net body.speed) in
@@ -240,16 +260,22 @@ SpellsBody-written body is =
 
 -- ---- what contracts see of a sealed body
 
-pub body_bytes : (count net speed limit room sum : ℕ) (bytes : List ℕ) (body : EthernetBody) → IsSealed count net speed limit room sum bytes → body_of (frames_in count bytes) net speed limit ≡ body → bytes ≡ data_bytes body.net body.speed body.frames
-body_bytes count net speed limit room sum bytes body is e = subst (λ (b : EthernetBody). bytes ≡ data_bytes b.net b.speed b.frames) e (bytes-IsSealed count net speed limit room sum bytes is)
+pub body_bytes : (count net speed limit room sum : ℕ) (bytes : List ℕ) (body : EthernetBody) → IsSealed count net speed limit room sum bytes
+    → body_of (frames_in count bytes) net speed limit ≡ body → bytes ≡ data_bytes body.net body.speed body.frames
+body_bytes count net speed limit room sum bytes body is e = subst (λ (b : EthernetBody). bytes ≡ data_bytes b.net b.speed b.frames) e
+    (bytes-IsSealed count net speed limit room sum bytes is)
 
-pub body_len : (count net speed limit room sum : ℕ) (bytes : List ℕ) (body : EthernetBody) → IsSealed count net speed limit room sum bytes → body_of (frames_in count bytes) net speed limit ≡ body → length bytes ≡ data_len body.frames
-body_len count net speed limit room sum bytes body is e = subst (λ (b : EthernetBody). length bytes ≡ data_len b.frames) e (length-Holds count (frames_in count bytes) net speed bytes is.holds)
+pub body_len : (count net speed limit room sum : ℕ) (bytes : List ℕ) (body : EthernetBody) → IsSealed count net speed limit room sum bytes
+    → body_of (frames_in count bytes) net speed limit ≡ body → length bytes ≡ data_len body.frames
+body_len count net speed limit room sum bytes body is e = subst (λ (b : EthernetBody). length bytes ≡ data_len b.frames) e
+    (length-Holds count (frames_in count bytes) net speed bytes is.holds)
 
-pub body_valid : (count net speed limit room sum : ℕ) (bytes : List ℕ) (body : EthernetBody) → IsSealed count net speed limit room sum bytes → body_of (frames_in count bytes) net speed limit ≡ body → IsEthernetBody body
+pub body_valid : (count net speed limit room sum : ℕ) (bytes : List ℕ) (body : EthernetBody) → IsSealed count net speed limit room sum bytes
+    → body_of (frames_in count bytes) net speed limit ≡ body → IsEthernetBody body
 body_valid count net speed limit room sum bytes body is e = subst IsEthernetBody e (IsEthernetBody-IsSealed count net speed limit room sum bytes is)
 
-pub body_sum_is : (count net speed limit room sum : ℕ) (bytes : List ℕ) (body : EthernetBody) → IsSealed count net speed limit room sum bytes → body_of (frames_in count bytes) net speed limit ≡ body → sum ≡ body_sum (data_bytes body.net body.speed body.frames)
+pub body_sum_is : (count net speed limit room sum : ℕ) (bytes : List ℕ) (body : EthernetBody) → IsSealed count net speed limit room sum bytes
+    → body_of (frames_in count bytes) net speed limit ≡ body → sum ≡ body_sum (data_bytes body.net body.speed body.frames)
 body_sum_is count net speed limit room sum bytes body is e = is.sum_is ∙ ap body_sum (body_bytes count net speed limit room sum bytes body is e)
 
 -- a sealed body has the bytes of a frame
@@ -270,11 +296,13 @@ pub first-frame : (frames : List FrameData) → 0 < length frames → option_map
 first-frame [] lt = absurd (omega arith)
 first-frame (f ∷ fs) lt = refl
 
-pub body_first : (count net speed limit room sum : ℕ) (bytes : List ℕ) (body : EthernetBody) → IsSealed count net speed limit room sum bytes → body_of (frames_in count bytes) net speed limit ≡ body
+pub body_first : (count net speed limit room sum : ℕ) (bytes : List ℕ) (body : EthernetBody) → IsSealed count net speed limit room sum bytes
+    → body_of (frames_in count bytes) net speed limit ≡ body
     → option_map (λ (f : FrameData). f.counter) (slice_get body.frames 0) ≡ Some (u48_at bytes 4)
 body_first count net speed limit room sum bytes body is e =
     let frames = frames_in count bytes in
     let some : 0 < length frames = omega (arith, length-frames_in count bytes, is.some) in
-    let counter : u48_at bytes 4 ≡ first_counter frames = ap (λ l. u48_at l 4) is.holds.bytes_are ∙ counter_behind count net speed frames is.holds.in_range some in
+    let counter : u48_at bytes 4 ≡ first_counter frames = ap (λ l. u48_at l 4) is.holds.bytes_are
+    ∙ counter_behind count net speed frames is.holds.in_range some in
     subst (λ (b : EthernetBody). option_map (λ (f : FrameData). f.counter) (slice_get b.frames 0) ≡ Some (u48_at bytes 4)) e
     (first-frame frames some ∙ ap (λ n. Some n) (sym counter))

@@ -21,7 +21,8 @@ use Rattle.ch11_packet.specs.Records.{EndData}
 use Rattle.ch11_packet.specs.RecordsRead.{IsTagged, SpellsRecord, HasRecordFault, RecordData}
 use Rattle.ch11_packet.specs.RecordsRead.RecordData.{OfProgram, OfEnd}
 use Rattle.ch11_packet.specs.Flags.{HasChecksum}
-use Rattle.ch11_packet.specs.Classes.{SaysFrames, SaysRecord, IsJudgedAs, IsOther, HasClass, HasNoClass, IsAnswer, HasSum, IsSummed, Holds, HasClassFault, data_in, said_frames}
+use Rattle.ch11_packet.specs.Classes.{SaysFrames, SaysRecord, IsJudgedAs, IsOther, HasClass, HasNoClass, IsAnswer}
+use Rattle.ch11_packet.specs.Classes.{HasSum, IsSummed, Holds, HasClassFault, data_in, said_frames}
 use Rattle.ch11_packet.proofs.ReadBodies.{one_body, no_fault, one_fault, IsBody-SpellsBody}
 use Rattle.ch11_packet.proofs.FirstFrames.{first_reads-Begins}
 use Rattle.ch11_packet.proofs.StoredInsns.{length-stored_insns}
@@ -56,7 +57,8 @@ same_counts c v f n c' v' f' n' insns others e m m' =
     let count : n ≡ n' = sym m ∙ ap (λ (l : List Insn). length l) same ∙ m' in
     cc
 
-same_ends : (c o k c' o' k' : ℕ) → OfEnd (record { channel = c; offered = o; kept = k }) ≡ OfEnd (record { channel = c'; offered = o'; kept = k' }) → End c o k ≡ End c' o' k'
+same_ends : (c o k c' o' k' : ℕ) → OfEnd (record { channel = c; offered = o; kept = k }) ≡ OfEnd (record { channel = c'; offered = o'; kept = k' })
+    → End c o k ≡ End c' o' k'
 same_ends c o k c' o' k' e =
     let same : ◌≡◌ {A = EndData} (record { channel = c; offered = o; kept = k }) (record { channel = c'; offered = o'; kept = k' }) = cc in
     let channel : c ≡ c' = ap (λ (d : EndData). d.channel) same in
@@ -104,7 +106,8 @@ other_or_fault header bytes (inr (inl a)) (inr b) = not_both header a.0 b.0
 other_or_fault header bytes (inr (inr a)) (inl b) = not_both header b.0 a.0
 other_or_fault header bytes (inr (inr a)) (inr b) = a.1 (tagged_fault bytes b.1 b.2)
 
-frames_or_fault : (header : HeaderData) (bytes : List ℕ) (frames : List ReadFrameData) → SaysFrames header → SpellsBody frames bytes → HasNoClass header bytes → ⊥
+frames_or_fault : (header : HeaderData) (bytes : List ℕ) (frames : List ReadFrameData) → SaysFrames header → SpellsBody frames bytes → HasNoClass header bytes
+    → ⊥
 frames_or_fault header bytes frames a spells (inl (says, inl short)) = no_fault frames bytes Short spells short
 frames_or_fault header bytes frames a spells (inl (says, inr left)) = no_fault frames bytes LeftOver spells left
 frames_or_fault header bytes frames a spells (inr b) = not_both header a b.0
@@ -132,7 +135,8 @@ pub held_or_fault : (header : HeaderData) (body : List ℕ) (what : What) (fault
 held_or_fault header body what DataChecksum holds wrong = wrong.2 (holds.summed wrong.0 wrong.1)
 held_or_fault header body what Body holds wrong = class_or_fault header (data_in header body) what holds.class wrong.0
 
-pub one_fault_held : (header : HeaderData) (body : List ℕ) (fault other : ClassFault) → HasClassFault header body fault → HasClassFault header body other → fault ≡ other
+pub one_fault_held : (header : HeaderData) (body : List ℕ) (fault other : ClassFault) → HasClassFault header body fault → HasClassFault header body other
+    → fault ≡ other
 one_fault_held header body DataChecksum DataChecksum a b = refl
 one_fault_held header body DataChecksum Body a b = absurd (a.2 (b.1 a.1))
 one_fault_held header body Body DataChecksum a b = absurd (b.2 (a.1 b.1))
@@ -149,11 +153,13 @@ class_found header bytes (Some found) some what is = ap (λ w. Some w) (one_clas
 abbrev pub Passes : HeaderData → List ℕ → Option What → Type 0
 Passes header body answer = (answer ≡ Some Other) ⊎ IsSummed header body
 
-summed_by : (header : HeaderData) (body : List ℕ) (what : What) → HasClass header (data_in header body) what → Passes header body (Some what) → (IsOther header (data_in header body) → ⊥) → IsSummed header body
+summed_by : (header : HeaderData) (body : List ℕ) (what : What) → HasClass header (data_in header body) what → Passes header body (Some what)
+    → (IsOther header (data_in header body) → ⊥) → IsSummed header body
 summed_by header body what is (inl other) judged = let same : what ≡ Other = cc in absurd (judged (subst (HasClass header (data_in header body)) same is))
 summed_by header body what is (inr right) judged = right
 
-pub is_held : (header : HeaderData) (body : List ℕ) (answer : Option What) → IsAnswer header (data_in header body) answer → (answer ≡ Some Other) ⊎ (HasChecksum header.flags → HasSum body)
+pub is_held : (header : HeaderData) (body : List ℕ) (answer : Option What) → IsAnswer header (data_in header body) answer
+    → (answer ≡ Some Other) ⊎ (HasChecksum header.flags → HasSum body)
     → IfOk (ok_or answer Body) (Holds header body)
 is_held header body None none passes = tt
 is_held header body (Some what) some passes = record { class = some; summed = summed_by header body what some passes }
@@ -163,7 +169,8 @@ pub held_found : (header : HeaderData) (body : List ℕ) (answer : Option What) 
 held_found header body None none what is = absurd (class_or_fault header (data_in header body) what is.class none)
 held_found header body (Some found) some what is = ap (λ w. Ok w) (one_class header (data_in header body) found what some is.class)
 
-pub fault_found : (header : HeaderData) (body : List ℕ) (answer : Option What) → IsAnswer header (data_in header body) answer → (answer ≡ Some Other) ⊎ (HasChecksum header.flags → HasSum body)
+pub fault_found : (header : HeaderData) (body : List ℕ) (answer : Option What) → IsAnswer header (data_in header body) answer
+    → (answer ≡ Some Other) ⊎ (HasChecksum header.flags → HasSum body)
     → (fault : ClassFault) → (ok_or answer Body ≡ Err fault) ↔ HasClassFault header body fault
 fault_found header body None none (inl other) fault = absurd cc
 fault_found header body None none (inr right) Body = (λ _. (none, right), λ _. refl)
@@ -176,17 +183,20 @@ fault_found header body (Some found) some passes fault =
 not_other : (header : HeaderData) (bytes : List ℕ) (answer : Option What) → IsAnswer header bytes answer → (answer ≡ Some Other → ⊥) → IsOther header bytes → ⊥
 not_other header bytes answer is isnt other = isnt (class_found header bytes answer is Other other)
 
-pub sum_fault : (header : HeaderData) (body : List ℕ) (answer : Option What) → IsAnswer header (data_in header body) answer → (answer ≡ Some Other → ⊥) → HasChecksum header.flags → (HasSum body → ⊥)
+pub sum_fault : (header : HeaderData) (body : List ℕ) (answer : Option What) → IsAnswer header (data_in header body) answer → (answer ≡ Some Other → ⊥)
+    → HasChecksum header.flags → (HasSum body → ⊥)
     → (fault : ClassFault) → (◌≡◌ {A = Result What ClassFault} (Err DataChecksum) (Err fault)) ↔ HasClassFault header body fault
 sum_fault header body answer is isnt has wrong DataChecksum = (λ _. (not_other header (data_in header body) answer is isnt, has, wrong), λ _. refl)
 sum_fault header body answer is isnt has wrong Body = (λ e. absurd cc, λ h. absurd (wrong (h.1 has)))
 
-pub sum_found : (header : HeaderData) (body : List ℕ) (answer : Option What) → IsAnswer header (data_in header body) answer → (answer ≡ Some Other → ⊥) → HasChecksum header.flags → (HasSum body → ⊥)
+pub sum_found : (header : HeaderData) (body : List ℕ) (answer : Option What) → IsAnswer header (data_in header body) answer → (answer ≡ Some Other → ⊥)
+    → HasChecksum header.flags → (HasSum body → ⊥)
     → (what : What) → Holds header body what → ◌≡◌ {A = Result What ClassFault} (Err DataChecksum) (Ok what)
 sum_found header body answer is isnt has wrong what holds = absurd (wrong (holds.summed (not_other header (data_in header body) answer is isnt) has))
 
 -- the record of a program, as it is read, is the program's
-pub program_holds : (header : HeaderData) (bytes : List ℕ) (found : Record) (program : ProgramRecord) → found ≡ ProgramOf program → SaysRecord header → SpellsRecord (record_data found) bytes
+pub program_holds : (header : HeaderData) (bytes : List ℕ) (found : Record) (program : ProgramRecord) → found ≡ ProgramOf program → SaysRecord header
+    → SpellsRecord (record_data found) bytes
     → HasClass header bytes (Program program.channel program.version program.first program.count)
 program_holds header bytes found program is says spells =
     (says, record_insns program, subst (λ r. SpellsRecord (record_data r) bytes) is spells, length-stored_insns program.count program.insns.now)
@@ -220,7 +230,8 @@ class_again header other bytes (Program c v f n) same is = (record_again header 
 class_again header other bytes (End c o k) same is = (record_again header other same is.0, is.1)
 class_again header other bytes Other same is = other_again header other bytes same is
 
-pub holds_again : (header other : HeaderData) (body more : List ℕ) (what : What) → IsJudgedAs header other → data_in other more ≡ data_in header body → (what ≢ Other → IsSummed other more)
+pub holds_again : (header other : HeaderData) (body more : List ℕ) (what : What) → IsJudgedAs header other → data_in other more ≡ data_in header body
+    → (what ≢ Other → IsSummed other more)
     → Holds header body what → Holds other more what
 holds_again header other body more what same bytes sums is =
     let again = subst (λ l. HasClass other l what) (sym bytes) (class_again header other (data_in header body) what same is.class) in
@@ -238,7 +249,8 @@ pub fault_again : (header other : HeaderData) (body more : List ℕ) → IsJudge
 fault_again header other body more same bytes right is =
     (subst (HasNoClass other) (sym bytes) (none_again header other (data_in header body) same is.0), right)
 
-pub wrong_sum : (header other : HeaderData) (body more : List ℕ) → IsJudgedAs header other → data_in other more ≡ data_in header body → (IsOther header (data_in header body) → ⊥)
+pub wrong_sum : (header other : HeaderData) (body more : List ℕ) → IsJudgedAs header other → data_in other more ≡ data_in header body
+    → (IsOther header (data_in header body) → ⊥)
     → HasChecksum other.flags → (HasSum more → ⊥) → HasClassFault other more DataChecksum
 wrong_sum header other body more same bytes judged has wrong =
     (λ o. judged (other_again other header (data_in header body) (judged_back header other same) (subst (IsOther other) bytes o)), has, wrong)

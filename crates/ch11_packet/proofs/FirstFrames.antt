@@ -1,6 +1,7 @@
 -- The frames that stand at the front of a body's bytes: they are the ones that are read there, and
 -- no others.
-use Rattle.std.proofs.Common.{◌≡◌, ℕ, zero, suc, ◌+◌, ◌-◌, ◌*◌, ◌/◌, ◌%◌, ◌^◌, ◌<◌, ◌≤◌, inl, inr, Bool, true, false, cond, eqb, List, [], ◌∷◌, ◌++◌, length, take, drop, refl, sym, ap, subst, ◌∙◌, arith}
+use Rattle.std.proofs.Common.{◌≡◌, ℕ, zero, suc, ◌+◌, ◌-◌, ◌*◌, ◌/◌, ◌%◌, ◌^◌, ◌<◌, ◌≤◌, inl, inr, Bool, true, false, cond}
+use Rattle.std.proofs.Common.{eqb, List, [], ◌∷◌, ◌++◌, length, take, drop, refl, sym, ap, subst, ◌∙◌, arith}
 use Rattle.std.proofs.Props.{props}
 use Rattle.std.proofs.Math.Logic.{∥∥₁_elim}
 use Rattle.std.specs.Int.{w16, w32, to_le_bytes, bytes_low_first}
@@ -10,7 +11,8 @@ use Rattle.ch11_packet.specs.declared.frames.word.TheConstants.{FRAME_HEADER_LEN
 use Rattle.eth_frame.specs.Bytes.{u32_at}
 use Rattle.ch11_packet.specs.Frames.{frame_len}
 use Rattle.ch11_packet.specs.Flags.{has_bit}
-use Rattle.ch11_packet.specs.FramesRead.{ReadFrameData, read_frame_of, length_in, first_read, after_first, first_reads, IsReadFrame, read_word, IsFiller, FrameStandsFirst, BeginsFrames, IsCutFrame, AreFrames}
+use Rattle.ch11_packet.specs.FramesRead.{ReadFrameData, read_frame_of, length_in, first_read, after_first, first_reads, IsReadFrame}
+use Rattle.ch11_packet.specs.FramesRead.{read_word, IsFiller, FrameStandsFirst, BeginsFrames, IsCutFrame, AreFrames}
 use Rattle.eth_frame.proofs.Bytes.{six_again}
 
 -- ---- the word
@@ -34,10 +36,46 @@ bit_is w k n e = ap (λ m. eqb m 1) e
 
 word_reads : (len spare net speed content : ℕ) (frame_error crc_error : Bool) → len < 2 ^ 14 → spare < 2 ^ 2 → net < 2 ^ 8 → speed < 2 ^ 4 → content < 2 ^ 2
     → Reads (word len spare net speed content frame_error crc_error) len net speed content frame_error crc_error
-word_reads len spare net speed content false false l p n s c = record { small = omega arith; len_is = omega arith; net_is = omega arith; speed_is = omega arith; content_is = omega arith; frame_is = bit_is _ 30 0 (omega arith); crc_is = bit_is _ 31 0 (omega arith) }
-word_reads len spare net speed content false true l p n s c = record { small = omega arith; len_is = omega arith; net_is = omega arith; speed_is = omega arith; content_is = omega arith; frame_is = bit_is _ 30 0 (omega arith); crc_is = bit_is _ 31 1 (omega arith) }
-word_reads len spare net speed content true false l p n s c = record { small = omega arith; len_is = omega arith; net_is = omega arith; speed_is = omega arith; content_is = omega arith; frame_is = bit_is _ 30 1 (omega arith); crc_is = bit_is _ 31 0 (omega arith) }
-word_reads len spare net speed content true true l p n s c = record { small = omega arith; len_is = omega arith; net_is = omega arith; speed_is = omega arith; content_is = omega arith; frame_is = bit_is _ 30 1 (omega arith); crc_is = bit_is _ 31 1 (omega arith) }
+word_reads len spare net speed content false false l p n s c =
+    record {
+      small = omega arith;
+      len_is = omega arith;
+      net_is = omega arith;
+      speed_is = omega arith;
+      content_is = omega arith;
+      frame_is = bit_is _ 30 0 (omega arith);
+      crc_is = bit_is _ 31 0 (omega arith);
+    }
+word_reads len spare net speed content false true l p n s c =
+    record {
+      small = omega arith;
+      len_is = omega arith;
+      net_is = omega arith;
+      speed_is = omega arith;
+      content_is = omega arith;
+      frame_is = bit_is _ 30 0 (omega arith);
+      crc_is = bit_is _ 31 1 (omega arith);
+    }
+word_reads len spare net speed content true false l p n s c =
+    record {
+      small = omega arith;
+      len_is = omega arith;
+      net_is = omega arith;
+      speed_is = omega arith;
+      content_is = omega arith;
+      frame_is = bit_is _ 30 1 (omega arith);
+      crc_is = bit_is _ 31 0 (omega arith);
+    }
+word_reads len spare net speed content true true l p n s c =
+    record {
+      small = omega arith;
+      len_is = omega arith;
+      net_is = omega arith;
+      speed_is = omega arith;
+      content_is = omega arith;
+      frame_is = bit_is _ 30 1 (omega arith);
+      crc_is = bit_is _ 31 1 (omega arith);
+    }
 
 frame_word_reads : (frame : ReadFrameData) (spare : ℕ) → IsReadFrame frame → spare < 2 ^ 2
     → Reads (read_word frame spare) (length frame.bytes) frame.net frame.speed frame.content frame.frame_error frame.crc_error
@@ -46,7 +84,8 @@ frame_word_reads frame spare is fits =
 
 -- ---- one frame at the front
 
-same_frame : (c : ℕ) (x y : Bool) (n s k : ℕ) (b : List ℕ) (c' : ℕ) (x' y' : Bool) (n' s' k' : ℕ) (b' : List ℕ) → c ≡ c' → x ≡ x' → y ≡ y' → n ≡ n' → s ≡ s' → k ≡ k' → b ≡ b'
+same_frame : (c : ℕ) (x y : Bool) (n s k : ℕ) (b : List ℕ) (c' : ℕ) (x' y' : Bool) (n' s' k' : ℕ) (b' : List ℕ) → c ≡ c' → x ≡ x' → y ≡ y' → n ≡ n' → s ≡ s'
+    → k ≡ k' → b ≡ b'
     → read_frame_of c x y n s k b ≡ read_frame_of c' x' y' n' s' k' b'
 same_frame c x y n s k b c' x' y' n' s' k' b' ec ex ey en es ek eb = cc
 
@@ -137,7 +176,8 @@ pub record GoesOn (frames others : List ReadFrameData) (rest end : List ℕ) : T
   pub whole : others ≡ frames ++ later
   pub begins : BeginsFrames later rest end
 
-pub goes_on : (frames others : List ReadFrameData) (bytes rest end : List ℕ) → BeginsFrames frames bytes rest → BeginsFrames others bytes end → length frames ≤ length others → GoesOn frames others rest end
+pub goes_on : (frames others : List ReadFrameData) (bytes rest end : List ℕ) → BeginsFrames frames bytes rest → BeginsFrames others bytes end
+    → length frames ≤ length others → GoesOn frames others rest end
 goes_on [] others bytes rest end short long fewer =
     record { later = others; whole = refl; begins = subst (λ l. BeginsFrames others l end) short long }
 goes_on (f ∷ fs) [] bytes rest end short long fewer = absurd (omega arith)
@@ -153,7 +193,8 @@ goes_on (f ∷ fs) (g ∷ gs) bytes rest end short long fewer =
     }
 
 -- a further frame
-pub Begins-snoc : (frames : List ReadFrameData) (frame : ReadFrameData) (bytes rest more : List ℕ) → BeginsFrames frames bytes rest → FrameStandsFirst frame rest more → BeginsFrames (frames ++ frame ∷ []) bytes more
+pub Begins-snoc : (frames : List ReadFrameData) (frame : ReadFrameData) (bytes rest more : List ℕ) → BeginsFrames frames bytes rest
+    → FrameStandsFirst frame rest more → BeginsFrames (frames ++ frame ∷ []) bytes more
 Begins-snoc [] frame bytes rest more begins first = (more, subst (λ l. FrameStandsFirst frame l more) (sym begins) first, refl)
 Begins-snoc (f ∷ fs) frame bytes rest more begins first =
     (begins.0, begins.1, Begins-snoc fs frame begins.0 rest more begins.2 first)
@@ -190,11 +231,13 @@ takes (suc n) frame bytes more are first =
     subst (λ l. BeginsFrames (first_reads n l) l []) (sym a.more_is ∙ b.more_is) (subst (λ l. BeginsFrames (first_reads n l) are.0 []) a.more_is are.2) in
     record {
       some = omega arith;
-      whole = ap (λ g. g ∷ first_reads n (after_first bytes)) b.frame_is ∙ ap (λ l. frame ∷ first_reads n l) b.more_is ∙ ap (λ k. frame ∷ first_reads k more) one;
+      whole = ap (λ g. g ∷ first_reads n (after_first bytes)) b.frame_is ∙ ap (λ l. frame ∷ first_reads n l) b.more_is
+          ∙ ap (λ k. frame ∷ first_reads k more) one;
       others = ∣ subst (λ k. BeginsFrames (first_reads k more) more []) one others ∣₁;
     }
 
-pub takes_first : (left : ℕ) (frame : ReadFrameData) (bytes more : List ℕ) → ∥ AreFrames left bytes ∥₁ → FrameStandsFirst frame bytes more → TakesFirst left frame bytes more
+pub takes_first : (left : ℕ) (frame : ReadFrameData) (bytes more : List ℕ) → ∥ AreFrames left bytes ∥₁ → FrameStandsFirst frame bytes more
+    → TakesFirst left frame bytes more
 takes_first left frame bytes more are first = record {
   some = ∥∥₁_elim are (hlevel props) (λ are. (takes left frame bytes more are first).some);
   whole = ∥∥₁_elim are (hlevel props) (λ are. (takes left frame bytes more are first).whole);

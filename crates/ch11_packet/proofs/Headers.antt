@@ -19,7 +19,8 @@ pub same_header : (c p d v s f k t c' p' d' t' : ℕ) → c ≡ c' → p ≡ p' 
 same_header c p d v s f k t c' p' d' t' ec ep ed et = cc
 
 -- the fields that were read are those that the bytes say
-pub fields_read : (bytes : List ℕ) (channel packet_len data_len counter : ℕ) → channel ≡ u16_at bytes 2 → packet_len ≡ u32_at bytes 4 → data_len ≡ u32_at bytes 8 → counter ≡ u48_at bytes 16
+pub fields_read : (bytes : List ℕ) (channel packet_len data_len counter : ℕ) → channel ≡ u16_at bytes 2 → packet_len ≡ u32_at bytes 4
+    → data_len ≡ u32_at bytes 8 → counter ≡ u48_at bytes 16
     → header_of channel packet_len data_len (get_or bytes 12 0) (get_or bytes 13 0) (get_or bytes 14 0) (get_or bytes 15 0) counter ≡ header_at bytes
 fields_read bytes channel packet_len data_len counter ec ep ed et = same_header _ _ _ _ _ _ _ _ _ _ _ _ ec ep ed et
 
@@ -56,7 +57,8 @@ cells (a ∷ b ∷ c ∷ d ∷ e ∷ f ∷ g ∷ h ∷ i ∷ j ∷ k ∷ l ∷ m
 cells other len = absurd (omega arith)
 
 -- 24 bytes with the sync pattern and their checksum are those of the fields that they say
-pub header_bytes-header_at : (bytes : List ℕ) → length bytes ≡ HEADER_LEN → AreBytes bytes → HasSync bytes → HasHeaderSum bytes → bytes ≡ header_bytes (header_at bytes)
+pub header_bytes-header_at : (bytes : List ℕ) → length bytes ≡ HEADER_LEN → AreBytes bytes → HasSync bytes → HasHeaderSum bytes
+    → bytes ≡ header_bytes (header_at bytes)
 unfolding header_bytes
 header_bytes-header_at bytes len fit sync sum =
     let at = λ (i : ℕ). get_or bytes i 0 in
@@ -68,8 +70,10 @@ header_bytes-header_at bytes len fit sync sum =
     let counter = six_bytes (at 16) (at 17) (at 18) (at 19) (at 20) (at 21) (fit 16) (fit 17) (fit 18) (fit 19) (fit 20) (fit 21) in
     let four = at 12 ∷ at 13 ∷ at 14 ∷ at 15 ∷ [] in
     let checked : checked_bytes (header_at bytes) ≡ take CHECKED_LEN bytes =
-    ap (λ l. l ++ to_le_bytes w16 (u16_at bytes 2) ++ to_le_bytes w32 (u32_at bytes 4) ++ to_le_bytes w32 (u32_at bytes 8) ++ (four ++ bytes_low_first 0 6 (u48_at bytes 16))) first
-    ∙ ap (λ l. (at 0 ∷ at 1 ∷ []) ++ l ++ to_le_bytes w32 (u32_at bytes 4) ++ to_le_bytes w32 (u32_at bytes 8) ++ (four ++ bytes_low_first 0 6 (u48_at bytes 16))) channel
+    ap (λ l. l ++ to_le_bytes w16 (u16_at bytes 2) ++ to_le_bytes w32 (u32_at bytes 4) ++ to_le_bytes w32 (u32_at bytes 8)
+    ++ (four ++ bytes_low_first 0 6 (u48_at bytes 16))) first
+    ∙ ap (λ l. (at 0 ∷ at 1 ∷ []) ++ l ++ to_le_bytes w32 (u32_at bytes 4) ++ to_le_bytes w32 (u32_at bytes 8)
+    ++ (four ++ bytes_low_first 0 6 (u48_at bytes 16))) channel
     ∙ ap (λ l. (at 0 ∷ at 1 ∷ at 2 ∷ at 3 ∷ []) ++ l ++ to_le_bytes w32 (u32_at bytes 8) ++ (four ++ bytes_low_first 0 6 (u48_at bytes 16))) packet_len
     ∙ ap (λ l. (at 0 ∷ at 1 ∷ at 2 ∷ at 3 ∷ at 4 ∷ at 5 ∷ at 6 ∷ at 7 ∷ []) ++ l ++ (four ++ bytes_low_first 0 6 (u48_at bytes 16))) data_len
     ∙ ap (λ l. (at 0 ∷ at 1 ∷ at 2 ∷ at 3 ∷ at 4 ∷ at 5 ∷ at 6 ∷ at 7 ∷ at 8 ∷ at 9 ∷ at 10 ∷ at 11 ∷ []) ++ (four ++ l)) counter
@@ -93,7 +97,8 @@ IsHeader-header_at bytes fit lengths = record {
 
 -- ---- what was made of the fields
 
-pub spelled_by : (bytes : List ℕ) (made : Option Header) (fields : HeaderData) → bytes ≡ header_bytes fields → IfSome made (λ header. header_data header ≡ fields)
+pub spelled_by : (bytes : List ℕ) (made : Option Header) (fields : HeaderData) → bytes ≡ header_bytes fields
+    → IfSome made (λ header. header_data header ≡ fields)
     → IfOk (ok_or made Length) (λ header. bytes ≡ header_bytes (header_data header))
 spelled_by bytes None fields e made = tt
 spelled_by bytes (Some header) fields e made = e ∙ ap header_bytes (sym made)

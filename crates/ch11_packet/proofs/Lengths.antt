@@ -41,7 +41,8 @@ pub length-data : (net speed : ℕ) (frames : List FrameData) → length (data_b
 unfolding data_bytes
 length-data net speed frames = omega (arith, length-frames net speed frames)
 
-pub length-program : (channel version first : ℕ) (insns : List Insn) → length (program_bytes channel version first insns) ≡ PROGRAM_HEAD_LEN + INSN_LEN * length insns
+pub length-program : (channel version first : ℕ) (insns : List Insn)
+    → length (program_bytes channel version first insns) ≡ PROGRAM_HEAD_LEN + INSN_LEN * length insns
 unfolding program_bytes
 length-program channel version first insns = omega (arith, length-insns insns)
 
@@ -49,8 +50,10 @@ pub length-end : (end : EndData) → length (end_bytes end) ≡ END_RECORD_LEN
 unfolding end_bytes
 length-end end = refl
 
-pub length-packet_of_frames : (profile : Profile) (header : HeaderData) (net speed : ℕ) (frames : List FrameData) → length (packet_bytes profile header (data_bytes net speed frames)) ≡ written_len profile (data_len frames)
-length-packet_of_frames profile header net speed frames = length-packet profile header (data_bytes net speed frames) ∙ ap (written_len profile) (length-data net speed frames)
+pub length-packet_of_frames : (profile : Profile) (header : HeaderData) (net speed : ℕ) (frames : List FrameData)
+    → length (packet_bytes profile header (data_bytes net speed frames)) ≡ written_len profile (data_len frames)
+length-packet_of_frames profile header net speed frames = length-packet profile header (data_bytes net speed frames)
+    ∙ ap (written_len profile) (length-data net speed frames)
 
 -- a frame fits where the packet with it does
 pub fits_by_packet : (header : HeaderData) (body : OpenBody) (frame : FrameData)

@@ -1,6 +1,7 @@
 -- All bytes have an outcome: 24 bytes are a header or have a fault, and so is it with the body of a
 -- packet.
-use Rattle.std.proofs.Common.{◌≡◌, ℕ, zero, suc, ◌+◌, ◌*◌, ◌%◌, ◌^◌, ◌<◌, ◌≤◌, ◌⊎◌, inl, inr, true, false, List, [], ◌∷◌, ◌++◌, length, take, drop, refl, sym, ap, subst, arith, lit<}
+use Rattle.std.proofs.Common.{◌≡◌, ℕ, zero, suc, ◌+◌, ◌*◌, ◌%◌, ◌^◌, ◌<◌, ◌≤◌, ◌⊎◌, inl, inr, true, false, List}
+use Rattle.std.proofs.Common.{[], ◌∷◌, ◌++◌, length, take, drop, refl, sym, ap, subst, arith, lit<}
 use Rattle.std.proofs.lemmas.List.{length-drop, length-take-le, take-append-drop}
 use Rattle.eth_frame.specs.Bytes.{AreBytes, u16_at, u32_at, u48_at}
 use Rattle.eth_frame.proofs.Bytes.{AreBytes-drop}
@@ -21,7 +22,8 @@ use Rattle.ch11_packet.specs.declared.sum.TheConstants.{CHECKSUM_LEN}
 use Rattle.ch11_packet.specs.declared.class.ClassFault.{ClassFault}
 use Rattle.ch11_packet.specs.declared.class.ClassFault.TheVariants.{DataChecksum, Body}
 use Rattle.ch11_packet.specs.Flags.{has_bit, HasChecksum, IsPlain}
-use Rattle.ch11_packet.specs.FramesRead.{ReadFrameData, length_in, FrameStandsFirst, IsFiller, IsCutFrame, SpellsBody, count_in, format_in, HasFormat, HasBodyFault}
+use Rattle.ch11_packet.specs.FramesRead.{ReadFrameData, length_in, FrameStandsFirst, IsFiller, IsCutFrame}
+use Rattle.ch11_packet.specs.FramesRead.{SpellsBody, count_in, format_in, HasFormat, HasBodyFault}
 use Rattle.ch11_packet.specs.RecordsRead.{IsTagged, SpellsRecord, HasRecordFault, RecordData, kind_in, record_channel_in, insn_count_in, IsKind, HasRecordHead}
 use Rattle.ch11_packet.specs.RecordsRead.RecordData.{OfProgram, OfEnd}
 use Rattle.ch11_packet.specs.Classes.{SaysFrames, SaysRecord, HasClass, HasNoClass, HasSum, IsSummed, Holds, HasClassFault, data_in}
@@ -46,23 +48,29 @@ AreBytes-take (suc n) (x ∷ xs) fit (suc i) = AreBytes-take n xs (λ k. fit (su
 abbrev Checked : (flags packet_len data_len : ℕ) → Type 0
 Checked flags packet_len data_len = HasChecksum flags → HEADER_LEN + data_len + CHECKSUM_LEN ≤ packet_len
 
-checked_by : (flags packet_len data_len : ℕ) → HasChecksum flags ⊎ (HasChecksum flags → ⊥) → (packet_len < HEADER_LEN + data_len + CHECKSUM_LEN) ⊎ (HEADER_LEN + data_len + CHECKSUM_LEN ≤ packet_len)
+checked_by : (flags packet_len data_len : ℕ) → HasChecksum flags ⊎ (HasChecksum flags → ⊥)
+    → (packet_len < HEADER_LEN + data_len + CHECKSUM_LEN) ⊎ (HEADER_LEN + data_len + CHECKSUM_LEN ≤ packet_len)
     → Checked flags packet_len data_len ⊎ (Checked flags packet_len data_len → ⊥)
 checked_by flags packet_len data_len (inr isnt) over = inl (λ is. absurd (isnt is))
 checked_by flags packet_len data_len (inl is) (inl over) = inr (λ fits. omega (arith, over, fits is))
 checked_by flags packet_len data_len (inl is) (inr fits) = inl (λ _. fits)
 
-lengths_by : (flags kind packet_len data_len : ℕ) → Checked flags packet_len data_len ⊎ (Checked flags packet_len data_len → ⊥) → (packet_len < HEADER_LEN + data_len) ⊎ (HEADER_LEN + data_len ≤ packet_len) → (packet_len % 4 ≡ 0) ⊎ (packet_len % 4 ≡ 0 → ⊥)
+lengths_by : (flags kind packet_len data_len : ℕ) → Checked flags packet_len data_len ⊎ (Checked flags packet_len data_len → ⊥)
+    → (packet_len < HEADER_LEN + data_len) ⊎ (HEADER_LEN + data_len ≤ packet_len) → (packet_len % 4 ≡ 0) ⊎ (packet_len % 4 ≡ 0 → ⊥)
     → (kind ≡ ETHERNET_DATA) ⊎ (kind ≡ ETHERNET_DATA → ⊥) → (MAX_ETHERNET_PACKET_LEN < packet_len) ⊎ (packet_len ≤ MAX_ETHERNET_PACKET_LEN)
     → LengthsFit flags kind packet_len data_len ⊎ (LengthsFit flags kind packet_len data_len → ⊥)
 lengths_by flags kind packet_len data_len (inr isnt) holds aligned ethernet most = inr (λ fit. isnt fit.checked)
 lengths_by flags kind packet_len data_len (inl checked) (inl over) aligned ethernet most = inr (λ fit. omega (arith, fit.holds, over))
 lengths_by flags kind packet_len data_len (inl checked) (inr holds) (inr isnt) ethernet most = inr (λ fit. isnt fit.aligned)
-lengths_by flags kind packet_len data_len (inl checked) (inr holds) (inl aligned) (inr isnt) most = inl (record { holds = holds; checked = checked; aligned = aligned; most = λ e. absurd (isnt e) })
-lengths_by flags kind packet_len data_len (inl checked) (inr holds) (inl aligned) (inl ethernet) (inl over) = inr (λ fit. omega (arith, fit.most ethernet, over))
-lengths_by flags kind packet_len data_len (inl checked) (inr holds) (inl aligned) (inl ethernet) (inr most) = inl (record { holds = holds; checked = checked; aligned = aligned; most = λ _. most })
+lengths_by flags kind packet_len data_len (inl checked) (inr holds) (inl aligned) (inr isnt) most =
+    inl (record { holds = holds; checked = checked; aligned = aligned; most = λ e. absurd (isnt e) })
+lengths_by flags kind packet_len data_len (inl checked) (inr holds) (inl aligned) (inl ethernet) (inl over) =
+    inr (λ fit. omega (arith, fit.most ethernet, over))
+lengths_by flags kind packet_len data_len (inl checked) (inr holds) (inl aligned) (inl ethernet) (inr most) =
+    inl (record { holds = holds; checked = checked; aligned = aligned; most = λ _. most })
 
-checksum_by : (flags : ℕ) → (has_bit flags 1 ≡ true) ⊎ (has_bit flags 1 ≡ true → ⊥) → (has_bit flags 0 ≡ true) ⊎ (has_bit flags 0 ≡ true → ⊥) → HasChecksum flags ⊎ (HasChecksum flags → ⊥)
+checksum_by : (flags : ℕ) → (has_bit flags 1 ≡ true) ⊎ (has_bit flags 1 ≡ true → ⊥) → (has_bit flags 0 ≡ true) ⊎ (has_bit flags 0 ≡ true → ⊥)
+    → HasChecksum flags ⊎ (HasChecksum flags → ⊥)
 checksum_by flags (inr isnt) low = inr (λ is. isnt is.high)
 checksum_by flags (inl high) (inr isnt) = inr (λ is. isnt is.low)
 checksum_by flags (inl high) (inl low) = inl (record { high = high; low = low })
@@ -72,7 +80,9 @@ decide_checksum flags = checksum_by flags (decide_true _) (decide_true _)
 
 decide_lengths : (flags kind packet_len data_len : ℕ) → LengthsFit flags kind packet_len data_len ⊎ (LengthsFit flags kind packet_len data_len → ⊥)
 decide_lengths flags kind packet_len data_len =
-    lengths_by flags kind packet_len data_len (checked_by flags packet_len data_len (decide_checksum flags) (cases_lt packet_len (HEADER_LEN + data_len + CHECKSUM_LEN))) (cases_lt packet_len (HEADER_LEN + data_len)) (cases_eq (packet_len % 4) 0) (cases_eq kind ETHERNET_DATA) (cases_lt MAX_ETHERNET_PACKET_LEN packet_len)
+    lengths_by flags kind packet_len data_len (checked_by flags packet_len data_len (decide_checksum flags)
+    (cases_lt packet_len (HEADER_LEN + data_len + CHECKSUM_LEN))) (cases_lt packet_len (HEADER_LEN + data_len)) (cases_eq (packet_len % 4) 0)
+    (cases_eq kind ETHERNET_DATA) (cases_lt MAX_ETHERNET_PACKET_LEN packet_len)
 
 -- the bytes are a header's
 abbrev pub AreHeader : List ℕ → Type 0
@@ -107,7 +117,8 @@ record HasFrame (bytes : List ℕ) : Type 0 where
   more : List ℕ
   first : FrameStandsFirst frame bytes more
 
-whole_frame : (bytes : List ℕ) → AreBytes bytes → FRAME_HEADER_LEN ≤ length bytes → FRAME_HEADER_LEN + length_in (u32_at bytes 8) ≤ length bytes → HasFrame bytes
+whole_frame : (bytes : List ℕ) → AreBytes bytes → FRAME_HEADER_LEN ≤ length bytes → FRAME_HEADER_LEN + length_in (u32_at bytes 8) ≤ length bytes
+    → HasFrame bytes
 whole_frame bytes fit long whole =
     let len = u16_at bytes 8 % 2 ^ 14 in
     let behind = drop FRAME_HEADER_LEN bytes in
@@ -117,11 +128,13 @@ whole_frame bytes fit long whole =
     record {
       frame = _;
       more = filled.0;
-      first = StandsFirst-split bytes (take len behind) after filled.0 len (u48_at bytes 0) fit long refl refl (sym (take-append-drop len behind)) many filled.1;
+      first = StandsFirst-split bytes (take len behind) after filled.0 len (u48_at bytes 0) fit long refl refl (sym (take-append-drop len behind)) many
+          filled.1;
     }
 
 frame_by : (bytes : List ℕ) → AreBytes bytes → (length bytes < FRAME_HEADER_LEN) ⊎ (FRAME_HEADER_LEN ≤ length bytes)
-    → (length bytes < FRAME_HEADER_LEN + length_in (u32_at bytes 8)) ⊎ (FRAME_HEADER_LEN + length_in (u32_at bytes 8) ≤ length bytes) → HasFrame bytes ⊎ IsCutFrame bytes
+    → (length bytes < FRAME_HEADER_LEN + length_in (u32_at bytes 8)) ⊎ (FRAME_HEADER_LEN + length_in (u32_at bytes 8) ≤ length bytes)
+    → HasFrame bytes ⊎ IsCutFrame bytes
 frame_by bytes fit (inl short) all = inr (inl short)
 frame_by bytes fit (inr long) (inl few) = inr (inr (long, few))
 frame_by bytes fit (inr long) (inr whole) = inl (whole_frame bytes fit long whole)
@@ -189,7 +202,8 @@ short_body bytes is_format short = inr (
   }),
 )
 
-body_by : (bytes : List ℕ) → AreBytes bytes → (length bytes < BODY_WORD_LEN) ⊎ (BODY_WORD_LEN ≤ length bytes) → (format_in bytes ≡ 0) ⊎ (format_in bytes ≡ 0 → ⊥)
+body_by : (bytes : List ℕ) → AreBytes bytes → (length bytes < BODY_WORD_LEN) ⊎ (BODY_WORD_LEN ≤ length bytes)
+    → (format_in bytes ≡ 0) ⊎ (format_in bytes ≡ 0 → ⊥)
     → ((rest : List ℕ) × Passed (count_in bytes) (drop BODY_WORD_LEN bytes) rest) ⊎ IsShort (count_in bytes) (drop BODY_WORD_LEN bytes) → BodyOrFault bytes
 body_by bytes fit (inl few) format frames = inr (Short, inl few)
 body_by bytes fit (inr long) (inr isnt) frames = inr (Format, (long, isnt))
@@ -210,13 +224,16 @@ neither : (kind : ℕ) → (kind ≡ PROGRAM_RECORD → ⊥) → (kind ≡ END_R
 neither kind not_program not_end (inl program) = not_program program
 neither kind not_program not_end (inr ending) = not_end ending
 
-program_by : (bytes : List ℕ) → AreBytes bytes → HasRecordHead bytes → kind_in bytes ≡ PROGRAM_RECORD → (record_channel_in bytes ≡ 0) ⊎ (record_channel_in bytes ≡ 0 → ⊥)
-    → (length bytes ≡ PROGRAM_HEAD_LEN + INSN_LEN * insn_count_in bytes) ⊎ (length bytes ≡ PROGRAM_HEAD_LEN + INSN_LEN * insn_count_in bytes → ⊥) → RecordOrFault bytes
+program_by : (bytes : List ℕ) → AreBytes bytes → HasRecordHead bytes → kind_in bytes ≡ PROGRAM_RECORD
+    → (record_channel_in bytes ≡ 0) ⊎ (record_channel_in bytes ≡ 0 → ⊥)
+    → (length bytes ≡ PROGRAM_HEAD_LEN + INSN_LEN * insn_count_in bytes) ⊎ (length bytes ≡ PROGRAM_HEAD_LEN + INSN_LEN * insn_count_in bytes → ⊥)
+    → RecordOrFault bytes
 program_by bytes fit head kind (inl none) long = inr (Channel, (head, inl kind, none))
 program_by bytes fit head kind (inr named) (inl long) = inl (program_at bytes, SpellsRecord-program bytes fit head.tagged kind named long)
 program_by bytes fit head kind (inr named) (inr isnt) = inr (Length, inr (head, inl kind, named, λ right. isnt (right.program kind)))
 
-end_by : (bytes : List ℕ) → AreBytes bytes → HasRecordHead bytes → kind_in bytes ≡ END_RECORD → (record_channel_in bytes ≡ 0) ⊎ (record_channel_in bytes ≡ 0 → ⊥)
+end_by : (bytes : List ℕ) → AreBytes bytes → HasRecordHead bytes → kind_in bytes ≡ END_RECORD
+    → (record_channel_in bytes ≡ 0) ⊎ (record_channel_in bytes ≡ 0 → ⊥)
     → (length bytes ≡ END_RECORD_LEN) ⊎ (length bytes ≡ END_RECORD_LEN → ⊥) → RecordOrFault bytes
 end_by bytes fit head kind (inl none) long = inr (Channel, (head, inr kind, none))
 end_by bytes fit head kind (inr named) (inl long) = inl (end_at bytes, SpellsRecord-end bytes fit head.tagged kind named long)
@@ -254,7 +271,8 @@ frames_by header (inr isnt) kind = inr (λ says. isnt says.0)
 frames_by header (inl plain) (inr isnt) = inr (λ says. isnt says.1)
 frames_by header (inl plain) (inl kind) = inl (plain, kind)
 
-says_record_by : (header : HeaderData) → IsPlain header.flags ⊎ (IsPlain header.flags → ⊥) → (header.kind ≡ COMPUTER_GENERATED_DATA) ⊎ (header.kind ≡ COMPUTER_GENERATED_DATA → ⊥)
+says_record_by : (header : HeaderData) → IsPlain header.flags ⊎ (IsPlain header.flags → ⊥)
+    → (header.kind ≡ COMPUTER_GENERATED_DATA) ⊎ (header.kind ≡ COMPUTER_GENERATED_DATA → ⊥)
     → (header.channel ≡ 0) ⊎ (header.channel ≡ 0 → ⊥) → SaysRecord header ⊎ (SaysRecord header → ⊥)
 says_record_by header (inr isnt) kind channel = inr (λ says. isnt says.0)
 says_record_by header (inl plain) (inr isnt) channel = inr (λ says. isnt says.1)
@@ -274,7 +292,8 @@ class_of_body header bytes says (inr (Short, has)) = inr (inl (says, inl has))
 class_of_body header bytes says (inr (LeftOver, has)) = inr (inl (says, inr has))
 
 class_of_record : (header : HeaderData) (bytes : List ℕ) → SaysRecord header → RecordOrFault bytes → ClassOrNone header bytes
-class_of_record header bytes says (inl (OfProgram channel version first insns, spells)) = inl (Program channel version first (length insns), (says, insns, spells, refl))
+class_of_record header bytes says (inl (OfProgram channel version first insns, spells)) =
+    inl (Program channel version first (length insns), (says, insns, spells, refl))
 class_of_record header bytes says (inl (OfEnd end, spells)) = inl (End end.channel end.offered end.kept, (says, spells))
 class_of_record header bytes says (inr (fault, has)) = inr (inr (says, fault, has))
 
@@ -282,7 +301,8 @@ class_of_tag : (header : HeaderData) (bytes : List ℕ) → AreBytes bytes → S
 class_of_tag header bytes fit says (inr isnt) = inl (Other, inr (inr (says, isnt)))
 class_of_tag header bytes fit says (inl tagged) = class_of_record header bytes says (record_or_fault bytes fit tagged)
 
-class_by : (header : HeaderData) (bytes : List ℕ) → AreBytes bytes → SaysFrames header ⊎ (SaysFrames header → ⊥) → SaysRecord header ⊎ (SaysRecord header → ⊥) → ClassOrNone header bytes
+class_by : (header : HeaderData) (bytes : List ℕ) → AreBytes bytes → SaysFrames header ⊎ (SaysFrames header → ⊥) → SaysRecord header ⊎ (SaysRecord header → ⊥)
+    → ClassOrNone header bytes
 class_by header bytes fit (inl says) a_record = class_of_body header bytes says (body_or_fault bytes fit)
 class_by header bytes fit (inr isnt) (inl says) = class_of_tag header bytes fit says (decide_list _ _)
 class_by header bytes fit (inr isnt) (inr none) = inl (Other, inl (isnt, none))
@@ -291,7 +311,8 @@ class_by header bytes fit (inr isnt) (inr none) = inl (Other, inl (isnt, none))
 abbrev Summed : HeaderData → List ℕ → Type 0
 Summed header body = IsSummed header body ⊎ (HasChecksum header.flags × (HasSum body → ⊥))
 
-summed_by : (header : HeaderData) (body : List ℕ) → HasChecksum header.flags ⊎ (HasChecksum header.flags → ⊥) → HasSum body ⊎ (HasSum body → ⊥) → Summed header body
+summed_by : (header : HeaderData) (body : List ℕ) → HasChecksum header.flags ⊎ (HasChecksum header.flags → ⊥) → HasSum body ⊎ (HasSum body → ⊥)
+    → Summed header body
 summed_by header body (inr isnt) sum = inl (λ is. absurd (isnt is))
 summed_by header body (inl is) (inl sum) = inl (λ _. sum)
 summed_by header body (inl is) (inr wrong) = inr (is, wrong)
@@ -304,9 +325,16 @@ judged_by : (header : HeaderData) (body : List ℕ) → Summed header body → C
 judged_by header body (inl right) (inl (what, is)) = inl (what, record { class = is; summed = λ _. right })
 judged_by header body (inl right) (inr none) = inr (Body, (none, right))
 judged_by header body (inr wrong) (inl (Other, is)) = inl (Other, record { class = is; summed = λ judged. absurd (judged is) })
-judged_by header body (inr wrong) (inl (Frames n, is)) = inr (DataChecksum, (λ other. one_thing header (data_in header body) (Frames n) is (λ e. cc) other, wrong.0, wrong.1))
-judged_by header body (inr wrong) (inl (Program c v f n, is)) = inr (DataChecksum, (λ other. one_thing header (data_in header body) (Program c v f n) is (λ e. cc) other, wrong.0, wrong.1))
-judged_by header body (inr wrong) (inl (End c o k, is)) = inr (DataChecksum, (λ other. one_thing header (data_in header body) (End c o k) is (λ e. cc) other, wrong.0, wrong.1))
+judged_by header body (inr wrong) (inl (Frames n, is)) = inr (
+  DataChecksum,
+  (λ other. one_thing header (data_in header body) (Frames n) is (λ e. cc) other, wrong.0, wrong.1),
+)
+judged_by header body (inr wrong) (inl (Program c v f n, is)) =
+    inr (DataChecksum, (λ other. one_thing header (data_in header body) (Program c v f n) is (λ e. cc) other, wrong.0, wrong.1))
+judged_by header body (inr wrong) (inl (End c o k, is)) = inr (
+  DataChecksum,
+  (λ other. one_thing header (data_in header body) (End c o k) is (λ e. cc) other, wrong.0, wrong.1),
+)
 judged_by header body (inr wrong) (inr none) = inr (DataChecksum, (λ other. other_or_fault header (data_in header body) other none, wrong.0, wrong.1))
 
 pub holds_or_fault : (header : HeaderData) (body : List ℕ) → AreBytes body → HoldsOrFault header body

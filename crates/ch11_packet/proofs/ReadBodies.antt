@@ -1,5 +1,6 @@
 -- The body of frames that bytes are: they are one body at most, or have one fault.
-use Rattle.std.proofs.Common.{◌≡◌, ℕ, ◌+◌, ◌-◌, ◌*◌, ◌/◌, ◌%◌, ◌^◌, ◌<◌, ◌≤◌, inl, inr, List, [], ◌∷◌, ◌++◌, length, get_or, take, drop, Result, Ok, Err, refl, sym, ap, subst, ◌∙◌, arith}
+use Rattle.std.proofs.Common.{◌≡◌, ℕ, ◌+◌, ◌-◌, ◌*◌, ◌/◌, ◌%◌, ◌^◌, ◌<◌, ◌≤◌, inl, inr, List, [], ◌∷◌, ◌++◌, length}
+use Rattle.std.proofs.Common.{get_or, take, drop, Result, Ok, Err, refl, sym, ap, subst, ◌∙◌, arith}
 use Rattle.std.proofs.Props.{props}
 use Rattle.std.proofs.Math.Logic.{∥∥₁_elim, ∥∥₁_map}
 use Rattle.std.specs.Int.{w32, to_le_bytes}
@@ -9,7 +10,8 @@ use Rattle.ch11_packet.specs.declared.frames.word.TheConstants.{BODY_WORD_LEN}
 use Rattle.ch11_packet.specs.declared.frames.decode.BodyFault.{BodyFault}
 use Rattle.ch11_packet.specs.declared.frames.decode.BodyFault.TheVariants.{Format, Short, LeftOver}
 use Rattle.eth_frame.specs.Bytes.{AreBytes, u32_at}
-use Rattle.ch11_packet.specs.FramesRead.{ReadFrameData, first_reads, FrameStandsFirst, BeginsFrames, IsCutFrame, AreFrames, SpellsBody, IsBodyOf, count_in, HasFormat, FramesEnd, MoreFollows, HasBodyFault}
+use Rattle.ch11_packet.specs.FramesRead.{ReadFrameData, first_reads, FrameStandsFirst, BeginsFrames, IsCutFrame, AreFrames}
+use Rattle.ch11_packet.specs.FramesRead.{SpellsBody, IsBodyOf, count_in, HasFormat, FramesEnd, MoreFollows, HasBodyFault}
 use Rattle.eth_frame.proofs.Bytes.{four_bytes}
 use Rattle.ch11_packet.proofs.FirstFrames.{goes_on, GoesOn, not_cut, Begins-snoc, first_reads-Begins, length-first_reads}
 
@@ -33,7 +35,8 @@ IsBody-SpellsBody frames bytes body =
       held = subst (λ l. BeginsFrames frames l []) (sym (ap (drop BODY_WORD_LEN) body.whole)) body.held;
     }
 
-word_cells : (bytes : List ℕ) → BODY_WORD_LEN ≤ length bytes → bytes ≡ (get_or bytes 0 0 ∷ get_or bytes 1 0 ∷ get_or bytes 2 0 ∷ get_or bytes 3 0 ∷ []) ++ drop BODY_WORD_LEN bytes
+word_cells : (bytes : List ℕ) → BODY_WORD_LEN ≤ length bytes
+    → bytes ≡ (get_or bytes 0 0 ∷ get_or bytes 1 0 ∷ get_or bytes 2 0 ∷ get_or bytes 3 0 ∷ []) ++ drop BODY_WORD_LEN bytes
 word_cells (a ∷ b ∷ c ∷ d ∷ rest) long = refl
 word_cells other long = absurd (omega arith)
 
@@ -49,19 +52,22 @@ SpellsBody-IsBody frames bytes fit body =
       spare_fits = omega arith;
       rest = drop BODY_WORD_LEN bytes;
       whole = word_cells bytes body.is_format.word
-          ∙ ap (λ l. l ++ drop BODY_WORD_LEN bytes) (sym (ap (to_le_bytes w32) word ∙ four_bytes (get_or bytes 0 0) (get_or bytes 1 0) (get_or bytes 2 0) (get_or bytes 3 0) (fit 0) (fit 1) (fit 2) (fit 3)));
+          ∙ ap (λ l. l ++ drop BODY_WORD_LEN bytes) (sym (ap (to_le_bytes w32) word
+          ∙ four_bytes (get_or bytes 0 0) (get_or bytes 1 0) (get_or bytes 2 0) (get_or bytes 3 0) (fit 0) (fit 1) (fit 2) (fit 3)));
       held = body.held;
     }
 
 -- ---- one outcome
 
-later_of : (frames others : List ReadFrameData) (rest : List ℕ) (more : List ℕ) → length others ≡ length frames → GoesOn frames others rest more → (others ≡ frames) × (more ≡ rest)
+later_of : (frames others : List ReadFrameData) (rest : List ℕ) (more : List ℕ) → length others ≡ length frames → GoesOn frames others rest more
+    → (others ≡ frames) × (more ≡ rest)
 later_of frames others rest more same on =
     let none : on.later ≡ [] = nil_from_length on.later (omega (arith, ap length on.whole, length-append frames on.later)) in
     (on.whole ∙ ap (λ l. frames ++ l) none ∙ append-nil frames, sym (subst (λ l. BeginsFrames l rest more) none on.begins))
 
 -- two readings of as many frames are one
-pub one_reading : (frames others : List ReadFrameData) (bytes rest more : List ℕ) → BeginsFrames frames bytes rest → BeginsFrames others bytes more → length others ≡ length frames → (others ≡ frames) × (more ≡ rest)
+pub one_reading : (frames others : List ReadFrameData) (bytes rest more : List ℕ) → BeginsFrames frames bytes rest → BeginsFrames others bytes more
+    → length others ≡ length frames → (others ≡ frames) × (more ≡ rest)
 one_reading frames others bytes rest more a b same =
     later_of frames others rest more same (goes_on frames others bytes rest more a b (omega arith))
 
@@ -70,7 +76,8 @@ cut_first : (later : List ReadFrameData) (rest more : List ℕ) → 0 < length l
 cut_first [] rest more some cut begins = omega arith
 cut_first (f ∷ fs) rest more some cut begins = not_cut f rest begins.0 begins.1 cut
 
-none_longer : (frames others : List ReadFrameData) (bytes rest more : List ℕ) → BeginsFrames frames bytes rest → IsCutFrame rest → BeginsFrames others bytes more → length frames < length others → ⊥
+none_longer : (frames others : List ReadFrameData) (bytes rest more : List ℕ) → BeginsFrames frames bytes rest → IsCutFrame rest
+    → BeginsFrames others bytes more → length frames < length others → ⊥
 none_longer frames others bytes rest more a cut b longer =
     let on = goes_on frames others bytes rest more a b (omega arith) in
     cut_first on.later rest more (omega (arith, ap length on.whole, length-append frames on.later)) cut on.begins
@@ -118,7 +125,8 @@ one_fault bytes LeftOver LeftOver a b = refl
 -- ---- what is answered
 
 pub fault_answered : (A : Type 0) (bytes : List ℕ) (fault : BodyFault) → HasBodyFault bytes fault → (other : BodyFault)
-    → (◌≡◌ {A = Result A BodyFault} (Err fault) (Err other) → HasBodyFault bytes other) × (HasBodyFault bytes other → ◌≡◌ {A = Result A BodyFault} (Err fault) (Err other))
+    → (◌≡◌ {A = Result A BodyFault} (Err fault) (Err other) → HasBodyFault bytes other)
+    × (HasBodyFault bytes other → ◌≡◌ {A = Result A BodyFault} (Err fault) (Err other))
 fault_answered A bytes fault has other =
     (λ e. subst (HasBodyFault bytes) (let same : fault ≡ other = cc in same) has, λ h. ap (λ f. Err f) (one_fault bytes fault other has h))
 
@@ -130,7 +138,8 @@ pub record Passed (count : ℕ) (bytes rest : List ℕ) : Type 0 where
   pub held : BeginsFrames frames bytes rest
   pub many : length frames ≡ count
 
-pub Passed-next : (count : ℕ) (frame : ReadFrameData) (bytes rest more : List ℕ) → Passed count bytes rest → FrameStandsFirst frame rest more → Passed (count + 1) bytes more
+pub Passed-next : (count : ℕ) (frame : ReadFrameData) (bytes rest more : List ℕ) → Passed count bytes rest → FrameStandsFirst frame rest more
+    → Passed (count + 1) bytes more
 Passed-next count frame bytes rest more passed first = record {
   frames = passed.frames ++ frame ∷ [];
   held = Begins-snoc passed.frames frame bytes rest more passed.held first;
@@ -149,7 +158,8 @@ held_behind body rest frames held = subst (λ l. BeginsFrames frames l rest) (ta
 pub read_format : (body : List ℕ) (word : ℕ) → BODY_WORD_LEN ≤ length body → word ≡ u32_at body 0 → word / 2 ^ 28 ≡ 0 → HasFormat body
 read_format body word long said format = record { word = long; format = rw said at format }
 
-pub frames_end : (body rest : List ℕ) (word passed : ℕ) → HasFormat body → word ≡ u32_at body 0 → Passed passed (behind body) rest → passed < word % 2 ^ 16 → IsCutFrame rest → HasBodyFault body Short
+pub frames_end : (body rest : List ℕ) (word passed : ℕ) → HasFormat body → word ≡ u32_at body 0 → Passed passed (behind body) rest → passed < word % 2 ^ 16
+    → IsCutFrame rest → HasBodyFault body Short
 frames_end body rest word passed is_format said over fewer cut = inr (record {
   is_format = is_format;
   frames = over.frames;
@@ -159,7 +169,8 @@ frames_end body rest word passed is_format said over fewer cut = inr (record {
   cut = cut;
 })
 
-pub more_follows : (body rest : List ℕ) (word passed : ℕ) → HasFormat body → word ≡ u32_at body 0 → Passed passed (behind body) rest → passed ≡ word % 2 ^ 16 → (rest ≡ [] → ⊥) → HasBodyFault body LeftOver
+pub more_follows : (body rest : List ℕ) (word passed : ℕ) → HasFormat body → word ≡ u32_at body 0 → Passed passed (behind body) rest → passed ≡ word % 2 ^ 16
+    → (rest ≡ [] → ⊥) → HasBodyFault body LeftOver
 more_follows body rest word passed is_format said over all more = record {
   is_format = is_format;
   frames = over.frames;
@@ -179,7 +190,8 @@ AreFrames-Passed count passed bytes rest over all none =
     let same : first_reads count bytes ≡ over.frames = ap (λ n. first_reads n bytes) (sym all) ∙ passed_frames passed bytes rest over in
     subst (λ l. BeginsFrames l bytes []) (sym same) (subst (λ l. BeginsFrames over.frames bytes l) none over.held)
 
-pub SpellsBody-AreFrames : (body : List ℕ) (word : ℕ) → AreBytes body → HasFormat body → word ≡ u32_at body 0 → AreFrames (word % 2 ^ 16) (behind body) → SpellsBody (first_reads (word % 2 ^ 16) (behind body)) body
+pub SpellsBody-AreFrames : (body : List ℕ) (word : ℕ) → AreBytes body → HasFormat body → word ≡ u32_at body 0 → AreFrames (word % 2 ^ 16) (behind body)
+    → SpellsBody (first_reads (word % 2 ^ 16) (behind body)) body
 SpellsBody-AreFrames body word fit is_format said are = SpellsBody-IsBody (first_reads (word % 2 ^ 16) (behind body)) body fit (record {
   is_format = is_format;
   all = length-first_reads (word % 2 ^ 16) (behind body) ∙ ap (λ w. w % 2 ^ 16) said;
@@ -187,7 +199,8 @@ SpellsBody-AreFrames body word fit is_format said are = SpellsBody-IsBody (first
 })
 
 pub no_fault_answered : (A : Type 0) (answer : A) (frames : List ReadFrameData) (bytes : List ℕ) → SpellsBody frames bytes → (other : BodyFault)
-    → (◌≡◌ {A = Result A BodyFault} (Ok answer) (Err other) → HasBodyFault bytes other) × (HasBodyFault bytes other → ◌≡◌ {A = Result A BodyFault} (Ok answer) (Err other))
+    → (◌≡◌ {A = Result A BodyFault} (Ok answer) (Err other) → HasBodyFault bytes other)
+    × (HasBodyFault bytes other → ◌≡◌ {A = Result A BodyFault} (Ok answer) (Err other))
 no_fault_answered A answer frames bytes spells other = (λ e. absurd cc, λ h. absurd (no_fault frames bytes other spells h))
 
 -- ---- a body of which it is known that it has so many frames
@@ -203,7 +216,8 @@ frames_held count bytes known = ∥∥₁_map known (λ of.
     let same : first_reads count rest ≡ of.0 = ap (λ n. first_reads n rest) (sym of.2) ∙ first_reads-Begins of.0 rest [] held in
     subst (AreFrames count) (sym (take_rest bytes BODY_WORD_LEN)) (subst (λ l. BeginsFrames l rest []) (sym same) held))
 
-pub held_read : (count : ℕ) (frames : List ReadFrameData) (bytes : List ℕ) → ∥ IsBodyOf count bytes ∥₁ → SpellsBody frames bytes → first_reads count (behind bytes) ≡ frames
+pub held_read : (count : ℕ) (frames : List ReadFrameData) (bytes : List ℕ) → ∥ IsBodyOf count bytes ∥₁ → SpellsBody frames bytes
+    → first_reads count (behind bytes) ≡ frames
 held_read count frames bytes known spells = ∥∥₁_elim known (hlevel props) (λ of.
     let rest = drop BODY_WORD_LEN bytes in
     let many : count ≡ length frames = sym of.2 ∙ ap length (one_body of.0 frames bytes of.1 spells) in

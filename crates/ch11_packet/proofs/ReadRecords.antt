@@ -1,5 +1,6 @@
 -- The record that bytes are: they are one record at most, or have one fault.
-use Rattle.std.proofs.Common.{◌≡◌, ℕ, ◌+◌, ◌*◌, ◌^◌, ◌<◌, ◌≤◌, ◌≢◌, inl, inr, List, [], ◌∷◌, ◌++◌, length, get_or, take, drop, Option, None, Some, Result, Ok, Err, refl, sym, ap, subst, ◌∙◌, arith}
+use Rattle.std.proofs.Common.{◌≡◌, ℕ, ◌+◌, ◌*◌, ◌^◌, ◌<◌, ◌≤◌, ◌≢◌, inl, inr, List, [], ◌∷◌, ◌++◌, length, get_or, take}
+use Rattle.std.proofs.Common.{drop, Option, None, Some, Result, Ok, Err, refl, sym, ap, subst, ◌∙◌, arith}
 use Rattle.std.specs.Prelude.{codes, IsSome, IfSome}
 use Rattle.std.specs.Int.{w16, w32, w64, to_le_bytes}
 use Rattle.std.specs.List.{flat_map}
@@ -16,7 +17,8 @@ use Rattle.ch11_packet.specs.declared.records.decode.RecordFault.{RecordFault}
 use Rattle.ch11_packet.specs.declared.records.decode.RecordFault.TheVariants.{Kind, Channel, Length}
 use Rattle.eth_frame.specs.Bytes.{AreBytes, u16_at, u32_at, u64_at}
 use Rattle.ch11_packet.specs.Records.{EndData, IsEndRecord, program_spelling, end_spelling}
-use Rattle.ch11_packet.specs.RecordsRead.{stored_insns, RecordData, IsProgramRecord, SpellsRecord, IsTagged, kind_in, record_channel_in, insn_count_in, IsKind, HasRecordLength, HasRecordHead, HasRecordFields, HasRecordFault}
+use Rattle.ch11_packet.specs.RecordsRead.{stored_insns, RecordData, IsProgramRecord, SpellsRecord, IsTagged, kind_in, record_channel_in}
+use Rattle.ch11_packet.specs.RecordsRead.{insn_count_in, IsKind, HasRecordLength, HasRecordHead, HasRecordFields, HasRecordFault}
 use Rattle.ch11_packet.specs.RecordsRead.RecordData.{OfProgram, OfEnd}
 use Rattle.ch11_packet.specs.Views.{record_data}
 use Rattle.eth_frame.proofs.Bytes.{AreBytes-drop, two_bytes, four_bytes, eight_bytes}
@@ -50,7 +52,8 @@ same_program c v f l c' v' f' l' ec ev ef el = cc
 same_end : (end other : EndData) → end.channel ≡ other.channel → end.offered ≡ other.offered → end.kept ≡ other.kept → OfEnd end ≡ OfEnd other
 same_end end other channel offered kept = ap OfEnd (λ i. record { channel = channel i; offered = offered i; kept = kept i })
 
-Says-program : (channel version first word unused : ℕ) (insns : List Insn) → IsProgramRecord channel version first insns → Says (OfProgram channel version first insns) (program_spelling word unused channel version first insns)
+Says-program : (channel version first word unused : ℕ) (insns : List Insn) → IsProgramRecord channel version first insns
+    → Says (OfProgram channel version first insns) (program_spelling word unused channel version first insns)
 Says-program channel version first word unused insns is =
     let bytes = program_spelling word unused channel version first insns in
     let kind : kind_in bytes ≡ PROGRAM_RECORD = from_le_bytes-to_le_bytes_2 PROGRAM_RECORD (omega arith) in
@@ -61,7 +64,8 @@ Says-program channel version first word unused insns is =
       known = inl kind;
       named = λ none. omega (arith, is.named, channel_is, none);
       length_is = record { program = λ _. omega (arith, length-insns insns, count_is); ending = λ other. absurd (omega (arith, kind, other)) };
-      program = λ _. sym (same_program _ _ _ _ _ _ _ _ channel_is (from_le_bytes-to_le_bytes_4 version is.version_fits) (from_le_bytes-to_le_bytes_8 first is.first_fits)
+      program = λ _. sym (same_program _ _ _ _ _ _ _ _ channel_is (from_le_bytes-to_le_bytes_4 version is.version_fits)
+          (from_le_bytes-to_le_bytes_8 first is.first_fits)
           (ap (λ n. stored_insns n (flat_map insn_bytes insns)) count_is ∙ stored_insns-flat_map insns (each_in_range insns is.insns_fit)));
       ending = λ other. absurd (omega (arith, kind, other));
     }
@@ -77,7 +81,8 @@ Says-end end word is =
       named = λ none. omega (arith, is.named, channel_is, none);
       length_is = record { program = λ other. absurd (omega (arith, kind, other)); ending = λ _. refl };
       program = λ other. absurd (omega (arith, kind, other));
-      ending = λ _. sym (same_end (end_in bytes) end channel_is (from_le_bytes-to_le_bytes_8 end.offered is.offered_fits) (from_le_bytes-to_le_bytes_8 end.kept is.kept_fits));
+      ending = λ _. sym (same_end (end_in bytes) end channel_is (from_le_bytes-to_le_bytes_8 end.offered is.offered_fits)
+          (from_le_bytes-to_le_bytes_8 end.kept is.kept_fits));
     }
 
 pub Says-SpellsRecord : (said : RecordData) (bytes : List ℕ) → SpellsRecord said bytes → Says said bytes
@@ -93,7 +98,8 @@ joined said other bytes a b (inl kind) = a.program kind ∙ sym (b.program kind)
 joined said other bytes a b (inr kind) = a.ending kind ∙ sym (b.ending kind)
 
 pub one_record : (said other : RecordData) (bytes : List ℕ) → SpellsRecord said bytes → SpellsRecord other bytes → said ≡ other
-one_record said other bytes a b = joined said other bytes (Says-SpellsRecord said bytes a) (Says-SpellsRecord other bytes b) (Says-SpellsRecord said bytes a).known
+one_record said other bytes a b = joined said other bytes (Says-SpellsRecord said bytes a) (Says-SpellsRecord other bytes b)
+    (Says-SpellsRecord said bytes a).known
 
 -- a record has no fault
 pub no_record_fault : (said : RecordData) (bytes : List ℕ) (fault : RecordFault) → SpellsRecord said bytes → HasRecordFault bytes fault → ⊥
@@ -111,20 +117,24 @@ u64_fits bytes at fit = omega (arith, fit at, fit (at + 1), fit (at + 2), fit (a
 abbrev front : List ℕ → List ℕ
 front bytes =
     get_or bytes 0 0 ∷ get_or bytes 1 0 ∷ get_or bytes 2 0 ∷ get_or bytes 3 0 ∷ get_or bytes 4 0 ∷ get_or bytes 5 0 ∷ get_or bytes 6 0 ∷ get_or bytes 7 0
-    ∷ get_or bytes 8 0 ∷ get_or bytes 9 0 ∷ get_or bytes 10 0 ∷ get_or bytes 11 0 ∷ get_or bytes 12 0 ∷ get_or bytes 13 0 ∷ get_or bytes 14 0 ∷ get_or bytes 15 0
-    ∷ get_or bytes 16 0 ∷ get_or bytes 17 0 ∷ get_or bytes 18 0 ∷ get_or bytes 19 0 ∷ get_or bytes 20 0 ∷ get_or bytes 21 0 ∷ get_or bytes 22 0 ∷ get_or bytes 23 0
+    ∷ get_or bytes 8 0 ∷ get_or bytes 9 0 ∷ get_or bytes 10 0 ∷ get_or bytes 11 0 ∷ get_or bytes 12 0 ∷ get_or bytes 13 0 ∷ get_or bytes 14 0
+    ∷ get_or bytes 15 0
+    ∷ get_or bytes 16 0 ∷ get_or bytes 17 0 ∷ get_or bytes 18 0 ∷ get_or bytes 19 0 ∷ get_or bytes 20 0 ∷ get_or bytes 21 0 ∷ get_or bytes 22 0
+    ∷ get_or bytes 23 0
     ∷ get_or bytes 24 0 ∷ get_or bytes 25 0 ∷ get_or bytes 26 0 ∷ get_or bytes 27 0 ∷ []
 
 front_cells : (bytes : List ℕ) → PROGRAM_HEAD_LEN ≤ length bytes → bytes ≡ front bytes ++ drop PROGRAM_HEAD_LEN bytes
 front_cells (a ∷ b ∷ c ∷ d ∷ e ∷ f ∷ g ∷ h ∷ i ∷ j ∷ k ∷ l ∷ m ∷ n ∷ o ∷ p ∷ q ∷ r ∷ s ∷ t ∷ u ∷ v ∷ w ∷ x ∷ y ∷ z ∷ aa ∷ bb ∷ rest) long = refl
 front_cells other long = absurd (omega arith)
 
-tag_cells : (bytes : List ℕ) → PROGRAM_HEAD_LEN ≤ length bytes → IsTagged bytes → codes "CBPR" ≡ get_or bytes 4 0 ∷ get_or bytes 5 0 ∷ get_or bytes 6 0 ∷ get_or bytes 7 0 ∷ []
+tag_cells : (bytes : List ℕ) → PROGRAM_HEAD_LEN ≤ length bytes → IsTagged bytes
+    → codes "CBPR" ≡ get_or bytes 4 0 ∷ get_or bytes 5 0 ∷ get_or bytes 6 0 ∷ get_or bytes 7 0 ∷ []
 tag_cells bytes long tagged = sym tagged ∙ ap (λ l. take 4 (drop 4 l)) (front_cells bytes long)
 
 -- the 12 bytes of a head
 head_again : (bytes : List ℕ) (kind : ℕ) → AreBytes bytes → PROGRAM_HEAD_LEN ≤ length bytes → IsTagged bytes → kind_in bytes ≡ kind → (rest : List ℕ)
-    → to_le_bytes w32 (u32_at bytes 0) ++ codes "CBPR" ++ to_le_bytes w16 kind ++ to_le_bytes w16 (record_channel_in bytes) ++ rest ≡ take RECORD_HEAD_LEN (front bytes) ++ rest
+    → to_le_bytes w32 (u32_at bytes 0) ++ codes "CBPR" ++ to_le_bytes w16 kind ++ to_le_bytes w16 (record_channel_in bytes) ++ rest
+    ≡ take RECORD_HEAD_LEN (front bytes) ++ rest
 head_again bytes kind fit long tagged kind_is rest =
     let at = λ (i : ℕ). get_or bytes i 0 in
     let word = four_bytes (at 0) (at 1) (at 2) (at 3) (fit 0) (fit 1) (fit 2) (fit 3) in
@@ -159,10 +169,14 @@ SpellsRecord-program bytes fit tagged kind named len =
     let unused = two_bytes (at 26) (at 27) (fit 26) (fit 27) in
     let stored = flat_map-stored_insns count rest (AreBytes-drop PROGRAM_HEAD_LEN bytes fit) (omega (arith, len, length-drop PROGRAM_HEAD_LEN bytes)) in
     let head = take RECORD_HEAD_LEN (front bytes) in
-    let spelled : program_spelling (u32_at bytes 0) (u16_at bytes 26) (record_channel_in bytes) (u32_at bytes 12) (u64_at bytes 16) insns ≡ front bytes ++ rest =
-    head_again bytes PROGRAM_RECORD fit long tagged kind (to_le_bytes w32 (u32_at bytes 12) ++ to_le_bytes w64 (u64_at bytes 16) ++ to_le_bytes w16 (length insns) ++ to_le_bytes w16 (u16_at bytes 26) ++ flat_map insn_bytes insns)
-    ∙ ap (λ l. head ++ (l ++ to_le_bytes w64 (u64_at bytes 16) ++ to_le_bytes w16 (length insns) ++ to_le_bytes w16 (u16_at bytes 26) ++ flat_map insn_bytes insns)) version
-    ∙ ap (λ l. (head ++ (at 12 ∷ at 13 ∷ at 14 ∷ at 15 ∷ [])) ++ (l ++ to_le_bytes w16 (length insns) ++ to_le_bytes w16 (u16_at bytes 26) ++ flat_map insn_bytes insns)) first
+    let spelled : program_spelling (u32_at bytes 0) (u16_at bytes 26) (record_channel_in bytes) (u32_at bytes 12) (u64_at bytes 16) insns
+    ≡ front bytes ++ rest =
+    head_again bytes PROGRAM_RECORD fit long tagged kind (to_le_bytes w32 (u32_at bytes 12) ++ to_le_bytes w64 (u64_at bytes 16)
+    ++ to_le_bytes w16 (length insns) ++ to_le_bytes w16 (u16_at bytes 26) ++ flat_map insn_bytes insns)
+    ∙ ap (λ l. head ++ (l ++ to_le_bytes w64 (u64_at bytes 16) ++ to_le_bytes w16 (length insns) ++ to_le_bytes w16 (u16_at bytes 26)
+    ++ flat_map insn_bytes insns)) version
+    ∙ ap (λ l. (head ++ (at 12 ∷ at 13 ∷ at 14 ∷ at 15 ∷ [])) ++ (l ++ to_le_bytes w16 (length insns) ++ to_le_bytes w16 (u16_at bytes 26)
+    ++ flat_map insn_bytes insns)) first
     ∙ ap (λ l. take 24 (front bytes) ++ (l ++ to_le_bytes w16 (u16_at bytes 26) ++ flat_map insn_bytes insns)) counted
     ∙ ap (λ l. take 26 (front bytes) ++ (l ++ flat_map insn_bytes insns)) unused
     ∙ ap (λ l. front bytes ++ l) stored in
@@ -210,11 +224,13 @@ made_end bytes channel kind None fit fields not_program len found = tt
 made_end bytes channel kind (Some r) fit fields not_program len found =
     let is_end : kind_in bytes ≡ END_RECORD = end_kind kind fields.known not_program fields.kind_is in
     let spells = SpellsRecord-end bytes fit fields.head.tagged is_end (λ none. fields.named (fields.channel_is ∙ none)) (len refl) in
-    let same : end_at bytes ≡ record_data r = ap (λ c. OfEnd (record { channel = c; offered = u64_at bytes 12; kept = u64_at bytes 20 })) (sym fields.channel_is) ∙ ap record_data (sym found) in
+    let same : end_at bytes ≡ record_data r = ap (λ c. OfEnd (record { channel = c; offered = u64_at bytes 12; kept = u64_at bytes 20 }))
+    (sym fields.channel_is) ∙ ap record_data (sym found) in
     subst (λ said. SpellsRecord said bytes) same spells
 
 -- ---- what is answered
 
 pub no_record_fault_answered : (A : Type 0) (answer : A) (said : RecordData) (bytes : List ℕ) → SpellsRecord said bytes → (other : RecordFault)
-    → (◌≡◌ {A = Result A RecordFault} (Ok answer) (Err other) → HasRecordFault bytes other) × (HasRecordFault bytes other → ◌≡◌ {A = Result A RecordFault} (Ok answer) (Err other))
+    → (◌≡◌ {A = Result A RecordFault} (Ok answer) (Err other) → HasRecordFault bytes other)
+    × (HasRecordFault bytes other → ◌≡◌ {A = Result A RecordFault} (Ok answer) (Err other))
 no_record_fault_answered A answer said bytes spells other = (λ e. absurd cc, λ h. absurd (no_record_fault said bytes other spells h))

@@ -54,7 +54,8 @@ more_taken old mid new bytes n m first second few =
 
 -- ---- what stands behind a body
 
-trailer_taken : (k s0 s1 s2 s3 : ℕ) → k ≤ 3 → take {A = ℕ} (7 - (3 - k)) (drop (3 - k) (0 ∷ 0 ∷ 0 ∷ s0 ∷ s1 ∷ s2 ∷ s3 ∷ [])) ≡ replicate k 0 ++ (s0 ∷ s1 ∷ s2 ∷ s3 ∷ [])
+trailer_taken : (k s0 s1 s2 s3 : ℕ) → k ≤ 3 → take {A = ℕ} (7 - (3 - k)) (drop (3 - k) (0 ∷ 0 ∷ 0 ∷ s0 ∷ s1 ∷ s2 ∷ s3 ∷ []))
+    ≡ replicate k 0 ++ (s0 ∷ s1 ∷ s2 ∷ s3 ∷ [])
 trailer_taken zero s0 s1 s2 s3 few = refl
 trailer_taken (suc zero) s0 s1 s2 s3 few = refl
 trailer_taken (suc (suc zero)) s0 s1 s2 s3 few = refl

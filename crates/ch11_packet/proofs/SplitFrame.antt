@@ -1,5 +1,6 @@
 -- How a frame is split off the front of a body's bytes.
-use Rattle.std.proofs.Common.{◌≡◌, ℕ, zero, suc, ◌+◌, ◌-◌, ◌*◌, ◌/◌, ◌%◌, ◌^◌, ◌<◌, ◌≤◌, inl, cond, eqb, List, [], ◌∷◌, ◌++◌, length, get_or, take, drop, refl, sym, ap, subst, ◌∙◌, arith}
+use Rattle.std.proofs.Common.{◌≡◌, ℕ, zero, suc, ◌+◌, ◌-◌, ◌*◌, ◌/◌, ◌%◌, ◌^◌, ◌<◌, ◌≤◌, inl, cond, eqb, List, []}
+use Rattle.std.proofs.Common.{◌∷◌, ◌++◌, length, get_or, take, drop, refl, sym, ap, subst, ◌∙◌, arith}
 use Rattle.std.specs.Prelude.{bit_and, not}
 use Rattle.std.specs.List.{IsSplitAt}
 use Rattle.std.specs.Int.{w16, w32, to_le_bytes, bytes_low_first}
@@ -46,7 +47,8 @@ word_of : (low high net marks taken f c : ℕ) → low < 256 → high < 256 → 
 word_of low high net marks taken f c fl fh fn fm et ef ec = omega arith
 
 -- what stands behind a header is its frame's bytes and what comes after them
-pub behind : (body taken after : List ℕ) (len : ℕ) → IsSplitAt (take (length body - FRAME_HEADER_LEN) (drop FRAME_HEADER_LEN body)) len taken after → drop FRAME_HEADER_LEN body ≡ taken ++ after
+pub behind : (body taken after : List ℕ) (len : ℕ) → IsSplitAt (take (length body - FRAME_HEADER_LEN) (drop FRAME_HEADER_LEN body)) len taken after
+    → drop FRAME_HEADER_LEN body ≡ taken ++ after
 behind body taken after len split =
     let rest = take (length body - FRAME_HEADER_LEN) (drop FRAME_HEADER_LEN body) in
     sym (take_rest body FRAME_HEADER_LEN) ∙ sym (take-append-drop len rest)
@@ -55,14 +57,16 @@ behind body taken after len split =
 pub StandsFirst-split : (body taken after more : List ℕ) (len counter : ℕ) → AreBytes body → FRAME_HEADER_LEN ≤ length body
     → counter ≡ u48_at body 0 → len ≡ u16_at body 8 % 2 ^ 14 → drop FRAME_HEADER_LEN body ≡ taken ++ after → length taken ≡ len
     → (filler : List ℕ) × (after ≡ filler ++ more) × IsFiller len filler more
-    → FrameStandsFirst (read_frame_of counter (not (eqb (bit_and (get_or body 11 0) 128) 0)) (not (eqb (bit_and (get_or body 11 0) 64) 0)) (get_or body 10 0) (get_or body 11 0 % 16) (get_or body 11 0 / 16 % 4) taken) body more
+    → FrameStandsFirst (read_frame_of counter (not (eqb (bit_and (get_or body 11 0) 128) 0)) (not (eqb (bit_and (get_or body 11 0) 64) 0)) (get_or body 10 0)
+    (get_or body 11 0 % 16) (get_or body 11 0 / 16 % 4) taken) body more
 StandsFirst-split body taken after more len counter fit long ec el split many filled =
     let at = λ (i : ℕ). get_or body i 0 in
     let marks = at 11 in
     let frame = read_frame_of counter (not (eqb (bit_and marks 128) 0)) (not (eqb (bit_and marks 64) 0)) (at 10) (marks % 16) (marks / 16 % 4) taken in
     let spare = at 9 / 64 in
     let word : read_word frame spare ≡ u32_at body 8 =
-    word_of (at 8) (at 9) (at 10) marks (length taken) _ _ (fit 8) (fit 9) (fit 10) (fit 11) (many ∙ el) (flag marks 6 (2 ^ 30) (omega arith)) (flag marks 7 (2 ^ 31) (omega arith)) in
+    word_of (at 8) (at 9) (at 10) marks (length taken) _ _ (fit 8) (fit 9) (fit 10) (fit 11) (many ∙ el) (flag marks 6 (2 ^ 30) (omega arith))
+    (flag marks 7 (2 ^ 31) (omega arith)) in
     let counter_bytes : bytes_low_first 0 6 counter ≡ at 0 ∷ at 1 ∷ at 2 ∷ at 3 ∷ at 4 ∷ at 5 ∷ [] =
     ap (bytes_low_first 0 6) ec ∙ six_bytes (at 0) (at 1) (at 2) (at 3) (at 4) (at 5) (fit 0) (fit 1) (fit 2) (fit 3) (fit 4) (fit 5) in
     let word_bytes : to_le_bytes w32 (read_word frame spare) ≡ at 8 ∷ at 9 ∷ at 10 ∷ at 11 ∷ [] =
@@ -72,12 +76,19 @@ StandsFirst-split body taken after more len counter fit long ec el split many fi
       spelling = header ++ taken;
       filler = filled.0;
       spelled = record {
-        in_range = record { counter = rw ec (omega (arith, fit 0, fit 1, fit 2, fit 3, fit 4, fit 5)); net = fit 10; speed = omega arith; content = omega arith; longest = omega arith };
+        in_range = record {
+          counter = rw ec (omega (arith, fit 0, fit 1, fit 2, fit 3, fit 4, fit 5));
+          net = fit 10;
+          speed = omega arith;
+          content = omega arith;
+          longest = omega arith;
+        };
         unused = u16_at body 6;
         spare = spare;
         spare_fits = omega (arith, fit 9);
         whole = sym (ap (λ l. l ++ to_le_bytes w16 (u16_at body 6) ++ to_le_bytes w32 (read_word frame spare) ++ taken) counter_bytes
-            ∙ ap (λ l. (at 0 ∷ at 1 ∷ at 2 ∷ at 3 ∷ at 4 ∷ at 5 ∷ []) ++ l ++ to_le_bytes w32 (read_word frame spare) ++ taken) (two_bytes (at 6) (at 7) (fit 6) (fit 7))
+            ∙ ap (λ l. (at 0 ∷ at 1 ∷ at 2 ∷ at 3 ∷ at 4 ∷ at 5 ∷ []) ++ l ++ to_le_bytes w32 (read_word frame spare) ++ taken)
+            (two_bytes (at 6) (at 7) (fit 6) (fit 7))
             ∙ ap (λ l. (at 0 ∷ at 1 ∷ at 2 ∷ at 3 ∷ at 4 ∷ at 5 ∷ at 6 ∷ at 7 ∷ []) ++ (l ++ taken)) word_bytes);
       };
       filled = subst (λ n. IsFiller n filled.0 more) (sym many) filled.2;

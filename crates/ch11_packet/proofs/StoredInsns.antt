@@ -1,5 +1,6 @@
 -- Instructions that are stored in bytes one after the other.
-use Rattle.std.proofs.Common.{◌≡◌, ℕ, zero, suc, ◌+◌, ◌-◌, ◌*◌, ◌<◌, ◌≤◌, List, [], ◌∷◌, ◌++◌, length, get_or, take, drop, None, Some, refl, sym, ap, ◌∙◌, arith}
+use Rattle.std.proofs.Common.{◌≡◌, ℕ, zero, suc, ◌+◌, ◌-◌, ◌*◌, ◌<◌, ◌≤◌, List, [], ◌∷◌, ◌++◌, length}
+use Rattle.std.proofs.Common.{get_or, take, drop, None, Some, refl, sym, ap, ◌∙◌, arith}
 use Rattle.std.specs.Prelude.{slice_get}
 use Rattle.std.specs.Int.{w32, to_le_bytes}
 use Rattle.std.specs.List.{flat_map, AllByRecursion, slice_range}
@@ -20,7 +21,8 @@ length-stored_insns (suc count) bytes = ap suc (length-stored_insns count (drop 
 -- ---- one instruction
 
 eight_cells : (bytes : List ℕ) → INSN_LEN ≤ length bytes → bytes ≡
-    (get_or bytes 0 0 ∷ get_or bytes 1 0 ∷ get_or bytes 2 0 ∷ get_or bytes 3 0 ∷ get_or bytes 4 0 ∷ get_or bytes 5 0 ∷ get_or bytes 6 0 ∷ get_or bytes 7 0 ∷ []) ++ drop INSN_LEN bytes
+    (get_or bytes 0 0 ∷ get_or bytes 1 0 ∷ get_or bytes 2 0 ∷ get_or bytes 3 0 ∷ get_or bytes 4 0 ∷ get_or bytes 5 0 ∷ get_or bytes 6 0 ∷ get_or bytes 7 0
+    ∷ []) ++ drop INSN_LEN bytes
 eight_cells (a ∷ b ∷ c ∷ d ∷ e ∷ f ∷ g ∷ h ∷ rest) long = refl
 eight_cells other long = absurd (omega arith)
 
@@ -59,13 +61,15 @@ stored_insns-flat_map (i ∷ is) fit =
     ∙ ap (λ l. i ∷ l) (stored_insns-flat_map is fit.1)
 
 -- bytes are those of the instructions that they store
-pub flat_map-stored_insns : (count : ℕ) (bytes : List ℕ) → AreBytes bytes → length bytes ≡ INSN_LEN * count → flat_map insn_bytes (stored_insns count bytes) ≡ bytes
+pub flat_map-stored_insns : (count : ℕ) (bytes : List ℕ) → AreBytes bytes → length bytes ≡ INSN_LEN * count
+    → flat_map insn_bytes (stored_insns count bytes) ≡ bytes
 unfolding stored_insns
 flat_map-stored_insns zero bytes fit len = sym (nil_from_length bytes (omega (arith, len)))
 flat_map-stored_insns (suc count) bytes fit len =
     let rest = drop INSN_LEN bytes in
     ap (λ l. l ++ flat_map insn_bytes (stored_insns count rest)) (insn_bytes-first_insn bytes fit)
-    ∙ ap (λ l. (get_or bytes 0 0 ∷ get_or bytes 1 0 ∷ get_or bytes 2 0 ∷ get_or bytes 3 0 ∷ get_or bytes 4 0 ∷ get_or bytes 5 0 ∷ get_or bytes 6 0 ∷ get_or bytes 7 0 ∷ []) ++ l)
+    ∙ ap (λ l. (get_or bytes 0 0 ∷ get_or bytes 1 0 ∷ get_or bytes 2 0 ∷ get_or bytes 3 0 ∷ get_or bytes 4 0 ∷ get_or bytes 5 0 ∷ get_or bytes 6 0
+    ∷ get_or bytes 7 0 ∷ []) ++ l)
     (flat_map-stored_insns count rest (AreBytes-drop INSN_LEN bytes fit) (omega (arith, len, length-drop INSN_LEN bytes)))
     ∙ sym (eight_cells bytes (omega (arith, len)))
 
@@ -82,7 +86,8 @@ insn_past zero place bytes past = refl
 insn_past (suc count) zero bytes past = absurd (omega arith)
 insn_past (suc count) (suc place) bytes past = insn_past count place (drop INSN_LEN bytes) (omega arith)
 
-pub insn_there : (count place : ℕ) (bytes : List ℕ) → place < count → slice_get (stored_insns count bytes) place ≡ Some (first_insn (drop (INSN_LEN * place) bytes))
+pub insn_there : (count place : ℕ) (bytes : List ℕ) → place < count
+    → slice_get (stored_insns count bytes) place ≡ Some (first_insn (drop (INSN_LEN * place) bytes))
 unfolding stored_insns
 insn_there zero place bytes within = absurd (omega arith)
 insn_there (suc count) zero bytes within = refl
@@ -91,7 +96,8 @@ insn_there (suc count) (suc place) bytes within =
     insn_there count place (drop INSN_LEN bytes) (omega arith)
     ∙ ap (λ l. Some (first_insn l)) (drop-drop (INSN_LEN * place) INSN_LEN bytes ∙ ap (λ n. drop n bytes) next)
 
-pub eight_there : (bytes : List ℕ) (at place : ℕ) → at ≡ place → slice_range bytes (INSN_LEN * at) (INSN_LEN * at + INSN_LEN) ≡ take INSN_LEN (drop (INSN_LEN * place) bytes)
+pub eight_there : (bytes : List ℕ) (at place : ℕ) → at ≡ place
+    → slice_range bytes (INSN_LEN * at) (INSN_LEN * at + INSN_LEN) ≡ take INSN_LEN (drop (INSN_LEN * place) bytes)
 eight_there bytes at place e =
     let many : INSN_LEN * at + INSN_LEN - INSN_LEN * at ≡ INSN_LEN = omega arith in
     ap (λ n. take n (drop (INSN_LEN * at) bytes)) many ∙ ap (λ n. take INSN_LEN (drop (INSN_LEN * n) bytes)) e
@@ -103,13 +109,16 @@ eight a b c d e f g h a' b' c' d' e' f' g' h' ea eb ec ed ee ef eg eh = cc
 -- the instruction that was made of the 8 bytes there
 pub insn_read : (count place : ℕ) (bytes taken : List ℕ) (made : Insn) → AreBytes bytes → place < count
     → taken ≡ take INSN_LEN (drop (INSN_LEN * place) bytes)
-    → ((insn : Insn) → InRange insn → insn_bytes insn ≡ get_or taken 0 0 ∷ get_or taken 1 0 ∷ get_or taken 2 0 ∷ get_or taken 3 0 ∷ get_or taken 4 0 ∷ get_or taken 5 0 ∷ get_or taken 6 0 ∷ get_or taken 7 0 ∷ [] → made ≡ insn)
+    → ((insn : Insn) → InRange insn → insn_bytes insn ≡ get_or taken 0 0 ∷ get_or taken 1 0 ∷ get_or taken 2 0 ∷ get_or taken 3 0 ∷ get_or taken 4 0
+    ∷ get_or taken 5 0 ∷ get_or taken 6 0 ∷ get_or taken 7 0 ∷ [] → made ≡ insn)
     → Some made ≡ slice_get (stored_insns count bytes) place
 insn_read count place bytes taken made fit within e inverse =
     let there = drop (INSN_LEN * place) bytes in
     let there_fit = AreBytes-drop (INSN_LEN * place) bytes fit in
     let cell : (i : ℕ) → i < INSN_LEN → get_or there i 0 ≡ get_or taken i 0 = λ i lt. sym (ap (λ l. get_or l i 0) e ∙ get_or-take INSN_LEN there i 0 lt) in
-    let same : insn_bytes (first_insn there) ≡ get_or taken 0 0 ∷ get_or taken 1 0 ∷ get_or taken 2 0 ∷ get_or taken 3 0 ∷ get_or taken 4 0 ∷ get_or taken 5 0 ∷ get_or taken 6 0 ∷ get_or taken 7 0 ∷ [] =
+    let same : insn_bytes (first_insn there) ≡ get_or taken 0 0 ∷ get_or taken 1 0 ∷ get_or taken 2 0 ∷ get_or taken 3 0 ∷ get_or taken 4 0 ∷ get_or taken 5 0
+    ∷ get_or taken 6 0 ∷ get_or taken 7 0 ∷ [] =
     insn_bytes-first_insn there there_fit
-    ∙ eight _ _ _ _ _ _ _ _ _ _ _ _ _ _ _ _ (cell 0 (omega arith)) (cell 1 (omega arith)) (cell 2 (omega arith)) (cell 3 (omega arith)) (cell 4 (omega arith)) (cell 5 (omega arith)) (cell 6 (omega arith)) (cell 7 (omega arith)) in
+    ∙ eight _ _ _ _ _ _ _ _ _ _ _ _ _ _ _ _ (cell 0 (omega arith)) (cell 1 (omega arith)) (cell 2 (omega arith)) (cell 3 (omega arith)) (cell 4 (omega arith))
+    (cell 5 (omega arith)) (cell 6 (omega arith)) (cell 7 (omega arith)) in
     ap (λ i. Some i) (inverse (first_insn there) (InRange-first_insn there there_fit) same) ∙ sym (insn_there count place bytes within)

@@ -27,7 +27,13 @@ sum_of_filled body = ap (λ l. body_sum (body ++ l)) (filler-is (length body)) �
 u32_behind : (front : List ℕ) (a b c d : ℕ) → u32_at (front ++ a ∷ b ∷ c ∷ d ∷ []) (length front) ≡ from_le_bytes w32 (a ∷ b ∷ c ∷ d ∷ [])
 u32_behind front a b c d =
     let last = a ∷ b ∷ c ∷ d ∷ [] in
-    omega (arith, get_or_at front a (b ∷ c ∷ d ∷ []) 0 (length front) refl, get_or-append-add front last 1 0, get_or-append-add front last 2 0, get_or-append-add front last 3 0)
+    omega (
+      arith,
+      get_or_at front a (b ∷ c ∷ d ∷ []) 0 (length front) refl,
+      get_or-append-add front last 1 0,
+      get_or-append-add front last 2 0,
+      get_or-append-add front last 3 0,
+    )
 
 -- the four bytes of a number at the end
 last_four : (front : List ℕ) (n : ℕ) → n < 2 ^ 32 → u32_at (front ++ to_le_bytes w32 n) (length (front ++ to_le_bytes w32 n) - CHECKSUM_LEN) ≡ n

@@ -33,7 +33,8 @@ sum_parts front rest whole =
     ap (λ n. word_filler n) (length-append front rest) ∙ filler-behind (length front) (length rest) whole in
     let all : (front ++ rest) ++ word_filler (length (front ++ rest)) ≡ front ++ behind =
     ap (λ bytes. (front ++ rest) ++ bytes) filler ∙ append_assoc front rest (word_filler (length rest)) in
-    let words = ap (λ bytes. sum (long_words bytes)) all ∙ ap (λ ws. sum ws) (words-append front behind whole) ∙ sum_by-append (λ (x : ℕ). x) (long_words front) (long_words behind) in
+    let words = ap (λ bytes. sum (long_words bytes)) all ∙ ap (λ ws. sum ws) (words-append front behind whole)
+    ∙ sum_by-append (λ (x : ℕ). x) (long_words front) (long_words behind) in
     let of_front = ap (λ bytes. sum (long_words bytes)) (ap (λ bytes. front ++ bytes) (filler-none (length front) whole) ∙ append-nil front) in
     omega (arith, words, of_front)
 
@@ -76,16 +77,31 @@ pub same_byte : (front rest : List ℕ) (byte other : ℕ) → byte < 2 ^ 8 → 
 same_byte [] rest byte other fits also same = omega (arith, fits, also, same, sum_first (byte ∷ rest), sum_first (other ∷ rest))
 same_byte (a ∷ []) rest byte other fits also same = omega (arith, fits, also, same, sum_first (a ∷ byte ∷ rest), sum_first (a ∷ other ∷ rest))
 same_byte (a ∷ b ∷ []) rest byte other fits also same = omega (arith, fits, also, same, sum_first (a ∷ b ∷ byte ∷ rest), sum_first (a ∷ b ∷ other ∷ rest))
-same_byte (a ∷ b ∷ c ∷ []) rest byte other fits also same = omega (arith, fits, also, same, sum_first (a ∷ b ∷ c ∷ byte ∷ rest), sum_first (a ∷ b ∷ c ∷ other ∷ rest))
+same_byte (a ∷ b ∷ c ∷ []) rest byte other fits also same = omega (
+  arith,
+  fits,
+  also,
+  same,
+  sum_first (a ∷ b ∷ c ∷ byte ∷ rest),
+  sum_first (a ∷ b ∷ c ∷ other ∷ rest),
+)
 same_byte (a ∷ b ∷ c ∷ d ∷ front) rest byte other fits also same =
     same_byte front rest byte other fits also
-    (omega (arith, same, sum_word a b c d (front ++ byte ∷ rest), sum_word a b c d (front ++ other ∷ rest), sum_below (front ++ byte ∷ rest), sum_below (front ++ other ∷ rest)))
+    (omega (
+      arith,
+      same,
+      sum_word a b c d (front ++ byte ∷ rest),
+      sum_word a b c d (front ++ other ∷ rest),
+      sum_below (front ++ byte ∷ rest),
+      sum_below (front ++ other ∷ rest),
+    ))
 
 -- ---- what the code computes
 
 -- a word more is summed
 pub sum_step : (so_far : ℕ) (bytes : List ℕ) → 4 ≤ length bytes
-    → ((so_far + from_le_bytes w32 (get_or bytes 0 0 ∷ get_or bytes 1 0 ∷ get_or bytes 2 0 ∷ get_or bytes 3 0 ∷ [])) % 2 ^ 32 + body_sum (drop 4 bytes)) % 2 ^ 32 ≡ (so_far + body_sum bytes) % 2 ^ 32
+    → ((so_far + from_le_bytes w32 (get_or bytes 0 0 ∷ get_or bytes 1 0 ∷ get_or bytes 2 0 ∷ get_or bytes 3 0 ∷ [])) % 2 ^ 32 + body_sum (drop 4 bytes)) % 2 ^
+    32 ≡ (so_far + body_sum bytes) % 2 ^ 32
 sum_step so_far [] long = absurd (omega (arith, long))
 sum_step so_far (a ∷ []) long = absurd (omega (arith, long))
 sum_step so_far (a ∷ b ∷ []) long = absurd (omega (arith, long))
@@ -97,11 +113,13 @@ pub sum_more : (total so_far word : ℕ) (bytes after : List ℕ) → 4 ≤ leng
     → ((so_far + word) % 2 ^ 32 + body_sum after) % 2 ^ 32 ≡ total
 sum_more total so_far word bytes after long rest is e =
     ap (λ w. ((so_far + w) % 2 ^ 32 + body_sum after) % 2 ^ 32) is
-    ∙ ap (λ l. ((so_far + from_le_bytes w32 (get_or bytes 0 0 ∷ get_or bytes 1 0 ∷ get_or bytes 2 0 ∷ get_or bytes 3 0 ∷ [])) % 2 ^ 32 + body_sum l) % 2 ^ 32) rest
+    ∙ ap (λ l. ((so_far + from_le_bytes w32 (get_or bytes 0 0 ∷ get_or bytes 1 0 ∷ get_or bytes 2 0 ∷ get_or bytes 3 0 ∷ [])) % 2 ^ 32 + body_sum l) % 2 ^ 32)
+    rest
     ∙ sum_step so_far bytes long ∙ e
 
 -- fewer bytes than a word has
-pub sum_one : (bytes : List ℕ) → length bytes ≡ 1 → from_le_bytes w32 (get_or bytes 0 0 ∷ 0 ∷ 0 ∷ 0 ∷ []) < 2 ^ 32 → from_le_bytes w32 (get_or bytes 0 0 ∷ 0 ∷ 0 ∷ 0 ∷ []) ≡ body_sum bytes
+pub sum_one : (bytes : List ℕ) → length bytes ≡ 1 → from_le_bytes w32 (get_or bytes 0 0 ∷ 0 ∷ 0 ∷ 0 ∷ []) < 2 ^ 32
+    → from_le_bytes w32 (get_or bytes 0 0 ∷ 0 ∷ 0 ∷ 0 ∷ []) ≡ body_sum bytes
 unfolding body_sum
 sum_one (a ∷ []) len fits = omega (arith, fits)
 sum_one other len fits = absurd (omega (arith, len))

@@ -31,7 +31,7 @@ pub use laws::{
 };
 pub use length::{packet_len, written_len};
 pub use limit::{Limit, MAX_LIMIT, MIN_LIMIT};
-pub use output::{write_packet, write_parts};
+pub use output::{PACKET_PARTS, write_packet, write_parts};
 pub use records::{
     END_RECORD_LEN, INSN_LEN, MAX_PROGRAM_RECORD_LEN, PROGRAM_HEAD_LEN, ProgramRecord,
     RECORD_CHANNEL, Record, RecordFault, decode_record, end_body, program_body,

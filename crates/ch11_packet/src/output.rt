@@ -12,6 +12,10 @@ use crate::header::{HEADER_LEN, Header};
 use crate::length::packet_len;
 use std::io::Write;
 
+/// How many parts of a packet go to its output one after the other: its header, its body, and what
+/// stands behind the body.
+pub const PACKET_PARTS: usize = 3;
+
 /// Writes a packet with a data checksum: this header, this body, whose bytes have this sum, and behind
 /// it the filler and the sum. At `Err` the output failed, or a write took no byte; it tells how many
 /// bytes of the packet went out, fewer than all.

@@ -1,2 +1,2 @@
 pub mod Returns
-pub mod Answered
+pub mod AnswerLines

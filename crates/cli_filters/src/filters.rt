@@ -4,7 +4,9 @@ use crate::outcome::{outcome_of, print_outcome};
 use bpf_asm::assemble;
 use bpf_dis::text_of;
 use bpf_insn::{parse_listing, print_listing};
-use cli_streams::{Ending, MAX_LISTING, MAX_TEXT, listed_program, print_line, print_text, text_in};
+use cli_streams::{
+    CommandEnding, MAX_LISTING, MAX_TEXT, listed_program, print_line, print_text, text_in,
+};
 use std::io::{Read, Write};
 use std::rt::Files;
 
@@ -14,7 +16,7 @@ pub fn assemble_file<'a, R: AllocGlobal + Files, I: Read, O: Write>(
     file: &'a str,
     input: &mut I,
     output: &mut O,
-) -> Result<(), Ending<'a>> {
+) -> Result<(), CommandEnding<'a>> {
     let text = text_in(rt, file, MAX_TEXT, input)?;
     let program = assemble(rt.alloc(), text.as_str())?;
     let mut listing = print_listing(rt.alloc(), program.as_slice())?;
@@ -28,7 +30,7 @@ pub fn disassemble_file<'a, R: AllocGlobal + Files, I: Read, O: Write>(
     file: &'a str,
     input: &mut I,
     output: &mut O,
-) -> Result<(), Ending<'a>> {
+) -> Result<(), CommandEnding<'a>> {
     let listing = text_in(rt, file, MAX_LISTING, input)?;
     let program = parse_listing(rt.alloc(), listing.as_str())?;
     let text = text_of(rt.alloc(), program.as_slice())?;
@@ -41,12 +43,11 @@ pub fn verify_file<'a, R: AllocGlobal + Files, I: Read, O: Write>(
     file: &'a str,
     input: &mut I,
     output: &mut O,
-) -> Result<(), Ending<'a>> {
+) -> Result<(), CommandEnding<'a>> {
     let listing = text_in(rt, file, MAX_LISTING, input)?;
-    let program = listed_program(rt.alloc(), listing.as_str()).map_err(|fault| Ending::of_listed(
-        rt.alloc(),
-        fault,
-    ))?;
+    let program = listed_program(rt.alloc(), listing.as_str()).map_err(
+        |fault| CommandEnding::of_listed(rt.alloc(), fault),
+    )?;
     let mut line = Vec::new(rt.alloc());
     let built = writeln!(&mut line, "valid {}", program.len());
     print_line(output, &mut line, built)
@@ -59,7 +60,7 @@ pub fn run_file<'a, R: AllocGlobal + Files, I: Read, O: Write>(
     view: &str,
     input: &mut I,
     output: &mut O,
-) -> Result<(), Ending<'a>> {
+) -> Result<(), CommandEnding<'a>> {
     let listing = text_in(rt, file, MAX_LISTING, input)?;
     let outcome = outcome_of(rt.alloc(), listing.as_str(), view)?;
     print_outcome(rt.alloc(), output, outcome)

@@ -5,7 +5,7 @@ ghost use Rattle.std.specs.List.{before_first, after_first};
 ghost use Rattle.cli_filters.specs.Lines.{AnswersLines, without_return};
 
 use crate::outcome::{outcome_of, print_outcome};
-use cli_streams::{Ending, whole_text};
+use cli_streams::{CommandEnding, whole_text};
 use std::alloc::Global;
 use std::io::{Read, Write};
 
@@ -14,7 +14,7 @@ pub fn answer_lines<I: Read, O: Write>(
     alloc: Global,
     input: &mut I,
     output: &mut O,
-) -> Result<(), Ending<'static>>
+) -> Result<(), CommandEnding<'static>>
     ensures { OnOk result (IfSome (I.remaining input.old) (λ bytes.
         AnswersLines bytes (O.contents output.old) (O.contents output.new))) }
 {

@@ -5,7 +5,7 @@ ghost use Rattle.std.specs.Io.KnownBytes.{Appends};
 ghost use Rattle.cli_filters.specs.Lines.{RunsOn, outcome_line};
 
 use bpf_machine::{Outcome, run};
-use cli_streams::{Ending, listed_program, print_line, view_of};
+use cli_streams::{CommandEnding, listed_program, print_line, view_of};
 use std::alloc::Global;
 use std::io::Write;
 
@@ -14,12 +14,12 @@ pub(crate) fn outcome_of<'a>(
     alloc: Global,
     listing: &str,
     view: &str,
-) -> Result<Outcome, Ending<'a>>
+) -> Result<Outcome, CommandEnding<'a>>
     ensures { IfOk result (λ outcome. RunsOn listing.now view.now outcome.steps outcome.value) }
 {
     let program = match listed_program(alloc, listing) {
         Ok(program) => program,
-        Err(fault) => return Err(Ending::of_listed(alloc, fault)),
+        Err(fault) => return Err(CommandEnding::of_listed(alloc, fault)),
     };
     let view = view_of(alloc, view)?;
     Ok(run(&program, view.as_slice()))
@@ -30,7 +30,7 @@ pub(crate) fn print_outcome<O: Write>(
     alloc: Global,
     output: &mut O,
     outcome: Outcome,
-) -> Result<(), Ending<'static>>
+) -> Result<(), CommandEnding<'static>>
     ensures { OnOk result (Appends (O.contents output.old) (O.contents output.new)
         (outcome_line outcome.value outcome.steps)) }
 {

@@ -1,7 +1,7 @@
 //! The command that judges a recording by itself.
 
 use crate::reading::{next_packet, reader_of, reader_over};
-use cli_streams::{Ending, STREAM, print_line};
+use cli_streams::{CommandEnding, STREAM, print_line};
 use rec_reader::{Audit, AuditLine, Auditor, Reader};
 use std::alloc::Global;
 use std::io::{Read, Write};
@@ -14,7 +14,7 @@ pub fn audit_recording<'a, R: AllocGlobal + Files, I: Read, O: Write>(
     file: &'a str,
     input: &mut I,
     output: &mut O,
-) -> Result<(), Ending<'a>> {
+) -> Result<(), CommandEnding<'a>> {
     let alloc = rt.alloc();
     let audited = if file == STREAM {
         audit_packets(alloc, file, &mut reader_over(alloc, input)?)?
@@ -30,7 +30,7 @@ fn audit_packets<'a, R: Read>(
     alloc: Global,
     file: &'a str,
     reader: &mut Reader<R>,
-) -> Result<Audit, Ending<'a>> {
+) -> Result<Audit, CommandEnding<'a>> {
     let mut auditor = Auditor::new(alloc);
     'packets: for _ in 0..u64::MAX {
         let Some(packet) = next_packet(file, reader)? else {
@@ -47,7 +47,7 @@ fn print_audit<O: Write>(
     alloc: Global,
     output: &mut O,
     audited: &Audit,
-) -> Result<(), Ending<'static>> {
+) -> Result<(), CommandEnding<'static>> {
     let mut text = Vec::new(alloc);
     'channels: for line in audited.channels.as_slice() {
         let AuditLine {

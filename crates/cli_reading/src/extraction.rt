@@ -5,7 +5,7 @@ ghost use Rattle.std.specs.Io.KnownBytes.{Appends};
 ghost use Rattle.cli_reading.specs.Lines.{extracted_line, TakesCounts};
 
 use crate::written::{PerPacket, write_recording};
-use cli_streams::{Ending, LockFile, channel_in, print_line};
+use cli_streams::{CommandEnding, LockFile, channel_in, print_line};
 use rec_reader::{Extracted, Packet, extract_packet};
 use std::alloc::Global;
 use std::io::{Read, Write};
@@ -43,7 +43,7 @@ pub fn extract_frames<'a, R: AllocGlobal + Files, I: Read, O: Write>(
     out: &'a str,
     input: &mut I,
     output: &mut O,
-) -> Result<(), Ending<'a>>
+) -> Result<(), CommandEnding<'a>>
 where
     R::File: LockFile,
     ensures { OnOk result (TakesCounts (O.contents output.old) (O.contents output.new)) }
@@ -60,7 +60,7 @@ fn extract<'a, R: AllocGlobal + Files, I: Read>(
     channel: u16,
     out: &'a str,
     input: &mut I,
-) -> Result<Extracted, Ending<'a>>
+) -> Result<Extracted, CommandEnding<'a>>
 where
     R::File: LockFile,
 {
@@ -81,7 +81,7 @@ fn print_extracted<O: Write>(
     alloc: Global,
     output: &mut O,
     extracted: Extracted,
-) -> Result<(), Ending<'static>>
+) -> Result<(), CommandEnding<'static>>
     ensures { OnOk result (Appends (O.contents output.old) (O.contents output.new)
         (extracted_line extracted.frames extracted.passed)) }
 {
@@ -92,10 +92,10 @@ fn print_extracted<O: Write>(
 }
 
 /// The channel that a word names: a number from 0 to 65,535, in decimal digits alone.
-fn channel_of<'a>(alloc: Global, word: &str) -> Result<u16, Ending<'a>> {
+fn channel_of<'a>(alloc: Global, word: &str) -> Result<u16, CommandEnding<'a>> {
     match channel_in(word) {
         Some(channel) => Ok(channel),
-        None => Err(Ending::Words(format!(in alloc;
+        None => Err(CommandEnding::Words(format!(in alloc;
             "error: invalid value '{word}' for '<CHANNEL>': a channel is a number from 0 to 65535\n\n\
             For more information, try '--help'.\n"
         )?)),

@@ -2,9 +2,9 @@
 
 ghost use Rattle.std.specs.Prelude.{◌≡◌, IfErr, OnOk};
 ghost use Rattle.std.specs.Io.KnownBytes.{Appends};
-ghost use Rattle.cli_streams.specs.declared.ending.Ending.TheVariants.{File};
+ghost use Rattle.cli_streams.specs.declared.ending.CommandEnding.TheVariants.{File};
 
-use cli_streams::{Ending, Inputs, LockFile, create_output, force_to_disk};
+use cli_streams::{CommandEnding, Inputs, LockFile, create_output, force_to_disk};
 use std::fs::OpenFile;
 use std::io;
 use std::io::{BufWriter, ErrorKind, Write};
@@ -19,11 +19,11 @@ pub(crate) struct OutputFile<F> {
 
 impl<F: OpenFile> OutputFile<F> {
     /// Forces what went out to its disk, if it has one.
-    pub(crate) fn keep<'a>(&self, out: &'a str) -> Result<(), Ending<'a>>
+    pub(crate) fn keep<'a>(&self, out: &'a str) -> Result<(), CommandEnding<'a>>
         ensures named { IfErr result (λ ending. ending ≡ File out.entry) }
     {
         match &self.file {
-            Some(file) => force_to_disk(file).map_err(|_| Ending::File(out)),
+            Some(file) => force_to_disk(file).map_err(|_| CommandEnding::File(out)),
             None => Ok(()),
         }
     }
@@ -50,12 +50,12 @@ pub(crate) fn buffered_output<'a, R: AllocGlobal + Files>(
     rt: &R,
     inputs: &Inputs,
     out: &'a str,
-) -> Result<BufWriter<OutputFile<R::File>>, Ending<'a>>
+) -> Result<BufWriter<OutputFile<R::File>>, CommandEnding<'a>>
 where
     R::File: LockFile,
 {
     let uncreated = OutputFile { file: None };
-    let mut output = BufWriter::new(rt.alloc(), uncreated).map_err(|_| Ending::Memory)?;
+    let mut output = BufWriter::new(rt.alloc(), uncreated).map_err(|_| CommandEnding::Memory)?;
     output.get_mut().file = Some(create_output(rt, inputs, out)?);
     Ok(output)
 }
@@ -66,7 +66,7 @@ pub(crate) fn write_held<'a, R: AllocGlobal + Files>(
     inputs: &Inputs,
     out: &'a str,
     held: &[u8],
-) -> Result<(), Ending<'a>>
+) -> Result<(), CommandEnding<'a>>
 where
     R::File: LockFile,
 {
@@ -79,9 +79,15 @@ where
 }
 
 /// Writes all bytes to an output, and flushes it.
-fn write_whole<'a, W: Write>(out: &'a str, output: &mut W, bytes: &[u8]) -> Result<(), Ending<'a>>
+fn write_whole<'a, W: Write>(
+    out: &'a str,
+    output: &mut W,
+    bytes: &[u8],
+) -> Result<(), CommandEnding<'a>>
     ensures { OnOk result (Appends (W.contents output.old) (W.contents output.new) bytes.now) }
 {
-    output.write_all(bytes).map_err(|_| Ending::File(out))?;
-    output.flush().map_err(|_| Ending::File(out))
+    output
+        .write_all(bytes)
+        .map_err(|_| CommandEnding::File(out))?;
+    output.flush().map_err(|_| CommandEnding::File(out))
 }

@@ -4,7 +4,7 @@ use crate::reading::{
     Counts, begin_again, counts_of, is_read_twice, next_packet, open, packet_again, reader_over,
 };
 use ch11_packet::{Header, What};
-use cli_streams::{Ending, STREAM, print_line};
+use cli_streams::{CommandEnding, STREAM, print_line};
 use rec_reader::{Packet, Reader};
 use std::alloc::Global;
 use std::io;
@@ -19,7 +19,7 @@ pub fn list_packets<'a, R: AllocGlobal + Files, I: Read, O: Write>(
     file: &'a str,
     input: &mut I,
     output: &mut O,
-) -> Result<(), Ending<'a>> {
+) -> Result<(), CommandEnding<'a>> {
     let alloc = rt.alloc();
     if file == STREAM {
         return list_held(alloc, file, &mut reader_over(alloc, input)?, output);
@@ -47,8 +47,8 @@ fn list_again<'a, R: Read, O: Write>(
     reader: &mut Reader<R>,
     judged: Counts,
     output: &mut O,
-) -> Result<(), Ending<'a>> {
-    let mut lines = BufWriter::new(alloc, output).map_err(|_| Ending::Memory)?;
+) -> Result<(), CommandEnding<'a>> {
+    let mut lines = BufWriter::new(alloc, output).map_err(|_| CommandEnding::Memory)?;
     let mut line = Vec::new(alloc);
     let mut counts = Counts::NONE;
     'packets: for _ in 0..judged.packets {
@@ -57,11 +57,11 @@ fn list_again<'a, R: Read, O: Write>(
         // the buffer goes out before a line that it has no room for, so no line is cut in two
         lines
             .write_all(line.as_slice())
-            .map_err(|_| Ending::File(STREAM))?;
+            .map_err(|_| CommandEnding::File(STREAM))?;
         line.clear();
     }
     if counts != judged {
-        return Err(Ending::File(file));
+        return Err(CommandEnding::File(file));
     }
     let built = print_counts(&mut line, counts);
     print_line(&mut lines, &mut line, built)
@@ -73,7 +73,7 @@ fn list_held<'a, R: Read, O: Write>(
     file: &'a str,
     reader: &mut Reader<R>,
     output: &mut O,
-) -> Result<(), Ending<'a>> {
+) -> Result<(), CommandEnding<'a>> {
     let mut lines = Vec::new(alloc);
     let mut counts = Counts::NONE;
     'packets: for _ in 0..u64::MAX {
@@ -91,9 +91,9 @@ fn add_line<W: Write>(
     lines: &mut W,
     packet: &Packet<'_>,
     counts: &mut Counts,
-) -> Result<(), Ending<'static>> {
+) -> Result<(), CommandEnding<'static>> {
     counts.count(packet);
-    print_packet(lines, packet).map_err(|error| Ending::of_io(STREAM, &error))
+    print_packet(lines, packet).map_err(|error| CommandEnding::of_io(STREAM, &error))
 }
 
 /// Prints how many packets there are.

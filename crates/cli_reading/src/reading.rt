@@ -6,7 +6,7 @@ ghost use Rattle.cli_reading.specs.Counts.{CountsRecording};
 ghost use Rattle.cli_reading.specs.Written.{GivesNext};
 
 use ch11_packet::What;
-use cli_streams::Ending;
+use cli_streams::CommandEnding;
 use rec_reader::{OwnedPacket, Packet, Reader};
 use std::alloc::Global;
 use std::fs;
@@ -57,7 +57,7 @@ impl Counts {
 pub(crate) fn counts_of<'a, R: Read>(
     file: &'a str,
     reader: &mut Reader<R>,
-) -> Result<Counts, Ending<'a>>
+) -> Result<Counts, CommandEnding<'a>>
     ensures all { IfOk result (λ counts. (recording : List ℕ) → HasRead recording [] reader.old
         → CountsRecording recording counts) }
 {
@@ -69,19 +69,19 @@ pub(crate) fn counts_of<'a, R: Read>(
         counts.count(&owned.packet());
     }
     // a recording of fewer than 2^64 bytes ends before
-    Err(Ending::Memory)
+    Err(CommandEnding::Memory)
 }
 
 /// The next packet of a recording: `None` at its end.
 pub(crate) fn next_packet<'a, R: Read>(
     file: &'a str,
     reader: &mut Reader<R>,
-) -> Result<Option<OwnedPacket>, Ending<'a>>
+) -> Result<Option<OwnedPacket>, CommandEnding<'a>>
     ensures gives { IfOk result (λ taken. GivesNext taken reader.old reader.new) }
 {
     match reader.next() {
         Ok(taken) => Ok(taken),
-        Err(end) => Err(Ending::of_reading(file, end)),
+        Err(end) => Err(CommandEnding::of_reading(file, end)),
     }
 }
 
@@ -90,12 +90,12 @@ pub(crate) fn next_packet<'a, R: Read>(
 pub(crate) fn packet_again<'a, R: Read>(
     file: &'a str,
     reader: &mut Reader<R>,
-) -> Result<OwnedPacket, Ending<'a>>
+) -> Result<OwnedPacket, CommandEnding<'a>>
     ensures gives { IfOk result (λ packet. GivesNext (Some packet) reader.old reader.new) }
 {
     match next_packet(file, reader) {
         Ok(Some(packet)) => Ok(packet),
-        Ok(None) | Err(Ending::Reading(_)) => Err(Ending::File(file)),
+        Ok(None) | Err(CommandEnding::Reading(_)) => Err(CommandEnding::File(file)),
         Err(ending) => Err(ending),
     }
 }
@@ -104,7 +104,7 @@ pub(crate) fn packet_again<'a, R: Read>(
 pub(crate) fn reader_of<'a, R: AllocGlobal + Files>(
     rt: &R,
     file: &'a str,
-) -> Result<Reader<BufReader<R::File>>, Ending<'a>> {
+) -> Result<Reader<BufReader<R::File>>, CommandEnding<'a>> {
     reader_over(rt.alloc(), open(rt, file)?)
 }
 
@@ -112,17 +112,17 @@ pub(crate) fn reader_of<'a, R: AllocGlobal + Files>(
 pub(crate) fn reader_over<'a, I: Read + Drop>(
     alloc: Global,
     input: I,
-) -> Result<Reader<BufReader<I>>, Ending<'a>>
+) -> Result<Reader<BufReader<I>>, CommandEnding<'a>>
     ensures begins { IfOk result (λ reader. IfSome (I.remaining input) (λ recording.
         length recording < 2 ^ 64 → HasRead recording [] reader)) }
 {
-    let input = BufReader::with_capacity(alloc, PIECE, input).map_err(|_| Ending::Memory)?;
+    let input = BufReader::with_capacity(alloc, PIECE, input).map_err(|_| CommandEnding::Memory)?;
     Ok(Reader::new(alloc, input))
 }
 
 /// A recording's file.
-pub(crate) fn open<'a, R: Files>(rt: &R, file: &'a str) -> Result<R::File, Ending<'a>> {
-    fs::open(rt, file).map_err(|error| Ending::of_io(file, &error))
+pub(crate) fn open<'a, R: Files>(rt: &R, file: &'a str) -> Result<R::File, CommandEnding<'a>> {
+    fs::open(rt, file).map_err(|error| CommandEnding::of_io(file, &error))
 }
 
 /// Whether an open file can be read twice, as a regular file can. A pipe can't.
@@ -134,9 +134,12 @@ pub(crate) fn is_read_twice<F: OpenFile>(recording: &F) -> bool {
 }
 
 /// Goes back to the first byte of a recording.
-pub(crate) fn begin_again<'a, F: Seek>(file: &'a str, recording: &mut F) -> Result<(), Ending<'a>> {
+pub(crate) fn begin_again<'a, F: Seek>(
+    file: &'a str,
+    recording: &mut F,
+) -> Result<(), CommandEnding<'a>> {
     recording
         .seek(SeekFrom::Start(0))
-        .map_err(|_| Ending::File(file))?;
+        .map_err(|_| CommandEnding::File(file))?;
     Ok(())
 }

@@ -5,7 +5,7 @@ ghost use Rattle.std.specs.Io.KnownBytes.{Appends};
 ghost use Rattle.cli_reading.specs.Lines.{TakesUpgraded, upgraded_line};
 
 use crate::written::{PerPacket, write_recording};
-use cli_streams::{Ending, LockFile, print_line};
+use cli_streams::{CommandEnding, LockFile, print_line};
 use rec_reader::{Packet, Upgraded, upgrade_packet};
 use std::alloc::Global;
 use std::io::{Read, Write};
@@ -32,7 +32,7 @@ pub fn upgrade_recording<'a, R: AllocGlobal + Files, I: Read, O: Write>(
     out: &'a str,
     input: &mut I,
     output: &mut O,
-) -> Result<(), Ending<'a>>
+) -> Result<(), CommandEnding<'a>>
 where
     R::File: LockFile,
     ensures { OnOk result (TakesUpgraded (O.contents output.old) (O.contents output.new)) }
@@ -47,7 +47,7 @@ fn upgrade<'a, R: AllocGlobal + Files, I: Read>(
     file: &'a str,
     out: &'a str,
     input: &mut I,
-) -> Result<Upgraded, Ending<'a>>
+) -> Result<Upgraded, CommandEnding<'a>>
 where
     R::File: LockFile,
 {
@@ -64,7 +64,7 @@ fn print_upgraded<O: Write>(
     alloc: Global,
     output: &mut O,
     upgraded: Upgraded,
-) -> Result<(), Ending<'static>>
+) -> Result<(), CommandEnding<'static>>
     ensures { OnOk result (Appends (O.contents output.old) (O.contents output.new)
         (upgraded_line upgraded.packets upgraded.copied)) }
 {

@@ -9,7 +9,7 @@ use crate::output_file::{buffered_output, write_held};
 use crate::reading::{
     Counts, begin_again, counts_of, is_read_twice, next_packet, open, packet_again, reader_over,
 };
-use cli_streams::{Ending, Inputs, LockFile, STREAM};
+use cli_streams::{CommandEnding, Inputs, LockFile, STREAM};
 use rec_reader::{Packet, Reader};
 use std::alloc::Global;
 use std::io::{BufWriter, Read, Write};
@@ -46,7 +46,7 @@ pub(crate) fn write_recording<'a, R: AllocGlobal + Files, I: Read, P: PerPacket>
     out: &'a str,
     input: &mut I,
     written: &mut P,
-) -> Result<(), Ending<'a>>
+) -> Result<(), CommandEnding<'a>>
 where
     R::File: LockFile,
 {
@@ -66,7 +66,7 @@ fn write_file<'a, R: AllocGlobal + Files, P: PerPacket>(
     inputs: &mut Inputs,
     out: &'a str,
     written: &mut P,
-) -> Result<(), Ending<'a>>
+) -> Result<(), CommandEnding<'a>>
 where
     R::File: LockFile,
 {
@@ -94,7 +94,7 @@ fn write_again<'a, I: Read, W: Write + Drop, P: PerPacket>(
     out: &'a str,
     output: &mut BufWriter<W>,
     written: &mut P,
-) -> Result<(), Ending<'a>>
+) -> Result<(), CommandEnding<'a>>
     ensures written { OnOk result ((recording : List ℕ) → HasRead recording [] reader.old
         → TakesWritten (P.bytes_for written.old) P.counts judged recording written.old written.new
         (writer_contents W.contents output.old) (writer_contents W.contents output.new)) }
@@ -106,13 +106,13 @@ fn write_again<'a, I: Read, W: Write + Drop, P: PerPacket>(
         let packet = owned.packet();
         counts.count(&packet);
         if !written.write_packet(&packet, output) {
-            return Err(Ending::File(out));
+            return Err(CommandEnding::File(out));
         }
     }
     if counts != judged {
-        return Err(Ending::File(file));
+        return Err(CommandEnding::File(file));
     }
-    output.flush().map_err(|_| Ending::File(out))
+    output.flush().map_err(|_| CommandEnding::File(out))
 }
 
 /// Writes for a recording that can be read only once: what is written is held until the recording is
@@ -124,7 +124,7 @@ fn write_once<'a, R: AllocGlobal + Files, I: Read, P: PerPacket>(
     out: &'a str,
     input: &mut I,
     written: &mut P,
-) -> Result<(), Ending<'a>>
+) -> Result<(), CommandEnding<'a>>
 where
     R::File: LockFile,
 {
@@ -138,7 +138,7 @@ fn held_for<'a, I: Read + Drop, P: PerPacket>(
     file: &'a str,
     input: I,
     written: &mut P,
-) -> Result<Vec<u8>, Ending<'a>>
+) -> Result<Vec<u8>, CommandEnding<'a>>
     ensures written { IfOk result (λ held. IfSome (I.remaining input) (λ recording.
         length recording < 2 ^ 64 → IsWritten (P.bytes_for written.old) P.counts recording
         held.items written.old written.new)) }
@@ -151,9 +151,9 @@ fn held_for<'a, I: Read + Drop, P: PerPacket>(
         };
         // memory takes all bytes, if there is some
         if !written.write_packet(&owned.packet(), &mut held) {
-            return Err(Ending::Memory);
+            return Err(CommandEnding::Memory);
         }
     }
     // a recording of fewer than 2^64 bytes ends before
-    Err(Ending::Memory)
+    Err(CommandEnding::Memory)
 }

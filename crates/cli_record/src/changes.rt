@@ -1,7 +1,7 @@
 //! Changes of filters from lines of an input, and what is answered to them.
 
-use cli_recording::{Asked, Lines, Refusal, Reply, next_asked, print_error};
-use cli_streams::Ending;
+use cli_record_streams::{Asked, Lines, Refusal, Reply, next_asked, print_error};
+use cli_streams::CommandEnding;
 use rec_run::{Answer, Change, Control, ControlLog, Told};
 use std::io::{self, Read, Write};
 use std::rt::Files;
@@ -41,9 +41,9 @@ impl<'r, R: AllocGlobal + Sync, I: Read + Send + Drop, E: Send + Drop> LineContr
     }
 
     /// How it ended: at its last line, or since there was no memory.
-    pub(crate) fn outcome(&self) -> Result<(), Ending<'static>> {
+    pub(crate) fn outcome(&self) -> Result<(), CommandEnding<'static>> {
         if self.lacks_memory {
-            return Err(Ending::Memory);
+            return Err(CommandEnding::Memory);
         }
         Ok(())
     }

@@ -4,8 +4,8 @@ use crate::changes::LineControl;
 use crate::fault::output_fault;
 use crate::jobs::jobs_of;
 use crate::report::print_report;
-use cli_recording::{AnnouncedOutput, read_settings};
-use cli_streams::{Ending, Inputs, LockFile, RecordingFault, create_output};
+use cli_record_streams::{AnnouncedOutput, read_settings};
+use cli_streams::{CommandEnding, Inputs, LockFile, RecordingFault, create_output};
 use rec_run::{Done, RunFault, jobs_ok, record};
 use rec_words::SettingsFault;
 use std::io::{Read, Write};
@@ -30,7 +30,7 @@ pub fn record_channels<
     input: I,
     output: &mut O,
     errors: &Mutex<E>,
-) -> Result<(), Ending<'a>>
+) -> Result<(), CommandEnding<'a>>
 where
     R::File: Send + LockFile,
     R::Dir: Send,
@@ -40,10 +40,10 @@ where
     let (ring, version) = (wanted.ring, wanted.version);
     let jobs = jobs_of(rt, wanted.limit, wanted.channels, &mut inputs)?;
     if !jobs_ok(jobs.as_slice()) {
-        return Err(Ending::Settings(SettingsFault::Channels));
+        return Err(CommandEnding::Settings(SettingsFault::Channels));
     }
     let Ok(control) = LineControl::new(rt, input, errors) else {
-        return Err(Ending::Memory);
+        return Err(CommandEnding::Memory);
     };
     inputs.add_streams(rt)?;
     inputs.refuse_output(rt, out)?;
@@ -56,11 +56,11 @@ where
                 out: recorded,
             },
         ) => {
-            recorded.keep().map_err(|_| Ending::File(out))?;
+            recorded.keep().map_err(|_| CommandEnding::File(out))?;
             print_report(rt.alloc(), output, &report)?;
             control.outcome()
         }
-        Err(RunFault::Memory) => Err(Ending::Memory),
+        Err(RunFault::Memory) => Err(CommandEnding::Memory),
         Err(
             RunFault::Write {
                 fault,
@@ -68,7 +68,7 @@ where
                 ..
             },
         ) => Err(recorded.ending(output_fault(fault))),
-        Err(RunFault::Link) => Err(Ending::Recording(RecordingFault::Link)),
-        Err(RunFault::History) => Err(Ending::Recording(RecordingFault::History)),
+        Err(RunFault::Link) => Err(CommandEnding::Recording(RecordingFault::Link)),
+        Err(RunFault::History) => Err(CommandEnding::Recording(RecordingFault::History)),
     }
 }

@@ -1,8 +1,8 @@
 //! What is to be recorded, by the settings.
 
 use ch11_packet::Limit;
-use cli_recording::{Source, open_feed, read_filter};
-use cli_streams::{Ending, Inputs};
+use cli_record_streams::{Source, open_feed, read_filter};
+use cli_streams::{CommandEnding, Inputs};
 use rec_lane::LaneSpec;
 use rec_run::Job;
 use rec_words::{ChannelSettings, Settings};
@@ -16,7 +16,7 @@ pub(crate) fn jobs_of<'a, R: AllocGlobal + Files>(
     limit: Limit,
     channels: Vec<ChannelSettings>,
     inputs: &mut Inputs,
-) -> Result<Vec<Job<Source<R::File>>>, Ending<'a>> {
+) -> Result<Vec<Job<Source<R::File>>>, CommandEnding<'a>> {
     let mut jobs = Vec::with_capacity(rt.alloc(), channels.len())?;
     let mut feeds = Inputs::new(rt.alloc());
     'channels: for channel in channels {
@@ -32,7 +32,7 @@ fn job_of<'a, R: AllocGlobal + Files>(
     channel: ChannelSettings,
     inputs: &mut Inputs,
     feeds: &mut Inputs,
-) -> Result<Job<Source<R::File>>, Ending<'a>> {
+) -> Result<Job<Source<R::File>>, CommandEnding<'a>> {
     let ChannelSettings {
         id,
         feed,

@@ -1,6 +1,6 @@
 //! What is printed of a recording.
 
-use cli_streams::{Ending, print_line};
+use cli_streams::{CommandEnding, print_line};
 use rec_run::{ChannelReport, Report};
 use std::alloc::Global;
 use std::io;
@@ -11,7 +11,7 @@ pub(crate) fn print_report<S: Drop, O: Write>(
     alloc: Global,
     output: &mut O,
     report: &Report<S>,
-) -> Result<(), Ending<'static>> {
+) -> Result<(), CommandEnding<'static>> {
     let mut line = Vec::new(alloc);
     'channels: for channel in report.channels.as_slice() {
         let built = print_channel(&mut line, channel);

@@ -2,7 +2,7 @@
 
 use crate::script::{LineFault, Recorder, channel_of, event_in, recorder_in};
 use ch11_packet::Limit;
-use cli_streams::{Ending, MAX_TEXT, print_line, text_in};
+use cli_streams::{CommandEnding, MAX_TEXT, print_line, text_in};
 use rec_core::{ChannelSpec, CoreFault, Reply, Which, World, specs_ok};
 use std::alloc::{AllocError, Global};
 use std::io;
@@ -14,17 +14,17 @@ const CHANNEL: &str = "channel ";
 
 /// A line that isn't empty, with its number, counted from 1.
 #[derive(Clone, Copy)]
-struct Line<'s> {
+struct ScriptLine<'s> {
     number: u64,
     text: &'s str,
 }
 
-impl Line<'_> {
+impl ScriptLine<'_> {
     /// What a fault of the line comes to.
-    fn ending(&self, fault: LineFault) -> Ending<'static> {
+    fn ending(&self, fault: LineFault) -> CommandEnding<'static> {
         match fault {
-            LineFault::Shape => Ending::Script(self.number),
-            LineFault::Memory => Ending::Memory,
+            LineFault::Shape => CommandEnding::Script(self.number),
+            LineFault::Memory => CommandEnding::Memory,
         }
     }
 }
@@ -36,15 +36,15 @@ pub fn simulate_script<'a, R: AllocGlobal + Files, I: Read, O: Write>(
     file: &'a str,
     input: &mut I,
     output: &mut O,
-) -> Result<(), Ending<'a>> {
+) -> Result<(), CommandEnding<'a>> {
     let alloc = rt.alloc();
     let text = text_in(rt, file, MAX_TEXT, input)?;
     let lines = lines_of(alloc, text.as_str())?;
     let Some((first, rest)) = lines.as_slice().split_first() else {
-        return Err(Ending::Script(0));
+        return Err(CommandEnding::Script(0));
     };
     let Some(recorder) = recorder_in(first.text) else {
-        return Err(Ending::Script(first.number));
+        return Err(CommandEnding::Script(first.number));
     };
     let (channels, events) = split_channels(rest);
     let Recorder {
@@ -55,7 +55,7 @@ pub fn simulate_script<'a, R: AllocGlobal + Files, I: Read, O: Write>(
     let specs = specs_of(alloc, limit, channels)?;
     if !specs_ok(specs.as_slice()) {
         // each was tested where it was read, so there is none
-        return Err(Ending::Script(number_of(events)));
+        return Err(CommandEnding::Script(number_of(events)));
     }
     let mut world = World::new(alloc, specs.as_slice(), ring, version, Vec::new(alloc))?;
     let mut answer = Vec::new(alloc);
@@ -64,7 +64,7 @@ pub fn simulate_script<'a, R: AllocGlobal + Files, I: Read, O: Write>(
         let built = match world.step(&event) {
             Ok(reply) => print_reply(&mut answer, reply, world.out().as_slice()),
             // the output is in memory, so it fails only where there is none
-            Err(CoreFault::Memory | CoreFault::Output) => return Err(Ending::Memory),
+            Err(CoreFault::Memory | CoreFault::Output) => return Err(CommandEnding::Memory),
             Err(fault) => writeln!(&mut answer, "{fault}"),
         };
         print_line(output, &mut answer, built)?;
@@ -73,20 +73,22 @@ pub fn simulate_script<'a, R: AllocGlobal + Files, I: Read, O: Write>(
 }
 
 /// The lines of a text that aren't empty.
-fn lines_of(alloc: Global, text: &str) -> Result<Vec<Line<'_>>, AllocError> {
+fn lines_of(alloc: Global, text: &str) -> Result<Vec<ScriptLine<'_>>, AllocError> {
     let mut lines = Vec::new(alloc);
     let mut number = 0u64;
     'lines: for text in text.split('\n') {
         number = number.saturating_add(1);
         if !text.is_empty() {
-            lines.push(Line { number, text })?;
+            lines.push(ScriptLine { number, text })?;
         }
     }
     Ok(lines)
 }
 
 /// The lines of channels at the front, and the others.
-fn split_channels<'l, 's>(lines: &'l [Line<'s>]) -> (&'l [Line<'s>], &'l [Line<'s>]) {
+fn split_channels<'l, 's>(
+    lines: &'l [ScriptLine<'s>],
+) -> (&'l [ScriptLine<'s>], &'l [ScriptLine<'s>]) {
     let count = lines
         .iter()
         .take_while(|line| line.text.starts_with(CHANNEL))
@@ -98,22 +100,22 @@ fn split_channels<'l, 's>(lines: &'l [Line<'s>]) -> (&'l [Line<'s>], &'l [Line<'
 fn specs_of(
     alloc: Global,
     limit: Limit,
-    lines: &[Line<'_>],
-) -> Result<Vec<ChannelSpec>, Ending<'static>> {
+    lines: &[ScriptLine<'_>],
+) -> Result<Vec<ChannelSpec>, CommandEnding<'static>> {
     let mut specs = Vec::new(alloc);
     'lines: for line in lines {
         let fields = line.text.strip_prefix(CHANNEL).unwrap_or("");
         let spec = channel_of(alloc, fields, limit).map_err(|fault| line.ending(fault))?;
         specs.push(spec)?;
         if !specs_ok(specs.as_slice()) {
-            return Err(Ending::Script(line.number));
+            return Err(CommandEnding::Script(line.number));
         }
     }
     Ok(specs)
 }
 
 /// The number of the first line, or 0.
-fn number_of(lines: &[Line<'_>]) -> u64 {
+fn number_of(lines: &[ScriptLine<'_>]) -> u64 {
     match lines.first() {
         Some(line) => line.number,
         None => 0,

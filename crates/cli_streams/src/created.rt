@@ -1,6 +1,6 @@
 //! How an output's file is created.
 
-use crate::ending::Ending;
+use crate::ending::CommandEnding;
 use crate::inputs::Inputs;
 use std::fs::{File, OpenFile, OpenOptions, TryLockError};
 use std::io::{self, ErrorKind};
@@ -29,13 +29,13 @@ pub fn create_output<'a, R: Files>(
     rt: &R,
     inputs: &Inputs,
     out: &'a str,
-) -> Result<R::File, Ending<'a>>
+) -> Result<R::File, CommandEnding<'a>>
 where
     R::File: LockFile,
 {
     let opened = OpenOptions::new().write(true).create(true).open(rt, out);
-    let file = opened.map_err(|error| Ending::of_io(out, &error))?;
-    empty(inputs, &file).map_err(|error| Ending::of_io(out, &error))?;
+    let file = opened.map_err(|error| CommandEnding::of_io(out, &error))?;
+    empty(inputs, &file).map_err(|error| CommandEnding::of_io(out, &error))?;
     Ok(file)
 }
 

@@ -33,7 +33,7 @@ pub const STREAM: &str = "-";
 
 /// Why a command ends with another status than [`ANSWERED`]. Its text is what is printed.
 #[derive(Debug, Drop, Error)]
-pub enum Ending<'a> {
+pub enum CommandEnding<'a> {
     /// A file couldn't be read, is no UTF-8 where text is wanted, or couldn't be written.
     #[error("file {0}\n")]
     File(&'a str),
@@ -78,41 +78,41 @@ pub enum Ending<'a> {
     Memory,
 }
 
-impl<'a> Ending<'a> {
+impl<'a> CommandEnding<'a> {
     /// What a failed read, creation or write of a file comes to.
-    pub fn of_io(path: &'a str, error: &io::Error) -> Ending<'a> {
+    pub fn of_io(path: &'a str, error: &io::Error) -> CommandEnding<'a> {
         match error.kind() {
-            ErrorKind::OutOfMemory => Ending::Memory,
-            _ => Ending::File(path),
+            ErrorKind::OutOfMemory => CommandEnding::Memory,
+            _ => CommandEnding::File(path),
         }
     }
 
     /// What a failed read, creation or write comes to of a file that the settings name.
-    pub fn of_named_io(path: String, error: &io::Error) -> Ending<'a> {
+    pub fn of_named_io(path: String, error: &io::Error) -> CommandEnding<'a> {
         match error.kind() {
-            ErrorKind::OutOfMemory => Ending::Memory,
-            _ => Ending::NamedFile(path),
+            ErrorKind::OutOfMemory => CommandEnding::Memory,
+            _ => CommandEnding::NamedFile(path),
         }
     }
 
     /// What a text comes to that lists no program which may be installed.
-    pub fn of_listed(alloc: Global, fault: ListedFault) -> Ending<'a> {
+    pub fn of_listed(alloc: Global, fault: ListedFault) -> CommandEnding<'a> {
         let refused = match fault {
-            ListedFault::Listing(fault) => return Ending::Listing(fault),
+            ListedFault::Listing(fault) => return CommandEnding::Listing(fault),
             ListedFault::Refused(refused) => refused,
         };
         match Box::new(alloc, refused) {
-            Ok(refused) => Ending::Refused(refused),
-            Err(_) => Ending::Memory,
+            Ok(refused) => CommandEnding::Refused(refused),
+            Err(_) => CommandEnding::Memory,
         }
     }
 
     /// What a fault of a recording comes to.
-    pub fn of_reading(path: &'a str, end: ReadEnd) -> Ending<'a> {
+    pub fn of_reading(path: &'a str, end: ReadEnd) -> CommandEnding<'a> {
         match end.kind {
-            ReadFaultKind::Memory => Ending::Memory,
-            ReadFaultKind::Device => Ending::File(path),
-            _ => Ending::Reading(end),
+            ReadFaultKind::Memory => CommandEnding::Memory,
+            ReadFaultKind::Device => CommandEnding::File(path),
+            _ => CommandEnding::Reading(end),
         }
     }
 
@@ -122,7 +122,7 @@ impl<'a> Ending<'a> {
     pub fn report<O: Write, E: Write>(self, alloc: Global, output: &mut O, errors: &mut E) -> u8
         ensures nonzero { 0 < result }
     {
-        if !matches!(self, Ending::Refused(_) | Ending::Audit(_)) {
+        if !matches!(self, CommandEnding::Refused(_) | CommandEnding::Audit(_)) {
             return self.print_fault(alloc, errors);
         }
         let mut line = Vec::new(alloc);
@@ -151,37 +151,43 @@ impl<'a> Ending<'a> {
         ensures nonzero { 0 < result }
     {
         match self {
-            Ending::Settings(SettingsFault::Memory) => MEMORY,
-            Ending::Words(_) | Ending::WordsUnread(_) | Ending::Settings(_) => WORDS,
-            Ending::File(_) | Ending::NamedFile(_) => FILE,
-            Ending::Listing(ListingFault::Memory) | Ending::View(ViewFault::Memory) => MEMORY,
-            Ending::Assembler(AsmFault::Memory) | Ending::Disassembler(DisFault::Memory) => MEMORY,
-            Ending::Memory => MEMORY,
-            Ending::Assembler(_) | Ending::Disassembler(_) | Ending::Reading(_) => REFUSED,
-            Ending::Listing(_) | Ending::Refused(_) | Ending::View(_) => REFUSED,
-            Ending::Recording(_) | Ending::Told => REFUSED,
-            Ending::Audit(_) | Ending::Script(_) => REFUSED,
+            CommandEnding::Settings(SettingsFault::Memory) => MEMORY,
+            CommandEnding::Words(_) | CommandEnding::WordsUnread(_) | CommandEnding::Settings(_) =>
+                WORDS,
+            CommandEnding::File(_) | CommandEnding::NamedFile(_) => FILE,
+            CommandEnding::Listing(ListingFault::Memory) | CommandEnding::View(ViewFault::Memory) =>
+                MEMORY,
+            CommandEnding::Assembler(AsmFault::Memory)
+            | CommandEnding::Disassembler(DisFault::Memory) => MEMORY,
+            CommandEnding::Memory => MEMORY,
+            CommandEnding::Assembler(_)
+            | CommandEnding::Disassembler(_)
+            | CommandEnding::Reading(_) => REFUSED,
+            CommandEnding::Listing(_) | CommandEnding::Refused(_) | CommandEnding::View(_) =>
+                REFUSED,
+            CommandEnding::Recording(_) | CommandEnding::Told => REFUSED,
+            CommandEnding::Audit(_) | CommandEnding::Script(_) => REFUSED,
         }
     }
 }
 
-impl<'a> From<AuditFault> for Ending<'a> {
-    fn from(fault: AuditFault) -> Ending<'a> {
+impl<'a> From<AuditFault> for CommandEnding<'a> {
+    fn from(fault: AuditFault) -> CommandEnding<'a> {
         match fault {
-            AuditFault::Memory => Ending::Memory,
-            fault => Ending::Audit(fault),
+            AuditFault::Memory => CommandEnding::Memory,
+            fault => CommandEnding::Audit(fault),
         }
     }
 }
 
-impl<'a> From<AllocError> for Ending<'a> {
-    fn from(_error: AllocError) -> Ending<'a> {
-        Ending::Memory
+impl<'a> From<AllocError> for CommandEnding<'a> {
+    fn from(_error: AllocError) -> CommandEnding<'a> {
+        CommandEnding::Memory
     }
 }
 
-impl<'a, T: Drop> From<AllocFailed<T>> for Ending<'a> {
-    fn from(_error: AllocFailed<T>) -> Ending<'a> {
-        Ending::Memory
+impl<'a, T: Drop> From<AllocFailed<T>> for CommandEnding<'a> {
+    fn from(_error: AllocFailed<T>) -> CommandEnding<'a> {
+        CommandEnding::Memory
     }
 }

@@ -2,7 +2,7 @@
 
 ghost use Rattle.std.specs.Prelude.{◌≡◌, IfOk, IfSome, string_bytes};
 
-use crate::ending::{Ending, STREAM};
+use crate::ending::{CommandEnding, STREAM};
 use std::alloc::Global;
 use std::io::{ErrorKind, Read};
 use std::rt::Files;
@@ -20,13 +20,13 @@ pub fn text_in<'a, R: AllocGlobal + Files, I: Read>(
     file: &'a str,
     most: u64,
     input: &mut I,
-) -> Result<String, Ending<'a>> {
+) -> Result<String, CommandEnding<'a>> {
     let read = if file == STREAM {
         bounded_text(rt.alloc(), most, input)
     } else {
         fs::open(rt, file).and_then(|mut opened| bounded_text(rt.alloc(), most, &mut opened))
     };
-    read.map_err(|error| Ending::of_io(file, &error))
+    read.map_err(|error| CommandEnding::of_io(file, &error))
 }
 
 /// The text that an input gives, of at most `most` bytes. One byte more is read, which tells that
@@ -47,13 +47,13 @@ pub fn bounded_text<I: Read>(alloc: Global, most: u64, input: &mut I) -> io::Res
 }
 
 /// The whole input, as text.
-pub fn whole_text<'a, I: Read>(alloc: Global, input: &mut I) -> Result<String, Ending<'a>>
+pub fn whole_text<'a, I: Read>(alloc: Global, input: &mut I) -> Result<String, CommandEnding<'a>>
     ensures { IfOk result (λ text. IfSome (I.remaining input.old) (λ bytes.
         string_bytes text ≡ bytes)) }
 {
     let mut text = String::new(alloc);
     input
         .read_to_string(&mut text)
-        .map_err(|error| Ending::of_io(STREAM, &error))?;
+        .map_err(|error| CommandEnding::of_io(STREAM, &error))?;
     Ok(text)
 }

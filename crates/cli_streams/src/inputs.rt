@@ -1,9 +1,9 @@
 //! The files that a command reads, by which it tells that its output is one of them.
 
 ghost use Rattle.std.specs.Prelude.{◌≡◌, IfErr};
-ghost use Rattle.cli_streams.specs.declared.ending.Ending.TheVariants.{File};
+ghost use Rattle.cli_streams.specs.declared.ending.CommandEnding.TheVariants.{File};
 
-use crate::ending::Ending;
+use crate::ending::CommandEnding;
 use std::alloc::{AllocError, Global};
 use std::fs::{Metadata, OpenFile};
 use std::io::ErrorKind;
@@ -58,31 +58,36 @@ impl Inputs {
     /// Refuses an output that is one of these files, by whatever name: a regular file would be
     /// emptied, and what goes into a pipe would come out of it again. A device has nothing to lose.
     /// An output that can't be looked at is passed over: `create_output` looks at it once more.
-    pub fn refuse_input<'a, R: Files>(&self, rt: &R, out: &'a str) -> Result<(), Ending<'a>>
+    pub fn refuse_input<'a, R: Files>(&self, rt: &R, out: &'a str) -> Result<(), CommandEnding<'a>>
         ensures named { IfErr result (λ ending. ending ≡ File out.entry) }
     {
         match rt.metadata(out) {
-            Ok(found) if self.is_spoiled(&found) => Err(Ending::File(out)),
+            Ok(found) if self.is_spoiled(&found) => Err(CommandEnding::File(out)),
             Ok(_) | Err(_) => Ok(()),
         }
     }
 
     /// Refuses an output as [`Inputs::refuse_input`] does, and one that may be there, and can't be
     /// looked at.
-    pub fn refuse_output<'a, R: Files>(&self, rt: &R, out: &'a str) -> Result<(), Ending<'a>> {
+    pub fn refuse_output<'a, R: Files>(
+        &self,
+        rt: &R,
+        out: &'a str,
+    ) -> Result<(), CommandEnding<'a>> {
         match rt.metadata(out) {
-            Ok(found) if self.is_spoiled(&found) => Err(Ending::File(out)),
+            Ok(found) if self.is_spoiled(&found) => Err(CommandEnding::File(out)),
             Ok(_) => Ok(()),
             Err(error) if error.kind() == ErrorKind::NotFound => Ok(()),
-            Err(error) => Err(Ending::of_io(out, &error)),
+            Err(error) => Err(CommandEnding::of_io(out, &error)),
         }
     }
 
     /// Whether this is a name of a pipe or a device among these files, whose bytes go to one reader
-    /// alone. It doesn't open it, since opening a pipe may wait.
+    /// alone. A folder, which no reader reads, is neither. It doesn't open it, since opening a pipe
+    /// may wait.
     pub fn has_stream<R: Files>(&self, rt: &R, name: &str) -> bool {
         match rt.metadata(name) {
-            Ok(found) => !found.is_file() && self.has(&found),
+            Ok(found) => !found.is_file() && !found.is_dir() && self.has(&found),
             Err(_) => false,
         }
     }

@@ -15,7 +15,7 @@ mod view;
 
 pub use channel_word::channel_in;
 pub use created::{LockFile, create_output};
-pub use ending::{ANSWERED, Ending, STREAM};
+pub use ending::{ANSWERED, CommandEnding, STREAM};
 pub use forced::force_to_disk;
 pub use input::{MAX_LISTING, MAX_TEXT, bounded_text, text_in, whole_text};
 pub use inputs::Inputs;

@@ -3,12 +3,12 @@
 ghost use Rattle.std.specs.Prelude.{◌≡◌, [], OnOk, IsOk};
 ghost use Rattle.std.specs.Io.KnownBytes.{Appends, Keeps};
 
-use crate::ending::{Ending, STREAM};
+use crate::ending::{CommandEnding, STREAM};
 use std::io;
 use std::io::Write;
 
 /// Prints a text that ends in a line feed.
-pub fn print_text<O: Write>(output: &mut O, text: &str) -> Result<(), Ending<'static>>
+pub fn print_text<O: Write>(output: &mut O, text: &str) -> Result<(), CommandEnding<'static>>
     ensures { OnOk result (Appends (O.contents output.old) (O.contents output.new) text.now) }
 {
     let written = output.write_all(text.as_bytes());
@@ -21,13 +21,13 @@ pub fn print_line<O: Write>(
     output: &mut O,
     line: &mut Vec<u8>,
     built: io::Result<()>,
-) -> Result<(), Ending<'static>>
+) -> Result<(), CommandEnding<'static>>
     ensures built { OnOk result (IsOk built) }
     ensures printed { OnOk result
         (Appends (O.contents output.old) (O.contents output.new) line.old.items) }
     ensures emptied { OnOk result (line.new.items ≡ []) }
 {
-    built.map_err(|error| Ending::of_io(STREAM, &error))?;
+    built.map_err(|error| CommandEnding::of_io(STREAM, &error))?;
     let written = output.write_all(line.as_slice());
     line.clear();
     finish(output, written)
@@ -35,12 +35,15 @@ pub fn print_line<O: Write>(
 
 /// Flushes the output, where what was written to it went through. A write or a flush that failed
 /// ends the command.
-pub fn finish<O: Write>(output: &mut O, written: io::Result<()>) -> Result<(), Ending<'static>>
+pub fn finish<O: Write>(
+    output: &mut O,
+    written: io::Result<()>,
+) -> Result<(), CommandEnding<'static>>
     ensures written { OnOk result (IsOk written) }
     ensures kept { OnOk result (Keeps (O.contents output.old) (O.contents output.new)) }
 {
     if written.is_err() || output.flush().is_err() {
-        return Err(Ending::File(STREAM));
+        return Err(CommandEnding::File(STREAM));
     }
     Ok(())
 }

@@ -49,7 +49,8 @@ eight_at bytes at =
 
 pub eight_bytes : (bytes : List ℕ) (at : ℕ) → AreBytes bytes → to_le_bytes w64 (u64_at bytes at) ≡ eight_at bytes at
 eight_bytes bytes at fit =
-    le_bytes_8 (eight_at bytes at) (u64_at bytes at) refl (eight_fit _ _ _ _ _ _ _ _ (fit at) (fit (at + 1)) (fit (at + 2)) (fit (at + 3)) (fit (at + 4)) (fit (at + 5)) (fit (at + 6)) (fit (at + 7))) refl
+    le_bytes_8 (eight_at bytes at) (u64_at bytes at) refl (eight_fit _ _ _ _ _ _ _ _ (fit at) (fit (at + 1)) (fit (at + 2)) (fit (at + 3)) (fit (at + 4))
+    (fit (at + 5)) (fit (at + 6)) (fit (at + 7))) refl
 
 -- ---- a number of 48 bits is what its six low bytes say
 

@@ -6,14 +6,17 @@ use Rattle.eth_frame.specs.declared.frame.TheConstants.{MIN_FRAME_LEN, MAX_FRAME
 use Rattle.eth_frame.specs.declared.feed.head.TheConstants.{MAX_MARKS}
 use Rattle.eth_frame.proofs.Bytes.{six_again}
 use Rattle.eth_frame.specs.Frame.{FrameData, IsFrame}
-use Rattle.eth_frame.specs.FeedRecord.{marks_byte, head_bytes, feed_record_head, counter_field, marks_field, length_field, has_crc_error, has_frame_error, head_fault}
+use Rattle.eth_frame.specs.FeedRecord.{marks_byte, head_bytes, feed_record_head, counter_field, marks_field}
+use Rattle.eth_frame.specs.FeedRecord.{length_field, has_crc_error, has_frame_error, head_fault}
 
 -- ---- what a head says is what was put into it
 
-pub counter_field-head_bytes : (counter : ℕ) (crc_error frame_error : Bool) (len : ℕ) → counter < 2 ^ 48 → counter_field (head_bytes counter crc_error frame_error len) ≡ counter
+pub counter_field-head_bytes : (counter : ℕ) (crc_error frame_error : Bool) (len : ℕ) → counter < 2 ^ 48
+    → counter_field (head_bytes counter crc_error frame_error len) ≡ counter
 counter_field-head_bytes counter crc_error frame_error len lt = six_again counter lt
 
-pub length_field-head_bytes : (counter : ℕ) (crc_error frame_error : Bool) (len : ℕ) → len < 2 ^ 16 → length_field (head_bytes counter crc_error frame_error len) ≡ len
+pub length_field-head_bytes : (counter : ℕ) (crc_error frame_error : Bool) (len : ℕ) → len < 2 ^ 16
+    → length_field (head_bytes counter crc_error frame_error len) ≡ len
 length_field-head_bytes counter crc_error frame_error len lt = from_le_bytes-to_le_bytes_2 len lt
 
 pub marks_byte-crc_error : (crc_error frame_error : Bool) → has_crc_error (marks_byte crc_error frame_error) ≡ crc_error

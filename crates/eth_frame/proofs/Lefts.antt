@@ -1,5 +1,6 @@
 -- What a source over a feed has left, before and after it took a record.
-use Rattle.std.proofs.Common.{◌≡◌, ℕ, zero, suc, ◌+◌, ◌-◌, ◌<◌, ◌⊎◌, inl, inr, List, [], ◌∷◌, length, drop, Option, None, Some, Result, Ok, Err, IfSome, IfErr, refl, sym, ap, subst, ◌∙◌, arith, lit<}
+use Rattle.std.proofs.Common.{◌≡◌, ℕ, zero, suc, ◌+◌, ◌-◌, ◌<◌, ◌⊎◌, inl, inr, List, [], ◌∷◌, length, drop, Option, None}
+use Rattle.std.proofs.Common.{Some, Result, Ok, Err, IfSome, IfErr, refl, sym, ap, subst, ◌∙◌, arith, lit<}
 use Rattle.eth_frame.specs.declared.feed.head.TheConstants.{HEAD_LEN}
 use Rattle.eth_frame.specs.declared.source.Next.{Next}
 use Rattle.eth_frame.specs.declared.source.Next.TheVariants as next
@@ -22,13 +23,15 @@ left_from-drop (suc n) [] = refl
 left_from-drop (suc n) (b ∷ bs) = left_from-drop n bs
 
 -- the bytes begin with a record
-pub left_of_feed-frame : (bytes : List ℕ) (frame : FrameData) → record_at bytes ≡ Ok frame → left_of_feed bytes ≡ with_first_frame frame (left_of_feed (drop (HEAD_LEN + length frame.bytes) bytes))
+pub left_of_feed-frame : (bytes : List ℕ) (frame : FrameData) → record_at bytes ≡ Ok frame
+    → left_of_feed bytes ≡ with_first_frame frame (left_of_feed (drop (HEAD_LEN + length frame.bytes) bytes))
 unfolding left_from
 left_of_feed-frame [] frame e = absurd (let nil = record_at-nil in cc)
 left_of_feed-frame (b ∷ bs) frame e =
     let skipped = (length frame.bytes + HEAD_LEN) - 1 in
     let size : HEAD_LEN + length frame.bytes ≡ suc skipped = omega arith in
-    ap (λ (r : Result FrameData SourceEnding). after_record r (λ n. left_from (n - 1) bs)) e ∙ ap (with_first_frame frame) (left_from-drop skipped bs ∙ ap (λ n. left_of_feed (drop n (b ∷ bs))) (sym size))
+    ap (λ (r : Result FrameData SourceEnding). after_record r (λ n. left_from (n - 1) bs)) e
+    ∙ ap (with_first_frame frame) (left_from-drop skipped bs ∙ ap (λ n. left_of_feed (drop n (b ∷ bs))) (sym size))
 
 -- the bytes begin with no record
 pub left_of_feed-ending : (bytes : List ℕ) (ending : SourceEnding) → record_at bytes ≡ Err ending → left_of_feed bytes ≡ no_frames ending
@@ -44,7 +47,8 @@ Gives (Ok next.Frame) old held new = GivesFirst old held new
 Gives (Ok next.End) old held new = GivesEnding old End new
 Gives (Err fault) old held new = (fault ≡ Device) ⊎ GivesEnding old (Fault fault) new
 
-pub Gives-taken : (ended now : Option SourceEnding) (a c : Option (List ℕ)) (result : Result Next SourceFault) (held : Option FrameData) → ended ≡ None → now ≡ source_ending_of result
+pub Gives-taken : (ended now : Option SourceEnding) (a c : Option (List ℕ)) (result : Result Next SourceFault) (held : Option FrameData) → ended ≡ None
+    → now ≡ source_ending_of result
     → IfSome a (λ bytes. TakesRecord bytes result held c) → Gives result (left_of_source ended a) held (left_of_source now c)
 Gives-taken (Some ending) now a c result held e n took = absurd cc
 Gives-taken None now None c (Ok next.Frame) held e n took = tt
@@ -66,22 +70,26 @@ Gives-taken None (Some ending) (Some x) c (Err fault) held e n (inl read) =
     inr (left_of_feed-ending x (Fault fault) read, ap (λ (d : SourceEnding). Some (no_frames d)) same)
 Gives-taken None (Some ending) (Some x) c (Err fault) held e n (inr device) = inl device
 
-pub Gives-frame : (result : Result Next SourceFault) (old : Option Left) (held : Option FrameData) (new : Option Left) → result ≡ Ok next.Frame → Gives result old held new → GivesFirst old held new
+pub Gives-frame : (result : Result Next SourceFault) (old : Option Left) (held : Option FrameData) (new : Option Left) → result ≡ Ok next.Frame
+    → Gives result old held new → GivesFirst old held new
 Gives-frame (Ok next.Frame) old held new is gives = gives
 Gives-frame (Ok next.End) old held new is gives = absurd cc
 Gives-frame (Err fault) old held new is gives = absurd cc
 
-pub Gives-end : (result : Result Next SourceFault) (old : Option Left) (held : Option FrameData) (new : Option Left) → result ≡ Ok next.End → Gives result old held new → GivesEnding old End new
+pub Gives-end : (result : Result Next SourceFault) (old : Option Left) (held : Option FrameData) (new : Option Left) → result ≡ Ok next.End
+    → Gives result old held new → GivesEnding old End new
 Gives-end (Ok next.Frame) old held new is gives = absurd cc
 Gives-end (Ok next.End) old held new is gives = gives
 Gives-end (Err fault) old held new is gives = absurd cc
 
-pub Gives-fault : (result : Result Next SourceFault) (old : Option Left) (held : Option FrameData) (new : Option Left) → Gives result old held new → IfErr result (λ fault. (fault ≡ Device) ⊎ GivesEnding old (Fault fault) new)
+pub Gives-fault : (result : Result Next SourceFault) (old : Option Left) (held : Option FrameData) (new : Option Left) → Gives result old held new
+    → IfErr result (λ fault. (fault ≡ Device) ⊎ GivesEnding old (Fault fault) new)
 Gives-fault (Ok answer) old held new gives = tt
 Gives-fault (Err fault) old held new gives = gives
 
 -- the device failed
-pub Fails-device : (ended now : Option SourceEnding) (a c : Option (List ℕ)) (result : Result Next SourceFault) → ended ≡ None → now ≡ source_ending_of result → result ≡ Err Device
+pub Fails-device : (ended now : Option SourceEnding) (a c : Option (List ℕ)) (result : Result Next SourceFault) → ended ≡ None → now ≡ source_ending_of result
+    → result ≡ Err Device
     → Fails (left_of_source ended a) ended (failures_before ended) (left_of_source now c) (failures_before now)
 Fails-device (Some ending) now a c result e n r = absurd cc
 Fails-device None now None c result e n r = tt

@@ -1,7 +1,7 @@
 pub mod Bytes
-pub mod Filled
+pub mod BufferFill
 pub mod Records
 pub mod Taken
 pub mod Lefts
 pub mod Fields
-pub mod OneReading
+pub mod OneFeedReading

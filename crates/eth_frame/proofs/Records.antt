@@ -1,5 +1,6 @@
 -- What the bytes at the front say is what their head and the bytes after it say.
-use Rattle.std.proofs.Common.{◌≡◌, ℕ, ◌+◌, ◌<◌, ◌≤◌, Bool, true, false, cond, eqb, ltb, List, [], ◌++◌, length, get_or, take, Option, None, Some, Result, Ok, Err, refl, ap, ◌∙◌, arith, drop_at, lit<}
+use Rattle.std.proofs.Common.{◌≡◌, ℕ, ◌+◌, ◌<◌, ◌≤◌, Bool, true, false, cond, eqb, ltb, List, [], ◌++◌, length, get_or}
+use Rattle.std.proofs.Common.{take, Option, None, Some, Result, Ok, Err, refl, ap, ◌∙◌, arith, drop_at, lit<}
 use Rattle.std.proofs.lemmas.Bool.{ne_eqb, le-ltb, lt-ltb}
 use Rattle.std.proofs.lemmas.Bool.Decides.{nat_tests}
 use Rattle.std.proofs.lemmas.List.{length-append, get_or_append_left}
@@ -55,7 +56,8 @@ body_at-split : (fault : Option SourceFault) (head rest : List ℕ) → length h
 body_at-split (Some fault) head rest len = refl
 body_at-split None head rest len =
     let same = SameFields-front head rest len in
-    let test : ltb (length (head ++ rest)) (HEAD_LEN + length_field (head ++ rest)) ≡ ltb (length rest) (length_field head) = rw (same.length_is, length-append head rest, len) (grind (arith, nat_tests)) in
+    let test : ltb (length (head ++ rest)) (HEAD_LEN + length_field (head ++ rest)) ≡ ltb (length rest) (length_field head) =
+    rw (same.length_is, length-append head rest, len) (grind (arith, nat_tests)) in
     rw (test, frame_at-split head rest len) refl
 
 pub record_at-split : (head rest : List ℕ) → length head ≡ HEAD_LEN → record_at (head ++ rest) ≡ body_after (head_fault head) head rest
@@ -64,7 +66,8 @@ record_at-split head rest len =
     let long : length (head ++ rest) ≡ length head + length rest = length-append head rest in
     let some : eqb (length (head ++ rest)) 0 ≡ false = ne_eqb _ _ (λ e. omega arith) in
     let whole : ltb (length (head ++ rest)) HEAD_LEN ≡ false = le-ltb _ _ (omega arith) in
-    rw (some, whole) (ap (λ o. body_at o (head ++ rest)) (head_fault-SameFields _ _ (SameFields-front head rest len)) ∙ body_at-split (head_fault head) head rest len)
+    rw (some, whole) (ap (λ o. body_at o (head ++ rest)) (head_fault-SameFields _ _ (SameFields-front head rest len))
+    ∙ body_at-split (head_fault head) head rest len)
 
 -- nothing, and less than a head
 pub record_at-nil : record_at [] ≡ Err End
@@ -79,7 +82,8 @@ record_at-short bytes some short =
     rw (a, b) refl
 
 -- a frame is given by its parts
-pub from_parts : (frame : FrameData) (counter : ℕ) (crc_error frame_error : Bool) (bytes : List ℕ) → frame.counter ≡ counter → frame.crc_error ≡ crc_error → frame.frame_error ≡ frame_error → bytes ≡ frame.bytes
+pub from_parts : (frame : FrameData) (counter : ℕ) (crc_error frame_error : Bool) (bytes : List ℕ) → frame.counter ≡ counter → frame.crc_error ≡ crc_error
+    → frame.frame_error ≡ frame_error → bytes ≡ frame.bytes
     → record { counter = counter; crc_error = crc_error; frame_error = frame_error; bytes = bytes } ≡ frame
 from_parts frame counter crc_error frame_error bytes a b c d = rw (← a, ← b, ← c, d) refl
 

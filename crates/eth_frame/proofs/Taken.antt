@@ -1,5 +1,6 @@
 -- What was taken of a reader's bytes, from what each of its reads consumed.
-use Rattle.std.proofs.Common.{◌≡◌, ℕ, ◌+◌, ◌<◌, ◌≤◌, ◌⊎◌, inl, inr, List, [], ◌++◌, length, take, drop, Option, None, Some, Ok, Err, IfSome, IsSomeAnd, refl, sym, ap, ◌∙◌, append_assoc, arith, drop_at, length-take-le}
+use Rattle.std.proofs.Common.{◌≡◌, ℕ, ◌+◌, ◌<◌, ◌≤◌, ◌⊎◌, inl, inr, List, [], ◌++◌, length, take, drop, Option, None, Some, Ok, Err}
+use Rattle.std.proofs.Common.{IfSome, IsSomeAnd, refl, sym, ap, ◌∙◌, append_assoc, arith, drop_at, length-take-le}
 use Rattle.std.proofs.lemmas.Bool.{lt-ltb, le-ltb}
 use Rattle.std.proofs.lemmas.List.{length-append, append-nil, take_at}
 use Rattle.std.specs.Io.KnownBytes.{Consumes, IsAtEnd}
@@ -16,7 +17,8 @@ use Rattle.eth_frame.specs.FeedTaking.{TakesRecord}
 use Rattle.eth_frame.proofs.Records.{record_at-nil, record_at-short, record_at-split, body_after, frame_after, from_parts}
 
 -- no byte was left
-pub TakesRecord-end : (a b : Option (List ℕ)) (n : ℕ) (places : List ℕ) (held : Option FrameData) → n ≡ 0 → Consumes a b (take n places) → IsAtEnd b → IfSome a (λ bytes. TakesRecord bytes (Ok next.End) held b)
+pub TakesRecord-end : (a b : Option (List ℕ)) (n : ℕ) (places : List ℕ) (held : Option FrameData) → n ≡ 0 → Consumes a b (take n places) → IsAtEnd b
+    → IfSome a (λ bytes. TakesRecord bytes (Ok next.End) held b)
 TakesRecord-end None b n places held none took end = tt
 TakesRecord-end (Some x) None n places held none took end = absurd took
 TakesRecord-end (Some x) (Some y) n places held none took end =
@@ -24,7 +26,8 @@ TakesRecord-end (Some x) (Some y) n places held none took end =
     (ap record_at empty ∙ record_at-nil, ap (λ (l : List ℕ). Some l) end)
 
 -- less than a head was left
-pub TakesRecord-short : (a b c : Option (List ℕ)) (n : ℕ) (places : List ℕ) (held : Option FrameData) → 0 < n → n < HEAD_LEN → n ≤ length places → Consumes a b (take n places) → IsAtEnd b → IfSome a (λ bytes. TakesRecord bytes (Err Truncated) held c)
+pub TakesRecord-short : (a b c : Option (List ℕ)) (n : ℕ) (places : List ℕ) (held : Option FrameData) → 0 < n → n < HEAD_LEN → n ≤ length places
+    → Consumes a b (take n places) → IsAtEnd b → IfSome a (λ bytes. TakesRecord bytes (Err Truncated) held c)
 TakesRecord-short None b c n places held some short within took end = tt
 TakesRecord-short (Some x) None c n places held some short within took end = absurd took
 TakesRecord-short (Some x) (Some y) c n places held some short within took end =
@@ -33,14 +36,16 @@ TakesRecord-short (Some x) (Some y) c n places held some short within took end =
     inl (ap record_at whole ∙ record_at-short (take n places) (omega arith) (omega arith))
 
 -- a head that no record has
-pub TakesRecord-head : (a b c : Option (List ℕ)) (head : List ℕ) (fault : SourceFault) (held : Option FrameData) → length head ≡ HEAD_LEN → Some fault ≡ head_fault head → Consumes a b head → IfSome a (λ bytes. TakesRecord bytes (Err fault) held c)
+pub TakesRecord-head : (a b c : Option (List ℕ)) (head : List ℕ) (fault : SourceFault) (held : Option FrameData) → length head ≡ HEAD_LEN
+    → Some fault ≡ head_fault head → Consumes a b head → IfSome a (λ bytes. TakesRecord bytes (Err fault) held c)
 TakesRecord-head None b c head fault held len wrong took = tt
 TakesRecord-head (Some x) None c head fault held len wrong took = absurd took
 TakesRecord-head (Some x) (Some y) c head fault held len wrong took =
     inl (ap record_at took ∙ record_at-split head y len ∙ ap (λ o. body_after o head y) (sym wrong))
 
 -- a valid head, without all of its frame's bytes
-pub TakesRecord-cut : (a b c : Option (List ℕ)) (head : List ℕ) (fault : SourceFault) (held : Option FrameData) → length head ≡ HEAD_LEN → None ≡ head_fault head → Consumes a b head
+pub TakesRecord-cut : (a b c : Option (List ℕ)) (head : List ℕ) (fault : SourceFault) (held : Option FrameData) → length head ≡ HEAD_LEN
+    → None ≡ head_fault head → Consumes a b head
     → (fault ≡ Device) ⊎ ((fault ≡ Truncated) × IfSome b (λ bytes. length bytes < length_field head)) → IfSome a (λ bytes. TakesRecord bytes (Err fault) held c)
 TakesRecord-cut None b c head fault held len well took cut = tt
 TakesRecord-cut (Some x) None c head fault held len well took cut = absurd took
@@ -57,7 +62,8 @@ pub record IsOfHead (head : List ℕ) (frame : FrameData) : Type 0 where
   pub len : length frame.bytes ≡ length_field head
 
 -- a whole record
-pub TakesRecord-frame : (a b c : Option (List ℕ)) (head : List ℕ) (frame : FrameData) → length head ≡ HEAD_LEN → None ≡ head_fault head → Consumes a b head → Consumes b c frame.bytes → IsOfHead head frame
+pub TakesRecord-frame : (a b c : Option (List ℕ)) (head : List ℕ) (frame : FrameData) → length head ≡ HEAD_LEN → None ≡ head_fault head → Consumes a b head
+    → Consumes b c frame.bytes → IsOfHead head frame
     → IfSome a (λ bytes. TakesRecord bytes (Ok next.Frame) (Some frame) c)
 TakesRecord-frame None b c head frame len well first second same = tt
 TakesRecord-frame (Some x) None c head frame len well first second same = absurd first
@@ -81,7 +87,8 @@ pub record SaysHead (bytes : List ℕ) (h : FrameHead) : Type 0 where
   pub len : h.len ≡ length_field bytes
 
 -- a whole record, whose frame is held
-pub TakesRecord-held : (a b c : Option (List ℕ)) (bytes : List ℕ) (h : FrameHead) (held : Option FrameData) → length bytes ≡ HEAD_LEN → None ≡ head_fault bytes → SaysHead bytes h → Consumes a b bytes
+pub TakesRecord-held : (a b c : Option (List ℕ)) (bytes : List ℕ) (h : FrameHead) (held : Option FrameData) → length bytes ≡ HEAD_LEN → None ≡ head_fault bytes
+    → SaysHead bytes h → Consumes a b bytes
     → IsSomeAnd held (λ frame. HasFrameHead h frame × Consumes b c frame.bytes) → IfSome a (λ all. TakesRecord all (Ok next.Frame) held c)
 TakesRecord-held a b c bytes h None len well says first second = absurd second
 TakesRecord-held a b c bytes h (Some frame) len well says first second =

@@ -1,6 +1,7 @@
 -- One record of a feed: the frame's counter in 6 bytes, its marks in 1, its length in 2, and then
 -- its bytes. A number's lowest byte comes first.
-use Rattle.std.specs.Prelude.{ℕ, ◌+◌, ◌==◌, Bool, not, ◌||◌, if◌then◌else◌, nat_lt, List, ◌∷◌, ◌++◌, length, take, drop, slice_index, Option, None, Some, Result, Ok, Err, bit_and}
+use Rattle.std.specs.Prelude.{ℕ, ◌+◌, ◌==◌, Bool, not, ◌||◌, if◌then◌else◌, nat_lt, List, ◌∷◌, ◌++◌, length}
+use Rattle.std.specs.Prelude.{take, drop, slice_index, Option, None, Some, Result, Ok, Err, bit_and}
 use Rattle.std.specs.Int.{w16, to_le_bytes, bytes_low_first}
 use Rattle.eth_frame.specs.Bytes.{u16_at, u48_at}
 use Rattle.eth_frame.specs.declared.frame.TheConstants.{MIN_FRAME_LEN, MAX_FRAME_LEN}

@@ -27,7 +27,8 @@ first_of_more [] v w some is = absurd (omega (arith, some))
 first_of_more (x ∷ xs) v w some is = is
 
 -- a program that is installed at the present count leaves a history one
-pub one_version_more : (history : List Version) (offered : ℕ) (v : Version) → IsHistory offered history → Valid v.program → AreInRange v.program → v.mark ≡ offered → IsHistory offered (history ++ v ∷ [])
+pub one_version_more : (history : List Version) (offered : ℕ) (v : Version) → IsHistory offered history → Valid v.program → AreInRange v.program
+    → v.mark ≡ offered → IsHistory offered (history ++ v ∷ [])
 one_version_more history offered v h valid ranged now = record {
   some = let e = length-append history (v ∷ []) in omega (arith, e);
   valid = All-append IsValid history (v ∷ []) h.valid (all_one IsValid v valid);

@@ -1,6 +1,7 @@
 -- The version in force, counted: the versions that have begun by a frame stand in front of those that
 -- have not, since marks never fall.
-use Rattle.std.proofs.Common.{ℕ, zero, suc, ◌+◌, ◌-◌, ◌≡◌, ◌<◌, ◌≤◌, ◌⊎◌, inl, inr, Bool, true, false, List, [], ◌∷◌, ◌++◌, length, Some, get_or, refl, sym, ◌∙◌, ap, subst, arith, All, if◌then◌else◌}
+use Rattle.std.proofs.Common.{ℕ, zero, suc, ◌+◌, ◌-◌, ◌≡◌, ◌<◌, ◌≤◌, ◌⊎◌, inl, inr, Bool, true, false, List, [], ◌∷◌, ◌++◌}
+use Rattle.std.proofs.Common.{length, Some, get_or, refl, sym, ◌∙◌, ap, subst, arith, All, if◌then◌else◌}
 use Rattle.std.specs.Prelude.{slice_get, unwrap_or, count_by, AllPairs, nat_le}
 use Rattle.std.proofs.lemmas.Bool.{cases_Bool, leb-true, le-leb, both_ways}
 use Rattle.std.proofs.lemmas.List.Sums.{count_by-le-length, sum_by-append, sum_by-cons}
@@ -13,13 +14,16 @@ has_begun number v = nat_le v.mark number
 abbrev Rises : List Version → Type 0
 Rises history = AllPairs (λ (v w : Version). v.mark ≤ w.mark) history
 
-counted_one : (number : ℕ) (v : Version) (vs : List Version) → has_begun number v ≡ true → count_by (has_begun number) (v ∷ vs) ≡ 1 + count_by (has_begun number) vs
+counted_one : (number : ℕ) (v : Version) (vs : List Version) → has_begun number v ≡ true
+    → count_by (has_begun number) (v ∷ vs) ≡ 1 + count_by (has_begun number) vs
 counted_one number v vs so = sum_by-cons (λ x. if has_begun number x then 1 else 0) v vs ∙ rw so refl
 
-counted_none : (number : ℕ) (v : Version) (vs : List Version) → has_begun number v ≡ false → count_by (has_begun number) (v ∷ vs) ≡ count_by (has_begun number) vs
+counted_none : (number : ℕ) (v : Version) (vs : List Version) → has_begun number v ≡ false
+    → count_by (has_begun number) (v ∷ vs) ≡ count_by (has_begun number) vs
 counted_none number v vs not_so = sum_by-cons (λ x. if has_begun number x then 1 else 0) v vs ∙ rw not_so (omega arith)
 
-none_counted : (number : ℕ) (vs : List Version) → ((k : ℕ) (w : Version) → slice_get vs k ≡ Some w → has_begun number w ≡ false) → count_by (has_begun number) vs ≡ 0
+none_counted : (number : ℕ) (vs : List Version) → ((k : ℕ) (w : Version) → slice_get vs k ≡ Some w → has_begun number w ≡ false)
+    → count_by (has_begun number) vs ≡ 0
 none_counted number [] none = refl
 none_counted number (v ∷ vs) none = counted_none number v vs (none 0 v refl) ∙ none_counted number vs (λ k. none (suc k))
 
@@ -42,7 +46,8 @@ same_version : (v w : Version) → Some v ≡ Some w → v ≡ w
 same_version v w e = ap (λ o. unwrap_or o v) e
 
 begun_of : (v : Version) (vs : List Version) (number : ℕ) → Rises (v ∷ vs)
-    → ((k : ℕ) (w : Version) → slice_get vs k ≡ Some w → (w.mark ≤ number → k < count_by (has_begun number) vs) × (k < count_by (has_begun number) vs → w.mark ≤ number))
+    → ((k : ℕ) (w : Version) → slice_get vs k ≡ Some w → (w.mark ≤ number → k < count_by (has_begun number) vs)
+    × (k < count_by (has_begun number) vs → w.mark ≤ number))
     → (has_begun number v ≡ true) ⊎ (has_begun number v ≡ false) → (k : ℕ) (w : Version) → slice_get (v ∷ vs) k ≡ Some w
     → (w.mark ≤ number → k < count_by (has_begun number) (v ∷ vs)) × (k < count_by (has_begun number) (v ∷ vs) → w.mark ≤ number)
 begun_of v vs number rises more (inl so) zero w is =
@@ -102,7 +107,8 @@ late_none number more late k w is (inl so) =
     absurd (omega (arith, begun, after))
 
 -- versions that begin later don't change the version at a frame
-pub later_same : (history more : List Version) (number : ℕ) → All (λ (v : Version). number < v.mark) more → version_at (history ++ more) number ≡ version_at history number
+pub later_same : (history more : List Version) (number : ℕ) → All (λ (v : Version). number < v.mark) more
+    → version_at (history ++ more) number ≡ version_at history number
 later_same history more number late =
     let both = sum_by-append (λ v. if has_begun number v then 1 else 0) history more in
     let none = none_counted number more (λ k w is. late_none number more late k w is (cases_Bool (has_begun number w))) in
@@ -119,11 +125,13 @@ stands_in_either [] more k w is = inr (k, is)
 stands_in_either (v ∷ vs) more zero w is = inl is
 stands_in_either (v ∷ vs) more (suc k) w is = stands_in_either vs more k w is
 
-begins_late : (number : ℕ) (more : List Version) → All (λ (v : Version). number < v.mark) more → (j : ℕ) (w : Version) → slice_get more j ≡ Some w → number < w.mark
+begins_late : (number : ℕ) (more : List Version) → All (λ (v : Version). number < v.mark) more → (j : ℕ) (w : Version) → slice_get more j ≡ Some w
+    → number < w.mark
 begins_late number more late j w is = subst (λ (x : Version). number < x.mark) (get_or_from_slice_get more j w w is) (late j w (slice_get_within more j w is))
 
 -- nor the version in force there
-pub later_kept : (history more : List Version) (number version : ℕ) → All (λ (v : Version). number < v.mark) more → InForce history number version → InForce (history ++ more) number version
+pub later_kept : (history more : List Version) (number version : ℕ) → All (λ (v : Version). number < v.mark) more → InForce history number version
+    → InForce (history ++ more) number version
 later_kept history more number version late f = record {
   entry = f.entry;
   stands = stands_in_more history more version f.entry f.stands;
@@ -134,7 +142,8 @@ later_kept history more number version late f = record {
   ];
 }
 
-pub later_nothing_else : (history more : List Version) (number version : ℕ) → All (λ (v : Version). number < v.mark) more → InForce (history ++ more) number version → InForce history number version
+pub later_nothing_else : (history more : List Version) (number version : ℕ) → All (λ (v : Version). number < v.mark) more
+    → InForce (history ++ more) number version → InForce history number version
 later_nothing_else history more number version late f = record {
   entry = f.entry;
   stands = elim (stands_in_either history more version f.entry f.stands) as (λ _. slice_get history version ≡ Some f.entry) [

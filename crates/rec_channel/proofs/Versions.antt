@@ -32,7 +32,8 @@ pub one_more : (programs : List (List Insn)) (marks : List ℕ) (program : List 
 one_more [] [] program mark same = refl
 one_more [] (m ∷ marks) program mark same = absurd (omega (arith, same))
 one_more (p ∷ programs) [] program mark same = absurd (omega (arith, same))
-one_more (p ∷ programs) (m ∷ marks) program mark same = ap (λ vs. record { program = p; mark = m } ∷ vs) (one_more programs marks program mark (omega (arith, same)))
+one_more (p ∷ programs) (m ∷ marks) program mark same = ap (λ vs. record { program = p; mark = m } ∷ vs)
+    (one_more programs marks program mark (omega (arith, same)))
 
 -- a slot's history has as many versions as the slot has programs
 pub count_of : (programs : Vec (Arc Verified Global) Global) (marks : List ℕ) → length (map arc_value programs.items) ≡ length marks

@@ -7,7 +7,7 @@ use cli_filters::{answer_lines, assemble_file, disassemble_file, run_file, verif
 use cli_reading::{audit_recording, extract_frames, list_packets, upgrade_recording};
 use cli_record::record_channels;
 use cli_simulate::simulate_script;
-use cli_streams::{ANSWERED, Ending, LockFile, print_line, print_text};
+use cli_streams::{ANSWERED, CommandEnding, LockFile, print_line, print_text};
 use rec_words::{VERSION, Words, WordsFault, words_of};
 use std::alloc::Global;
 use std::io;
@@ -59,7 +59,7 @@ fn obey<
     mut input: I,
     output: &mut O,
     errors: &Mutex<E>,
-) -> Result<(), Ending<'a>>
+) -> Result<(), CommandEnding<'a>>
 where
     R::File: Send + LockFile,
     R::Dir: Send,
@@ -70,8 +70,8 @@ where
         }
         Ok(command) => answer(rt, command, &mut input, output),
         Err(WordsFault::Help(text) | WordsFault::Version(text)) => print_help(output, text),
-        Err(WordsFault::Words(text)) => Err(Ending::Words(text)),
-        Err(WordsFault::Memory) => Err(Ending::Memory),
+        Err(WordsFault::Words(text)) => Err(CommandEnding::Words(text)),
+        Err(WordsFault::Memory) => Err(CommandEnding::Memory),
     }
 }
 
@@ -81,7 +81,7 @@ fn answer<'a, R: AllocGlobal + Files, I: Read, O: Write>(
     command: Words<'a>,
     input: &mut I,
     output: &mut O,
-) -> Result<(), Ending<'a>>
+) -> Result<(), CommandEnding<'a>>
 where
     R::File: LockFile,
 {
@@ -100,19 +100,21 @@ where
         }
         Words::Simulate { file } => simulate_script(rt, file, input, output),
         Words::Version => print_version(rt.alloc(), output),
-        Words::Record { .. } | Words::NoCommand => Err(Ending::Words(String::new(rt.alloc()))),
+        Words::Record { .. } | Words::NoCommand => Err(CommandEnding::Words(String::new(
+            rt.alloc(),
+        ))),
     }
 }
 
 /// Prints the version, as clap does.
-fn print_version<O: Write>(alloc: Global, output: &mut O) -> Result<(), Ending<'static>> {
+fn print_version<O: Write>(alloc: Global, output: &mut O) -> Result<(), CommandEnding<'static>> {
     let mut line = Vec::new(alloc);
     let built = writeln!(&mut line, "bpfrec {VERSION}");
     print_line(output, &mut line, built)
 }
 
 /// Prints the help or the version that was asked for.
-fn print_help<O: Write>(output: &mut O, text: String) -> Result<(), Ending<'static>> {
+fn print_help<O: Write>(output: &mut O, text: String) -> Result<(), CommandEnding<'static>> {
     print_text(output, text.as_str())
 }
 
@@ -124,7 +126,7 @@ where
     ensures nonzero { 0 < result }
 {
     if error.kind() == ErrorKind::OutOfMemory {
-        return Ending::Memory.print_fault(alloc, &mut errors);
+        return CommandEnding::Memory.print_fault(alloc, &mut errors);
     }
-    Ending::WordsUnread(error).print_fault(alloc, &mut errors)
+    CommandEnding::WordsUnread(error).print_fault(alloc, &mut errors)
 }

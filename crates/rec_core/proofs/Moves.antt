@@ -1,7 +1,8 @@
 -- A channel's takes and installs, in the order of the marks, and its close.
 -- idea: marks rise, so takes and installs can be put into one order: before each take come the installs whose mark it has
 -- reached; by recursion over the frames that order leads from the opening channel to the one with all of them.
-use Rattle.std.proofs.Common.{ℕ, suc, zero, ◌+◌, ◌-◌, ◌≡◌, ◌≤◌, ◌<◌, inl, inr, List, [], ◌∷◌, ◌++◌, length, Some, get_or, refl, sym, ◌∙◌, ap, arith, subst, All, take, drop, true, false}
+use Rattle.std.proofs.Common.{ℕ, suc, zero, ◌+◌, ◌-◌, ◌≡◌, ◌≤◌, ◌<◌, inl, inr, List, [], ◌∷◌, ◌++◌, length, Some}
+use Rattle.std.proofs.Common.{get_or, refl, sym, ◌∙◌, ap, arith, subst, All, take, drop, true, false}
 use Rattle.std.specs.Prelude.{AllPairs, slice_get}
 use Rattle.std.proofs.lemmas.Bool.{cases_lt}
 use Rattle.std.proofs.lemmas.List.{append-nil, append_assoc, length-append, length-take, length-drop, take-append-drop, take-map, drop-map}
@@ -18,13 +19,21 @@ use Rattle.rec_core.specs.Openings.{SpecData, IsFilter}
 use Rattle.rec_core.specs.World.{ChannelState, MeetsLast, opening_channel}
 use Rattle.rec_core.specs.World.EventData.{OfTake, OfInstall, OfClose}
 use Rattle.rec_core.specs.Ties.{takes_of, moves_from, moves_of, close_of}
-use Rattle.rec_core.proofs.Lists.{All_there, there_map}
-use Rattle.rec_core.proofs.Serving.{begins_there}
-use Rattle.rec_core.proofs.Runs.{Makes, makes_none, makes_one, makes_both}
+use Rattle.rec_core.proofs.ListPlaces.{All_there, there_map}
+use Rattle.rec_core.proofs.ChannelServing.{begins_there}
+use Rattle.rec_core.proofs.WorldRuns.{Makes, makes_none, makes_one, makes_both}
 
 -- a channel that isn't closed, of which nothing was sent
 abbrev pub open_channel : SpecData → List OfferedFrame → List Version → ChannelState
-open_channel spec offered history = record { settings = spec.settings; max = spec.max; offered = offered; history = history; closed = false; sent = 0; written = 0 }
+open_channel spec offered history = record {
+  settings = spec.settings;
+  max = spec.max;
+  offered = offered;
+  history = history;
+  closed = false;
+  sent = 0;
+  written = 0;
+}
 
 -- ---- the last version
 
@@ -56,7 +65,8 @@ meets_last spec done past vs f some begun later number met =
     ] in
     let entry : Version = get_or past f.version d in
     let stands = slice_get-get_or past f.version d within in
-    let same : slice_get (programs_in (past ++ vs)) f.version ≡ Some entry.program = there_map (λ (v : Version). v.program) (past ++ vs) f.version entry (begins_there past (past ++ vs) f.version entry (vs, refl) stands) in
+    let same : slice_get (programs_in (past ++ vs)) f.version ≡ Some entry.program =
+    there_map (λ (v : Version). v.program) (past ++ vs) f.version entry (begins_there past (past ++ vs) f.version entry (vs, refl) stands) in
     record {
       number_is = number;
       last = omega (arith, upto, within);
@@ -70,18 +80,21 @@ takes : (ring : ℕ) (spec : SpecData) (past vs : List Version) (fs done : List 
     → All (λ (v : Version). v.mark ≤ length done) past → All (λ (v : Version). length done + length fs ≤ v.mark) vs → MetFrom (past ++ vs) (length done) fs
     → Makes ring (takes_of spec.settings.channel (frames_of fs)) (open_channel spec done past) (open_channel spec (done ++ fs) past)
 takes ring spec past vs [] done within some begun later met =
-    subst (λ fs. Makes ring [] (open_channel spec done past) (open_channel spec fs past)) (sym (append-nil done)) (makes_none ring (open_channel spec done past))
+    subst (λ fs. Makes ring [] (open_channel spec done past) (open_channel spec fs past)) (sym (append-nil done))
+    (makes_none ring (open_channel spec done past))
 takes ring spec past vs (f ∷ fs) done within some begun later met =
     let longer = length-append done (f ∷ []) in
     let meets = meets_last spec done past vs f some begun (λ k d low. let e = later k d low in omega (arith, e)) met.0 met.1 in
     let one : Makes ring (OfTake spec.settings.channel f.frame ∷ []) (open_channel spec done past) (open_channel spec (done ++ f ∷ []) past) =
-    makes_one ring (open_channel spec done past) (open_channel spec (done ++ f ∷ []) past) (OfTake spec.settings.channel f.frame) (Took f.number f.version f.value) refl
+    makes_one ring (open_channel spec done past) (open_channel spec (done ++ f ∷ []) past) (OfTake spec.settings.channel f.frame)
+    (Took f.number f.version f.value) refl
     (f, refl, omega (arith, within), meets, refl, refl, refl, refl, refl, refl) in
     let next : length done + 1 ≡ length (done ++ f ∷ []) = omega (arith, longer) in
     let rest = takes ring spec past vs fs (done ++ f ∷ []) (omega (arith, within, longer)) some
     (λ k d low. let e = begun k d low in omega (arith, e, longer)) (λ k d low. let e = later k d low in omega (arith, e, longer))
     (subst (λ n. MetFrom (past ++ vs) n fs) next met.2) in
-    subst (λ gs. Makes ring (takes_of spec.settings.channel (frames_of (f ∷ fs))) (open_channel spec done past) (open_channel spec gs past)) (append_assoc done (f ∷ []) fs)
+    subst (λ gs. Makes ring (takes_of spec.settings.channel (frames_of (f ∷ fs))) (open_channel spec done past) (open_channel spec gs past))
+    (append_assoc done (f ∷ []) fs)
     (makes_both ring (open_channel spec done past) (open_channel spec (done ++ f ∷ []) past) (open_channel spec ((done ++ f ∷ []) ++ fs) past)
     (OfTake spec.settings.channel f.frame ∷ []) (takes_of spec.settings.channel (frames_of fs)) one rest)
 
@@ -102,7 +115,8 @@ abbrev Rise : ℕ → ℕ → List Version → Type 0
 Rise low high [] = Unit {0}
 Rise low high (v ∷ vs) = (low ≤ v.mark) × (v.mark ≤ high) × Rise v.mark high vs
 
-rise_of : (low high : ℕ) (vs : List Version) → All (λ (v : Version). low ≤ v.mark) vs → AllPairs (λ (v w : Version). v.mark ≤ w.mark) vs → All (λ (v : Version). v.mark ≤ high) vs → Rise low high vs
+rise_of : (low high : ℕ) (vs : List Version) → All (λ (v : Version). low ≤ v.mark) vs → AllPairs (λ (v w : Version). v.mark ≤ w.mark) vs
+    → All (λ (v : Version). v.mark ≤ high) vs → Rise low high vs
 rise_of low high [] from pairs upto = tt
 rise_of low high (v ∷ vs) from pairs upto = (
   from 0 v (omega arith),
@@ -121,9 +135,11 @@ rise_from least low high (v ∷ vs) upto rise =
     All-cons (λ (w : Version). least ≤ w.mark) v vs e (rise_from least v.mark high vs e rise.2)
 
 -- the version that is installed after so many frames is the one with that mark
-same_version : (v : Version) (program : List Insn) (mark : ℕ) → program ≡ v.program → mark ≡ v.mark → (let made : Version = record { program = program; mark = mark } in made) ≡ v
+same_version : (v : Version) (program : List Insn) (mark : ℕ) → program ≡ v.program → mark ≡ v.mark
+    → (let made : Version = record { program = program; mark = mark } in made) ≡ v
 same_version v program mark e m =
-    ap (λ p. let made : Version = record { program = p; mark = mark } in made) e ∙ ap (λ n. let made : Version = record { program = v.program; mark = n } in made) m
+    ap (λ p. let made : Version = record { program = p; mark = mark } in made) e
+    ∙ ap (λ n. let made : Version = record { program = v.program; mark = n } in made) m
 
 abbrev IsVersion : Version → Type 0
 IsVersion v = IsFilter v.program
@@ -133,7 +149,8 @@ moving : (ring : ℕ) (spec : SpecData) (vs past : List Version) (fs done : List
     → All (λ (v : Version). v.mark ≤ number) past → Rise number (length done + length fs) vs → All IsVersion vs → MetFrom (past ++ vs) number fs
     → Makes ring (moves_from spec.settings.channel number (frames_of fs) vs) (open_channel spec done past) (open_channel spec (done ++ fs) (past ++ vs))
 moving ring spec [] past fs done number now within few some begun rise filters met =
-    subst (λ h. Makes ring (takes_of spec.settings.channel (frames_of fs)) (open_channel spec done past) (open_channel spec (done ++ fs) h)) (sym (append-nil past))
+    subst (λ h. Makes ring (takes_of spec.settings.channel (frames_of fs)) (open_channel spec done past) (open_channel spec (done ++ fs) h))
+    (sym (append-nil past))
     (takes ring spec past [] fs done within some (λ k d low. let e = begun k d low in omega (arith, e, now))
     (All-nil (λ (v : Version). length done + length fs ≤ v.mark)) (subst (λ n. MetFrom (past ++ []) n fs) now met))
 moving ring spec (v ∷ vs) past fs done number now within few some begun rise filters met =
@@ -151,27 +168,39 @@ moving ring spec (v ∷ vs) past fs done number now within few some begun rise f
     let whole : (done ++ front) ++ back ≡ done ++ fs = append_assoc done front back ∙ ap (λ gs. done ++ gs) (take-append-drop n fs) in
     let first = takes ring spec past (v ∷ vs) front done (omega (arith, front_len, within, high, now, low)) some
     (λ k d under. let e = begun k d under in omega (arith, e, now))
-    (All-cons (λ (w : Version). length done + length front ≤ w.mark) v vs upto (rise_from (length done + length front) v.mark (length done + length fs) vs upto rise.2))
+    (All-cons (λ (w : Version). length done + length front ≤ w.mark) v vs upto
+    (rise_from (length done + length front) v.mark (length done + length fs) vs upto rise.2))
     (subst (λ m. MetFrom (past ++ v ∷ vs) m front) now (met_front (past ++ v ∷ vs) number n fs met)) in
     let one : Makes ring (OfInstall id v.program ∷ []) (open_channel spec (done ++ front) past) (open_channel spec (done ++ front) (past ++ v ∷ [])) =
     makes_one ring (open_channel spec (done ++ front) past) (open_channel spec (done ++ front) (past ++ v ∷ [])) (OfInstall id v.program)
-    (Installed (length past) (length (done ++ front))) refl
-    (omega (arith, few), All-head IsVersion v vs filters, refl, refl, ap (λ w. open_channel spec (done ++ front) (past ++ w ∷ [])) (sym (same_version v v.program (length (done ++ front)) refl done_len)), refl) in
+    (Installed (length past) (length (done ++ front))) refl (
+      omega (arith, few),
+      All-head IsVersion v vs filters,
+      refl,
+      refl,
+      ap (λ w. open_channel spec (done ++ front) (past ++ w ∷ [])) (sym (same_version v v.program (length (done ++ front)) refl done_len)),
+      refl,
+    ) in
     let at : number + n ≡ v.mark = omega (arith, low) in
     let rest = moving ring spec vs (past ++ v ∷ []) back (done ++ front) v.mark (sym done_len)
     (omega (arith, done_len, back_len, within, low, high, now)) (omega (arith, past_len, few)) (omega (arith, past_len))
     (All-push (λ (w : Version). w.mark ≤ v.mark) past v (λ k d under. let e = begun k d under in omega (arith, e, low)) (omega arith))
     (subst (λ top. Rise v.mark top vs) (omega (arith, done_len, back_len, low, high, now)) rise.2) (All-tail IsVersion v vs filters)
-    (subst (λ h. MetFrom h v.mark back) (sym (append_assoc past (v ∷ []) vs)) (subst (λ m. MetFrom (past ++ v ∷ vs) m back) at (met_back (past ++ v ∷ vs) number n fs met))) in
+    (subst (λ h. MetFrom h v.mark back) (sym (append_assoc past (v ∷ []) vs))
+    (subst (λ m. MetFrom (past ++ v ∷ vs) m back) at (met_back (past ++ v ∷ vs) number n fs met))) in
     let both = makes_both ring (open_channel spec (done ++ front) past) (open_channel spec (done ++ front) (past ++ v ∷ []))
     (open_channel spec ((done ++ front) ++ back) ((past ++ v ∷ []) ++ vs)) (OfInstall id v.program ∷ []) (moves_from id v.mark (frames_of back) vs) one rest in
-    let all = makes_both ring (open_channel spec done past) (open_channel spec (done ++ front) past) (open_channel spec ((done ++ front) ++ back) ((past ++ v ∷ []) ++ vs))
+    let all = makes_both ring (open_channel spec done past) (open_channel spec (done ++ front) past)
+    (open_channel spec ((done ++ front) ++ back) ((past ++ v ∷ []) ++ vs))
     (takes_of id (frames_of front)) (OfInstall id v.program ∷ moves_from id v.mark (frames_of back) vs) first both in
-    let events : takes_of id (frames_of front) ++ OfInstall id v.program ∷ moves_from id v.mark (frames_of back) vs ≡ moves_from id number (frames_of fs) (v ∷ vs) =
+    let events : takes_of id (frames_of front) ++ OfInstall id v.program ∷ moves_from id v.mark (frames_of back) vs
+    ≡ moves_from id number (frames_of fs) (v ∷ vs) =
     ap (λ gs. takes_of id gs ++ OfInstall id v.program ∷ moves_from id v.mark (frames_of back) vs) (sym (take-map (λ (f : OfferedFrame). f.frame) n fs))
-    ∙ ap (λ gs. takes_of id (take n (frames_of fs)) ++ OfInstall id v.program ∷ moves_from id v.mark gs vs) (sym (drop-map (λ (f : OfferedFrame). f.frame) n fs)) in
+    ∙ ap (λ gs. takes_of id (take n (frames_of fs)) ++ OfInstall id v.program ∷ moves_from id v.mark gs vs)
+    (sym (drop-map (λ (f : OfferedFrame). f.frame) n fs)) in
     subst (λ gs. Makes ring (moves_from id number (frames_of fs) (v ∷ vs)) (open_channel spec done past) (open_channel spec gs (past ++ v ∷ vs))) whole
-    (subst (λ h. Makes ring (moves_from id number (frames_of fs) (v ∷ vs)) (open_channel spec done past) (open_channel spec ((done ++ front) ++ back) h)) (append_assoc past (v ∷ []) vs)
+    (subst (λ h. Makes ring (moves_from id number (frames_of fs) (v ∷ vs)) (open_channel spec done past) (open_channel spec ((done ++ front) ++ back) h))
+    (append_assoc past (v ∷ []) vs)
     (subst (λ es. Makes ring es (open_channel spec done past) (open_channel spec ((done ++ front) ++ back) ((past ++ v ∷ []) ++ vs))) events all))
 
 -- ---- a channel
@@ -196,13 +225,15 @@ abbrev pub moved_lane : Lane → ChannelState
 moved_lane lane = open_channel lane.spec lane.offered lane.history
 
 moved : (ring : ℕ) (spec : SpecData) (offered : List OfferedFrame) (history : List Version)
-    → slice_get (programs_in history) 0 ≡ Some spec.program → IsHistory (length offered) history → length offered ≤ spec.max → length history ≤ MAX_VERSIONS → AllMet history offered
+    → slice_get (programs_in history) 0 ≡ Some spec.program → IsHistory (length offered) history → length offered ≤ spec.max → length history ≤ MAX_VERSIONS
+    → AllMet history offered
     → Makes ring (moves_from spec.settings.channel 0 (frames_of offered) (drop 1 history)) (opening_channel spec) (open_channel spec offered history)
 moved ring spec offered [] program h within few met = absurd (let e = h.some in omega (arith, e))
 moved ring spec offered (v ∷ vs) program h within few met =
     let zeroth : v.mark ≡ 0 = h.first v refl in
     let first = same_version v spec.program 0 (sym (same_Some v.program spec.program program)) (sym zeroth) in
-    subst (λ w. Makes ring (moves_from spec.settings.channel 0 (frames_of offered) vs) (open_channel spec [] (w ∷ [])) (open_channel spec offered (v ∷ vs))) (sym first)
+    subst (λ w. Makes ring (moves_from spec.settings.channel 0 (frames_of offered) vs) (open_channel spec [] (w ∷ [])) (open_channel spec offered (v ∷ vs)))
+    (sym first)
     (moving ring spec vs (v ∷ []) offered [] 0 refl (omega (arith, within)) (omega (arith, few)) (omega arith)
     (All-cons (λ (w : Version). w.mark ≤ 0) v [] (omega (arith, zeroth)) (All-nil (λ (w : Version). w.mark ≤ 0)))
     (rise_of 0 (0 + length offered) vs (λ k d before. omega arith)
@@ -217,7 +248,15 @@ lane_moved ring lane is = moved ring lane.spec lane.offered lane.history is.prog
 
 -- a channel that is closed, of which so many pieces were sent and written
 abbrev pub closed_lane : Lane → ℕ → ChannelState
-closed_lane lane n = record { settings = lane.spec.settings; max = lane.spec.max; offered = lane.offered; history = lane.history; closed = true; sent = n; written = n }
+closed_lane lane n = record {
+  settings = lane.spec.settings;
+  max = lane.spec.max;
+  offered = lane.offered;
+  history = lane.history;
+  closed = true;
+  sent = n;
+  written = n;
+}
 
 pub lane_closed : (ring : ℕ) (lane : Lane) → Makes ring (close_of (recorded_lane lane) ∷ []) (moved_lane lane) (closed_lane lane 0)
 lane_closed ring lane =

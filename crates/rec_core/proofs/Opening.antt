@@ -9,7 +9,7 @@ use Rattle.rec_writer.specs.Writers.{WriterState, HasWritten}
 use Rattle.rec_core.specs.Openings.{SpecData, IsFilter, channels_of_specs}
 use Rattle.rec_core.specs.World.{opening_channel, opening_world}
 use Rattle.rec_core.specs.Worlds.{ChannelParts, HoldsChannel, StandsForWorld, channels_of_parts, IsCore}
-use Rattle.rec_core.proofs.Meeting.{in_order_opening}
+use Rattle.rec_core.proofs.ChannelsInOrder.{in_order_opening}
 
 pub opening_stands : (size : ℕ) (first : Option (List ℕ)) (specs : List SpecData) (channels : List ChannelParts) (writer : WriterState)
     → AllZip (HoldsChannel size) channels (map opening_channel specs) → HasWritten first [] [] writer → writer.failed ≡ false

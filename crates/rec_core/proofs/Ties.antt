@@ -19,11 +19,11 @@ use Rattle.rec_core.specs.Openings.{SpecData, AreSpecs, IsFilter, channels_of_sp
 use Rattle.rec_core.specs.World.{ChannelState, EventData, opening_channel, opening_world}
 use Rattle.rec_core.specs.Written.{IsEndedChannel, recorded_channel}
 use Rattle.rec_core.specs.Ties.{moves_of, close_of, passes_of, events_of, IsOfSpec, IsRunOfWorld}
-use Rattle.rec_core.proofs.Lists.{All_there, All_from_places, map_same, map_there, get_behind, set_between}
+use Rattle.rec_core.proofs.ListPlaces.{All_there, All_from_places, map_same, map_there, get_behind, set_between}
 use Rattle.rec_core.proofs.Written.{of}
-use Rattle.rec_core.proofs.Runs.{Runs, world, Makes, nowhere, one_after_another}
+use Rattle.rec_core.proofs.WorldRuns.{Runs, world, Makes, nowhere, one_after_another}
 use Rattle.rec_core.proofs.Moves.{Lane, IsLane, recorded_lane, moved_lane, closed_lane, lane_moved, lane_closed}
-use Rattle.rec_core.proofs.Passing.{HaveLens, lane_id, lane_pieces, after, passed_one, next_of_lane}
+use Rattle.rec_core.proofs.SendsAndWrites.{HaveLens, lane_id, lane_pieces, after, passed_one, next_of_lane}
 
 -- ---- lanes
 
@@ -44,7 +44,8 @@ HasPieces pieces c = ArePieces c.settings c.frames c.history (of c.settings.chan
 abbrev lane_of : SpecData → RecordedChannel → List OfferedFrame → Lane
 lane_of spec c offered = record { spec = spec; offered = offered; history = c.history }
 
-same_channel : (spec : SpecData) (c : RecordedChannel) (offered : List OfferedFrame) → c.settings ≡ spec.settings → frames_of offered ≡ c.frames → recorded_lane (lane_of spec c offered) ≡ c
+same_channel : (spec : SpecData) (c : RecordedChannel) (offered : List OfferedFrame) → c.settings ≡ spec.settings → frames_of offered ≡ c.frames
+    → recorded_lane (lane_of spec c offered) ≡ c
 same_channel spec c offered settings frames =
     ap (λ (s : LaneSettings). let made : RecordedChannel = record { settings = s; frames = frames_of offered; history = c.history } in made) (sym settings)
     ∙ ap (λ (fs : List FrameData). let made : RecordedChannel = record { settings = c.settings; frames = fs; history = c.history } in made) frames
@@ -60,7 +61,8 @@ is_lane spec c pieces is has =
       met = has.1;
     }
 
-lanes_of : (specs : List SpecData) (channels : List RecordedChannel) (pieces : List PieceData) → AllZip IsOfSpec specs channels → All (HasPieces pieces) channels → Lanes specs channels pieces
+lanes_of : (specs : List SpecData) (channels : List RecordedChannel) (pieces : List PieceData) → AllZip IsOfSpec specs channels
+    → All (HasPieces pieces) channels → Lanes specs channels pieces
 lanes_of [] [] pieces zip all = record { lanes = []; specs_are = refl; channels_are = refl; each = All-nil IsLane; whole = All-nil (IsWhole pieces) }
 lanes_of [] (c ∷ cs) pieces zip all = absurd zip
 lanes_of (s ∷ ss) [] pieces zip all = absurd zip
@@ -79,8 +81,10 @@ lanes_of (s ∷ ss) (c ∷ cs) pieces zip all =
 
 -- ---- one lane after another
 
-each_lane : (ring : ℕ) (f g : Lane → ChannelState) (events : Lane → List EventData) (P : Lane → Type 0) → ((lane : Lane) → P lane → Makes ring (events lane) (f lane) (g lane))
-    → (lanes : List Lane) (before : List ChannelState) (out : List PieceData) → All P lanes → Runs ring (world (before ++ map f lanes) out) (flat_map events lanes) (world (before ++ map g lanes) out)
+each_lane : (ring : ℕ) (f g : Lane → ChannelState) (events : Lane → List EventData) (P : Lane → Type 0)
+    → ((lane : Lane) → P lane → Makes ring (events lane) (f lane) (g lane))
+    → (lanes : List Lane) (before : List ChannelState) (out : List PieceData) → All P lanes
+    → Runs ring (world (before ++ map f lanes) out) (flat_map events lanes) (world (before ++ map g lanes) out)
 each_lane ring f g events P makes [] before out all = nowhere ring (world (before ++ []) out)
 each_lane ring f g events P makes (lane ∷ lanes) before out all =
     let start = world (before ++ f lane ∷ map f lanes) out in
@@ -90,7 +94,8 @@ each_lane ring f g events P makes (lane ∷ lanes) before out all =
     (makes lane (All-head P lane lanes all) (before ++ f lane ∷ map f lanes) out (length before) (get_behind before (f lane) (map f lanes))) in
     let rest : Runs ring mid (flat_map events lanes) (world (before ++ g lane ∷ map g lanes) out) =
     subst (λ cs. Runs ring mid (flat_map events lanes) (world cs out)) (append_assoc before (g lane ∷ []) (map g lanes))
-    (subst (λ cs. Runs ring (world cs out) (flat_map events lanes) (world ((before ++ g lane ∷ []) ++ map g lanes) out)) (append_assoc before (g lane ∷ []) (map f lanes))
+    (subst (λ cs. Runs ring (world cs out) (flat_map events lanes) (world ((before ++ g lane ∷ []) ++ map g lanes) out))
+    (append_assoc before (g lane ∷ []) (map f lanes))
     (each_lane ring f g events P makes lanes (before ++ g lane ∷ []) out (All-tail P lane lanes all))) in
     one_after_another ring start mid (world (before ++ g lane ∷ map g lanes) out) (events lane) (flat_map events lanes) here rest
 
@@ -100,15 +105,19 @@ each_lane ring f g events P makes (lane ∷ lanes) before out all =
 abbrev AreNamed : List Lane → List PieceData → Type 0
 AreNamed lanes pieces = All (λ (p : PieceData). (k : ℕ) × (lane : Lane) × (slice_get lanes k ≡ Some lane) × (channel_of p ≡ lane_id lane)) pieces
 
-passed : HaveLens → (ring : ℕ) (lanes : List Lane) (all rest done : List PieceData) → 0 < ring → AreDistinctChannels (map lane_id lanes) → AreNamed lanes all → All (IsWhole all) lanes → done ++ rest ≡ all
+passed : HaveLens → (ring : ℕ) (lanes : List Lane) (all rest done : List PieceData) → 0 < ring → AreDistinctChannels (map lane_id lanes) → AreNamed lanes all
+    → All (IsWhole all) lanes → done ++ rest ≡ all
     → Runs ring (world (map (after done) lanes) done) (flat_map passes_of rest) (world (map (after all) lanes) all)
 passed lens ring lanes all [] done some distinct named whole is =
-    subst (λ ps. Runs ring (world (map (after done) lanes) done) [] (world (map (after ps) lanes) ps)) (sym (append-nil done) ∙ is) (nowhere ring (world (map (after done) lanes) done))
+    subst (λ ps. Runs ring (world (map (after done) lanes) done) [] (world (map (after ps) lanes) ps)) (sym (append-nil done) ∙ is)
+    (nowhere ring (world (map (after done) lanes) done))
 passed lens ring lanes all (p ∷ rest) done some distinct named whole is =
     let at : slice_get all (length done) ≡ Some p = subst (λ ps. slice_get ps (length done) ≡ Some p) is (get_behind done p rest) in
-    let found = All_there (λ (q : PieceData). (k : ℕ) × (lane : Lane) × (slice_get lanes k ≡ Some lane) × (channel_of q ≡ lane_id lane)) all (length done) p named at in
+    let found = All_there (λ (q : PieceData). (k : ℕ) × (lane : Lane) × (slice_get lanes k ≡ Some lane) × (channel_of q ≡ lane_id lane)) all (length done) p
+    named at in
     let next = next_of_lane found.1 done p rest found.3 (ap (of (lane_id found.1)) is ∙ All_there (IsWhole all) lanes found.0 found.1 whole found.2) in
-    one_after_another ring (world (map (after done) lanes) done) (world (map (after (done ++ p ∷ [])) lanes) (done ++ p ∷ [])) (world (map (after all) lanes) all)
+    one_after_another ring (world (map (after done) lanes) done) (world (map (after (done ++ p ∷ [])) lanes) (done ++ p ∷ []))
+    (world (map (after all) lanes) all)
     (passes_of p) (flat_map passes_of rest)
     (passed_one lens ring lanes done p found.0 found.1 some distinct found.2 found.3 next)
     (passed lens ring lanes all rest (done ++ p ∷ []) some distinct named whole (append_assoc done (p ∷ []) rest ∙ is))
@@ -142,27 +151,35 @@ most_alike : (lanes : List Lane) → map (λ (c : ChannelState). c.max) (map end
 most_alike [] = refl
 most_alike (lane ∷ lanes) = ap (λ ms. lane.spec.max ∷ ms) (most_alike lanes)
 
-all_run : HaveLens → (ring : ℕ) (lanes : List Lane) (pieces : List PieceData) → 0 < ring → AreDistinctChannels (map lane_id lanes) → AreNamed lanes pieces → All IsLane lanes → All (IsWhole pieces) lanes
+all_run : HaveLens → (ring : ℕ) (lanes : List Lane) (pieces : List PieceData) → 0 < ring → AreDistinctChannels (map lane_id lanes) → AreNamed lanes pieces
+    → All IsLane lanes → All (IsWhole pieces) lanes
     → Runs ring (opening_world (map (λ (l : Lane). l.spec) lanes)) (events_of (map recorded_lane lanes) pieces) (world (map ended_lane lanes) pieces)
 all_run lens ring lanes pieces some distinct named good whole =
     let begun = λ (l : Lane). opening_channel l.spec in
     let closed = λ (l : Lane). closed_lane l 0 in
     let moves = λ (l : Lane). moves_of (recorded_lane l) in
     let closes = λ (l : Lane). close_of (recorded_lane l) ∷ [] in
-    let first : Runs ring (world (map begun lanes) []) (flat_map moves lanes) (world (map moved_lane lanes) []) = each_lane ring begun moved_lane moves IsLane (lane_moved ring) lanes [] [] good in
-    let second : Runs ring (world (map moved_lane lanes) []) (flat_map closes lanes) (world (map closed lanes) []) = each_lane ring moved_lane closed closes IsLane (λ l is. lane_closed ring l) lanes [] [] good in
-    let third : Runs ring (world (map closed lanes) []) (flat_map passes_of pieces) (world (map (after pieces) lanes) pieces) = passed lens ring lanes pieces pieces [] some distinct named whole refl in
+    let first : Runs ring (world (map begun lanes) []) (flat_map moves lanes) (world (map moved_lane lanes) []) =
+    each_lane ring begun moved_lane moves IsLane (lane_moved ring) lanes [] [] good in
+    let second : Runs ring (world (map moved_lane lanes) []) (flat_map closes lanes) (world (map closed lanes) []) =
+    each_lane ring moved_lane closed closes IsLane (λ l is. lane_closed ring l) lanes [] [] good in
+    let third : Runs ring (world (map closed lanes) []) (flat_map passes_of pieces) (world (map (after pieces) lanes) pieces) =
+    passed lens ring lanes pieces pieces [] some distinct named whole refl in
     let same : map (after pieces) lanes ≡ map ended_lane lanes =
-    map_same (after pieces) ended_lane lanes (λ j l is. ap (λ (ps : List PieceData). closed_lane l (length ps)) (All_there (IsWhole pieces) lanes j l whole is)) in
+    map_same (after pieces) ended_lane lanes (λ j l is. ap (λ (ps : List PieceData). closed_lane l (length ps))
+    (All_there (IsWhole pieces) lanes j l whole is)) in
     let last : Runs ring (world (map closed lanes) []) (flat_map passes_of pieces) (world (map ended_lane lanes) pieces) =
     subst (λ cs. Runs ring (world (map closed lanes) []) (flat_map passes_of pieces) (world cs pieces)) same third in
-    let all = one_after_another ring (world (map begun lanes) []) (world (map moved_lane lanes) []) (world (map ended_lane lanes) pieces) (flat_map moves lanes) (flat_map closes lanes ++ flat_map passes_of pieces) first
-    (one_after_another ring (world (map moved_lane lanes) []) (world (map closed lanes) []) (world (map ended_lane lanes) pieces) (flat_map closes lanes) (flat_map passes_of pieces) second last) in
+    let all = one_after_another ring (world (map begun lanes) []) (world (map moved_lane lanes) []) (world (map ended_lane lanes) pieces)
+    (flat_map moves lanes) (flat_map closes lanes ++ flat_map passes_of pieces) first
+    (one_after_another ring (world (map moved_lane lanes) []) (world (map closed lanes) []) (world (map ended_lane lanes) pieces) (flat_map closes lanes)
+    (flat_map passes_of pieces) second last) in
     let events : flat_map moves lanes ++ (flat_map closes lanes ++ flat_map passes_of pieces) ≡ events_of (map recorded_lane lanes) pieces =
     ap (λ es. es ++ (flat_map closes lanes ++ flat_map passes_of pieces)) (sym (moves_alike lanes))
     ∙ ap (λ es. flat_map moves_of (map recorded_lane lanes) ++ (es ++ flat_map passes_of pieces)) (sym (closes_alike lanes)) in
     subst (λ es. Runs ring (opening_world (map (λ (l : Lane). l.spec) lanes)) es (world (map ended_lane lanes) pieces)) events
-    (subst (λ cs. Runs ring (world cs []) (flat_map moves lanes ++ (flat_map closes lanes ++ flat_map passes_of pieces)) (world (map ended_lane lanes) pieces)) (sym (begun_alike lanes)) all)
+    (subst (λ cs. Runs ring (world cs []) (flat_map moves lanes ++ (flat_map closes lanes ++ flat_map passes_of pieces)) (world (map ended_lane lanes) pieces))
+    (sym (begun_alike lanes)) all)
 
 -- a piece of one of the channels is of one of the lanes
 named_lane : (lanes : List Lane) (p : PieceData) → Any (λ (c : RecordedChannel). c.settings.channel ≡ channel_of p) (map recorded_lane lanes)
@@ -187,22 +204,27 @@ module _ (lens : HaveLens) (ring : ℕ) (pieces : List PieceData) (some : 0 < ri
       let run = all_run lens ring lanes pieces some (subst AreDistinctChannels (sym (ids_alike lanes)) specs.distinct) named good whole in
       record {
         are_specs = specs;
-        filters = All-map (λ (s : SpecData). IsFilter s.program) (λ (l : Lane). l.spec) lanes (All_from_places (λ (l : Lane). IsFilter l.spec.program) lanes (λ k l is. lane_filter l (All_there IsLane lanes k l good is)));
+        filters = All-map (λ (s : SpecData). IsFilter s.program) (λ (l : Lane). l.spec) lanes
+            (All_from_places (λ (l : Lane). IsFilter l.spec.program) lanes (λ k l is. lane_filter l (All_there IsLane lanes k l good is)));
         replies = run.0;
         new = world (map ended_lane lanes) pieces;
         run = run.1;
         channels_are = ended_alike lanes;
         most_are = most_alike lanes;
-        ended = All-map IsEndedChannel ended_lane lanes (All_from_places (λ (l : Lane). IsEndedChannel (ended_lane l)) lanes (λ k l is. record { closed = refl; whole = refl }));
-        sent = All-map (λ (c : ChannelState). c.sent ≡ c.written) ended_lane lanes (All_from_places (λ (l : Lane). (ended_lane l).sent ≡ (ended_lane l).written) lanes (λ k l is. refl));
+        ended = All-map IsEndedChannel ended_lane lanes (All_from_places (λ (l : Lane). IsEndedChannel (ended_lane l)) lanes
+            (λ k l is. record { closed = refl; whole = refl }));
+        sent = All-map (λ (c : ChannelState). c.sent ≡ c.written) ended_lane lanes
+            (All_from_places (λ (l : Lane). (ended_lane l).sent ≡ (ended_lane l).written) lanes (λ k l is. refl));
         out_is = refl;
       }
 
   -- a recording is a run
-  pub tied : (specs : List SpecData) (channels : List RecordedChannel) → AreSpecs specs → AllZip IsOfSpec specs channels → AreOfChannels channels pieces → IsRunOfWorld ring specs channels pieces
+  pub tied : (specs : List SpecData) (channels : List RecordedChannel) → AreSpecs specs → AllZip IsOfSpec specs channels → AreOfChannels channels pieces
+      → IsRunOfWorld ring specs channels pieces
   tied specs channels are zip of_channels =
       let ls = lanes_of specs channels pieces zip of_channels.each in
-      let named : AreNamed ls.lanes pieces = All_from_places (λ (p : PieceData). (k : ℕ) × (lane : Lane) × (slice_get ls.lanes k ≡ Some lane) × (channel_of p ≡ lane_id lane)) pieces
+      let named : AreNamed ls.lanes pieces = All_from_places (λ (p : PieceData). (k : ℕ) × (lane : Lane) × (slice_get ls.lanes k ≡ Some lane)
+      × (channel_of p ≡ lane_id lane)) pieces
       (λ k p is. named_lane ls.lanes p (subst (λ cs. Any (λ (c : RecordedChannel). c.settings.channel ≡ channel_of p) cs) (sym ls.channels_are)
       (All_there (λ (q : PieceData). Any (λ (c : RecordedChannel). c.settings.channel ≡ channel_of q) channels) pieces k p of_channels.named is))) in
       subst (λ ss. IsRunOfWorld ring ss channels pieces) ls.specs_are

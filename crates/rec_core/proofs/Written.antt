@@ -1,7 +1,8 @@
 -- What a run has written of each channel.
 -- idea: of each channel what was written begins its pieces, and an event keeps that, for its own channel and for the
 -- others; so it holds of every world that events lead to, and where all is written the beginning is the whole.
-use Rattle.std.proofs.Common.{ℕ, suc, ◌≡◌, ◌≢◌, inl, inr, true, false, List, [], ◌∷◌, ◌++◌, length, Option, None, Some, refl, sym, ◌∙◌, ap, subst, arith, map, All, cond, eq-eqb}
+use Rattle.std.proofs.Common.{ℕ, suc, ◌≡◌, ◌≢◌, inl, inr, true, false, List, [], ◌∷◌, ◌++◌, length, Option}
+use Rattle.std.proofs.Common.{None, Some, refl, sym, ◌∙◌, ap, subst, arith, map, All, cond, eq-eqb}
 use Rattle.std.specs.Prelude.{slice_get, slice_set, ◌==◌, Result, Ok, Err}
 use Rattle.std.specs.List.{AllZip, filter, Any}
 use Rattle.std.proofs.lemmas.Bool.{cases_Bool, both_ways, eqb-true}
@@ -21,13 +22,15 @@ use Rattle.rec_core.specs.declared.reply.Reply.TheVariants.{Took, Installed, Sen
 use Rattle.rec_core.specs.declared.fault.CoreFault.{CoreFault}
 use Rattle.rec_core.specs.declared.fault.CoreFault.TheVariants.{NoChannel}
 use Rattle.rec_core.specs.Openings.{SpecData, AreSpecs, HaveFilters, IsFilter, channels_of_specs}
-use Rattle.rec_core.specs.World.{ChannelState, WorldState, EventData, ChannelDoes, IsInOrder, WorldStep, WorldRun, produced, frame_taken, program_installed, piece_sent, piece_written, channel_closed, opening_channel, opening_world}
+use Rattle.rec_core.specs.World.{ChannelState, WorldState, EventData, ChannelDoes, IsInOrder, WorldStep, WorldRun, produced, frame_taken}
+use Rattle.rec_core.specs.World.{program_installed, piece_sent, piece_written, channel_closed, opening_channel, opening_world}
 use Rattle.rec_core.specs.World.EventData.{OfTake, OfInstall, OfSend, OfWrite, OfClose}
 use Rattle.rec_core.specs.Worlds.{CoreState, HoldsChannel, IsCutAtFront, StandsForWorld, StandsCutAt}
-use Rattle.rec_core.specs.Written.{RunsFromOpening, WritesInOrder, WritesAll, IsEndedChannel, AreEnded, recorded_channel, recorded_channels, IsCutShort, IsCutShortAt}
-use Rattle.rec_core.proofs.Lists.{set_cases, set_unseen, map_there, there_map, All_there, All_from_places, Any_there, distinct_at, zip_there, get_behind}
-use Rattle.rec_core.proofs.Meeting.{LaterLeave, in_order_taken, in_order_installed, in_order_opening}
-use Rattle.rec_core.proofs.Serving.{OfTheirChannel, BeginAll, begins_there, produced_begins, produced_is_of, produced_open, produced_closed}
+use Rattle.rec_core.specs.Written.{RunsFromOpening, WritesInOrder, WritesAll, IsEndedChannel, AreEnded}
+use Rattle.rec_core.specs.Written.{recorded_channel, recorded_channels, IsCutShort, IsCutShortAt}
+use Rattle.rec_core.proofs.ListPlaces.{set_cases, set_unseen, map_there, there_map, All_there, All_from_places, Any_there, distinct_at, zip_there, get_behind}
+use Rattle.rec_core.proofs.ChannelsInOrder.{LaterLeave, in_order_taken, in_order_installed, in_order_opening}
+use Rattle.rec_core.proofs.ChannelServing.{OfTheirChannel, BeginAll, begins_there, produced_begins, produced_is_of, produced_open, produced_closed}
 
 -- the pieces of a channel
 abbrev pub of : ℕ → List PieceData → List PieceData
@@ -50,7 +53,8 @@ begins_next (z ∷ zs) ys x b is =
     let r = begins_next zs (zs ++ b.0) x (b.0, refl) (subst (λ ws. slice_get ws (suc (length zs)) ≡ Some x) (sym b.1) is) in
     (r.0, ap (λ ws. z ∷ ws) r.1 ∙ b.1)
 
-pub own_piece : (channel : ℕ) (out : List PieceData) (piece : PieceData) → channel_of piece ≡ channel → of channel (out ++ piece ∷ []) ≡ of channel out ++ piece ∷ []
+pub own_piece : (channel : ℕ) (out : List PieceData) (piece : PieceData) → channel_of piece ≡ channel
+    → of channel (out ++ piece ∷ []) ≡ of channel out ++ piece ∷ []
 own_piece channel out piece is =
     filter-append (is_of channel) out (piece ∷ [])
     ∙ ap (λ b. of channel out ++ cond b (piece ∷ []) []) (eq-eqb (channel_of piece) channel is)
@@ -69,7 +73,8 @@ record Effect (out : List PieceData) (c d : ChannelState) (more : List PieceData
   pub own : All (λ (piece : PieceData). channel_of piece ≡ c.settings.channel) more
   pub sound : Sound out c → Sound (out ++ more) d
 
-silent : (out : List PieceData) (c d e : ChannelState) (more : List PieceData) → d ≡ e → more ≡ [] → e.settings ≡ c.settings → (Sound out c → Sound out e) → Effect out c d more
+silent : (out : List PieceData) (c d e : ChannelState) (more : List PieceData) → d ≡ e → more ≡ [] → e.settings ≡ c.settings → (Sound out c → Sound out e)
+    → Effect out c d more
 silent out c d e more is none settings sound =
     subst (λ x. Effect out c x more) (sym is) (subst (λ ps. Effect out c e ps) (sym none) (record {
       settings = settings;
@@ -77,15 +82,18 @@ silent out c d e more is none settings sound =
       sound = λ s. subst (λ ps. Sound ps e) (sym (append-nil out)) (sound s);
     }))
 
-take_sound : (out : List PieceData) (c : ChannelState) (f : OfferedFrame) → c.closed ≡ false → (IsInOrder c → IsInOrder (frame_taken c f)) → Sound out c → Sound out (frame_taken c f)
+take_sound : (out : List PieceData) (c : ChannelState) (f : OfferedFrame) → c.closed ≡ false → (IsInOrder c → IsInOrder (frame_taken c f)) → Sound out c
+    → Sound out (frame_taken c f)
 take_sound out c f not_closed order s = record {
   long = s.long;
   begins = s.certain not_closed (f ∷ []);
-  certain = λ is more. subst (λ fs. BeginsList (of c.settings.channel out) (channel_pieces c.settings fs)) (sym (append_assoc c.offered (f ∷ []) more)) (s.certain not_closed (f ∷ more));
+  certain = λ is more. subst (λ fs. BeginsList (of c.settings.channel out) (channel_pieces c.settings fs)) (sym (append_assoc c.offered (f ∷ []) more))
+      (s.certain not_closed (f ∷ more));
   order = order s.order;
 }
 
-write_sound : BeginAll → (out : List PieceData) (c : ChannelState) (piece : PieceData) → channel_of piece ≡ c.settings.channel → slice_get (produced c) c.written ≡ Some piece → Sound out c → Sound (out ++ piece ∷ []) (piece_written c)
+write_sound : BeginAll → (out : List PieceData) (c : ChannelState) (piece : PieceData) → channel_of piece ≡ c.settings.channel
+    → slice_get (produced c) c.written ≡ Some piece → Sound out c → Sound (out ++ piece ∷ []) (piece_written c)
 write_sound begin out c piece own next s =
     let mine = own_piece c.settings.channel out piece own in
     let longer = length-append (of c.settings.channel out) (piece ∷ []) in
@@ -99,23 +107,32 @@ write_sound begin out c piece own next s =
           (begins_there (produced c) (channel_pieces c.settings c.offered) (length (of c.settings.channel out)) piece (produced_begins begin c) at));
       certain = λ is more. subst (λ ps. BeginsList ps (channel_pieces c.settings (c.offered ++ more))) (sym mine)
           (begins_next (of c.settings.channel out) (channel_pieces c.settings (c.offered ++ more)) piece (s.certain is more)
-          (begins_there (pieces_so_far c.settings c.offered) (channel_pieces c.settings (c.offered ++ more)) (length (of c.settings.channel out)) piece (begin c.settings c.offered more)
+          (begins_there (pieces_so_far c.settings c.offered) (channel_pieces c.settings (c.offered ++ more)) (length (of c.settings.channel out)) piece
+          (begin c.settings c.offered more)
           (subst (λ ps. slice_get ps (length (of c.settings.channel out)) ≡ Some piece) (produced_open c is) at)));
       order = record { history = s.order.history; met = s.order.met; within = s.order.within; few = s.order.few };
     }
 
-effect : LaterLeave → OfTheirChannel → BeginAll → (ring : ℕ) (out : List PieceData) (c : ChannelState) (event : EventData) (reply : Reply) (d : ChannelState) (more : List PieceData) → ChannelDoes ring c event reply d more → Effect out c d more
+effect : LaterLeave → OfTheirChannel → BeginAll → (ring : ℕ) (out : List PieceData) (c : ChannelState) (event : EventData) (reply : Reply) (d : ChannelState)
+    (more : List PieceData) → ChannelDoes ring c event reply d more → Effect out c d more
 effect leave theirs begin ring out c (OfTake channel frame) (Took number version value) d more does =
     silent out c d (frame_taken c does.0) more does.8 does.9 refl (take_sound out c does.0 does.1 (in_order_taken c does.0 does.2 does.3))
 effect leave theirs begin ring out c (OfInstall channel program) (Installed version mark) d more does =
-    silent out c d (program_installed c program) more does.4 does.5 refl (λ s. record { long = s.long; begins = s.begins; certain = s.certain; order = in_order_installed leave c program does.0 does.1 s.order })
+    silent out c d (program_installed c program) more does.4 does.5 refl
+    (λ s. record { long = s.long; begins = s.begins; certain = s.certain; order = in_order_installed leave c program does.0 does.1 s.order })
 effect leave theirs begin ring out c (OfSend channel) (Sent which) d more does =
-    silent out c d (piece_sent c) more does.4 does.5 refl (λ s. record { long = s.long; begins = s.begins; certain = s.certain; order = record { history = s.order.history; met = s.order.met; within = s.order.within; few = s.order.few } })
+    silent out c d (piece_sent c) more does.4 does.5 refl (λ s. record {
+      long = s.long;
+      begins = s.begins;
+      certain = s.certain;
+      order = record { history = s.order.history; met = s.order.met; within = s.order.within; few = s.order.few };
+    })
 effect leave theirs begin ring out c (OfWrite channel) (Wrote bytes) d more does =
     let own = produced_is_of theirs begin c c.written does.0 does.1 in
     subst (λ ps. Effect out c d ps) (sym does.5) (subst (λ x. Effect out c x (does.0 ∷ [])) (sym does.4) (record {
       settings = refl;
-      own = All-cons (λ (piece : PieceData). channel_of piece ≡ c.settings.channel) does.0 [] own (All-nil (λ (piece : PieceData). channel_of piece ≡ c.settings.channel));
+      own = All-cons (λ (piece : PieceData). channel_of piece ≡ c.settings.channel) does.0 [] own
+          (All-nil (λ (piece : PieceData). channel_of piece ≡ c.settings.channel));
       sound = write_sound begin out c does.0 own does.1;
     }))
 effect leave theirs begin ring out c (OfClose channel) (HasClosed offered kept) d more does =
@@ -127,14 +144,16 @@ effect leave theirs begin ring out c (OfClose channel) (HasClosed offered kept) 
     })
 effect leave theirs begin ring out c _ _ d more does = absurd does
 
-none_of_other : (channel from : ℕ) (out more : List PieceData) → channel ≢ from → All (λ (piece : PieceData). channel_of piece ≡ from) more → of channel (out ++ more) ≡ of channel out
+none_of_other : (channel from : ℕ) (out more : List PieceData) → channel ≢ from → All (λ (piece : PieceData). channel_of piece ≡ from) more
+    → of channel (out ++ more) ≡ of channel out
 none_of_other channel from out [] differs own = ap (of channel) (append-nil out)
 none_of_other channel from out (p ∷ ps) differs own =
     ap (of channel) (sym (append_assoc out (p ∷ []) ps))
     ∙ (none_of_other channel from (out ++ p ∷ []) ps differs (All-tail (λ (piece : PieceData). channel_of piece ≡ from) p ps own)
     ∙ other_piece channel out p (λ bad. differs (sym bad ∙ All-head (λ (piece : PieceData). channel_of piece ≡ from) p ps own)))
 
-other_sound : (out more : List PieceData) (b : ChannelState) (from : ℕ) → b.settings.channel ≢ from → All (λ (piece : PieceData). channel_of piece ≡ from) more → Sound out b → Sound (out ++ more) b
+other_sound : (out more : List PieceData) (b : ChannelState) (from : ℕ) → b.settings.channel ≢ from → All (λ (piece : PieceData). channel_of piece ≡ from) more
+    → Sound out b → Sound (out ++ more) b
 other_sound out more b from differs own s =
     let same = none_of_other b.settings.channel from out more differs own in
     record {
@@ -162,32 +181,37 @@ pub record SoundWorld (w : WorldState) : Type 0 where
 changed : (old : WorldState) (k : ℕ) (c d : ChannelState) (more : List PieceData) → slice_get old.channels k ≡ Some c → Effect old.out c d more → SoundWorld old
     → SoundWorld (let new : WorldState = record { channels = slice_set old.channels k d; out = old.out ++ more } in new)
 changed old k c d more there eff s =
-    let unseen : map (λ (x : ChannelState). x.settings.channel) (slice_set old.channels k d) ≡ ids old = set_unseen (λ (x : ChannelState). x.settings.channel) old.channels k c d there (ap (λ (l : LaneSettings). l.channel) eff.settings) in
+    let unseen : map (λ (x : ChannelState). x.settings.channel) (slice_set old.channels k d) ≡ ids old =
+    set_unseen (λ (x : ChannelState). x.settings.channel) old.channels k c d there (ap (λ (l : LaneSettings). l.channel) eff.settings) in
     let place = there_map (λ (x : ChannelState). x.settings.channel) old.channels k c there in
     record {
       distinct = subst AreDistinctChannels (sym unseen) s.distinct;
       each = λ j b is. elim (set_cases old.channels k d j b is) as (λ _. Sound (old.out ++ more) b) [
         | inl same ↦ subst (λ x. Sound (old.out ++ more) x) (sym same.1) (eff.sound (s.each k c there))
         | inr elsewhere ↦ other_sound old.out more b c.settings.channel
-            (distinct_at (ids old) j k b.settings.channel c.settings.channel s.distinct (there_map (λ (x : ChannelState). x.settings.channel) old.channels j b elsewhere.1) place elsewhere.0)
+            (distinct_at (ids old) j k b.settings.channel c.settings.channel s.distinct
+            (there_map (λ (x : ChannelState). x.settings.channel) old.channels j b elsewhere.1) place elsewhere.0)
             eff.own (s.each j b elsewhere.1)
       ];
       named = subst (λ cs. All (Named cs) (old.out ++ more)) (sym unseen)
           (All-append (Named (ids old)) old.out more s.named
-          (All-weaker (λ (piece : PieceData). channel_of piece ≡ c.settings.channel) (Named (ids old)) (λ piece own. (k, place ∙ ap (λ n. Some n) (sym own))) more eff.own));
+          (All-weaker (λ (piece : PieceData). channel_of piece ≡ c.settings.channel) (Named (ids old)) (λ piece own. (k, place ∙ ap (λ n. Some n) (sym own)))
+          more eff.own));
     }
 
 same_world : (old new : WorldState) → new ≡ old → SoundWorld old → SoundWorld new
 same_world old new same s = subst SoundWorld (sym same) s
 
-step_sound : LaterLeave → OfTheirChannel → BeginAll → (ring : ℕ) (old : WorldState) (event : EventData) (answer : Result Reply CoreFault) (new : WorldState) → WorldStep ring old event answer new → SoundWorld old → SoundWorld new
+step_sound : LaterLeave → OfTheirChannel → BeginAll → (ring : ℕ) (old : WorldState) (event : EventData) (answer : Result Reply CoreFault) (new : WorldState)
+    → WorldStep ring old event answer new → SoundWorld old → SoundWorld new
 step_sound leave theirs begin ring old event (Ok reply) new step s =
     same_world (record { channels = slice_set old.channels step.0 step.2; out = old.out ++ step.3 }) new step.6
     (changed old step.0 step.1 step.2 step.3 step.4.there (effect leave theirs begin ring old.out step.1 event reply step.2 step.3 step.5) s)
 step_sound leave theirs begin ring old event (Err NoChannel) new step s = same_world old new step.1 s
 step_sound leave theirs begin ring old event (Err fault) new step s = same_world old new step.4 s
 
-run_sound : LaterLeave → OfTheirChannel → BeginAll → (ring : ℕ) (events : List EventData) (answers : List (Result Reply CoreFault)) (old new : WorldState) → WorldRun ring old events answers new → SoundWorld old → SoundWorld new
+run_sound : LaterLeave → OfTheirChannel → BeginAll → (ring : ℕ) (events : List EventData) (answers : List (Result Reply CoreFault)) (old new : WorldState)
+    → WorldRun ring old events answers new → SoundWorld old → SoundWorld new
 run_sound leave theirs begin ring [] [] old new run s = same_world old new run s
 run_sound leave theirs begin ring [] (answer ∷ answers) old new run s = absurd run
 run_sound leave theirs begin ring (event ∷ events) [] old new run s = absurd run
@@ -218,12 +242,14 @@ reached leave theirs begin ring specs new r = run_sound leave theirs begin ring 
 
 -- ---- what the laws say
 
-pub channels_in_order : LaterLeave → OfTheirChannel → BeginAll → (ring : ℕ) (specs : List SpecData) (new : WorldState) → RunsFromOpening ring specs new → All IsInOrder new.channels
+pub channels_in_order : LaterLeave → OfTheirChannel → BeginAll → (ring : ℕ) (specs : List SpecData) (new : WorldState) → RunsFromOpening ring specs new
+    → All IsInOrder new.channels
 channels_in_order leave theirs begin ring specs new r =
     let s = reached leave theirs begin ring specs new r in
     All_from_places IsInOrder new.channels (λ k c is. (s.each k c is).order)
 
-pub written_in_order : LaterLeave → OfTheirChannel → BeginAll → (ring : ℕ) (specs : List SpecData) (new : WorldState) → RunsFromOpening ring specs new → All (WritesInOrder new) new.channels
+pub written_in_order : LaterLeave → OfTheirChannel → BeginAll → (ring : ℕ) (specs : List SpecData) (new : WorldState) → RunsFromOpening ring specs new
+    → All (WritesInOrder new) new.channels
 written_in_order leave theirs begin ring specs new r =
     let s = reached leave theirs begin ring specs new r in
     All_from_places (WritesInOrder new) new.channels (λ k c is. (s.each k c is).begins)
@@ -244,21 +270,25 @@ all_of w c s ended =
     let whole = ended.whole in
     begins_whole (of c.settings.channel w.out) (channel_pieces c.settings c.offered) s.begins (omega (arith, same, long, whole))
 
-pub written_whole : LaterLeave → OfTheirChannel → BeginAll → (ring : ℕ) (specs : List SpecData) (new : WorldState) → RunsFromOpening ring specs new → All (WritesAll new) new.channels
+pub written_whole : LaterLeave → OfTheirChannel → BeginAll → (ring : ℕ) (specs : List SpecData) (new : WorldState) → RunsFromOpening ring specs new
+    → All (WritesAll new) new.channels
 written_whole leave theirs begin ring specs new r =
     let s = reached leave theirs begin ring specs new r in
     All_from_places (WritesAll new) new.channels (λ k c is. all_of new c (s.each k c is))
 
-pub recorded : LaterLeave → OfTheirChannel → BeginAll → (ring : ℕ) (specs : List SpecData) (new : WorldState) → RunsFromOpening ring specs new → AreEnded new → AreOfChannels (recorded_channels new) new.out
+pub recorded : LaterLeave → OfTheirChannel → BeginAll → (ring : ℕ) (specs : List SpecData) (new : WorldState) → RunsFromOpening ring specs new → AreEnded new
+    → AreOfChannels (recorded_channels new) new.out
 recorded leave theirs begin ring specs new r ended =
     let s = reached leave theirs begin ring specs new r in
     record {
       named = All-weaker (Named (ids new)) (λ (piece : PieceData). Any (λ (c : RecordedChannel). c.settings.channel ≡ channel_of piece) (recorded_channels new))
           (λ piece n.
           let from = map_there (λ (c : ChannelState). c.settings.channel) new.channels n.0 (channel_of piece) n.1 in
-          Any_there (λ (c : RecordedChannel). c.settings.channel ≡ channel_of piece) (recorded_channels new) n.0 (recorded_channel from.0) (there_map recorded_channel new.channels n.0 from.0 from.1) from.2)
+          Any_there (λ (c : RecordedChannel). c.settings.channel ≡ channel_of piece) (recorded_channels new) n.0 (recorded_channel from.0)
+          (there_map recorded_channel new.channels n.0 from.0 from.1) from.2)
           new.out s.named;
-      each = All-map (λ (c : RecordedChannel). ArePieces c.settings c.frames c.history (filter (is_of c.settings.channel) new.out)) recorded_channel new.channels
+      each = All-map (λ (c : RecordedChannel). ArePieces c.settings c.frames c.history (filter (is_of c.settings.channel) new.out)) recorded_channel
+          new.channels
           (All_from_places (λ (c : ChannelState). ArePieces c.settings (frames_of c.offered) c.history (of c.settings.channel new.out)) new.channels
           (λ k c is.
           let sound = s.each k c is in
@@ -268,7 +298,8 @@ recorded leave theirs begin ring specs new r ended =
 -- ---- a core
 
 -- where each channel is ended, the output did not fail: else a piece stands in some ring
-works_at_end : (size : ℕ) (before : List ℕ) (core : CoreState) (w : WorldState) → AreEnded w → StandsForWorld size (Some before) core w → core.writer.failed ≡ false
+works_at_end : (size : ℕ) (before : List ℕ) (core : CoreState) (w : WorldState) → AreEnded w → StandsForWorld size (Some before) core w
+    → core.writer.failed ≡ false
 works_at_end size before core w ended s = elim (cases_Bool core.writer.failed) as (λ _. core.writer.failed ≡ false) [
   | inl fails ↦ (
       let i = (s.cut_at_front fails).1 in
@@ -290,7 +321,8 @@ PutIsRecording = (writer : WriterState) (before : List ℕ) (pieces : List Piece
     → HasWritten (Some before) pieces [] writer → AreOfChannels channels pieces → HoldsRecording before writer channels
 
 pub held_recording : PutIsRecording → (size : ℕ) (before : List ℕ) (core : CoreState) (w : WorldState)
-    → AreEnded w → StandsForWorld size (Some before) core w → AreOfChannels (recorded_channels w) w.out → HoldsRecording before core.writer (recorded_channels w)
+    → AreEnded w → StandsForWorld size (Some before) core w → AreOfChannels (recorded_channels w) w.out
+    → HoldsRecording before core.writer (recorded_channels w)
 held_recording put size before core w ended s are =
     let none = s.none_cut (works_at_end size before core w ended s) in
     put core.writer before w.out (recorded_channels w) (subst (λ bytes. HasWritten (Some before) w.out bytes core.writer) none s.written) are
@@ -301,7 +333,8 @@ held_after before sent (Some held) appends = ap (λ bs. Some bs) appends
 
 -- a cut in the first piece of a channel's ring, as the world has it
 short_at : (size : ℕ) (before : List ℕ) (core : CoreState) (w : WorldState) (channel : ℕ) (cut : List ℕ)
-    → AllZip (HoldsChannel size) core.channels w.channels → HasWritten (Some before) w.out cut core.writer → IsCutAtFront core channel w.out cut → IsCutShortAt before core.writer w channel
+    → AllZip (HoldsChannel size) core.channels w.channels → HasWritten (Some before) w.out cut core.writer → IsCutAtFront core channel w.out cut
+    → IsCutShortAt before core.writer w channel
 short_at size before core w channel cut zip wrote i =
     let z = zip_there (HoldsChannel size) core.channels w.channels i.at i.parts zip i.there in
     let q = z.2.queued in
@@ -319,14 +352,17 @@ short_at size before core w channel cut zip wrote i =
         there = z.1;
         sent = omega (arith, written, sent, first);
         piece = i.piece;
-        next = subst (λ n. slice_get (produced z.0) n ≡ Some i.piece) (sym q.written_is) (ap (λ ps. slice_get ps (length q.gone)) all ∙ get_behind q.gone i.piece (i.rest ++ i.parts.pending));
+        next = subst (λ n. slice_get (produced z.0) n ≡ Some i.piece) (sym q.written_is) (ap (λ ps. slice_get ps (length q.gone)) all
+            ∙ get_behind q.gone i.piece (i.rest ++ i.parts.pending));
         is_cut = i.is_cut;
       },
       ap (λ (l : LaneSettings). l.channel) (sym z.2.settings_are) ∙ i.named,
     )
 
-pub cut_short : (size : ℕ) (before : List ℕ) (core : CoreState) (w : WorldState) → StandsForWorld size (Some before) core w → core.writer.failed ≡ true → IsCutShort before core.writer w
+pub cut_short : (size : ℕ) (before : List ℕ) (core : CoreState) (w : WorldState) → StandsForWorld size (Some before) core w → core.writer.failed ≡ true
+    → IsCutShort before core.writer w
 cut_short size before core w s fails = (let front = s.cut_at_front fails in short_at size before core w front.0 s.cut s.channels_are s.written front.1).0
 
-pub cut_short_at : (size : ℕ) (before : List ℕ) (core : CoreState) (w : WorldState) (channel : ℕ) → StandsCutAt size (Some before) core w channel → IsCutShortAt before core.writer w channel
+pub cut_short_at : (size : ℕ) (before : List ℕ) (core : CoreState) (w : WorldState) (channel : ℕ) → StandsCutAt size (Some before) core w channel
+    → IsCutShortAt before core.writer w channel
 cut_short_at size before core w channel s = short_at size before core w channel s.cut s.stands.channels_are s.written s.at_front

@@ -1,6 +1,7 @@
 -- The core as a machine over events: what it does and answers at each, over plain lists. Slots,
 -- lanes, rings and buffers are not in here: they are what stands for such a world (Worlds.antt).
-use Rattle.std.specs.Prelude.{ℕ, ◌+◌, ◌≡◌, ◌≢◌, ◌<◌, ◌≤◌, Bool, true, false, if◌then◌else◌, List, [], ◌∷◌, ◌++◌, length, map, All, Some, slice_get, slice_set, Result, Ok, Err}
+use Rattle.std.specs.Prelude.{ℕ, ◌+◌, ◌≡◌, ◌≢◌, ◌<◌, ◌≤◌, Bool, true, false, if◌then◌else◌, List, [], ◌∷◌}
+use Rattle.std.specs.Prelude.{◌++◌, length, map, All, Some, slice_get, slice_set, Result, Ok, Err}
 use Rattle.bpf_insn.specs.declared.insn.Insn.{Insn}
 use Rattle.bpf_machine.specs.Machine.{Runs}
 use Rattle.eth_frame.specs.Frame.{FrameData, view}
@@ -16,7 +17,8 @@ use Rattle.rec_core.specs.declared.reply.Reply.TheVariants.{Took, Installed, Sen
 use Rattle.rec_core.specs.declared.reply.Which.{Which}
 use Rattle.rec_core.specs.declared.reply.Which.TheVariants.{Program, Frames, End}
 use Rattle.rec_core.specs.declared.fault.CoreFault.{CoreFault}
-use Rattle.rec_core.specs.declared.fault.CoreFault.TheVariants.{NoChannel, Closed, RingFull, NothingToSend, NothingToWrite, VersionsFull, CountFull, Output, Memory}
+use Rattle.rec_core.specs.declared.fault.CoreFault.TheVariants.{NoChannel, Closed, RingFull, NothingToSend}
+use Rattle.rec_core.specs.declared.fault.CoreFault.TheVariants.{NothingToWrite, VersionsFull, CountFull, Output, Memory}
 use Rattle.rec_core.specs.Openings.{SpecData, IsFilter}
 
 -- ---- worlds

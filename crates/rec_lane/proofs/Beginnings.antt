@@ -9,7 +9,8 @@ use Rattle.rec_lane.specs.Parts.{ended_from, as_part, BeginsList}
 use Rattle.rec_lane.specs.Packets.{has_room, full_packets, last_packet}
 use Rattle.rec_lane.specs.Lanes.{LaneState, HasMet}
 use Rattle.rec_lane.specs.Pieces.PieceData.{OfEnd}
-use Rattle.rec_lane.specs.Pieces.{LaneSettings, PieceData, has_group_version, ended_groups, last_group, program_piece, data_piece, end_piece, open_group_pieces, group_pieces, pieces_so_far, channel_pieces}
+use Rattle.rec_lane.specs.Pieces.{LaneSettings, PieceData, has_group_version, ended_groups, last_group, program_piece}
+use Rattle.rec_lane.specs.Pieces.{data_piece, end_piece, open_group_pieces, group_pieces, pieces_so_far, channel_pieces}
 use Rattle.rec_lane.proofs.Parted.{ended_on, last_on, ended_off}
 use Rattle.rec_lane.proofs.Offering.{accepted_more, group_closed}
 
@@ -29,10 +30,12 @@ begins_more xs ys = (ys, refl)
 
 ended_begins : {X : Type 0} (goes_on : List X → X → Bool) (part xs ys : List X) → BeginsList (ended_from goes_on part xs) (ended_from goes_on part (xs ++ ys))
 ended_begins goes_on part [] ys = (ended_from goes_on part ys, refl)
-ended_begins goes_on part (x ∷ xs) ys = elim (cases_Bool (goes_on part x)) as (λ _. BeginsList (ended_from goes_on part (x ∷ xs)) (ended_from goes_on part (x ∷ (xs ++ ys)))) [
-  | inl on ↦ rw on (ended_begins goes_on (part ++ x ∷ []) xs ys)
-  | inr off ↦ rw off (begins_after (part ∷ []) (ended_from goes_on (x ∷ []) xs) (ended_from goes_on (x ∷ []) (xs ++ ys)) (ended_begins goes_on (x ∷ []) xs ys))
-]
+ended_begins goes_on part (x ∷ xs) ys = elim (cases_Bool (goes_on part x))
+    as (λ _. BeginsList (ended_from goes_on part (x ∷ xs)) (ended_from goes_on part (x ∷ (xs ++ ys)))) [
+      | inl on ↦ rw on (ended_begins goes_on (part ++ x ∷ []) xs ys)
+      | inr off ↦ rw off (begins_after (part ∷ []) (ended_from goes_on (x ∷ []) xs) (ended_from goes_on (x ∷ []) (xs ++ ys))
+          (ended_begins goes_on (x ∷ []) xs ys))
+    ]
 
 begins_map : {X Y : Type 0} (f : X → Y) (xs ys : List X) → BeginsList xs ys → BeginsList (map f xs) (map f ys)
 begins_map f xs ys b = (map f b.0, sym (map-append f xs b.0) ∙ ap (map f) b.1)
@@ -54,23 +57,28 @@ frame_more s offered x =
     let ended = flat_map gp (ended_groups offered) in
     elim (cases_Bool (has_group_version group x)) as (λ _. BeginsList (pieces_so_far s offered) (pieces_so_far s (offered ++ x ∷ []))) [
       | inl on ↦
-          subst (λ gs. BeginsList (pieces_so_far s offered) (flat_map gp gs ++ open_group_pieces s (last_group (offered ++ x ∷ [])))) (sym (ended_on has_group_version [] offered x on))
+          subst (λ gs. BeginsList (pieces_so_far s offered) (flat_map gp gs ++ open_group_pieces s (last_group (offered ++ x ∷ []))))
+          (sym (ended_on has_group_version [] offered x on))
           (subst (λ g. BeginsList (pieces_so_far s offered) (ended ++ open_group_pieces s g)) (sym (last_on has_group_version [] offered x on))
           (begins_after ended (open_group_pieces s group) (open_group_pieces s (group ++ x ∷ [])) (open_more s group x)))
       | inr off ↦
-          subst (λ gs. BeginsList (pieces_so_far s offered) (flat_map gp gs ++ open_group_pieces s (last_group (offered ++ x ∷ [])))) (sym (ended_off has_group_version [] offered x off))
+          subst (λ gs. BeginsList (pieces_so_far s offered) (flat_map gp gs ++ open_group_pieces s (last_group (offered ++ x ∷ []))))
+          (sym (ended_off has_group_version [] offered x off))
           (subst (λ ps. BeginsList (pieces_so_far s offered) (ps ++ open_group_pieces s (last_group (offered ++ x ∷ []))))
           (sym (flat_map-append gp (ended_groups offered) (group ∷ []) ∙ ap (λ ps. ended ++ ps) (append-nil (group_pieces s group) ∙ group_closed s group)))
-          (begins_through (ended ++ open_group_pieces s group) (ended ++ (open_group_pieces s group ++ map (data_piece s) (as_part (last_packet s.limit (accepted group))))) _
+          (begins_through (ended ++ open_group_pieces s group) (ended ++ (open_group_pieces s group
+          ++ map (data_piece s) (as_part (last_packet s.limit (accepted group))))) _
           (begins_after ended (open_group_pieces s group) _ (begins_more (open_group_pieces s group) _))
           (begins_more _ (open_group_pieces s (last_group (offered ++ x ∷ []))))))
     ]
 
 frames_more : (s : LaneSettings) (offered more : List OfferedFrame) → BeginsList (pieces_so_far s offered) (pieces_so_far s (offered ++ more))
-frames_more s offered [] = subst (λ o. BeginsList (pieces_so_far s offered) (pieces_so_far s o)) (sym (append-nil offered)) (begins_same (pieces_so_far s offered))
+frames_more s offered [] = subst (λ o. BeginsList (pieces_so_far s offered) (pieces_so_far s o)) (sym (append-nil offered))
+    (begins_same (pieces_so_far s offered))
 frames_more s offered (x ∷ xs) =
     begins_through (pieces_so_far s offered) (pieces_so_far s (offered ++ x ∷ [])) _ (frame_more s offered x)
-    (subst (λ o. BeginsList (pieces_so_far s (offered ++ x ∷ [])) (pieces_so_far s o)) (append_assoc offered (x ∷ []) xs) (frames_more s (offered ++ x ∷ []) xs))
+    (subst (λ o. BeginsList (pieces_so_far s (offered ++ x ∷ [])) (pieces_so_far s o)) (append_assoc offered (x ∷ []) xs)
+    (frames_more s (offered ++ x ∷ []) xs))
 
 -- ---- and the end
 
@@ -79,14 +87,17 @@ as_group s [] = refl
 as_group s (g ∷ gs) = append-nil (group_pieces s (g ∷ gs))
 
 -- all pieces: those that are certain, the last packet, and the end
-pub all_pieces : (s : LaneSettings) (offered : List OfferedFrame) → channel_pieces s offered ≡ pieces_so_far s offered ++ (map (data_piece s) (as_part (last_packet s.limit (accepted (last_group offered)))) ++ end_piece s offered ∷ [])
+pub all_pieces : (s : LaneSettings) (offered : List OfferedFrame)
+    → channel_pieces s offered ≡ pieces_so_far s offered ++ (map (data_piece s) (as_part (last_packet s.limit (accepted (last_group offered))))
+    ++ end_piece s offered ∷ [])
 all_pieces s offered =
     let gp = group_pieces s in
     let group = last_group offered in
     let last = map (data_piece s) (as_part (last_packet s.limit (accepted group))) in
     let ended = flat_map gp (ended_groups offered) in
     let end = end_piece s offered ∷ [] in
-    ap (λ ps. ps ++ end) (flat_map-append gp (ended_groups offered) (as_part group) ∙ (ap (λ ps. ended ++ ps) (as_group s group ∙ group_closed s group) ∙ sym (append_assoc ended (open_group_pieces s group) last)))
+    ap (λ ps. ps ++ end) (flat_map-append gp (ended_groups offered) (as_part group)
+    ∙ (ap (λ ps. ended ++ ps) (as_group s group ∙ group_closed s group) ∙ sym (append_assoc ended (open_group_pieces s group) last)))
     ∙ append_assoc (pieces_so_far s offered) last end
 
 -- the last pieces are those of the open packet and of the end

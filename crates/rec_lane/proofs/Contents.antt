@@ -9,7 +9,8 @@ use Rattle.eth_frame.specs.Frame.{FrameData}
 use Rattle.rec_lane.specs.Offered.{OfferedFrame, accepted}
 use Rattle.rec_lane.specs.Parts.{ended_parts, last_part, as_part, parts}
 use Rattle.rec_lane.specs.Packets.{has_room, packets}
-use Rattle.rec_lane.specs.Pieces.{LaneSettings, PieceData, channel_of, has_group_version, groups, program_piece, data_piece, end_piece, group_pieces, channel_pieces, piece_frames}
+use Rattle.rec_lane.specs.Pieces.{LaneSettings, PieceData, channel_of, has_group_version, groups, program_piece}
+use Rattle.rec_lane.specs.Pieces.{data_piece, end_piece, group_pieces, channel_pieces, piece_frames}
 use Rattle.rec_lane.proofs.Parted.{whole_from}
 use Rattle.rec_lane.proofs.Offering.{accepted_more}
 
@@ -38,7 +39,8 @@ group_frames s group =
     ∙ (ap (λ fs. fs ++ flat_map piece_frames (map (data_piece s) (packets s.limit (accepted group)))) (no_frames s group)
     ∙ (packed_frames s (packets s.limit (accepted group)) ∙ parts_whole (has_room s.limit) (accepted group)))
 
-groups_frames : (s : LaneSettings) (gs : List (List OfferedFrame)) → flat_map piece_frames (flat_map (group_pieces s) gs) ≡ accepted (flat_map (λ (g : List OfferedFrame). g) gs)
+groups_frames : (s : LaneSettings) (gs : List (List OfferedFrame))
+    → flat_map piece_frames (flat_map (group_pieces s) gs) ≡ accepted (flat_map (λ (g : List OfferedFrame). g) gs)
 groups_frames s [] = refl
 groups_frames s (g ∷ gs) =
     flat_map-append piece_frames (group_pieces s g) (flat_map (group_pieces s) gs)
@@ -69,7 +71,8 @@ groups_of : (s : LaneSettings) (gs : List (List OfferedFrame)) → All (IsOf s.c
 groups_of s [] = All-nil (IsOf s.channel)
 groups_of s (g ∷ gs) =
     All-append (IsOf s.channel) (group_pieces s g) (flat_map (group_pieces s) gs)
-    (All-append (IsOf s.channel) (program_piece s g) (map (data_piece s) (packets s.limit (accepted g))) (program_of s g) (packets_of s (packets s.limit (accepted g))))
+    (All-append (IsOf s.channel) (program_piece s g) (map (data_piece s) (packets s.limit (accepted g))) (program_of s g)
+    (packets_of s (packets s.limit (accepted g))))
     (groups_of s gs)
 
 pub pieces_of : (s : LaneSettings) (offered : List OfferedFrame) → All (IsOf s.channel) (channel_pieces s offered)

@@ -12,7 +12,7 @@ use Rattle.ch11_packet.specs.PacketLen.{packet_len}
 use Rattle.eth_frame.specs.Frame.{FrameData, IsFrame}
 use Rattle.rec_lane.specs.Parts.{ended_from, last_from, as_part}
 use Rattle.rec_lane.specs.Packets.{FitsLimit, has_room, packets, AreLongestFronts}
-use Rattle.rec_lane.proofs.Meeting.{heads, tails}
+use Rattle.rec_lane.proofs.FramesMet.{heads, tails}
 
 -- how many bytes a frame takes
 abbrev size : FrameData → ℕ
@@ -91,9 +91,11 @@ fronts_from limit roomy p ps [] fits frames = (
   refl,
 )
 fronts_from limit roomy p ps (x ∷ xs) fits frames =
-    elim (cases_Bool (has_room limit (p ∷ ps) x)) as (λ _. AreLongestFronts limit ((p ∷ ps) ++ x ∷ xs) (ended_from (has_room limit) (p ∷ ps) (x ∷ xs) ++ as_part (last_from (has_room limit) (p ∷ ps) (x ∷ xs)))) [
+    elim (cases_Bool (has_room limit (p ∷ ps) x)) as (λ _. AreLongestFronts limit ((p ∷ ps) ++ x ∷ xs)
+    (ended_from (has_room limit) (p ∷ ps) (x ∷ xs) ++ as_part (last_from (has_room limit) (p ∷ ps) (x ∷ xs)))) [
       | inl room ↦ rw room (
-          subst (λ fs. AreLongestFronts limit fs (ended_from (has_room limit) ((p ∷ ps) ++ x ∷ []) xs ++ as_part (last_from (has_room limit) ((p ∷ ps) ++ x ∷ []) xs)))
+          subst (λ fs. AreLongestFronts limit fs (ended_from (has_room limit) ((p ∷ ps) ++ x ∷ []) xs
+          ++ as_part (last_from (has_room limit) ((p ∷ ps) ++ x ∷ []) xs)))
           (append_assoc (p ∷ ps) (x ∷ []) xs)
           (fronts_from limit roomy p (ps ++ x ∷ []) xs (more_fits limit (p ∷ ps) x room) (All-tail IsFrame x xs frames)))
       | inr full ↦ rw full ((
@@ -129,7 +131,8 @@ pub none_left : {X : Type 0} (frames packet rest : List X) → frames ≡ [] →
 none_left {X} frames [] rest empty front some = some refl
 none_left {X} frames (x ∷ xs) rest empty front some = not_empty x (xs ++ rest) (sym front ∙ empty)
 
-pub one_packets : (limit : ℕ) (frames : List FrameData) (some other : List (List FrameData)) → AreLongestFronts limit frames some → AreLongestFronts limit frames other → some ≡ other
+pub one_packets : (limit : ℕ) (frames : List FrameData) (some other : List (List FrameData)) → AreLongestFronts limit frames some
+    → AreLongestFronts limit frames other → some ≡ other
 one_packets limit frames [] [] a b = refl
 one_packets limit frames [] (q ∷ qs) a b = absurd (none_left frames q b.0 a b.1.front b.1.some)
 one_packets limit frames (p ∷ ps) [] a b = absurd (none_left frames p a.0 b a.1.front a.1.some)

@@ -8,7 +8,7 @@ use Rattle.std.proofs.lemmas.List.Elements.{All-nil, All-head, All-tail, All-con
 use Rattle.rec_lane.specs.Offered.{OfferedFrame}
 use Rattle.rec_lane.specs.Parts.{ended_from, last_from, as_part}
 use Rattle.rec_lane.specs.Pieces.{has_group_version, groups, IsFirstGroup, AreGroups}
-use Rattle.rec_lane.proofs.Meeting.{heads, tails, some_is}
+use Rattle.rec_lane.proofs.FramesMet.{heads, tails, some_is}
 use Rattle.rec_lane.proofs.Fronts.{not_empty, none_left}
 
 -- a frame of this version
@@ -30,7 +30,8 @@ groups_from g gs [] same = (
   refl,
 )
 groups_from g gs (x ∷ xs) same =
-    elim (cases_Bool (has_group_version (g ∷ gs) x)) as (λ _. AreGroups ((g ∷ gs) ++ x ∷ xs) (ended_from has_group_version (g ∷ gs) (x ∷ xs) ++ as_part (last_from has_group_version (g ∷ gs) (x ∷ xs)))) [
+    elim (cases_Bool (has_group_version (g ∷ gs) x)) as (λ _. AreGroups ((g ∷ gs) ++ x ∷ xs)
+    (ended_from has_group_version (g ∷ gs) (x ∷ xs) ++ as_part (last_from has_group_version (g ∷ gs) (x ∷ xs)))) [
       | inl on ↦ rw on (
           subst (λ fs. AreGroups fs (ended_from has_group_version ((g ∷ gs) ++ x ∷ []) xs ++ as_part (last_from has_group_version ((g ∷ gs) ++ x ∷ []) xs)))
           (append_assoc (g ∷ gs) (x ∷ []) xs)
@@ -68,11 +69,13 @@ same_group version [] rest (y ∷ ys) more same a b c d =
 same_group version (x ∷ xs) rest [] more same a b c d =
     absurd (d x (sym (ap (λ ys. slice_get ys 0) same)) (All-head (HasVersion version) x xs a))
 same_group version (x ∷ xs) rest (y ∷ ys) more same a b c d =
-    let others = same_group version xs rest ys more (tails x y (xs ++ rest) (ys ++ more) same) (All-tail (HasVersion version) x xs a) (All-tail (HasVersion version) y ys b) c d in
+    let others = same_group version xs rest ys more (tails x y (xs ++ rest) (ys ++ more) same) (All-tail (HasVersion version) x xs a)
+    (All-tail (HasVersion version) y ys b) c d in
     (ap (λ z. z ∷ xs) (heads x y (xs ++ rest) (ys ++ more) same) ∙ ap (λ zs. y ∷ zs) others.0, others.1)
 
 -- groups that begin alike are of one version
-same_version : (frames group rest other more : List OfferedFrame) → (a : IsFirstGroup frames group rest) → (b : IsFirstGroup frames other more) → a.version ≡ b.version
+same_version : (frames group rest other more : List OfferedFrame) → (a : IsFirstGroup frames group rest) → (b : IsFirstGroup frames other more)
+    → a.version ≡ b.version
 same_version frames [] rest other more a b = absurd (a.some refl)
 same_version frames (x ∷ xs) rest [] more a b = absurd (b.some refl)
 same_version frames (x ∷ xs) rest (y ∷ ys) more a b =

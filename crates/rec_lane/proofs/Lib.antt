@@ -1,6 +1,6 @@
 pub mod Parted
 pub mod Offering
-pub mod Meeting
+pub mod FramesMet
 pub mod Beginnings
 pub mod Contents
 pub mod Longer

@@ -7,11 +7,12 @@ use Rattle.rec_lane.specs.Offered.{OfferedFrame, AllMet, frames_of}
 use Rattle.rec_lane.specs.Parts.{BeginsList}
 use Rattle.rec_lane.specs.Pieces.{LaneSettings, PieceData, pieces_so_far, channel_pieces, ArePieces, ArePiecesSoFar}
 use Rattle.rec_lane.specs.Lanes.{MarkedFrom}
-use Rattle.rec_lane.proofs.Meeting.{OneInForce, OneRun, LeavesPast, one_list, later_list, from_front, heads}
+use Rattle.rec_lane.proofs.FramesMet.{OneInForce, OneRun, LeavesPast, one_list, later_list, from_front, heads}
 use Rattle.rec_lane.proofs.Beginnings.{begin_all}
 
 -- the offered frames in front of some more
-front_of : (frames : List FrameData) (more : List FrameData) (offered : List OfferedFrame) → frames_of offered ≡ frames ++ more → (front : List OfferedFrame) × (back : List OfferedFrame) × (frames_of front ≡ frames) × (front ++ back ≡ offered)
+front_of : (frames : List FrameData) (more : List FrameData) (offered : List OfferedFrame) → frames_of offered ≡ frames ++ more
+    → (front : List OfferedFrame) × (back : List OfferedFrame) × (frames_of front ≡ frames) × (front ++ back ≡ offered)
 front_of [] more offered same = ([], offered, refl, refl)
 front_of (f ∷ fs) more [] same = absurd (let e = ap (λ (xs : List FrameData). length xs) same in omega (arith, e))
 front_of (f ∷ fs) more (o ∷ os) same =
@@ -26,7 +27,8 @@ begin_in_history one run leaves settings frames more history later so_far all ma
     let count : length frames ≡ length a.0 = ap (λ (fs : List FrameData). length fs) (sym a.2) ∙ length-map a.0 (λ (o : OfferedFrame). o.frame) in
     let parts = front_of frames more b.0 b.2 in
     let met_a : AllMet (history ++ later) a.0 = later_list leaves history later a.0 (subst (λ n. MarkedFrom n later) count marked) a.1 in
-    let met_b : AllMet (history ++ later) parts.0 = from_front (history ++ later) 0 parts.0 parts.1 (subst (λ o. AllMet (history ++ later) o) (sym parts.3) b.1) in
+    let met_b : AllMet (history ++ later) parts.0 = from_front (history ++ later) 0 parts.0 parts.1
+    (subst (λ o. AllMet (history ++ later) o) (sym parts.3) b.1) in
     let same : a.0 ≡ parts.0 = one_list one run (history ++ later) a.0 parts.0 met_a met_b (a.2 ∙ sym parts.2) in
     let begins = begin_all settings parts.0 parts.1 in (
       begins.0,

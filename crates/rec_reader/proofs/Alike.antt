@@ -13,7 +13,8 @@ use Rattle.rec_reader.specs.declared.audits.answer.AuditFault.{AuditFault}
 use Rattle.rec_reader.specs.Packets.{PacketData}
 use Rattle.rec_reader.specs.ChannelFrames.{packet_frames, frames_held, channel_frames}
 use Rattle.rec_reader.specs.Channels.{Saying, saying_in, saying_of, IsNamed, program_said, programs_of, end_said, ends_of, last_program, last_end, capped}
-use Rattle.rec_reader.specs.Audits.{IsJudgement, JudgesSaying, Judges, EachPasses, StopsAt, IsClosing, Closes, EndsWith, line_with, line_of, AreLines, is_other, other_count, Audits}
+use Rattle.rec_reader.specs.Audits.{IsJudgement, JudgesSaying, Judges, EachPasses, StopsAt, IsClosing, Closes}
+use Rattle.rec_reader.specs.Audits.{EndsWith, line_with, line_of, AreLines, is_other, other_count, Audits}
 
 -- ---- two packets
 
@@ -47,13 +48,15 @@ all_swapped [] (q ∷ qs) a = absurd a
 all_swapped (p ∷ ps) [] a = absurd a
 all_swapped (p ∷ ps) (q ∷ qs) a = (swapped p q a.0, all_swapped ps qs a.1)
 
-pub map_same : {A : Type 0} (f : PacketData → A) → ((p q : PacketData) → Alike p q → f q ≡ f p) → (ps qs : List PacketData) → AreAlike ps qs → map f qs ≡ map f ps
+pub map_same : {A : Type 0} (f : PacketData → A) → ((p q : PacketData) → Alike p q → f q ≡ f p) → (ps qs : List PacketData) → AreAlike ps qs
+    → map f qs ≡ map f ps
 map_same f same [] [] a = refl
 map_same f same [] (q ∷ qs) a = absurd a
 map_same f same (p ∷ ps) [] a = absurd a
 map_same f same (p ∷ ps) (q ∷ qs) a = ap (λ x. x ∷ map f qs) (same p q a.0) ∙ ap (λ l. f p ∷ l) (map_same f same ps qs a.1)
 
-flat_same : {A : Type 0} (f : PacketData → List A) → ((p q : PacketData) → Alike p q → f q ≡ f p) → (ps qs : List PacketData) → AreAlike ps qs → flat_map f qs ≡ flat_map f ps
+flat_same : {A : Type 0} (f : PacketData → List A) → ((p q : PacketData) → Alike p q → f q ≡ f p) → (ps qs : List PacketData) → AreAlike ps qs
+    → flat_map f qs ≡ flat_map f ps
 flat_same f same [] [] a = refl
 flat_same f same [] (q ∷ qs) a = absurd a
 flat_same f same (p ∷ ps) [] a = absurd a
@@ -107,7 +110,8 @@ parts (b ∷ before) q after (p ∷ ps) a =
 
 -- ---- an audit of them
 
-judges_said : (ps qs : List PacketData) → AreAlike ps qs → (said : Option (ℕ × Saying)) (answer : Option AuditFault) → JudgesSaying ps said answer → JudgesSaying qs said answer
+judges_said : (ps qs : List PacketData) → AreAlike ps qs → (said : Option (ℕ × Saying)) (answer : Option AuditFault) → JudgesSaying ps said answer
+    → JudgesSaying qs said answer
 judges_said ps qs a None answer judged = judged
 judges_said ps qs a (Some (channel, saying)) answer judged =
     subst (λ n. IsJudgement (capped n) (last_end channel qs) saying (last_program channel qs) answer) (length_all_zip Alike ps qs a)
@@ -178,7 +182,10 @@ lines_same : (ps qs : List PacketData) (lines : List AuditLine) → AreAlike ps 
 lines_same ps qs lines a are = record {
   channels = are.channels;
   ascending = are.ascending;
-  all = λ channel. (λ has. named_same channel qs ps (all_swapped ps qs a) ((are.all channel).0 has), λ named. (are.all channel).1 (named_same channel ps qs a named));
+  all = λ channel. (
+    λ has. named_same channel qs ps (all_swapped ps qs a) ((are.all channel).0 has),
+    λ named. (are.all channel).1 (named_same channel ps qs a named),
+  );
   lines_are = are.lines_are ∙ map_agree (line_of ps) (line_of qs) (line_same ps qs a) are.channels;
 }
 

@@ -21,16 +21,19 @@ use Rattle.rec_reader.proofs.Keeping.{here, elsewhere}
 
 -- ---- frames
 
-by_program : (place : ℕ) (end : Option ChannelEnd) (frames : List ReadFrameData) (last : Option ChannelProgram) → IsJudgement place end (OfFrames frames) last None
+by_program : (place : ℕ) (end : Option ChannelEnd) (frames : List ReadFrameData) (last : Option ChannelProgram)
+    → IsJudgement place end (OfFrames frames) last None
     → All (λ frame. (program : ChannelProgram) × (last ≡ Some program) × Accepts program.insns frame) frames
 by_program place (Some end) frames last judged = cc
 by_program place None frames None judged = cc
 by_program place None frames (Some program) judged =
-    All-weaker (Accepts program.insns) (λ frame. (other : ChannelProgram) × (Some program ≡ Some other) × Accepts other.insns frame) (λ frame accepts. (program, refl, accepts)) frames judged
+    All-weaker (Accepts program.insns) (λ frame. (other : ChannelProgram) × (Some program ≡ Some other) × Accepts other.insns frame)
+    (λ frame accepts. (program, refl, accepts)) frames judged
 
 approved_frames : (before : List PacketData) (own : ℕ) (what : What) (bytes : List ℕ) → JudgesSaying before (saying_in own what bytes) None
     → All (λ frame. (program : ChannelProgram) × (last_program own before ≡ Some program) × Accepts program.insns frame) (frames_held what bytes)
-approved_frames before own (Frames count) bytes judged = by_program (capped (length before)) (last_end own before) (said_frames bytes) (last_program own before) judged
+approved_frames before own (Frames count) bytes judged = by_program (capped (length before)) (last_end own before) (said_frames bytes)
+    (last_program own before) judged
 approved_frames before own (Program named version first count) bytes judged = All-nil _
 approved_frames before own (End named offered kept) bytes judged = All-nil _
 approved_frames before own Other bytes judged = All-nil _
@@ -68,7 +71,14 @@ find channel (p ∷ ps) =
       | inl none ↦ (
           elim (find channel ps) [
             | inl others ↦ inl (ap (λ l. l ++ ends_of channel ps) none ∙ others)
-            | inr found ↦ inr (record { before = p ∷ found.before; packet = found.packet; after = found.after; end = found.end; whole = ap (λ l. p ∷ l) found.whole; says = found.says })
+            | inr found ↦ inr (record {
+              before = p ∷ found.before;
+              packet = found.packet;
+              after = found.after;
+              end = found.end;
+              whole = ap (λ l. p ∷ l) found.whole;
+              says = found.says;
+            })
           ])
     ]
 
@@ -80,15 +90,18 @@ none_last : {A : Type 0} (xs : List A) → last_or None xs ≡ None → xs ≡ [
 none_last [] e = refl
 none_last (x ∷ xs) e = let some = last_some x xs in let both : Some some.0 ≡ None = sym some.1 ∙ e in cc
 
-end_first : (place : ℕ) (before : Option ChannelEnd) (end : ChannelEnd) (last : Option ChannelProgram) → IsJudgement place before (OfEnd end) last None → before ≡ None
+end_first : (place : ℕ) (before : Option ChannelEnd) (end : ChannelEnd) (last : Option ChannelProgram) → IsJudgement place before (OfEnd end) last None
+    → before ≡ None
 end_first place None end last judged = refl
 end_first place (Some other) end last judged = cc
 
-not_after : (place : ℕ) (end : Option ChannelEnd) (saying : Saying) (last : Option ChannelProgram) (some : ChannelEnd) → end ≡ Some some → IsJudgement place end saying last None → ⊥
+not_after : (place : ℕ) (end : Option ChannelEnd) (saying : Saying) (last : Option ChannelProgram) (some : ChannelEnd) → end ≡ Some some
+    → IsJudgement place end saying last None → ⊥
 not_after place None saying last some e judged = cc
 not_after place (Some end) saying last some e judged = cc
 
-judged_as : (before : List PacketData) (packet : PacketData) (channel : ℕ) (saying : Saying) → saying_of packet ≡ Some (channel, saying) → Judges before packet None
+judged_as : (before : List PacketData) (packet : PacketData) (channel : ℕ) (saying : Saying) → saying_of packet ≡ Some (channel, saying)
+    → Judges before packet None
     → IsJudgement (capped (length before)) (last_end channel before) saying (last_program channel before) None
 judged_as before packet channel saying e judged = subst (λ said. JudgesSaying before said None) e judged
 
@@ -96,7 +109,8 @@ module _ (channel : ℕ) (packets : List PacketData) (passed : EachPasses packet
   first_end : ends_of channel found.before ≡ []
   first_end =
       none_last (ends_of channel found.before)
-      (end_first _ (last_end channel found.before) found.end _ (judged_as found.before found.packet channel (OfEnd found.end) found.says (passed found.before found.packet found.after found.whole)))
+      (end_first _ (last_end channel found.before) found.end _ (judged_as found.before found.packet channel (OfEnd found.end) found.says
+      (passed found.before found.packet found.after found.whole)))
 
   ends_from : (more : List PacketData) → ends_of channel (found.before ++ found.packet ∷ more) ≡ found.end ∷ ends_of channel more
   ends_from more =
@@ -109,7 +123,8 @@ module _ (channel : ℕ) (packets : List PacketData) (passed : EachPasses packet
   none_after named =
       let between = found.before ++ found.packet ∷ named.before in
       let whole : packets ≡ between ++ named.packet ∷ named.after =
-      found.whole ∙ ap (λ l. found.before ++ found.packet ∷ l) named.whole ∙ sym (append_assoc found.before (found.packet ∷ named.before) (named.packet ∷ named.after)) in
+      found.whole ∙ ap (λ l. found.before ++ found.packet ∷ l) named.whole
+      ∙ sym (append_assoc found.before (found.packet ∷ named.before) (named.packet ∷ named.after)) in
       let some = last_some found.end (ends_of channel named.before) in
       not_after _ (last_end channel between) named.names.0 _ some.0 (ap (last_or None) (ends_from named.before) ∙ some.1)
       (judged_as between named.packet channel named.names.0 named.names.1 (passed between named.packet named.after whole))
@@ -118,7 +133,13 @@ module _ (channel : ℕ) (packets : List PacketData) (passed : EachPasses packet
   no_ends_after =
       elim (find channel found.after) [
         | inl none ↦ none
-        | inr more ↦ absurd (none_after (record { before = more.before; packet = more.packet; after = more.after; whole = more.whole; names = (OfEnd more.end, more.says) }))
+        | inr more ↦ absurd (none_after (record {
+          before = more.before;
+          packet = more.packet;
+          after = more.after;
+          whole = more.whole;
+          names = (OfEnd more.end, more.says);
+        }))
       ]
 
   one_end_of : ends_of channel packets ≡ found.end ∷ []
@@ -131,7 +152,8 @@ were_none (p ∷ ps) offered were =
     let more : some.0.first < offered = subst (λ last. WereOffered last offered) some.1 were in
     (λ none. absurd (omega arith), λ none. cc)
 
-closing_some : (channel : ℕ) (end : Option ChannelEnd) (last : Option ChannelProgram) (frames : ℕ) → IsClosing channel end last frames None → (some : ChannelEnd) × (end ≡ Some some) × HasCounts last frames some
+closing_some : (channel : ℕ) (end : Option ChannelEnd) (last : Option ChannelProgram) (frames : ℕ) → IsClosing channel end last frames None
+    → (some : ChannelEnd) × (end ≡ Some some) × HasCounts last frames some
 closing_some channel None last frames closed = cc
 closing_some channel (Some end) last frames closed = (end, refl, closed)
 

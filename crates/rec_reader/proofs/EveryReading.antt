@@ -1,5 +1,6 @@
 -- All bytes have a reading.
-use Rattle.std.proofs.Common.{◌≡◌, ℕ, zero, suc, ◌+◌, ◌-◌, ◌<◌, ◌≤◌, ◌⊎◌, inl, inr, List, [], ◌∷◌, ◌++◌, length, take, drop, Option, None, Some, refl, sym, ap, subst, ◌∙◌, arith}
+use Rattle.std.proofs.Common.{◌≡◌, ℕ, zero, suc, ◌+◌, ◌-◌, ◌<◌, ◌≤◌, ◌⊎◌, inl, inr, List, [], ◌∷◌, ◌++◌, length}
+use Rattle.std.proofs.Common.{take, drop, Option, None, Some, refl, sym, ap, subst, ◌∙◌, arith}
 use Rattle.std.proofs.lemmas.Bool.{cases_lt}
 use Rattle.std.proofs.lemmas.List.{length-take-le, take-append-drop, nil_from_length, drop_at}
 use Rattle.eth_frame.specs.Bytes.{AreBytes}
@@ -20,8 +21,10 @@ use Rattle.rec_reader.proofs.Chains.{shorter}
 
 -- what is known of headers and of what packets hold
 pub record Known : Type 0 where
-  pub header : (bytes : List ℕ) → AreBytes bytes → length bytes ≡ HEADER_LEN → (IsHeader (header_at bytes) × (bytes ≡ header_bytes (header_at bytes))) ⊎ ((fault : HeaderFault) × HeaderHasFault bytes fault)
-  pub thing : (header : HeaderData) (body : List ℕ) → AreBytes body → ((what : What) × Holds header body what) ⊎ ((fault : ClassFault) × HasClassFault header body fault)
+  pub header : (bytes : List ℕ) → AreBytes bytes → length bytes ≡ HEADER_LEN
+      → (IsHeader (header_at bytes) × (bytes ≡ header_bytes (header_at bytes))) ⊎ ((fault : HeaderFault) × HeaderHasFault bytes fault)
+  pub thing : (header : HeaderData) (body : List ℕ) → AreBytes body
+      → ((what : What) × Holds header body what) ⊎ ((fault : ClassFault) × HasClassFault header body fault)
 
 -- ---- a packet or a fault
 
@@ -29,7 +32,8 @@ pub record Known : Type 0 where
 abbrev Outcome : (at : ℕ) → List ℕ → Type 0
 Outcome at bytes = ((packet : PacketData) × (more : List ℕ) × PacketStandsFirst at packet bytes more) ⊎ ((kind : ReadFaultKind) × HasReadFault bytes kind)
 
-with_body : Known → (at : ℕ) (header : HeaderData) (bytes behind : List ℕ) → AreBytes behind → HasHeader header bytes behind → header.packet_len ≤ length bytes → Outcome at bytes
+with_body : Known → (at : ℕ) (header : HeaderData) (bytes behind : List ℕ) → AreBytes behind → HasHeader header bytes behind → header.packet_len ≤ length bytes
+    → Outcome at bytes
 with_body known at header bytes behind fit headed whole =
     let len = header.packet_len - HEADER_LEN in
     let body = take len behind in
@@ -57,7 +61,8 @@ outcome known at bytes fit some =
       | inr long ↦ (
           let head = take HEADER_LEN bytes in
           elim (known.header head (AreBytes-take HEADER_LEN bytes fit) (length-take-le HEADER_LEN bytes long)) [
-            | inl is ↦ with_header known at (header_at head) bytes (drop HEADER_LEN bytes) (AreBytes-drop HEADER_LEN bytes fit) (first_header bytes head _ (header_at head) refl refl is.0 is.1)
+            | inl is ↦ with_header known at (header_at head) bytes (drop HEADER_LEN bytes) (AreBytes-drop HEADER_LEN bytes fit)
+                (first_header bytes head _ (header_at head) refl refl is.0 is.1)
             | inr wrong ↦ inr (header_kind wrong.0, bad_header bytes head wrong.0 refl long wrong.1)
           ])
     ]
@@ -77,7 +82,8 @@ behind_fit at packet bytes more first fit =
     let n = length first.spelling in
     subst AreBytes (ap (drop n) first.whole ∙ drop_at first.spelling more n refl) (AreBytes-drop n bytes fit)
 
-read_on : (at : ℕ) (packet : PacketData) (bytes more : List ℕ) → PacketStandsFirst at packet bytes more → ReadFrom (at + packet.header.packet_len) more → ReadFrom at bytes
+read_on : (at : ℕ) (packet : PacketData) (bytes more : List ℕ) → PacketStandsFirst at packet bytes more → ReadFrom (at + packet.header.packet_len) more
+    → ReadFrom at bytes
 read_on at packet bytes more first later = record {
   packets = packet ∷ later.packets;
   fault = later.fault;
@@ -97,7 +103,8 @@ read_from known (suc most) at bytes fit few =
       | inl some ↦ (
           elim (outcome known at bytes fit some) [
             | inl first ↦ read_on at first.0 bytes first.1 first.2
-                (read_from known most (at + first.0.header.packet_len) first.1 (behind_fit at first.0 bytes first.1 first.2 fit) (omega (arith, shorter at first.0 bytes first.1 first.2)))
+                (read_from known most (at + first.0.header.packet_len) first.1 (behind_fit at first.0 bytes first.1 first.2 fit)
+                (omega (arith, shorter at first.0 bytes first.1 first.2)))
             | inr wrong ↦ record { packets = []; fault = Some wrong.0; rest = bytes; held = refl; ends = wrong.1 }
           ])
     ]

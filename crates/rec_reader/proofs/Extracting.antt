@@ -17,9 +17,11 @@ use Rattle.rec_reader.specs.Extracting.{Counts, grown, is_passed}
 -- ---- one frame
 
 in_record : (frame : ReadFrameData) → frame.content ≡ 0 → MIN_FRAME_LEN ≤ length frame.bytes → has_record frame ≡ true
-in_record frame content long = and_from (frame.content == 0) (nat_le MIN_FRAME_LEN (length frame.bytes)) (eq-eqb frame.content 0 content) (le-leb MIN_FRAME_LEN (length frame.bytes) long)
+in_record frame content long = and_from (frame.content == 0) (nat_le MIN_FRAME_LEN (length frame.bytes)) (eq-eqb frame.content 0 content)
+    (le-leb MIN_FRAME_LEN (length frame.bytes) long)
 
-without_by : (frame : ReadFrameData) (has : Bool) → has_record frame ≡ has → (frame.content ≡ 0 → MIN_FRAME_LEN ≤ length frame.bytes → ⊥) → has_record frame ≡ false
+without_by : (frame : ReadFrameData) (has : Bool) → has_record frame ≡ has → (frame.content ≡ 0 → MIN_FRAME_LEN ≤ length frame.bytes → ⊥)
+    → has_record frame ≡ false
 without_by frame false e isnt = e
 without_by frame true e isnt =
     let parts = and_parts (frame.content == 0) (nat_le MIN_FRAME_LEN (length frame.bytes)) e in
@@ -30,13 +32,15 @@ grown_none : (count : ℕ) → count ≡ grown count 0
 grown_none count = omega arith
 
 -- a frame that has a record is counted with the frames, and another one with those passed over
-counts_by : (frame : ReadFrameData) (has : Bool) → has_record frame ≡ has → (count_by has_record (frame ∷ []) ≡ cond has 1 0) × (count_by is_passed (frame ∷ []) ≡ cond (not has) 1 0)
+counts_by : (frame : ReadFrameData) (has : Bool) → has_record frame ≡ has
+    → (count_by has_record (frame ∷ []) ≡ cond has 1 0) × (count_by is_passed (frame ∷ []) ≡ cond (not has) 1 0)
 counts_by frame has is = (ap (λ b. 0 + cond b 1 0) is ∙ zero_more (cond has 1 0), ap (λ b. 0 + cond (not b) 1 0) is ∙ zero_more (cond (not has) 1 0))
   where
     zero_more : (n : ℕ) → 0 + n ≡ n
     zero_more n = omega arith
 
-pub counts_record : (old new : Extracted) (frame : ReadFrameData) → frame.content ≡ 0 → MIN_FRAME_LEN ≤ length frame.bytes → new.frames ≡ grown old.frames 1 → new.passed ≡ old.passed → Counts old new (frame ∷ [])
+pub counts_record : (old new : Extracted) (frame : ReadFrameData) → frame.content ≡ 0 → MIN_FRAME_LEN ≤ length frame.bytes → new.frames ≡ grown old.frames 1
+    → new.passed ≡ old.passed → Counts old new (frame ∷ [])
 counts_record old new frame content long grew same =
     let is = counts_by frame true (in_record frame content long) in
     record {
@@ -44,7 +48,8 @@ counts_record old new frame content long grew same =
       passed_are = same ∙ grown_none old.passed ∙ ap (grown old.passed) (sym is.1);
     }
 
-pub counts_passed : (old new : Extracted) (frame : ReadFrameData) → (frame.content ≡ 0 → MIN_FRAME_LEN ≤ length frame.bytes → ⊥) → new.passed ≡ grown old.passed 1 → new.frames ≡ old.frames → Counts old new (frame ∷ [])
+pub counts_passed : (old new : Extracted) (frame : ReadFrameData) → (frame.content ≡ 0 → MIN_FRAME_LEN ≤ length frame.bytes → ⊥)
+    → new.passed ≡ grown old.passed 1 → new.frames ≡ old.frames → Counts old new (frame ∷ [])
 counts_passed old new frame isnt grew same =
     let is = counts_by frame false (without_by frame (has_record frame) refl isnt) in
     record {
@@ -66,8 +71,10 @@ pub counts_nothing : (old : Extracted) (what : What) (bytes : List ℕ) → ((co
 counts_nothing old what bytes none = subst (Counts old old) (no_frames what bytes none) (counts_none old)
 
 -- and one of another channel none of this one
-pub counts_elsewhere : (old : Extracted) (own channel : ℕ) (frames : List ReadFrameData) → (own ≡ channel → ⊥) → Counts old old ((if own == channel then frames else []) ++ [])
-counts_elsewhere old own channel frames differs = subst (λ b. Counts old old ((if b then frames else []) ++ [])) (sym (ne_eqb own channel differs)) (counts_none old)
+pub counts_elsewhere : (old : Extracted) (own channel : ℕ) (frames : List ReadFrameData) → (own ≡ channel → ⊥)
+    → Counts old old ((if own == channel then frames else []) ++ [])
+counts_elsewhere old own channel frames differs = subst (λ b. Counts old old ((if b then frames else []) ++ [])) (sym (ne_eqb own channel differs))
+    (counts_none old)
 
 -- whatever the answer
 pub on_ok : {T E : Type 0} {P : Type 0} (r : Result T E) → P → OnOk r P
@@ -79,11 +86,15 @@ grown_twice count some more = omega arith
 
 pub counts_more : (old held new : Extracted) (some more : List ReadFrameData) → Counts old held some → Counts held new more → Counts old new (some ++ more)
 counts_more old held new some more a b =
-    let frames : count_by has_record (some ++ more) ≡ count_by has_record some + count_by has_record more = sum_by-append (λ x. cond (has_record x) 1 0) some more in
-    let passed : count_by is_passed (some ++ more) ≡ count_by is_passed some + count_by is_passed more = sum_by-append (λ x. cond (is_passed x) 1 0) some more in
+    let frames : count_by has_record (some ++ more) ≡ count_by has_record some + count_by has_record more =
+    sum_by-append (λ x. cond (has_record x) 1 0) some more in
+    let passed : count_by is_passed (some ++ more) ≡ count_by is_passed some + count_by is_passed more =
+    sum_by-append (λ x. cond (is_passed x) 1 0) some more in
     record {
-      frames_are = b.frames_are ∙ ap (λ n. grown n (count_by has_record more)) a.frames_are ∙ grown_twice old.frames (count_by has_record some) (count_by has_record more) ∙ ap (grown old.frames) (sym frames);
-      passed_are = b.passed_are ∙ ap (λ n. grown n (count_by is_passed more)) a.passed_are ∙ grown_twice old.passed (count_by is_passed some) (count_by is_passed more) ∙ ap (grown old.passed) (sym passed);
+      frames_are = b.frames_are ∙ ap (λ n. grown n (count_by has_record more)) a.frames_are
+          ∙ grown_twice old.frames (count_by has_record some) (count_by has_record more) ∙ ap (grown old.frames) (sym frames);
+      passed_are = b.passed_are ∙ ap (λ n. grown n (count_by is_passed more)) a.passed_are
+          ∙ grown_twice old.passed (count_by is_passed some) (count_by is_passed more) ∙ ap (grown old.passed) (sym passed);
     }
 
 -- what was counted of the frames that a walk meets
@@ -92,7 +103,8 @@ pub record Counted (old new : Extracted) (left all : List ReadFrameData) : Type 
   pub counts : Counts old new met
   pub whole : met ++ left ≡ all
 
-pub counts_next : (old held new : Extracted) (frame : ReadFrameData) (left rest all : List ReadFrameData) → Counted old held left all → left ≡ frame ∷ rest → Counts held new (frame ∷ []) → Counted old new rest all
+pub counts_next : (old held new : Extracted) (frame : ReadFrameData) (left rest all : List ReadFrameData) → Counted old held left all → left ≡ frame ∷ rest
+    → Counts held new (frame ∷ []) → Counted old new rest all
 counts_next old held new frame left rest all before is one = record {
   met = before.met ++ frame ∷ [];
   counts = counts_more old held new before.met (frame ∷ []) before.counts one;
@@ -103,7 +115,9 @@ pub counts_begun : (old : Extracted) (all : List ReadFrameData) → Counted old 
 counts_begun old all = record { met = []; counts = counts_none old; whole = refl }
 
 -- what was counted of the packets of a channel, and of a further one
-pub counts_packet : (old held new : Extracted) (channel : ℕ) (packets : List PacketData) (packet : PacketData) → Counts old held (channel_frames channel packets) → Counts held new (channel_frames channel (packet ∷ []))
+pub counts_packet : (old held new : Extracted) (channel : ℕ) (packets : List PacketData) (packet : PacketData)
+    → Counts old held (channel_frames channel packets) → Counts held new (channel_frames channel (packet ∷ []))
     → Counts old new (channel_frames channel (packets ++ packet ∷ []))
 counts_packet old held new channel packets packet a b =
-    subst (Counts old new) (sym (flat_map-append _ packets (packet ∷ []))) (counts_more old held new (channel_frames channel packets) (channel_frames channel (packet ∷ [])) a b)
+    subst (Counts old new) (sym (flat_map-append _ packets (packet ∷ [])))
+    (counts_more old held new (channel_frames channel packets) (channel_frames channel (packet ∷ [])) a b)

@@ -18,7 +18,8 @@ pub record Taken (old new : Option (List ℕ)) (left all : List ReadFrameData) :
   pub taken : Appends old new bytes
   pub whole : bytes ++ feed_of left ≡ feed_of all
 
-pub takes_next : (old held new : Option (List ℕ)) (frame : ReadFrameData) (left rest all : List ReadFrameData) → Taken old held left all → left ≡ frame ∷ rest → Appends held new (feed_part frame)
+pub takes_next : (old held new : Option (List ℕ)) (frame : ReadFrameData) (left rest all : List ReadFrameData) → Taken old held left all → left ≡ frame ∷ rest
+    → Appends held new (feed_part frame)
     → Taken old new rest all
 takes_next old held new frame left rest all before is a = record {
   bytes = before.bytes ++ feed_part frame;

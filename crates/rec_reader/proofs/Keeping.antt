@@ -1,5 +1,6 @@
 -- What is kept of channels, packet by packet.
-use Rattle.std.proofs.Common.{◌≡◌, ℕ, ◌+◌, ◌^◌, ◌≤◌, inl, inr, Bool, true, false, cond, ◌==◌, List, [], ◌∷◌, ◌++◌, length, Option, None, Some, refl, sym, ap, subst, ◌∙◌, arith, eq-eqb, ne_eqb, lt-ltb, le-ltb}
+use Rattle.std.proofs.Common.{◌≡◌, ℕ, ◌+◌, ◌^◌, ◌≤◌, inl, inr, Bool, true, false, cond, ◌==◌, List, [], ◌∷◌, ◌++◌, length}
+use Rattle.std.proofs.Common.{Option, None, Some, refl, sym, ap, subst, ◌∙◌, arith, eq-eqb, ne_eqb, lt-ltb, le-ltb}
 use Rattle.std.specs.List.{flat_map, last_or}
 use Rattle.std.proofs.lemmas.Bool.{cases_lt}
 use Rattle.std.proofs.lemmas.List.{append-nil, length-append}
@@ -27,14 +28,16 @@ nothing : {A : Type 0} (b : Bool) → ◌≡◌ {A = List A} (cond b [] []) []
 nothing true = refl
 nothing false = refl
 
-frames_are : (channel own : ℕ) (what : What) (bytes : List ℕ) → cond (own == channel) (frames_held what bytes) [] ≡ frames_said channel (saying_in own what bytes)
+frames_are : (channel own : ℕ) (what : What) (bytes : List ℕ)
+    → cond (own == channel) (frames_held what bytes) [] ≡ frames_said channel (saying_in own what bytes)
 frames_are channel own (Frames count) bytes = refl
 frames_are channel own (Program named version first count) bytes = nothing (own == channel)
 frames_are channel own (End named offered kept) bytes = nothing (own == channel)
 frames_are channel own Other bytes = nothing (own == channel)
 
 -- what a channel has after one packet more
-pub record Adds (channel : ℕ) (packets : List PacketData) (packet : PacketData) (frames : List ReadFrameData) (programs : List ChannelProgram) (ends : List ChannelEnd) : Type 0 where
+pub record Adds (channel : ℕ) (packets : List PacketData) (packet : PacketData) (frames : List ReadFrameData) (programs : List ChannelProgram)
+    (ends : List ChannelEnd) : Type 0 where
   pub frames_are : channel_frames channel (packets ++ packet ∷ []) ≡ channel_frames channel packets ++ frames
   pub programs_are : programs_of channel (packets ++ packet ∷ []) ≡ programs_of channel packets ++ programs
   pub ends_are : ends_of channel (packets ++ packet ∷ []) ≡ ends_of channel packets ++ ends
@@ -47,7 +50,8 @@ pub adds : (channel : ℕ) (packets : List PacketData) (packet : PacketData) (sa
 adds channel packets packet said e = record {
   frames_are = flat_map-one (λ (p : PacketData). cond (p.header.channel == channel) (packet_frames p) []) packets packet
       ∙ ap (λ l. channel_frames channel packets ++ l) (frames_are channel packet.header.channel packet.what _ ∙ ap (frames_said channel) e);
-  programs_are = flat_map-one (λ (p : PacketData). program_said channel (saying_of p)) packets packet ∙ ap (λ s. programs_of channel packets ++ program_said channel s) e;
+  programs_are = flat_map-one (λ (p : PacketData). program_said channel (saying_of p)) packets packet
+      ∙ ap (λ s. programs_of channel packets ++ program_said channel s) e;
   ends_are = flat_map-one (λ (p : PacketData). end_said channel (saying_of p)) packets packet ∙ ap (λ s. ends_of channel packets ++ end_said channel s) e;
 }
 
@@ -58,23 +62,28 @@ pub elsewhere : {A : Type 0} (named channel : ℕ) (said : List A) → (named �
 elsewhere named channel said apart = ap (λ b. cond b said []) (ne_eqb named channel apart)
 
 -- nothing of a channel that the packet doesn't name
-pub adds_elsewhere : (named channel : ℕ) (packets : List PacketData) (packet : PacketData) (saying : Saying) → saying_of packet ≡ Some (named, saying) → (named ≡ channel → ⊥) → Adds channel packets packet [] [] []
+pub adds_elsewhere : (named channel : ℕ) (packets : List PacketData) (packet : PacketData) (saying : Saying) → saying_of packet ≡ Some (named, saying)
+    → (named ≡ channel → ⊥) → Adds channel packets packet [] [] []
 adds_elsewhere named channel packets packet (OfFrames frames) e apart =
     subst (λ l. Adds channel packets packet l [] []) (elsewhere named channel frames apart) (adds channel packets packet (Some (named, OfFrames frames)) e)
 adds_elsewhere named channel packets packet (OfProgram program) e apart =
-    subst (λ l. Adds channel packets packet [] l []) (elsewhere named channel (program ∷ []) apart) (adds channel packets packet (Some (named, OfProgram program)) e)
+    subst (λ l. Adds channel packets packet [] l []) (elsewhere named channel (program ∷ []) apart)
+    (adds channel packets packet (Some (named, OfProgram program)) e)
 adds_elsewhere named channel packets packet (OfEnd end) e apart =
     subst (λ l. Adds channel packets packet [] [] l) (elsewhere named channel (end ∷ []) apart) (adds channel packets packet (Some (named, OfEnd end)) e)
 
-adds_frames : (channel : ℕ) (packets : List PacketData) (packet : PacketData) (frames : List ReadFrameData) → saying_of packet ≡ Some (channel, OfFrames frames) → Adds channel packets packet frames [] []
+adds_frames : (channel : ℕ) (packets : List PacketData) (packet : PacketData) (frames : List ReadFrameData)
+    → saying_of packet ≡ Some (channel, OfFrames frames) → Adds channel packets packet frames [] []
 adds_frames channel packets packet frames e =
     subst (λ l. Adds channel packets packet l [] []) (here channel frames) (adds channel packets packet (Some (channel, OfFrames frames)) e)
 
-adds_program : (channel : ℕ) (packets : List PacketData) (packet : PacketData) (program : ChannelProgram) → saying_of packet ≡ Some (channel, OfProgram program) → Adds channel packets packet [] (program ∷ []) []
+adds_program : (channel : ℕ) (packets : List PacketData) (packet : PacketData) (program : ChannelProgram)
+    → saying_of packet ≡ Some (channel, OfProgram program) → Adds channel packets packet [] (program ∷ []) []
 adds_program channel packets packet program e =
     subst (λ l. Adds channel packets packet [] l []) (here channel (program ∷ [])) (adds channel packets packet (Some (channel, OfProgram program)) e)
 
-adds_end : (channel : ℕ) (packets : List PacketData) (packet : PacketData) (end : ChannelEnd) → saying_of packet ≡ Some (channel, OfEnd end) → Adds channel packets packet [] [] (end ∷ [])
+adds_end : (channel : ℕ) (packets : List PacketData) (packet : PacketData) (end : ChannelEnd) → saying_of packet ≡ Some (channel, OfEnd end)
+    → Adds channel packets packet [] [] (end ∷ [])
 adds_end channel packets packet end e =
     subst (λ l. Adds channel packets packet [] [] l) (here channel (end ∷ [])) (adds channel packets packet (Some (channel, OfEnd end)) e)
 
@@ -99,7 +108,8 @@ counted_on n more =
     ]
 
 -- nothing more is said of the channel
-pub stays : (channel : ℕ) (packets : List PacketData) (packet : PacketData) (state : ChannelState) → Adds channel packets packet [] [] [] → IsStateOf channel packets state → IsStateOf channel (packets ++ packet ∷ []) state
+pub stays : (channel : ℕ) (packets : List PacketData) (packet : PacketData) (state : ChannelState) → Adds channel packets packet [] [] []
+    → IsStateOf channel packets state → IsStateOf channel (packets ++ packet ∷ []) state
 stays channel packets packet state adds is =
     let fs = no_more _ _ adds.frames_are in
     let ps = no_more _ _ adds.programs_are in
@@ -112,7 +122,8 @@ stays channel packets packet state adds is =
     }
 
 -- the packet says this of the channel
-pub kept_on : (channel : ℕ) (packets : List PacketData) (packet : PacketData) (saying : Saying) (state : ChannelState) → saying_of packet ≡ Some (channel, saying) → IsStateOf channel packets state
+pub kept_on : (channel : ℕ) (packets : List PacketData) (packet : PacketData) (saying : Saying) (state : ChannelState)
+    → saying_of packet ≡ Some (channel, saying) → IsStateOf channel packets state
     → IsStateOf channel (packets ++ packet ∷ []) (state_after state saying)
 kept_on channel packets packet (OfFrames frames) state e is =
     let a = adds_frames channel packets packet frames e in
@@ -122,7 +133,8 @@ kept_on channel packets packet (OfFrames frames) state e is =
     record {
       programs = is.programs ∙ sym (ap (λ l. capped (length l)) ps);
       last = is.last ∙ sym (ap (last_or None) ps);
-      frames = ap (λ n. counted_more n (length frames)) is.frames ∙ counted_on (length before) (length frames) ∙ sym (ap counted (ap length a.frames_are ∙ length-append before frames));
+      frames = ap (λ n. counted_more n (length frames)) is.frames ∙ counted_on (length before) (length frames)
+          ∙ sym (ap counted (ap length a.frames_are ∙ length-append before frames));
       end = is.end ∙ sym (ap (last_or None) es);
     }
 kept_on channel packets packet (OfProgram program) state e is =

@@ -13,7 +13,8 @@ Meets {A} xs x ys zs z ws =
     ⊎ (((between : List A) × (zs ≡ xs ++ x ∷ between) × (ys ≡ between ++ z ∷ ws))
     ⊎ ((between : List A) × (xs ≡ zs ++ z ∷ between) × (ws ≡ between ++ x ∷ ys)))
 
-one_further : {A : Type 0} (a b : A) (xs : List A) (x : A) (ys zs : List A) (z : A) (ws : List A) → a ≡ b → Meets xs x ys zs z ws → Meets (a ∷ xs) x ys (b ∷ zs) z ws
+one_further : {A : Type 0} (a b : A) (xs : List A) (x : A) (ys zs : List A) (z : A) (ws : List A) → a ≡ b → Meets xs x ys zs z ws
+    → Meets (a ∷ xs) x ys (b ∷ zs) z ws
 one_further a b xs x ys zs z ws e (inl same) = let s = same.0 in inl (cc, same.1, same.2)
 one_further a b xs x ys zs z ws e (inr (inl before)) = let s = before.1 in inr (inl (before.0, cc, before.2))
 one_further a b xs x ys zs z ws e (inr (inr after)) = let s = after.1 in inr (inr (after.0, cc, after.2))

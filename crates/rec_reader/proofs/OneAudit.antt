@@ -1,7 +1,8 @@
 -- Packets have one audit.
 -- idea: the first packet that doesn't pass is one packet, since those before it pass; what is wrong with it is one fault,
 -- since the faults are looked for in an order; and lines in ascending order of the same channels are one list.
-use Rattle.std.proofs.Common.{◌≡◌, ◌≢◌, ℕ, ◌<◌, inl, inr, List, [], ◌∷◌, ◌++◌, length, map, All, Contains, Option, None, Some, Result, Ok, Err, refl, sym, ap, subst, ◌∙◌, arith}
+use Rattle.std.proofs.Common.{◌≡◌, ◌≢◌, ℕ, ◌<◌, inl, inr, List, [], ◌∷◌, ◌++◌, length, map, All, Contains}
+use Rattle.std.proofs.Common.{Option, None, Some, Result, Ok, Err, refl, sym, ap, subst, ◌∙◌, arith}
 use Rattle.std.specs.List.Sorted.{IsStrictlySortedBy, IsStrictlyIncreasing}
 use Rattle.std.specs.Ordering.{nat_cmp}
 use Rattle.std.specs.declared.cmp.Ordering.TheVariants.{Less}
@@ -21,20 +22,23 @@ use Rattle.rec_reader.specs.declared.audits.channel.ChannelEnd.{ChannelEnd}
 use Rattle.rec_reader.specs.Packets.{PacketData}
 use Rattle.rec_reader.specs.Channels.{Saying, saying_of, last_program, last_end, capped}
 use Rattle.rec_reader.specs.Channels.Saying.{OfFrames, OfProgram, OfEnd}
-use Rattle.rec_reader.specs.Audits.{Accepts, RefusesFirst, IsJudgement, JudgesSaying, Judges, EachPasses, StopsAt, IsClosing, Closes, EndsWith, line_of, AreLines, IsAudit, Audits}
+use Rattle.rec_reader.specs.Audits.{Accepts, RefusesFirst, IsJudgement, JudgesSaying, Judges, EachPasses, StopsAt}
+use Rattle.rec_reader.specs.Audits.{IsClosing, Closes, EndsWith, line_of, AreLines, IsAudit, Audits}
 use Rattle.rec_reader.proofs.ListSplits.{meets, first_of, later_of, first_or_later, none_in}
 
 -- ---- one packet
 
 pub in_middle : {A : Type 0} (P : A → Type 0) (before : List A) (x : A) (after : List A) → All P (before ++ x ∷ after) → P x
 in_middle P before x after all =
-    All-contains P (before ++ x ∷ after) x all (Contains-append_right before (x ∷ after) x (let first : Contains (x ∷ after) x = (0, omega arith, refl) in first))
+    All-contains P (before ++ x ∷ after) x all (Contains-append_right before (x ∷ after) x (let first : Contains (x ∷ after) x = (0, omega arith, refl) in
+    first))
 
 pub refuses_some : (program : List Insn) (frames : List ReadFrameData) (number : ℕ) → RefusesFirst program frames number → All (Accepts program) frames → ⊥
 refuses_some program frames number refuses all =
     refuses.refused (in_middle (Accepts program) refuses.before refuses.frame refuses.after (subst (All (Accepts program)) refuses.whole all))
 
-one_refusal : (program : List Insn) (frames : List ReadFrameData) (number other : ℕ) → RefusesFirst program frames number → RefusesFirst program frames other → number ≡ other
+one_refusal : (program : List Insn) (frames : List ReadFrameData) (number other : ℕ) → RefusesFirst program frames number → RefusesFirst program frames other
+    → number ≡ other
 one_refusal program frames number other a b =
     elim (meets a.before a.frame a.after b.before b.frame b.after (sym a.whole ∙ b.whole)) [
       | inl same ↦ a.number_is ∙ ap length same.0 ∙ sym b.number_is
@@ -62,17 +66,21 @@ one_judgement place None (OfProgram program) last (Some fault) (Some other) (inr
 one_judgement place None (OfProgram program) last (Some fault) (Some other) (inr a) (inr b) = ap Some (a.0 ∙ sym b.0)
 one_judgement place None (OfEnd end) last answer other a b = a ∙ sym b
 
-one_saying : (before : List PacketData) (said : Option (ℕ × Saying)) (answer other : Option AuditFault) → JudgesSaying before said answer → JudgesSaying before said other → answer ≡ other
+one_saying : (before : List PacketData) (said : Option (ℕ × Saying)) (answer other : Option AuditFault) → JudgesSaying before said answer
+    → JudgesSaying before said other → answer ≡ other
 one_saying before None answer other a b = a ∙ sym b
-one_saying before (Some (channel, saying)) answer other a b = one_judgement (capped (length before)) (last_end channel before) saying (last_program channel before) answer other a b
+one_saying before (Some (channel, saying)) answer other a b =
+    one_judgement (capped (length before)) (last_end channel before) saying (last_program channel before) answer other a b
 
-pub one_answer : (before : List PacketData) (packet : PacketData) (answer other : Option AuditFault) → Judges before packet answer → Judges before packet other → answer ≡ other
+pub one_answer : (before : List PacketData) (packet : PacketData) (answer other : Option AuditFault) → Judges before packet answer → Judges before packet other
+    → answer ≡ other
 one_answer before packet answer other a b = one_saying before (saying_of packet) answer other a b
 
 no_answer : (before : List PacketData) (packet : PacketData) (fault : AuditFault) → Judges before packet None → Judges before packet (Some fault) → ⊥
 no_answer before packet fault a b = let e = one_answer before packet None (Some fault) a b in cc
 
-one_fault : (before : List PacketData) (packet : PacketData) (fault other : AuditFault) → Judges before packet (Some fault) → Judges before packet (Some other) → fault ≡ other
+one_fault : (before : List PacketData) (packet : PacketData) (fault other : AuditFault) → Judges before packet (Some fault) → Judges before packet (Some other)
+    → fault ≡ other
 one_fault before packet fault other a b = let e = one_answer before packet (Some fault) (Some other) a b in cc
 
 -- ---- one channel at the end
@@ -88,7 +96,8 @@ one_closing channel (Some end) last frames (Some fault) (Some other) a b = ap So
 open_and_closed : (packets : List PacketData) (channel : ℕ) (fault : AuditFault) → Closes packets channel None → Closes packets channel (Some fault) → ⊥
 open_and_closed packets channel fault a b = let e = one_closing channel _ _ _ None (Some fault) a b in cc
 
-one_end_fault : (packets : List PacketData) (channel : ℕ) (fault other : AuditFault) → Closes packets channel (Some fault) → Closes packets channel (Some other) → fault ≡ other
+one_end_fault : (packets : List PacketData) (channel : ℕ) (fault other : AuditFault) → Closes packets channel (Some fault)
+    → Closes packets channel (Some other) → fault ≡ other
 one_end_fault packets channel fault other a b = let e = one_closing channel _ _ _ (Some fault) (Some other) a b in cc
 
 -- ---- the packets
@@ -99,7 +108,8 @@ stops_or_passes packets fault stops passed = no_answer stops.before stops.packet
 one_stop : (packets : List PacketData) (fault other : AuditFault) → StopsAt packets fault → StopsAt packets other → fault ≡ other
 one_stop packets fault other a b =
     elim (meets a.before a.packet a.after b.before b.packet b.after (sym a.whole ∙ b.whole)) [
-      | inl same ↦ one_fault a.before a.packet fault other a.judged (subst (λ ps. Judges ps a.packet (Some other)) (sym same.0) (subst (λ p. Judges b.before p (Some other)) (sym same.1) b.judged))
+      | inl same ↦ one_fault a.before a.packet fault other a.judged
+          (subst (λ ps. Judges ps a.packet (Some other)) (sym same.0) (subst (λ p. Judges b.before p (Some other)) (sym same.1) b.judged))
       | inr (inl earlier) ↦ absurd (no_answer a.before a.packet fault (b.passed a.before a.packet earlier.0 earlier.1) a.judged)
       | inr (inr later) ↦ absurd (no_answer b.before b.packet other (a.passed b.before b.packet later.0 later.1) b.judged)
     ]
@@ -156,7 +166,8 @@ ascends (x ∷ xs) sorted = (
   ascends xs (sorted_tail nat_cmp x xs sorted),
 )
 
-pub one_list : (xs ys : List ℕ) → IsStrictlyIncreasing xs → IsStrictlyIncreasing ys → ((x : ℕ) → Contains xs x → Contains ys x) → ((y : ℕ) → Contains ys y → Contains xs y) → xs ≡ ys
+pub one_list : (xs ys : List ℕ) → IsStrictlyIncreasing xs → IsStrictlyIncreasing ys → ((x : ℕ) → Contains xs x → Contains ys x)
+    → ((y : ℕ) → Contains ys y → Contains xs y) → xs ≡ ys
 one_list xs ys a b there back =
     same_list xs ys (ascends xs (sorted_from_strictly_increasing xs a)) (ascends ys (sorted_from_strictly_increasing ys b)) there back
 
@@ -167,13 +178,15 @@ one_lines packets lines others a b =
 
 -- ---- the answer
 
-same_parts : (channels others : List AuditLine) (n m : ℕ) → channels ≡ others → n ≡ m → ◌≡◌ {A = Audit} (record { channels = channels; other = n }) (record { channels = others; other = m })
+same_parts : (channels others : List AuditLine) (n m : ℕ) → channels ≡ others → n ≡ m
+    → ◌≡◌ {A = Audit} (record { channels = channels; other = n }) (record { channels = others; other = m })
 same_parts channels others n m e f = cc
 
 same_audit : (audit other : Audit) → audit.channels ≡ other.channels → audit.other ≡ other.other → audit ≡ other
 same_audit audit other channels count = same_parts audit.channels other.channels audit.other other.other channels count
 
-pub one_audit : (packets : List PacketData) (answer other : Result Audit AuditFault) → Audits packets answer → Audits packets other → answer ≢ Err Memory → other ≢ Err Memory → answer ≡ other
+pub one_audit : (packets : List PacketData) (answer other : Result Audit AuditFault) → Audits packets answer → Audits packets other → answer ≢ Err Memory
+    → other ≢ Err Memory → answer ≡ other
 one_audit packets (Ok audit) (Ok other) a b here there =
     ap Ok (same_audit audit other (one_lines packets audit.channels other.channels a.lines b.lines) (a.other ∙ sym b.other))
 one_audit packets (Ok audit) (Err fault) a (inl b) here there = absurd (there (ap Err b))

@@ -20,12 +20,14 @@ length-header header = refl
 
 -- ---- the header
 
-pub bad_header : (bytes head : List ℕ) (fault : HeaderFault) → head ≡ take HEADER_LEN bytes → HEADER_LEN ≤ length bytes → HeaderHasFault head fault → HasReadFault bytes (header_kind fault)
+pub bad_header : (bytes head : List ℕ) (fault : HeaderFault) → head ≡ take HEADER_LEN bytes → HEADER_LEN ≤ length bytes → HeaderHasFault head fault
+    → HasReadFault bytes (header_kind fault)
 bad_header bytes head BadSync is long wrong = (long, subst (λ l. HeaderHasFault l BadSync) is wrong)
 bad_header bytes head BadChecksum is long wrong = (long, subst (λ l. HeaderHasFault l BadChecksum) is wrong)
 bad_header bytes head BadLength is long wrong = (long, subst (λ l. HeaderHasFault l BadLength) is wrong)
 
-pub first_header : (bytes head behind : List ℕ) (header : HeaderData) → head ≡ take HEADER_LEN bytes → behind ≡ drop HEADER_LEN bytes → IsHeader header → head ≡ header_bytes header
+pub first_header : (bytes head behind : List ℕ) (header : HeaderData) → head ≡ take HEADER_LEN bytes → behind ≡ drop HEADER_LEN bytes → IsHeader header
+    → head ≡ header_bytes header
     → HasHeader header bytes behind
 first_header bytes head behind header front back is spelled = record {
   is_header = is;
@@ -38,11 +40,13 @@ pub length-headed : (header : HeaderData) (bytes behind : List ℕ) → HasHeade
 length-headed header bytes behind headed =
     ap length headed.whole ∙ length-append (header_bytes header) behind ∙ ap (λ n. n + length behind) (length-header header)
 
-pub cut_packet : (header : HeaderData) (bytes behind : List ℕ) → HasHeader header bytes behind → length behind < header.packet_len - HEADER_LEN → IsTruncated bytes
+pub cut_packet : (header : HeaderData) (bytes behind : List ℕ) → HasHeader header bytes behind → length behind < header.packet_len - HEADER_LEN
+    → IsTruncated bytes
 cut_packet header bytes behind headed few =
     inr (header, behind, headed, omega (arith, length-headed header bytes behind headed, few))
 
-has_bad_packet : (header : HeaderData) (bytes behind body more : List ℕ) (fault : ClassFault) → HasHeader header bytes behind → behind ≡ body ++ more → HEADER_LEN + length body ≡ header.packet_len
+has_bad_packet : (header : HeaderData) (bytes behind body more : List ℕ) (fault : ClassFault) → HasHeader header bytes behind → behind ≡ body ++ more
+    → HEADER_LEN + length body ≡ header.packet_len
     → HasClassFault header body fault → HasBadPacket bytes fault
 has_bad_packet header bytes behind body more fault headed split long wrong = record {
   header = header;
@@ -53,18 +57,21 @@ has_bad_packet header bytes behind body more fault headed split long wrong = rec
   wrong = wrong;
 }
 
-pub bad_packet : (header : HeaderData) (bytes behind body more : List ℕ) (fault : ClassFault) → HasHeader header bytes behind → behind ≡ body ++ more → HEADER_LEN + length body ≡ header.packet_len
+pub bad_packet : (header : HeaderData) (bytes behind body more : List ℕ) (fault : ClassFault) → HasHeader header bytes behind → behind ≡ body ++ more
+    → HEADER_LEN + length body ≡ header.packet_len
     → HasClassFault header body fault → HasReadFault bytes (class_kind fault)
 bad_packet header bytes behind body more BadSum headed split long wrong = has_bad_packet header bytes behind body more BadSum headed split long wrong
 bad_packet header bytes behind body more BadBody headed split long wrong = has_bad_packet header bytes behind body more BadBody headed split long wrong
 
 -- and of bytes that are put together
-pub bad_bytes : (header : HeaderData) (body more : List ℕ) (fault : ClassFault) → IsHeader header → HEADER_LEN + length body ≡ header.packet_len → HasClassFault header body fault
+pub bad_bytes : (header : HeaderData) (body more : List ℕ) (fault : ClassFault) → IsHeader header → HEADER_LEN + length body ≡ header.packet_len
+    → HasClassFault header body fault
     → HasReadFault (header_bytes header ++ (body ++ more)) (class_kind fault)
 bad_bytes header body more fault is long wrong =
     bad_packet header (header_bytes header ++ (body ++ more)) (body ++ more) body more fault (record { is_header = is; whole = refl }) refl long wrong
 
-pub first_packet : (at : ℕ) (header : HeaderData) (bytes behind body more : List ℕ) (what : What) → HasHeader header bytes behind → behind ≡ body ++ more → HEADER_LEN + length body ≡ header.packet_len
+pub first_packet : (at : ℕ) (header : HeaderData) (bytes behind body more : List ℕ) (what : What) → HasHeader header bytes behind → behind ≡ body ++ more
+    → HEADER_LEN + length body ≡ header.packet_len
     → Holds header body what → PacketStandsFirst at (packet_of at header body what) bytes more
 first_packet at header bytes behind body more what headed split long holds = record {
   place = refl;
@@ -79,7 +86,8 @@ first_packet at header bytes behind body more what headed split long holds = rec
 }
 
 -- a fault, as it is told
-pub is_told : {X : Type 0} (bytes : List ℕ) (answer : Result X ReadFaultKind) (told : ReadFaultKind) → IsErrAnd answer (λ kind. kind ≡ told) → HasReadFault bytes told
+pub is_told : {X : Type 0} (bytes : List ℕ) (answer : Result X ReadFaultKind) (told : ReadFaultKind) → IsErrAnd answer (λ kind. kind ≡ told)
+    → HasReadFault bytes told
     → IfErr answer (HasReadFault bytes)
 is_told bytes (Ok x) told is has = tt
 is_told bytes (Err kind) told is has = subst (HasReadFault bytes) (sym is) has

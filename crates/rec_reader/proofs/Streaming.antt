@@ -1,5 +1,6 @@
 -- A reader's answers, and the packets of all bytes.
-use Rattle.std.proofs.Common.{◌≡◌, ℕ, ◌+◌, ◌-◌, ◌^◌, ◌<◌, min, ◌⊎◌, inl, inr, List, [], ◌∷◌, ◌++◌, length, take, Option, None, Some, IfSome, Result, Ok, Err, IsErrAnd, IfErr, refl, sym, ap, subst, ◌∙◌, arith, length-append}
+use Rattle.std.proofs.Common.{◌≡◌, ℕ, ◌+◌, ◌-◌, ◌^◌, ◌<◌, min, ◌⊎◌, inl, inr, List, [], ◌∷◌, ◌++◌, length, take, Option, None, Some}
+use Rattle.std.proofs.Common.{IfSome, Result, Ok, Err, IsErrAnd, IfErr, refl, sym, ap, subst, ◌∙◌, arith, length-append}
 use Rattle.std.proofs.lemmas.List.{take_at}
 use Rattle.std.specs.Io.KnownBytes.{Consumes}
 use Rattle.ch11_packet.specs.declared.header.TheConstants.{HEADER_LEN}
@@ -20,7 +21,8 @@ use Rattle.rec_reader.proofs.Chains.{length-first, length-Begins, Begins-snoc}
 -- ---- one packet
 
 -- a header with a fault
-pub told_header : {X : Type 0} (known left : Option (List ℕ)) (head : List ℕ) (answer : Result X ReadFaultKind) (fault : HeaderFault) → IsErrAnd answer (λ kind. kind ≡ header_kind fault) → length head ≡ HEADER_LEN
+pub told_header : {X : Type 0} (known left : Option (List ℕ)) (head : List ℕ) (answer : Result X ReadFaultKind) (fault : HeaderFault)
+    → IsErrAnd answer (λ kind. kind ≡ header_kind fault) → length head ≡ HEADER_LEN
     → Consumes known left head → HeaderHasFault head fault → IfErr answer (λ kind. IfSome known (λ bytes. HasReadFault bytes kind ⊎ (kind ≡ Device)))
 told_header known left head (Ok x) fault told len took wrong = tt
 told_header None left head (Err kind) fault told len took wrong = tt
@@ -37,7 +39,8 @@ stops_on header kind bytes behind headed (inl device) = inr (inl device)
 stops_on header kind bytes behind headed (inr (inl memory)) = inr (inr (memory, header, behind, headed))
 stops_on header kind bytes behind headed (inr (inr cut)) = inl (subst (HasReadFault bytes) (sym cut.0) (cut_packet header bytes behind headed cut.1))
 
-pub told_body : {X : Type 0} (header : HeaderData) (known : Option (List ℕ)) (answer : Result X ReadFaultKind) (kind : ReadFaultKind) → IsErrAnd answer (λ told. told ≡ kind)
+pub told_body : {X : Type 0} (header : HeaderData) (known : Option (List ℕ)) (answer : Result X ReadFaultKind) (kind : ReadFaultKind)
+    → IsErrAnd answer (λ told. told ≡ kind)
     → (kind ≡ Device) ⊎ (kind ≡ Memory) ⊎ ((kind ≡ Truncated) × IfSome known (λ bytes. length bytes < header.packet_len - HEADER_LEN))
     → IfErr answer (λ told. IfSome known (λ behind. (bytes : List ℕ) → HasHeader header bytes behind → StopsOn bytes told))
 told_body header known (Ok x) kind told why = tt
@@ -45,8 +48,10 @@ told_body header None (Err other) kind told why = tt
 told_body header (Some behind) (Err other) kind told why = λ bytes headed. subst (StopsOn bytes) (sym told) (stops_on header kind bytes behind headed why)
 
 -- the rest of a packet came, and is wrong
-pub told_class : {X : Type 0} (header : HeaderData) (body : List ℕ) (old new : Option (List ℕ)) (answer : Result X ReadFaultKind) (fault : ClassFault) → IsErrAnd answer (λ told. told ≡ class_kind fault) → Consumes old new body
-    → HEADER_LEN + length body ≡ header.packet_len → HasClassFault header body fault → IfErr answer (λ told. IfSome old (λ behind. (bytes : List ℕ) → HasHeader header bytes behind → StopsOn bytes told))
+pub told_class : {X : Type 0} (header : HeaderData) (body : List ℕ) (old new : Option (List ℕ)) (answer : Result X ReadFaultKind) (fault : ClassFault)
+    → IsErrAnd answer (λ told. told ≡ class_kind fault) → Consumes old new body
+    → HEADER_LEN + length body ≡ header.packet_len → HasClassFault header body fault
+    → IfErr answer (λ told. IfSome old (λ behind. (bytes : List ℕ) → HasHeader header bytes behind → StopsOn bytes told))
 told_class header body old new (Ok x) fault told took long wrong = tt
 told_class header body None new (Err kind) fault told took long wrong = tt
 told_class header body (Some behind) None (Err kind) fault told took long wrong = absurd took
@@ -54,7 +59,8 @@ told_class header body (Some behind) (Some more) (Err kind) fault told took long
     λ bytes headed. inl (subst (HasReadFault bytes) (sym told) (bad_packet header bytes behind body more fault headed took long wrong))
 
 -- the rest of a packet came
-pub rest_taken : (at : ℕ) (header : HeaderData) (body : List ℕ) (what : What) (packet : PacketData) (old new : Option (List ℕ)) → packet ≡ packet_of at header body what → Consumes old new body
+pub rest_taken : (at : ℕ) (header : HeaderData) (body : List ℕ) (what : What) (packet : PacketData) (old new : Option (List ℕ))
+    → packet ≡ packet_of at header body what → Consumes old new body
     → HEADER_LEN + length body ≡ header.packet_len → Holds header body what → TakesRest at header packet old new
 rest_taken at header body what packet None new is took long holds = tt
 rest_taken at header body what packet (Some behind) None is took long holds = absurd took
@@ -65,7 +71,8 @@ rest_taken at header body what packet (Some behind) (Some more) is took long hol
 )
 
 -- both parts of a packet
-pub first_taken : (at : ℕ) (header : HeaderData) (packet : PacketData) (known mid left : Option (List ℕ)) → IfSome known (λ bytes. TakesHeader bytes (Some header) mid) → TakesRest at header packet mid left
+pub first_taken : (at : ℕ) (header : HeaderData) (packet : PacketData) (known mid left : Option (List ℕ))
+    → IfSome known (λ bytes. TakesHeader bytes (Some header) mid) → TakesRest at header packet mid left
     → IfSome known (λ bytes. TakesFirst at bytes (Some packet) left)
 first_taken at header packet None mid left head rest = tt
 first_taken at header packet (Some bytes) mid left head rest =
@@ -83,16 +90,20 @@ first_stops header kind (Some bytes) mid head stops =
 -- ---- all packets
 
 -- the rest that a reader has left which hasn't ended
-left_is : (rest : List ℕ) (reader : ReaderState) (ended : Option (Result (Unit {0}) ReadEnd)) → ended ≡ None → IsBefore rest reader ended → reader.left ≡ Some rest
+left_is : (rest : List ℕ) (reader : ReaderState) (ended : Option (Result (Unit {0}) ReadEnd)) → ended ≡ None → IsBefore rest reader ended
+    → reader.left ≡ Some rest
 left_is rest reader None none before = before
 left_is rest reader (Some how) none before = absurd (cc)
 
 -- a packet more
-pub stands_on : (old new : ReaderState) (packet : PacketData) → old.ended ≡ None → new.ended ≡ None → new.at ≡ min (old.at + packet.header.packet_len) (2 ^ 64 - 1)
-    → IfSome old.left (λ bytes. TakesFirst old.at bytes (Some packet) new.left) → (bytes : List ℕ) (packets : List PacketData) → HasRead bytes packets old → HasRead bytes (packets ++ packet ∷ []) new
+pub stands_on : (old new : ReaderState) (packet : PacketData) → old.ended ≡ None → new.ended ≡ None
+    → new.at ≡ min (old.at + packet.header.packet_len) (2 ^ 64 - 1)
+    → IfSome old.left (λ bytes. TakesFirst old.at bytes (Some packet) new.left) → (bytes : List ℕ) (packets : List PacketData) → HasRead bytes packets old
+    → HasRead bytes (packets ++ packet ∷ []) new
 stands_on old new packet works goes place took bytes packets read =
     let left = left_is read.rest old old.ended works read.before in
-    let taken : TakesFirst old.at read.rest (Some packet) new.left = subst (λ (known : Option (List ℕ)). IfSome known (λ bytes. TakesFirst old.at bytes (Some packet) new.left)) left took in
+    let taken : TakesFirst old.at read.rest (Some packet) new.left =
+    subst (λ (known : Option (List ℕ)). IfSome known (λ bytes. TakesFirst old.at bytes (Some packet) new.left)) left took in
     let more = taken.0 in
     let first : PacketStandsFirst (0 + packets_len packets) packet read.rest more =
     subst (λ n. PacketStandsFirst n packet read.rest more) (let e : old.at ≡ 0 + packets_len packets = omega (arith, read.place) in e) taken.2 in

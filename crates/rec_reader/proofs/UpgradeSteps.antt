@@ -1,5 +1,6 @@
 -- What the upgrade of packets wrote, packet by packet.
-use Rattle.std.proofs.Common.{◌≡◌, ℕ, ◌+◌, ◌^◌, ◌<◌, ◌≤◌, ◌⊎◌, inl, inr, Bool, true, false, cond, List, [], ◌∷◌, ◌++◌, length, map, take, drop, get_or, Option, refl, sym, ap, subst, ◌∙◌, arith}
+use Rattle.std.proofs.Common.{◌≡◌, ℕ, ◌+◌, ◌^◌, ◌<◌, ◌≤◌, ◌⊎◌, inl, inr, Bool, true, false, cond, List, [], ◌∷◌, ◌++◌}
+use Rattle.std.proofs.Common.{length, map, take, drop, get_or, Option, refl, sym, ap, subst, ◌∙◌, arith}
 use Rattle.std.specs.Prelude.{not, count_by, Result, Ok, Err, IfErr, IsErrAnd}
 use Rattle.std.specs.Io.KnownBytes.{Appends}
 use Rattle.std.proofs.KnownBytes.{Appends-trans}
@@ -15,7 +16,7 @@ use Rattle.rec_reader.specs.Packets.{PacketData}
 use Rattle.rec_reader.specs.Channels.{capped}
 use Rattle.rec_reader.specs.Upgrades.{is_old, is_copied, upgraded, spelling_of, spellings, upgrade_bytes, CountsUpgraded, counted_with, FailsAtPacket, FailsIn}
 use Rattle.rec_reader.specs.Views.{packet_data, packets_data}
-use Rattle.rec_reader.proofs.Recordings.{one_more_packet, first_and_rest}
+use Rattle.rec_reader.proofs.RecordingPackets.{one_more_packet, first_and_rest}
 
 -- ---- one packet more
 
@@ -26,10 +27,12 @@ grows n m less few = omega (arith, less, few)
 below : (test : PacketData → Bool) (before : List PacketData) (m : ℕ) → length before < m → count_by test before < m
 below test before m less = let most = count_by-le-length test before in omega (arith, most, less)
 
-count_push : (test : PacketData → Bool) (before : List PacketData) (packet : PacketData) (more : ℕ) → cond (test packet) 1 0 ≡ more → count_by test (before ++ packet ∷ []) ≡ count_by test before + more
+count_push : (test : PacketData → Bool) (before : List PacketData) (packet : PacketData) (more : ℕ) → cond (test packet) 1 0 ≡ more
+    → count_by test (before ++ packet ∷ []) ≡ count_by test before + more
 count_push test before packet more is = sum_by_push (λ p. cond (test p) 1 0) before packet ∙ ap (λ n. count_by test before + n) is
 
-counts_push : (before : List PacketData) (packet : PacketData) (counts new : Upgraded) (m : ℕ) → length before < m → m < 2 ^ 64 → (is_old packet ≡ true) ⊎ (is_old packet ≡ false)
+counts_push : (before : List PacketData) (packet : PacketData) (counts new : Upgraded) (m : ℕ) → length before < m → m < 2 ^ 64
+    → (is_old packet ≡ true) ⊎ (is_old packet ≡ false)
     → CountsUpgraded before counts → new ≡ counted_with counts packet → CountsUpgraded (before ++ packet ∷ []) new
 counts_push before packet counts new m less few (inl is) are e =
     let now = e ∙ cond-true (is_old packet) _ _ is in
@@ -51,7 +54,8 @@ counts_push before packet counts new m less few (inr isnt) are e =
           ap (λ (u : Upgraded). u.packets) now ∙ are.packets_are ∙ plus_none (count_by is_old before)
           ∙ sym (count_push is_old before packet 0 (cond-false (is_old packet) 1 0 isnt));
       copied_are =
-          ap (λ (u : Upgraded). u.copied) now ∙ ap (λ n. capped (n + 1)) are.copied_are ∙ grows (count_by is_copied before) m (below is_copied before m less) few
+          ap (λ (u : Upgraded). u.copied) now ∙ ap (λ n. capped (n + 1)) are.copied_are
+          ∙ grows (count_by is_copied before) m (below is_copied before m less) few
           ∙ sym (count_push is_copied before packet 1 (ap (λ b. cond (not b) 1 0) isnt));
     }
   where
@@ -62,10 +66,12 @@ length-first : (items : List Packet) (n : ℕ) → n < length items → length (
 length-first items n within = length-map (take n items) packet_data ∙ length-take-le n items (omega (arith, within))
 
 pub counts_more : (items : List Packet) (n : ℕ) (item : Packet) (counts new : Upgraded) → n < length items → length items < 2 ^ 64 → item ≡ get_or items n item
-    → CountsUpgraded (packets_data (take n items)) counts → new ≡ counted_with counts (packet_data item) → CountsUpgraded (packets_data (take (n + 1) items)) new
+    → CountsUpgraded (packets_data (take n items)) counts → new ≡ counted_with counts (packet_data item)
+    → CountsUpgraded (packets_data (take (n + 1) items)) new
 counts_more items n item counts new within few is are e =
     subst (λ ps. CountsUpgraded ps new) (one_more_packet items n item within is)
-    (counts_push (packets_data (take n items)) (packet_data item) counts new (length items) (omega (arith, within, length-first items n within)) few (cases_Bool (is_old (packet_data item))) are e)
+    (counts_push (packets_data (take n items)) (packet_data item) counts new (length items) (omega (arith, within, length-first items n within)) few
+    (cases_Bool (is_old (packet_data item))) are e)
 
 -- ---- a failed output
 
@@ -81,15 +87,18 @@ both_counts (p ∷ ps) =
     let others : count_by is_copied (p ∷ ps) ≡ cond (not (is_old p)) 1 0 + count_by is_copied ps = sum_by-cons (λ q. cond (is_copied q) 1 0) p ps in
     omega (arith, olds, others, one_of (is_old p), both_counts ps)
 
-whole_are : (packets : List PacketData) (counts : Upgraded) (m : ℕ) → length packets < m → m < 2 ^ 64 → CountsUpgraded packets counts → capped (counts.packets + counts.copied) ≡ length packets
+whole_are : (packets : List PacketData) (counts : Upgraded) (m : ℕ) → length packets < m → m < 2 ^ 64 → CountsUpgraded packets counts
+    → capped (counts.packets + counts.copied) ≡ length packets
 whole_are packets counts m less few are =
     let packets_are = are.packets_are in
     let copied_are = are.copied_are in
     omega (arith, packets_are, copied_are, both_counts packets, less, few)
 
-pub fails_in : (packets : List PacketData) (old held new : Option (List ℕ)) (items : List Packet) (n : ℕ) (item : Packet) (counts : Upgraded) (fault : UpgradeFault)
+pub fails_in : (packets : List PacketData) (old held new : Option (List ℕ)) (items : List Packet) (n : ℕ) (item : Packet) (counts : Upgraded)
+    (fault : UpgradeFault)
     → packets_data items ≡ packets → n < length items → length items < 2 ^ 64 → item ≡ get_or items n item
-    → Appends old held (upgrade_bytes (packets_data (take n items))) → CountsUpgraded (packets_data (take n items)) counts → FailsAtPacket (packet_data item) counts held new fault
+    → Appends old held (upgrade_bytes (packets_data (take n items))) → CountsUpgraded (packets_data (take n items)) counts
+    → FailsAtPacket (packet_data item) counts held new fault
     → FailsIn packets old new fault
 fails_in packets old held new items n item counts (Output whole bytes) all within few is before are at =
     let front = packets_data (take n items) in
@@ -106,7 +115,8 @@ fails_in packets old held new items n item counts (Output whole bytes) all withi
     }
 
 -- a fault, as it is passed on
-pub fault_passed : (packets : List PacketData) (old new : Option (List ℕ)) (answer : Result Upgraded UpgradeFault) (fault : UpgradeFault) → IsErrAnd answer (λ e. e ≡ fault)
+pub fault_passed : (packets : List PacketData) (old new : Option (List ℕ)) (answer : Result Upgraded UpgradeFault) (fault : UpgradeFault)
+    → IsErrAnd answer (λ e. e ≡ fault)
     → FailsIn packets old new fault → IfErr answer (FailsIn packets old new)
 fault_passed packets old new (Ok counts) fault same fails = tt
 fault_passed packets old new (Err e) fault same fails = subst (FailsIn packets old new) (sym same) fails

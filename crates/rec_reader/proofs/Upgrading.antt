@@ -1,7 +1,8 @@
 -- Packets that are given a data checksum, and the upgrade of packets.
 -- idea: an upgrade goes packet by packet, and a packet with a data checksum has the same data behind the same fields, so
 -- what isn't judged of a packet makes no difference; its flags say that it has one, so it isn't old any more.
-use Rattle.std.proofs.Common.{◌≡◌, ℕ, ◌+◌, ◌-◌, ◌/◌, ◌%◌, ◌^◌, ◌<◌, ◌≤◌, ◌⊎◌, ◌↔◌, inl, inr, true, false, List, [], ◌∷◌, ◌++◌, length, map, None, All, refl, sym, ap, subst, ◌∙◌, arith}
+use Rattle.std.proofs.Common.{◌≡◌, ℕ, ◌+◌, ◌-◌, ◌/◌, ◌%◌, ◌^◌, ◌<◌, ◌≤◌, ◌⊎◌, ◌↔◌, inl, inr, true, false, List, []}
+use Rattle.std.proofs.Common.{◌∷◌, ◌++◌, length, map, None, All, refl, sym, ap, subst, ◌∙◌, arith}
 use Rattle.std.specs.Prelude.{◌≢◌, ◌==◌, ◌&&◌, not, nat_le, bit_and, bit_or}
 use Rattle.std.proofs.lemmas.Bool.{cases_Bool, and_parts, and_left, and_right, not-true, eq-eqb, eqb-false, leb-true, cond-true, cond-false}
 use Rattle.std.proofs.lemmas.List.{append_assoc, append-nil, length-append, length-take-le, take_at}
@@ -96,7 +97,8 @@ set_both flags small e =
 -- ---- a packet with a data checksum
 
 -- the packet's header with one is a header
-pub checked_is : (header : HeaderData) → IsHeader header → header.flags % 4 ≡ 0 → written_len WithSum header.data_len ≤ MAX_ETHERNET_PACKET_LEN → IsHeader (checked_header header)
+pub checked_is : (header : HeaderData) → IsHeader header → header.flags % 4 ≡ 0 → written_len WithSum header.data_len ≤ MAX_ETHERNET_PACKET_LEN
+    → IsHeader (checked_header header)
 checked_is header is e fits = record {
   channel = is.channel;
   packet_len = omega (arith, fits);
@@ -111,7 +113,9 @@ checked_is header is e fits = record {
 -- the data of a packet are as long as its header says
 length-data : (packet : PacketData) (spelling : List ℕ) → SpellsPacket packet spelling → length (data_in packet.header packet.body) ≡ packet.header.data_len
 length-data packet spelling spells =
-    let long : length spelling ≡ HEADER_LEN + length packet.body = ap (λ l. length l) spells.whole ∙ length-append (header_bytes packet.header) packet.body ∙ ap (λ n. n + length packet.body) (length-header packet.header) in
+    let long : length spelling ≡ HEADER_LEN + length packet.body =
+    ap (λ l. length l) spells.whole ∙ length-append (header_bytes packet.header) packet.body
+    ∙ ap (λ n. n + length packet.body) (length-header packet.header) in
     let whole = spells.long in
     let holds = spells.is_header.lengths.holds in
     length-take-le packet.header.data_len packet.body (omega (arith, long, whole, holds))
@@ -135,7 +139,8 @@ Respells =
     → HEADER_LEN + length body ≡ header.packet_len
     → SpellsPacket (packet_of packet.at header body packet.what) (header_bytes header ++ body)
 
-spells_checked : Respells → (packet : PacketData) (spelling : List ℕ) → SpellsPacket packet spelling → IsOld packet → SpellsPacket (with_checksum packet) (spelling_of (with_checksum packet))
+spells_checked : Respells → (packet : PacketData) (spelling : List ℕ) → SpellsPacket packet spelling → IsOld packet
+    → SpellsPacket (with_checksum packet) (spelling_of (with_checksum packet))
 spells_checked again packet spelling spells old =
     let own = data_in packet.header packet.body in
     let long = length-data packet spelling spells in
@@ -158,11 +163,14 @@ alike_checked packet spelling spells = record {
   bytes = same_data packet.header (data_in packet.header packet.body) (length-data packet spelling spells);
 }
 
-upgraded_alike : (packet : PacketData) (spelling : List ℕ) → SpellsPacket packet spelling → (is_old packet ≡ true) ⊎ (is_old packet ≡ false) → Alike packet (upgraded packet)
+upgraded_alike : (packet : PacketData) (spelling : List ℕ) → SpellsPacket packet spelling → (is_old packet ≡ true) ⊎ (is_old packet ≡ false)
+    → Alike packet (upgraded packet)
 upgraded_alike packet spelling spells (inl is) = subst (Alike packet) (sym (upgraded_old packet is)) (alike_checked packet spelling spells)
-upgraded_alike packet spelling spells (inr isnt) = subst (Alike packet) (sym (upgraded_other packet isnt)) (record { channel = refl; what = refl; bytes = refl })
+upgraded_alike packet spelling spells (inr isnt) = subst (Alike packet) (sym (upgraded_other packet isnt))
+    (record { channel = refl; what = refl; bytes = refl })
 
-upgraded_spells : Respells → (packet : PacketData) (spelling : List ℕ) → SpellsPacket packet spelling → (is_old packet ≡ true) ⊎ (is_old packet ≡ false) → SpellsPacket (upgraded packet) (spelling_of (upgraded packet))
+upgraded_spells : Respells → (packet : PacketData) (spelling : List ℕ) → SpellsPacket packet spelling → (is_old packet ≡ true) ⊎ (is_old packet ≡ false)
+    → SpellsPacket (upgraded packet) (spelling_of (upgraded packet))
 upgraded_spells again packet spelling spells (inl is) =
     subst (λ p. SpellsPacket p (spelling_of p)) (sym (upgraded_old packet is)) (spells_checked again packet spelling spells (old_is packet is))
 upgraded_spells again packet spelling spells (inr isnt) =

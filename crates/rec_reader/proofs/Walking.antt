@@ -22,7 +22,8 @@ passes_one_more packets packet passed judged = λ before other after e.
 
 -- ---- packets that don't
 
-pub stops_now : (packets : List PacketData) (packet : PacketData) (fault : AuditFault) → EachPasses packets → Judges packets packet (Some fault) → StopsAt (packets ++ packet ∷ []) fault
+pub stops_now : (packets : List PacketData) (packet : PacketData) (fault : AuditFault) → EachPasses packets → Judges packets packet (Some fault)
+    → StopsAt (packets ++ packet ∷ []) fault
 stops_now packets packet fault passed judged = record {
   before = packets;
   packet = packet;
@@ -65,7 +66,8 @@ named_now channel packets packet names = record {
   names = names;
 }
 
-pub named_or_now : (channel : ℕ) (packets : List PacketData) (packet : PacketData) → IsNamed channel (packets ++ packet ∷ []) → IsNamed channel packets ⊎ Names packet channel
+pub named_or_now : (channel : ℕ) (packets : List PacketData) (packet : PacketData) → IsNamed channel (packets ++ packet ∷ [])
+    → IsNamed channel packets ⊎ Names packet channel
 named_or_now channel packets packet named =
     elim (meets packets packet [] named.before named.packet named.after named.whole) [
       | inl same ↦ inr (subst (λ p. Names p channel) (sym same.1) named.names)

@@ -1,7 +1,8 @@
 -- From what the threads have left to what was recorded.
 -- idea: channel by channel what the worker did, what the writer took of it and the slot's history are put together: the
 -- comparisons after the joins say that the history served the versions met, so the frames met what it has in force.
-use Rattle.std.proofs.Common.{◌≡◌, ℕ, zero, suc, ◌<◌, ◌≤◌, ◌^◌, List, [], ◌∷◌, ◌++◌, length, map, get_or, Option, None, Some, All, arith, refl, ◌∙◌, ap, sym, subst}
+use Rattle.std.proofs.Common.{◌≡◌, ℕ, zero, suc, ◌<◌, ◌≤◌, ◌^◌, List, [], ◌∷◌, ◌++◌, length, map, get_or}
+use Rattle.std.proofs.Common.{Option, None, Some, All, arith, refl, ◌∙◌, ap, sym, subst}
 use Rattle.std.specs.Prelude.{Contains}
 use Rattle.std.specs.List.{filter, AllZip, Any}
 use Rattle.std.specs.Io.KnownBytes.{Appends, Keeps}
@@ -65,14 +66,18 @@ module _ {S : Type 0} (left : S → Option Left) (failures : S → ℕ) (ended_a
     pub report : IsReport left failures ended_as job r channel
     pub id_is : channel.settings.channel ≡ job.spec.channel
     pub begins : BeginsChannel pieces channel
-    pub whole : j.remaining ≡ 0 → IsOverThen j.done.end → ArePieces channel.settings channel.frames channel.history (filter (is_of channel.settings.channel) pieces)
+    pub whole : j.remaining ≡ 0 → IsOverThen j.done.end → ArePieces channel.settings channel.frames channel.history
+        (filter (is_of channel.settings.channel) pieces)
     pub over : IsOverThen j.done.end → IsOver r.ending
 
-  one_channel : (job : Job S) (j : Joined S) (r : ChannelReport S) → IsJob job → JoinedOf left failures ended_as pieces job j → Tells j log r → HasEnding j.done.end → OneChannel job j r
+  one_channel : (job : Job S) (j : Joined S) (r : ChannelReport S) → IsJob job → JoinedOf left failures ended_as pieces job j → Tells j log r
+      → HasEnding j.done.end → OneChannel job j r
   one_channel job j r is of tells ended =
       let e = with_ending j.done.end ended in
-      let ran : Ran left failures ended_as (spec_data job.spec) job.max e.0 job.source j.done.source (versions_met j.done.met.items) of.sent j.done.offered j.done.kept =
-      subst (λ x. RanAs left failures ended_as (spec_data job.spec) job.max x job.source j.done.source (versions_met j.done.met.items) of.sent j.done.offered j.done.kept) e.1 of.ran
+      let ran : Ran left failures ended_as (spec_data job.spec) job.max e.0 job.source j.done.source (versions_met j.done.met.items) of.sent j.done.offered
+      j.done.kept =
+      subst (λ x. RanAs left failures ended_as (spec_data job.spec) job.max x job.source j.done.source (versions_met j.done.met.items) of.sent j.done.offered
+      j.done.kept) e.1 of.ran
       in
       let h = history_of r in
       let count : r.offered ≡ length ran.offered = tells.offered_is ∙ ran.count_is in
@@ -100,7 +105,8 @@ module _ {S : Type 0} (left : S → Option Left) (failures : S → ℕ) (ended_a
           kept = accepted ran.offered;
           accepted = (ran.offered, met, refl, refl);
           kept_is = tells.kept_is ∙ ran.kept_is;
-          ends = subst (λ s. EndsAs left failures ended_as r.ending job.source s (frames_of ran.offered) job.max) (sym tells.source_is) (subst (λ x. EndsAs left failures ended_as x job.source j.done.source (frames_of ran.offered) job.max) (sym ending) ran.ends);
+          ends = subst (λ s. EndsAs left failures ended_as r.ending job.source s (frames_of ran.offered) job.max) (sym tells.source_is)
+              (subst (λ x. EndsAs left failures ended_as x job.source j.done.source (frames_of ran.offered) job.max) (sym ending) ran.ends);
         };
         id_is = refl;
         begins = (all, (ran.offered, met, refl, refl), begins_trans (filter (is_of job.spec.channel) pieces) of.sent all of.begins ran.begins);
@@ -127,8 +133,17 @@ module _ {S : Type 0} (left : S → Option Left) (failures : S → ℕ) (ended_a
   rest_of : {X : Type 0} (P : X → Type 0) (x : X) (xs : List X) → All P (x ∷ xs) → All P xs
   rest_of P x xs all = All-rest P x xs (x ∷ xs) refl all
 
-  pub all_channels : (jobs : List (Job S)) (js : List (Joined S)) (rs : List (ChannelReport S)) → All IsJob jobs → AllZip (JoinedOf left failures ended_as pieces) jobs js → AllZip (TellsOf log) js rs → AreEnded js → AllChannels jobs js rs
-  all_channels [] [] [] are of tells ended = record { channels = []; reports = tt; ids = refl; begin = none_of (BeginsChannel pieces); whole = λ over. none_of (λ (c : RecordedChannel). ArePieces c.settings c.frames c.history (filter (is_of c.settings.channel) pieces)); over = λ over. none_of (λ (r : ChannelReport S). IsOver r.ending) }
+  pub all_channels : (jobs : List (Job S)) (js : List (Joined S)) (rs : List (ChannelReport S)) → All IsJob jobs
+      → AllZip (JoinedOf left failures ended_as pieces) jobs js → AllZip (TellsOf log) js rs → AreEnded js → AllChannels jobs js rs
+  all_channels [] [] [] are of tells ended = record {
+    channels = [];
+    reports = tt;
+    ids = refl;
+    begin = none_of (BeginsChannel pieces);
+    whole = λ over. none_of (λ (c : RecordedChannel). ArePieces c.settings c.frames c.history (filter (is_of c.settings.channel) pieces));
+    over =
+        λ over. none_of (λ (r : ChannelReport S). IsOver r.ending);
+  }
   all_channels [] [] (r ∷ rs) are of tells ended = absurd tells
   all_channels [] (j ∷ js) rs are of tells ended = absurd of
   all_channels (job ∷ jobs) [] rs are of tells ended = absurd of
@@ -144,7 +159,8 @@ module _ {S : Type 0} (left : S → Option Left) (failures : S → ℕ) (ended_a
         begin = All-cons (BeginsChannel pieces) one.channel more.channels one.begins more.begin;
         whole = λ over.
             let here = head_of Over j js over in
-            All-cons (λ (c : RecordedChannel). ArePieces c.settings c.frames c.history (filter (is_of c.settings.channel) pieces)) one.channel more.channels (one.whole here.0 here.1) (more.whole (rest_of Over j js over));
+            All-cons (λ (c : RecordedChannel). ArePieces c.settings c.frames c.history (filter (is_of c.settings.channel) pieces)) one.channel more.channels
+            (one.whole here.0 here.1) (more.whole (rest_of Over j js over));
         over = λ over. All-cons (λ (x : ChannelReport S). IsOver x.ending) r rs (one.over (head_of Over j js over).1) (more.over (rest_of Over j js over));
       }
 
@@ -155,10 +171,12 @@ nth [] i low = absurd (omega (arith, low))
 nth (x ∷ xs) zero low = (x, refl)
 nth (x ∷ xs) (suc i) low = nth xs i (omega (arith, low))
 
-named_one : (channels : List RecordedChannel) (ids : List ℕ) (id : ℕ) → map (λ (c : RecordedChannel). c.settings.channel) channels ≡ ids → Contains ids id → Any (λ (c : RecordedChannel). c.settings.channel ≡ id) channels
+named_one : (channels : List RecordedChannel) (ids : List ℕ) (id : ℕ) → map (λ (c : RecordedChannel). c.settings.channel) channels ≡ ids → Contains ids id
+    → Any (λ (c : RecordedChannel). c.settings.channel ≡ id) channels
 named_one channels ids id is at =
     let f : RecordedChannel → ℕ = λ c. c.settings.channel in
-    let low : at.0 < length channels = (let n = length-map channels f in let m : length (map f channels) ≡ length ids = ap (λ xs. length xs) is in omega (arith, n, m, at.1)) in
+    let low : at.0 < length channels = (let n = length-map channels f in let m : length (map f channels) ≡ length ids = ap (λ xs. length xs) is in
+    omega (arith, n, m, at.1)) in
     let c = nth channels at.0 low in
     (at.0, c.0, low, c.1, sym (ap f c.1) ∙ sym (get_or-map f channels at.0 c.0 id low) ∙ ap (λ xs. get_or xs at.0 id) is ∙ at.2)
 
@@ -176,8 +194,10 @@ appends_same first held bytes other is a = subst (λ bs. Appends first held bs) 
 are_ended : {S : Type 0} (js : List (Joined S)) → AreOver js → AreEnded js
 are_ended js over = λ k d low. over_is_ended (get_or js k d).done.end (over k d low).1
 
-module _ {S : Type 0} (left : S → Option Left) (failures : S → ℕ) (ended_as : S → Option SourceEnding) (log : List Logged) (jobs : List (Job S)) (js : List (Joined S)) (report : Report S)
-    (first out : Option (List ℕ)) (writer : WriterState) (fit : AreInRange jobs writer.version) (keeps : Keeps writer.held out) (whole_is : report.pieces ≡ writer.whole) where
+module _ {S : Type 0} (left : S → Option Left) (failures : S → ℕ) (ended_as : S
+    → Option SourceEnding) (log : List Logged) (jobs : List (Job S)) (js : List (Joined S)) (report : Report S)
+    (first out : Option (List ℕ)) (writer : WriterState) (fit : AreInRange jobs writer.version) (keeps : Keeps writer.held out)
+    (whole_is : report.pieces ≡ writer.whole) where
   pub recorded : WroteAll left failures ended_as first jobs js writer report.bytes → AllZip (TellsOf log) js report.channels.items → AreOver js
       → IsRecorded left failures ended_as jobs writer.version first out report
   recorded wrote tells over =
@@ -186,8 +206,17 @@ module _ {S : Type 0} (left : S → Option Left) (failures : S → ℕ) (ended_a
         version_fits = fit.version_fits;
         channels = all.channels;
         bytes = writer_output writer.version wrote.pieces;
-        recording = (wrote.pieces, refl, record { named = λ k d low. named_one all.channels (channels_of_jobs jobs) (channel_of (get_or wrote.pieces k d)) all.ids (wrote.named k d low); each = all.whole over });
-        written = keep_appends first writer.held out _ (appends_same first writer.held _ _ (append-nil (writer_output writer.version wrote.pieces)) wrote.written.held_is) keeps;
+        recording = (
+          wrote.pieces,
+          refl,
+          record {
+            named = λ k d low. named_one all.channels (channels_of_jobs jobs) (channel_of (get_or wrote.pieces k d))
+                all.ids (wrote.named k d low);
+            each = all.whole over;
+          },
+        );
+        written = keep_appends first writer.held out _ (appends_same first writer.held _ _ (append-nil (writer_output writer.version wrote.pieces))
+            wrote.written.held_is) keeps;
         reports_are = all.reports;
         over = all.over over;
         pieces_is = whole_is ∙ wrote.written.whole_is;
@@ -195,7 +224,8 @@ module _ {S : Type 0} (left : S → Option Left) (failures : S → ℕ) (ended_a
       }
 
   -- all pieces went out, and the flush failed
-  pub cut_at_flush : (fault : WriteFault) → WroteAll left failures ended_as first jobs js writer report.bytes → AllZip (TellsOf log) js report.channels.items → AreOver js → FinishFails writer fault
+  pub cut_at_flush : (fault : WriteFault) → WroteAll left failures ended_as first jobs js writer report.bytes → AllZip (TellsOf log) js report.channels.items
+      → AreOver js → FinishFails writer fault
       → IsCutShort left failures ended_as jobs writer.version first out fault report
   cut_at_flush (Output whole bytes) wrote tells over fails =
       let all = all_channels left failures ended_as log wrote.pieces jobs js report.channels.items fit.jobs_fit wrote.joined_are tells (are_ended js over) in
@@ -217,10 +247,12 @@ module _ {S : Type 0} (left : S → Option Left) (failures : S → ℕ) (ended_a
   cut_at_flush (FailedBefore whole bytes) wrote tells over fails = absurd (both_ways writer.failed wrote.works fails.0)
 
   -- a piece went out in part
-  pub cut_at_piece : (fault : WriteFault) → WrotePart left failures ended_as first jobs js writer report.bytes fault → AllZip (TellsOf log) js report.channels.items → AreEnded js
+  pub cut_at_piece : (fault : WriteFault) → WrotePart left failures ended_as first jobs js writer report.bytes fault
+      → AllZip (TellsOf log) js report.channels.items → AreEnded js
       → IsCutShort left failures ended_as jobs writer.version first out fault report
   cut_at_piece fault wrote tells ended =
-      let all = all_channels left failures ended_as log (wrote.pieces ++ wrote.piece ∷ []) jobs js report.channels.items fit.jobs_fit wrote.joined_are tells ended in
+      let all = all_channels left failures ended_as log (wrote.pieces ++ wrote.piece ∷ []) jobs js report.channels.items fit.jobs_fit wrote.joined_are tells
+      ended in
       record {
         version_fits = fit.version_fits;
         channels = all.channels;
@@ -229,7 +261,8 @@ module _ {S : Type 0} (left : S → Option Left) (failures : S → ℕ) (ended_a
         cut = wrote.cut;
         cut_is = wrote.cut_is;
         written = keep_appends first writer.held out _ wrote.written.held_is keeps;
-        fault_is = wrote.fault_is ∙ ap (λ x. Output x writer.bytes) wrote.written.whole_is ∙ ap (λ x. Output (shown (length wrote.pieces)) x) wrote.written.bytes_is;
+        fault_is = wrote.fault_is ∙ ap (λ x. Output x writer.bytes) wrote.written.whole_is
+            ∙ ap (λ x. Output (shown (length wrote.pieces)) x) wrote.written.bytes_is;
         reports_are = all.reports;
         named = wrote.named;
         begin = all.begin;

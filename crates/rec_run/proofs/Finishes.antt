@@ -25,7 +25,7 @@ use Rattle.rec_run.specs.declared.ending.Ending.TheVariants.{SourceEnd, SourceFa
 use Rattle.rec_run.specs.declared.ending.WorkerEnd.{WorkerEnd}
 use Rattle.rec_run.specs.declared.ending.WorkerEnd.TheVariants.{Ended, Link, History}
 use Rattle.rec_run.proofs.Sources.{taken_first}
-use Rattle.rec_run.proofs.Stepping.{begins_same}
+use Rattle.rec_run.proofs.WorkerSteps.{begins_same}
 
 all_first : (before : Option Left) (frames : List FrameData) (ending : SourceEnding) → AreAll before frames ending → AreFirst before frames
 all_first None frames ending all = tt
@@ -35,7 +35,8 @@ pub begins_trans : {X : Type 0} (xs ys zs : List X) → BeginsList xs ys → Beg
 begins_trans xs ys zs b c = (b.0 ++ c.0, sym (append_assoc xs b.0 c.0) ∙ ap (λ l. l ++ c.0) b.1 ∙ c.1)
 
 module _ {S : Type 0} (left : S → Option Left) (failures : S → ℕ) (ended_as : S → Option SourceEnding) (before after : S) (max : ℕ) where
-  fault_first : (fault : FaultOfSource) (frames : List FrameData) → AreAll (left before) frames (Fault fault) ⊎ ((fault ≡ Device) × HasFailed left failures ended_as before after frames) → AreFirst (left before) frames
+  fault_first : (fault : FaultOfSource) (frames : List FrameData)
+      → AreAll (left before) frames (Fault fault) ⊎ ((fault ≡ Device) × HasFailed left failures ended_as before after frames) → AreFirst (left before) frames
   fault_first fault frames (inl all) = all_first (left before) frames _ all
   fault_first fault frames (inr failed) = failed.1.first
 
@@ -49,7 +50,8 @@ module _ {S : Type 0} (left : S → Option Left) (failures : S → ℕ) (ended_a
 
   module _ (lane : LaneState) (met : List VersionMet) (sent sent_then : List PieceData) where
     so_far_begin : (offered : List OfferedFrame) → BeginsList (pieces_so_far lane.settings offered) (channel_pieces lane.settings offered)
-    so_far_begin offered = subst (λ os. BeginsList (pieces_so_far lane.settings offered) (channel_pieces lane.settings os)) (append-nil offered) (begin_all lane.settings offered [])
+    so_far_begin offered = subst (λ os. BeginsList (pieces_so_far lane.settings offered) (channel_pieces lane.settings os)) (append-nil offered)
+        (begin_all lane.settings offered [])
 
     sent_all : (ending : Ending) → IsOver ending → Stopping left failures ended_as ending max before after lane met sent → (given : List PieceData)
         → ((offered : List OfferedFrame) → HasMet lane offered → channel_pieces lane.settings offered ≡ pieces_so_far lane.settings offered ++ given)
@@ -113,13 +115,17 @@ module _ {S : Type 0} (left : S → Option Left) (failures : S → ℕ) (ended_a
         (sent_none ending none.0 stops none.2)
     finished Link end (inl whole) stops = absurd whole.0
     finished Link end (inr (inl part)) stops = absurd part.0
-    finished Link end (inr (inr none)) stops = subst (λ e. RanAs left failures ended_as lane.settings max e before after met sent_then lane.offered lane.kept) (sym none.1) tt
+    finished Link end (inr (inr none)) stops = subst (λ e. RanAs left failures ended_as lane.settings max e before after met sent_then lane.offered lane.kept)
+        (sym none.1) tt
     finished History end (inl whole) stops = absurd whole.0
     finished History end (inr (inl part)) stops = absurd part.0
-    finished History end (inr (inr none)) stops = subst (λ e. RanAs left failures ended_as lane.settings max e before after met sent_then lane.offered lane.kept) (sym none.1) tt
+    finished History end (inr (inr none)) stops = subst (λ e. RanAs left failures ended_as lane.settings max e before after met sent_then lane.offered
+        lane.kept) (sym none.1) tt
 
 -- what a worker ran as, with the lane's counts and the rows named
-pub finished_as : {S : Type 0} (left : S → Option Left) (failures : S → ℕ) (ended_as : S → Option SourceEnding) (before after : S) (max : ℕ) (lane : LaneState) (met : List VersionMet) (sent sent_then : List PieceData) (stop end : WorkerEnd) (count kept : ℕ)
+pub finished_as : {S : Type 0} (left : S → Option Left) (failures : S → ℕ) (ended_as : S
+    → Option SourceEnding) (before after : S) (max : ℕ) (lane : LaneState) (met : List VersionMet) (sent sent_then : List PieceData) (stop end : WorkerEnd)
+    (count kept : ℕ)
     → count ≡ lane.offered → kept ≡ lane.kept → SendsLast lane stop end sent sent_then → StopsAs left failures ended_as stop max before after lane met sent
     → RanAs left failures ended_as lane.settings max end before after met sent_then count kept
 finished_as left failures ended_as before after max lane met sent sent_then stop end count kept count_is kept_is last stops =
@@ -129,12 +135,23 @@ finished_as left failures ended_as before after max lane met sent sent_then stop
 
 -- ---- the last pieces of a lane
 
-pub last_whole : (lane : LaneState) (stop : WorkerEnd) (ending : Ending) (sent sent_then given : List Piece) → stop ≡ Ended ending → IsOver ending → AreLeft lane (pieces_data given) → sent_then ≡ sent ++ given
+pub last_whole : (lane : LaneState) (stop : WorkerEnd) (ending : Ending) (sent sent_then given : List Piece) → stop ≡ Ended ending → IsOver ending
+    → AreLeft lane (pieces_data given) → sent_then ≡ sent ++ given
     → SendsLast lane stop (Ended ending) (pieces_data sent) (pieces_data sent_then)
 last_whole lane stop ending sent sent_then given is over left went =
-    inl (subst (λ e. IsOverThen e) (sym is) over, sym is, record { given = pieces_data given; left = left; sent_is = ap (λ ps. pieces_data ps) went ∙ map-append piece_data sent given })
+    inl (
+      subst (λ e. IsOverThen e) (sym is) over,
+      sym is,
+      record {
+        given = pieces_data given;
+        left = left;
+        sent_is = ap (λ ps. pieces_data ps) went
+            ∙ map-append piece_data sent given;
+      },
+    )
 
-pub last_part : (lane : LaneState) (stop end : WorkerEnd) (ending : Ending) (sent sent_then given : List Piece) → stop ≡ Ended ending → IsOver ending → AreLeft lane (pieces_data given) → BeginsList sent_then (sent ++ given)
+pub last_part : (lane : LaneState) (stop end : WorkerEnd) (ending : Ending) (sent sent_then given : List Piece) → stop ≡ Ended ending → IsOver ending
+    → AreLeft lane (pieces_data given) → BeginsList sent_then (sent ++ given)
     → end ≡ Ended Stopped → SendsLast lane stop end (pieces_data sent) (pieces_data sent_then)
 last_part lane stop end ending sent sent_then given is over left part stopped =
     inr (inl (
@@ -153,7 +170,8 @@ taken_none : (l : Option Left) → AreTaken l [] l
 taken_none None = tt
 taken_none (Some l) = (refl, refl)
 
-pub starts : {S : Type 0} (left : S → Option Left) (failures : S → ℕ) (ended_as : S → Option SourceEnding) (source : S) (max : ℕ) (lane : LaneState) (settings : LaneSettings) (met : List VersionMet) (sent : List PieceData)
+pub starts : {S : Type 0} (left : S → Option Left) (failures : S → ℕ) (ended_as : S
+    → Option SourceEnding) (source : S) (max : ℕ) (lane : LaneState) (settings : LaneSettings) (met : List VersionMet) (sent : List PieceData)
     → lane ≡ new_lane settings → met ≡ [] → sent ≡ [] → Going left failures ended_as max source source lane met sent
 starts left failures ended_as source max lane settings met sent lane_is none_met none_sent =
     subst (λ l. Going left failures ended_as max source source l met sent) (sym lane_is) (record {

@@ -20,15 +20,20 @@ rest_history (p ∷ ps) [] = none ps
     none (q ∷ qs) = refl
 rest_history (p ∷ ps) (m ∷ ms) = refl
 
-pub follows_here : (channel version next : ℕ) (programs rest_programs : List (Arc (List Insn) Global)) (marks rest_marks : List ℕ) (entry : Logged) (log later : List Logged)
+pub follows_here : (channel version next : ℕ) (programs rest_programs : List (Arc (List Insn) Global)) (marks rest_marks : List ℕ) (entry : Logged)
+    (log later : List Logged)
     → log ≡ entry ∷ later → entry.told.channel ≡ channel → next ≡ version + 1 → rest_programs ≡ drop 1 programs → rest_marks ≡ drop 1 marks
-    → IsNext version (history_in programs marks) entry → FollowsVersions channel next (history_in rest_programs rest_marks) later → FollowsVersions channel version (history_in programs marks) log
+    → IsNext version (history_in programs marks) entry → FollowsVersions channel next (history_in rest_programs rest_marks) later
+    → FollowsVersions channel version (history_in programs marks) log
 follows_here channel version next programs rest_programs marks rest_marks entry log later is here counted ps ms is_next follows =
     let vs = history_in programs marks in
-    let history : history_in rest_programs rest_marks ≡ drop 1 vs = ap (λ xs. history_in xs rest_marks) ps ∙ ap (λ xs. history_in (drop 1 programs) xs) ms ∙ rest_history programs marks in
-    let rest : FollowsVersions channel (version + 1) (drop 1 vs) later = subst (λ n. FollowsVersions channel n (drop 1 vs) later) counted (subst (λ h. FollowsVersions channel next h later) history follows) in
+    let history : history_in rest_programs rest_marks ≡ drop 1 vs =
+    ap (λ xs. history_in xs rest_marks) ps ∙ ap (λ xs. history_in (drop 1 programs) xs) ms ∙ rest_history programs marks in
+    let rest : FollowsVersions channel (version + 1) (drop 1 vs) later =
+    subst (λ n. FollowsVersions channel n (drop 1 vs) later) counted (subst (λ h. FollowsVersions channel next h later) history follows) in
     subst (λ l. FollowsVersions channel version vs l) (sym is)
-    (subst (λ b. MatchBool b (IsNext version vs entry × FollowsVersions channel (version + 1) (drop 1 vs) later) (FollowsVersions channel version vs later)) (sym (eq-eqb entry.told.channel channel here)) (is_next, rest))
+    (subst (λ b. MatchBool b (IsNext version vs entry × FollowsVersions channel (version + 1) (drop 1 vs) later) (FollowsVersions channel version vs later))
+    (sym (eq-eqb entry.told.channel channel here)) (is_next, rest))
 
 -- no version is left
 pub none_left : (programs : List (Arc (List Insn) Global)) (marks : List ℕ) → length marks ≡ 0 → history_in programs marks ≡ []

@@ -4,11 +4,12 @@ use Rattle.std.proofs.lemmas.List.{append_assoc, map-append}
 use Rattle.std.proofs.lemmas.List.Elements.{All-push}
 use Rattle.rec_run.specs.Threads.{jobs_in, job_at, jobs_of, IsUnread, AreUnread}
 use Rattle.rec_run.specs.declared.job.Job.{Job}
-use Rattle.rec_run.specs.declared.writer.line.Line.{Line}
-use Rattle.rec_run.specs.declared.threads.prepared.Prepared.{Prepared}
+use Rattle.rec_run.specs.declared.writer.line.WriterLine.{WriterLine}
+use Rattle.rec_run.specs.declared.threads.prepared.PreparedChannel.{PreparedChannel}
 
-module _ {S : Type 0} (ls ls' : List (Line S)) (l : Line S) (pushed : ls' ≡ ls ++ l ∷ []) where
-  pub started : (p : Prepared S) (now rest : List (Prepared S)) (jobs : List (Job S)) → now ≡ p ∷ rest → job_at l ≡ p.job → jobs ≡ jobs_of ls ++ jobs_in now → jobs ≡ jobs_of ls' ++ jobs_in rest
+module _ {S : Type 0} (ls ls' : List (WriterLine S)) (l : WriterLine S) (pushed : ls' ≡ ls ++ l ∷ []) where
+  pub started : (p : PreparedChannel S) (now rest : List (PreparedChannel S)) (jobs : List (Job S)) → now ≡ p ∷ rest → job_at l ≡ p.job
+      → jobs ≡ jobs_of ls ++ jobs_in now → jobs ≡ jobs_of ls' ++ jobs_in rest
   started p now rest jobs is same e =
       e
       ∙ ap (λ x. jobs_of ls ++ jobs_in x) is

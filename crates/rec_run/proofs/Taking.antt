@@ -19,21 +19,25 @@ use Rattle.rec_run.specs.VersionsMet.{VersionMet}
 use Rattle.rec_run.specs.VersionsMet.{is_last_met, met_after}
 use Rattle.rec_run.specs.WorkerSteps.{Offers}
 use Rattle.rec_run.specs.WorkerRuns.{IsLast, Stands, TakesOne}
-use Rattle.rec_run.proofs.Serving.{known_more, last_more}
+use Rattle.rec_run.proofs.VersionsServing.{known_more, last_more}
 
 -- ---- the version that the lane met last
 
-runs_current : (current : Option VersionProgram) (version : ℕ) (program : List Insn) → is_current current version ≡ true → current ≡ Some (record { version = version; program = running current version program })
+runs_current : (current : Option VersionProgram) (version : ℕ) (program : List Insn) → is_current current version ≡ true
+    → current ≡ Some (record { version = version; program = running current version program })
 runs_current None version program so = absurd (both_ways false refl so)
 runs_current (Some c) version program so =
     ap (λ v. Some (record { version = v; program = c.program })) (eqb-true c.version version so)
     ∙ ap (λ b. Some (record { version = version; program = if b then c.program else program })) (sym so)
 
-current_after : (old : LaneState) (offered : List OfferedFrame) (version value : ℕ) (program : List Insn) (frame : FrameData) → old.current ≡ version_of (last_group offered)
-    → version_of (last_group (offered ++ offered_now old version program frame value ∷ [])) ≡ Some (record { version = version; program = running old.current version program })
+current_after : (old : LaneState) (offered : List OfferedFrame) (version value : ℕ) (program : List Insn) (frame : FrameData)
+    → old.current ≡ version_of (last_group offered)
+    → version_of (last_group (offered ++ offered_now old version program frame value ∷ []))
+    ≡ Some (record { version = version; program = running old.current version program })
 current_after old offered version value program frame is =
     let f = offered_now old version program frame value in
-    elim (cases_Bool (is_current old.current version)) as (λ _. version_of (last_group (offered ++ f ∷ [])) ≡ Some (record { version = version; program = running old.current version program })) [
+    elim (cases_Bool (is_current old.current version)) as (λ _. version_of (last_group (offered ++ f ∷ []))
+    ≡ Some (record { version = version; program = running old.current version program })) [
       | inl same ↦
           ap (λ g. version_of g) (last_on same_version_as [] offered f (same_version (last_group offered) old.current f is same))
           ∙ version_stays (last_group offered) old.current f is same ∙ sym is ∙ runs_current old.current version program same
@@ -46,7 +50,8 @@ met_still met version number program last = rw last refl
 
 -- ---- what the worker stands for
 
-pub stands_more : (old new : LaneState) (met : List VersionMet) (offered : List OfferedFrame) (version value number : ℕ) (program : List Insn) (frame : FrameData)
+pub stands_more : (old new : LaneState) (met : List VersionMet) (offered : List OfferedFrame) (version value number : ℕ) (program : List Insn)
+    (frame : FrameData)
     → Stands old met offered → number ≡ old.offered → ((steps : ℕ) × Runs (running old.current version program) (view frame) steps value)
     → Meets old new (offered_now old version program frame value)
     → Stands new (met_after met version number program) (offered ++ offered_now old version program frame value ∷ [])
@@ -54,13 +59,17 @@ stands_more old new met offered version value number program frame stands same r
     let f = offered_now old version program frame value in
     let count : old.offered ≡ length offered = stands.has_met.offered_is in
     let last : IsLast old.current old.offered met = subst (λ n. IsLast old.current n met) (sym count) stands.last in
-    let n : old.offered + 1 ≡ length (offered ++ f ∷ []) = (let l : length (offered ++ f ∷ []) ≡ length offered + 1 = length-append offered (f ∷ []) in omega (arith, l, count)) in
+    let n : old.offered + 1 ≡ length (offered ++ f ∷ []) = (let l : length (offered ++ f ∷ []) ≡ length offered + 1 = length-append offered (f ∷ []) in
+    omega (arith, l, count)) in
     let then_met : HasMet new (offered ++ f ∷ []) = meets offered stands.has_met in
-    let current : Some (record { version = version; program = running old.current version program }) ≡ new.current = sym (then_met.current_is ∙ current_after old offered version value program frame stands.has_met.current_is) in
+    let current : Some (record { version = version; program = running old.current version program }) ≡ new.current =
+    sym (then_met.current_is ∙ current_after old offered version value program frame stands.has_met.current_is) in
     subst (λ k. Stands new (met_after met version k program) (offered ++ f ∷ [])) (sym same) (record {
       has_met = then_met;
       known = known_more old.current met offered frame version value old.offered program count last ran stands.known;
-      last = subst (λ c. IsLast c (length (offered ++ f ∷ [])) (met_after met version old.offered program)) current (subst (λ k. IsLast (Some (record { version = version; program = running old.current version program })) k (met_after met version old.offered program)) n (last_more old.current old.offered met version program last));
+      last = subst (λ c. IsLast c (length (offered ++ f ∷ [])) (met_after met version old.offered program)) current
+          (subst (λ k. IsLast (Some (record { version = version; program = running old.current version program })) k
+          (met_after met version old.offered program)) n (last_more old.current old.offered met version program last));
     })
 
 -- ---- what it sent
@@ -71,20 +80,23 @@ pieces_then : (old new : LaneState) (offered : List OfferedFrame) (f : OfferedFr
 pieces_then old new offered f sent given met settings is makes =
     ap (λ ps. ps ++ given) is ∙ sym (makes offered met) ∙ ap (λ s. pieces_so_far s (offered ++ f ∷ [])) (sym settings)
 
-module _ (old new : LaneState) (met met_then : List VersionMet) (frame : FrameData) (sent sent_then given : List Piece) (o : Offers old new met met_then frame (pieces_data given)) where
+module _ (old new : LaneState) (met met_then : List VersionMet) (frame : FrameData) (sent sent_then given : List Piece)
+    (o : Offers old new met met_then frame (pieces_data given)) where
   abbrev then_is : OfferedFrame
   then_is = offered_now old o.version o.program frame o.value
 
   then_stands : (before : List OfferedFrame) → Stands old met before → Stands new met_then (before ++ then_is ∷ [])
   then_stands before stands =
-      subst (λ ms. Stands new ms (before ++ then_is ∷ [])) (sym o.grown) (stands_more old new met before o.version o.value old.offered o.program frame stands refl o.ran o.meets)
+      subst (λ ms. Stands new ms (before ++ then_is ∷ [])) (sym o.grown)
+      (stands_more old new met before o.version o.value old.offered o.program frame stands refl o.ran o.meets)
 
   pub takes_whole : sent_then ≡ sent ++ given → TakesOne old new met met_then (pieces_data sent) (pieces_data sent_then) frame (λ some all. some ≡ all)
   takes_whole went = λ before stands is. (
     then_is,
     refl,
     then_stands before stands,
-    ap (λ ps. pieces_data ps) went ∙ map-append piece_data sent given ∙ pieces_then old new before then_is (pieces_data sent) (pieces_data given) stands.has_met o.settings is o.makes,
+    ap (λ ps. pieces_data ps) went ∙ map-append piece_data sent given
+        ∙ pieces_then old new before then_is (pieces_data sent) (pieces_data given) stands.has_met o.settings is o.makes,
   )
 
   pub takes_part : BeginsList sent_then (sent ++ given) → TakesOne old new met met_then (pieces_data sent) (pieces_data sent_then) frame BeginsList
@@ -119,7 +131,8 @@ known_offers old new met frame version value packet given last same ran meets ma
 }
 
 -- a frame of a version that was drawn with its program
-pub later_offers : (old new : LaneState) (met met_then : List VersionMet) (frame : FrameData) (version number value : ℕ) (program : List Insn) (given : List Piece)
+pub later_offers : (old new : LaneState) (met met_then : List VersionMet) (frame : FrameData) (version number value : ℕ) (program : List Insn)
+    (given : List Piece)
     → met_then ≡ met_after met version number program → number ≡ old.offered
     → ((steps : ℕ) × Runs (running old.current version program) (view frame) steps value)
     → Meets old new (offered_now old version program frame value)

@@ -60,7 +60,8 @@ module _ {S : Type 0} (left : S → Option Left) (failures : S → ℕ) (ended_a
   of_spec : (job : Job S) (r : ChannelReport S) (c : RecordedChannel) → IsReport left failures ended_as job r c → HasChanged job r → IsOfSpec (core_spec job) c
   of_spec job r c report changed =
       let first : slice_get (programs_in c.history) 0 ≡ Some (arc_value job.program) =
-      ap (λ h. slice_get (programs_in h) 0) report.history_is ∙ (ap (λ ps. slice_get ps 0) changed.programs_are ∙ first_taken MAX_VERSIONS (arc_value job.program) (programs_given (given_for job.spec.channel changes)) (omega arith)) in
+      ap (λ h. slice_get (programs_in h) 0) report.history_is ∙ (ap (λ ps. slice_get ps 0) changed.programs_are
+      ∙ first_taken MAX_VERSIONS (arc_value job.program) (programs_given (given_for job.spec.channel changes)) (omega arith)) in
       record {
         settings_are = report.settings_are;
         program_is = first;
@@ -69,7 +70,8 @@ module _ {S : Type 0} (left : S → Option Left) (failures : S → ℕ) (ended_a
         few = report.few;
       }
 
-  of_specs : (jobs : List (Job S)) (rs : List (ChannelReport S)) (cs : List RecordedChannel) → AreReports left failures ended_as jobs rs cs → AllZip HasChanged jobs rs → AllZip IsOfSpec (core_specs jobs) cs
+  of_specs : (jobs : List (Job S)) (rs : List (ChannelReport S)) (cs : List RecordedChannel) → AreReports left failures ended_as jobs rs cs
+      → AllZip HasChanged jobs rs → AllZip IsOfSpec (core_specs jobs) cs
   of_specs [] [] [] reports changed = tt
   of_specs [] [] (c ∷ cs) reports changed = absurd reports
   of_specs [] (r ∷ rs) cs reports changed = absurd reports
@@ -79,14 +81,17 @@ module _ {S : Type 0} (left : S → Option Left) (failures : S → ℕ) (ended_a
 
 -- ---- the recording
 
-module _ {S C W : Type 0} (left : S → Option Left) (failures : S → ℕ) (ended_as : S → Option SourceEnding) (contents : W → Option (List ℕ)) (given : C → List Given) (answered : C → List Answered) (ended : C → Bool)
+module _ {S C W : Type 0} (left : S → Option Left) (failures : S → ℕ) (ended_as : S → Option SourceEnding) (contents : W → Option (List ℕ)) (given : C
+    → List Given) (answered : C → List Answered) (ended : C → Bool)
     (law : RecordingIsRun) (jobs : List (Job S)) (are : AreJobs jobs) (version ring : ℕ) (some : 1 ≤ ring) (first : Option (List ℕ)) (before : C) where
-  one_run : (held : Option (List ℕ)) (report : Report S) (control : C) → IsRecorded left failures ended_as jobs version first held report → IsControlled given answered ended before control jobs report.channels.items
+  one_run : (held : Option (List ℕ)) (report : Report S) (control : C) → IsRecorded left failures ended_as jobs version first held report
+      → IsControlled given answered ended before control jobs report.channels.items
       → IsRecordedRun left failures ended_as jobs version ring first held report
   one_run held report control recorded controlled = record {
     recorded = recorded;
     run = law ring (core_specs jobs) recorded.channels recorded.recording.0 (omega (arith, some)) (specs_of_jobs jobs are)
-        (of_specs left failures ended_as controlled.changes controlled.answers jobs report.channels.items recorded.channels recorded.reports_are controlled.changed)
+        (of_specs left failures ended_as controlled.changes controlled.answers jobs report.channels.items recorded.channels recorded.reports_are
+        controlled.changed)
         recorded.recording.2;
   }
 

@@ -2,8 +2,8 @@
 use Rattle.std.specs.Prelude.{◌≡◌, List, [], length, map, All, ℕ, Option, ◌≤◌, Bool, false, ◌∷◌, ◌++◌, Contains, Vec, vec_len, vec_capacity}
 use Rattle.rtrb.specs.Ring.{received, sent}
 use Rattle.rec_run.specs.declared.job.Job.{Job}
-use Rattle.rec_run.specs.declared.writer.line.Line.{Line}
-use Rattle.rec_run.specs.declared.threads.prepared.Prepared.{Prepared}
+use Rattle.rec_run.specs.declared.writer.line.WriterLine.{WriterLine}
+use Rattle.rec_run.specs.declared.threads.prepared.PreparedChannel.{PreparedChannel}
 use Rattle.std.specs.List.{filter, AllZip}
 use Rattle.eth_frame.specs.Source.{Left}
 use Rattle.eth_frame.specs.declared.source.SourceEnding.{SourceEnding}
@@ -24,30 +24,30 @@ use Rattle.rec_run.specs.Control.{Given, Answered, MayBeAsked}
 use Rattle.rec_run.specs.Writer.{bytes_of}
 use Rattle.rec_run.specs.Jobs.{channels_of_jobs}
 use Rattle.rec_run.specs.declared.control.change.Logged.{Logged}
-use Rattle.rec_run.specs.declared.threads.Outcome.{Outcome}
+use Rattle.rec_run.specs.declared.threads.ThreadsOutcome.{ThreadsOutcome}
 use Rattle.rec_run.specs.declared.writer.tape.Tape.{Tape}
 use Rattle.rec_run.specs.declared.writer.Wrote.{Wrote}
 use Rattle.rec_run.specs.declared.writer.Wrote.TheVariants.{Nothing, Piece, Failed, Link}
 
 module _ {S : Type 0} where
-  abbrev pub job_in : Prepared S → Job S
+  abbrev pub job_in : PreparedChannel S → Job S
   job_in p = p.job
 
-  abbrev pub jobs_in : List (Prepared S) → List (Job S)
+  abbrev pub jobs_in : List (PreparedChannel S) → List (Job S)
   jobs_in ps = map job_in ps
 
   -- the job that a worker got
-  abbrev pub job_at : Line S → Job S
+  abbrev pub job_at : WriterLine S → Job S
   job_at l = l.handle.promise.job.value
 
-  abbrev pub jobs_of : List (Line S) → List (Job S)
+  abbrev pub jobs_of : List (WriterLine S) → List (Job S)
   jobs_of ls = map job_at ls
 
   -- nothing was taken from the ring, and no buffer went back, but those of the start
-  abbrev pub IsUnread : Line S → Type 0
+  abbrev pub IsUnread : WriterLine S → Type 0
   IsUnread l = (received l.pieces ≡ []) × (length (sent l.returns) ≡ l.buffers)
 
-  abbrev pub AreUnread : List (Line S) → Type 0
+  abbrev pub AreUnread : List (WriterLine S) → Type 0
   AreUnread ls = All IsUnread ls
 
 -- ---- once a worker has ended
@@ -82,8 +82,8 @@ module _ {S : Type 0}
 module _ {S W : Type 0} where
   -- all that the threads need was made, and nothing is written
   pub record IsPrepared
-      (slots : List SharedSlot) (prepared : Vec (Prepared S) Global)
-      (room : Vec (Line S) Global × Vec (Joined S) Global) (tape : Tape W) : Type 0 where
+      (slots : List SharedSlot) (prepared : Vec (PreparedChannel S) Global)
+      (room : Vec (WriterLine S) Global × Vec (Joined S) Global) (tape : Tape W) : Type 0 where
     pub slots_are : length slots ≡ vec_len prepared
     pub no_lines : room.0.items ≡ []
     pub lines_fit : vec_len prepared ≤ vec_capacity room.0
@@ -142,7 +142,7 @@ module _ {S C W : Type 0}
     (left : S → Option Left) (failures : S → ℕ) (ended_as : S → Option SourceEnding) where
   -- since the output held `first`, this was written of the workers' pieces
   abbrev pub IsOutcome :
-      Option (List ℕ) → Tape W → List (Job S) → Outcome S C W → Type 0
+      Option (List ℕ) → Tape W → List (Job S) → ThreadsOutcome S C W → Type 0
   IsOutcome first tape jobs o =
       HasWritten first [] [] tape.writer
       → (o.tape.writer.version ≡ tape.writer.version)

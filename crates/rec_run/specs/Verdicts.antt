@@ -12,7 +12,7 @@ use Rattle.rec_run.specs.Reports.{Tells}
 use Rattle.rec_run.specs.declared.control.change.Logged.{Logged}
 use Rattle.rec_run.specs.declared.job.Job.{Job}
 use Rattle.rec_run.specs.declared.threads.joins.Joined.{Joined}
-use Rattle.rec_run.specs.declared.threads.Outcome.{Outcome}
+use Rattle.rec_run.specs.declared.threads.ThreadsOutcome.{ThreadsOutcome}
 use Rattle.rec_run.specs.declared.report.ChannelReport.{ChannelReport}
 use Rattle.rec_run.specs.declared.report.Done.{Done}
 use Rattle.rec_run.specs.declared.report.Report.{Report}
@@ -35,7 +35,7 @@ module _ {S C W : Type 0}
   CutsShort jobs version first History = Unit {0}
 
   -- whatever the jobs were, in range, and whatever the output held before
-  abbrev pub Concludes : Outcome S C W → Done S C W → Type 0
+  abbrev pub Concludes : ThreadsOutcome S C W → Done S C W → Type 0
   Concludes o done =
       (jobs : List (Job S)) (first : Option (List ℕ))
       → AreInRange jobs o.tape.writer.version
@@ -43,7 +43,7 @@ module _ {S C W : Type 0}
       → IsRecorded left failures ended_as jobs o.tape.writer.version first (contents done.out)
       done.report
 
-  abbrev pub ConcludesCut : Outcome S C W → RunFault S C W → Type 0
+  abbrev pub ConcludesCut : ThreadsOutcome S C W → RunFault S C W → Type 0
   ConcludesCut o fault =
       (jobs : List (Job S)) (first : Option (List ℕ))
       → AreInRange jobs o.tape.writer.version
@@ -53,7 +53,7 @@ module _ {S C W : Type 0}
 module _ {S C W : Type 0}
     (left : S → Option Left) (failures : S → ℕ) (ended_as : S → Option SourceEnding)
     (given : C → List Given) (answered : C → List Answered) (ended : C → Bool) where
-  abbrev pub ConcludesControl : Outcome S C W → List ℕ → Done S C W → Type 0
+  abbrev pub ConcludesControl : ThreadsOutcome S C W → List ℕ → Done S C W → Type 0
   ConcludesControl o channels done =
       (jobs : List (Job S)) (first : Option (List ℕ)) (before : C)
       → WroteIn left failures ended_as first o.wrote jobs o.joined.items o.tape.writer o.tape.bytes

@@ -14,7 +14,7 @@ use Rattle.rec_writer.specs.Writers.{WriterState, HasWritten, IsCutPiece, PutsWh
 use Rattle.rec_writer.specs.declared.fault.WriteFault.{WriteFault}
 use Rattle.rec_writer.specs.declared.fault.WriteFault.TheVariants.{Output}
 use Rattle.rec_run.specs.declared.worker.thread.WorkerDone.{WorkerDone}
-use Rattle.rec_run.specs.declared.writer.line.Line.{Line}
+use Rattle.rec_run.specs.declared.writer.line.WriterLine.{WriterLine}
 use Rattle.rec_run.specs.declared.worker.thread.Works.{Works}
 use Rattle.rec_run.specs.declared.writer.Wrote.{Wrote}
 use Rattle.rec_run.specs.declared.writer.Wrote.TheVariants.{Nothing, Piece as PieceWent, Failed, Link}
@@ -55,42 +55,42 @@ IsGood (Failed fault) = ⊥
 IsGood Link = ⊥
 
 module _ {S : Type 0} where
-  abbrev pub channel_at : Line S → ℕ
+  abbrev pub channel_at : WriterLine S → ℕ
   channel_at l = l.channel
 
-  abbrev pub channels : List (Line S) → List ℕ
+  abbrev pub channels : List (WriterLine S) → List ℕ
   channels ls = map channel_at ls
 
-  abbrev pub handle_at : Line S → PromisedHandle (WorkerDone S) (Works S)
+  abbrev pub handle_at : WriterLine S → PromisedHandle (WorkerDone S) (Works S)
   handle_at l = l.handle
 
-  abbrev pub handles : List (Line S) → List (PromisedHandle (WorkerDone S) (Works S))
+  abbrev pub handles : List (WriterLine S) → List (PromisedHandle (WorkerDone S) (Works S))
   handles ls = map handle_at ls
 
   -- no two lines have the same channel, and the writer knows all
-  pub record IsReady (ls : List (Line S)) (writer : WriterState) : Type 0 where
+  pub record IsReady (ls : List (WriterLine S)) (writer : WriterState) : Type 0 where
     pub distinct : AreDistinctChannels (channels ls)
     pub known : numbered_channels writer.numbers ≡ 0 ∷ channels ls
 
   -- those of the pieces that are of the line's channel are what was taken from its ring
-  abbrev pub CameFrom : List PieceData → Line S → Type 0
+  abbrev pub CameFrom : List PieceData → WriterLine S → Type 0
   CameFrom pieces l = filter (is_of l.channel) pieces ≡ pieces_data (received l.pieces)
 
-  abbrev pub AllCame : List PieceData → List (Line S) → Type 0
+  abbrev pub AllCame : List PieceData → List (WriterLine S) → Type 0
   AllCame pieces ls = All (CameFrom pieces) ls
 
   -- as many buffers went back as there were at the start and packets of frames came since
-  abbrev pub GaveBack : Line S → Type 0
+  abbrev pub GaveBack : WriterLine S → Type 0
   GaveBack l = length (sent l.returns) ≡ l.buffers + count_by has_buffer (received l.pieces)
 
   -- the piece is of the channel of some line
-  abbrev pub IsOfLines : List (Line S) → PieceData → Type 0
+  abbrev pub IsOfLines : List (WriterLine S) → PieceData → Type 0
   IsOfLines ls p = Contains (channels ls) (channel_of p)
 
   -- since its output held `first`, the writer wrote what was taken from the rings, and its bytes
   -- are counted
   pub record Writes
-      (first : Option (List ℕ)) (writer : WriterState) (bytes : ℕ) (ls : List (Line S))
+      (first : Option (List ℕ)) (writer : WriterState) (bytes : ℕ) (ls : List (WriterLine S))
       : Type 0 where
     pub pieces : List PieceData
     pub works : writer.failed ≡ false
@@ -103,7 +103,7 @@ module _ {S : Type 0} where
   -- the writer wrote what was taken from the rings as far as the output went: the last piece is cut
   pub record WritesPart
       (first : Option (List ℕ)) (writer : WriterState) (bytes : ℕ) (fault : WriteFault)
-      (ls : List (Line S)) : Type 0 where
+      (ls : List (WriterLine S)) : Type 0 where
     pub pieces : List PieceData
     pub piece : PieceData
     pub cut : List ℕ
@@ -116,7 +116,7 @@ module _ {S : Type 0} where
 
   -- what was done is so
   abbrev pub WroteSo :
-      Wrote → Option (List ℕ) → WriterState → ℕ → List (Line S) → Type 0
+      Wrote → Option (List ℕ) → WriterState → ℕ → List (WriterLine S) → Type 0
   WroteSo Nothing first writer bytes ls = Writes first writer bytes ls
   WroteSo PieceWent first writer bytes ls = Writes first writer bytes ls
   WroteSo (Failed fault) first writer bytes ls = WritesPart first writer bytes fault ls
@@ -125,12 +125,12 @@ module _ {S : Type 0} where
   -- ---- one piece of one line
 
   -- this piece was taken from the line's ring
-  pub record TakesPiece (old new : Line S) (p : Piece) : Type 0 where
+  pub record TakesPiece (old new : WriterLine S) (p : Piece) : Type 0 where
     pub channel_is : channel_of (piece_data p) ≡ old.channel
     pub received_is : received new.pieces ≡ received old.pieces ++ p ∷ []
     pub buffers_same : new.buffers ≡ old.buffers
 
-  pub record WritesOne (old new : Line S) (writer after : WriterState) (bytes bytes_after : ℕ)
+  pub record WritesOne (old new : WriterLine S) (writer after : WriterState) (bytes bytes_after : ℕ)
       : Type 0 where
     pub p : Piece
     pub takes : TakesPiece old new p
@@ -138,20 +138,20 @@ module _ {S : Type 0} where
     pub counts : CountsPacket bytes bytes_after (piece_data p)
     pub gave : length (sent new.returns) ≡ length (sent old.returns) + buffers_in p
 
-  pub record FailsAtOne (old new : Line S) (writer after : WriterState) (fault : WriteFault)
+  pub record FailsAtOne (old new : WriterLine S) (writer after : WriterState) (fault : WriteFault)
       : Type 0 where
     pub p : Piece
     pub takes : TakesPiece old new p
     pub fails : PutFails writer after (piece_data p) fault
 
-  pub record WritesNone (old new : Line S) (writer after : WriterState) : Type 0 where
+  pub record WritesNone (old new : WriterLine S) (writer after : WriterState) : Type 0 where
     pub received_is : received new.pieces ≡ received old.pieces
     pub returns_same : new.returns ≡ old.returns
     pub buffers_same : new.buffers ≡ old.buffers
     pub writer_same : after ≡ writer
 
   abbrev pub WroteOne :
-      Wrote → (old new : Line S) → (writer after : WriterState) → (bytes bytes_after : ℕ) → Type 0
+      Wrote → (old new : WriterLine S) → (writer after : WriterState) → (bytes bytes_after : ℕ) → Type 0
   WroteOne Nothing old new writer after bytes bytes_after =
       WritesNone old new writer after × (bytes_after ≡ bytes)
   WroteOne PieceWent old new writer after bytes bytes_after =

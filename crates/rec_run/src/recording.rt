@@ -17,7 +17,7 @@ use crate::job::{Job, channels_of};
 use crate::report::{ChannelReport, Done, Report, RunFault, report_of};
 use crate::threads::joins::{Joined, are_ended, are_over};
 use crate::threads::setup::{prepare_all, slots_of};
-use crate::threads::{Outcome, run_threads};
+use crate::threads::{ThreadsOutcome, run_threads};
 use crate::writer::Wrote;
 use crate::writer::tape::Tape;
 use eth_frame::FrameSource;
@@ -94,7 +94,7 @@ pub fn record<
 
 /// What the recording comes to, once all threads have ended.
 fn conclude<S: FrameSource + Drop, C: Control + Drop, W: Write + Drop>(
-    outcome: Outcome<S, C, W>,
+    outcome: ThreadsOutcome<S, C, W>,
     slots: Vec<SharedSlot>,
     channels: &[u16],
     reports: Vec<ChannelReport<S>>,
@@ -106,7 +106,7 @@ fn conclude<S: FrameSource + Drop, C: Control + Drop, W: Write + Drop>(
         C.answered C.ended outcome channels.now done) }
     ensures cut { IfErr result (ConcludesCut S.left S.failures S.ending W.contents outcome) }
 {
-    let Outcome {
+    let ThreadsOutcome {
         joined,
         controlled,
         tape,

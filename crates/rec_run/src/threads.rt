@@ -13,11 +13,11 @@ use crate::control::promise::start_control;
 use crate::control::thread::Controlled;
 use crate::stop::set_stop;
 use crate::threads::joins::{Joined, join_all};
-use crate::threads::prepared::Prepared;
+use crate::threads::prepared::PreparedChannel;
 use crate::threads::setup::start_all;
-use crate::writer::line::Line;
+use crate::writer::line::WriterLine;
 use crate::writer::tape::Tape;
-use crate::writer::{Wrote, write_all};
+use crate::writer::{Wrote, write_lines};
 use eth_frame::FrameSource;
 use rec_channel::SharedSlot;
 use std::alloc::AllocError;
@@ -28,7 +28,7 @@ use std::thread::{self, Scope, Threads};
 
 /// What the threads have left.
 #[derive(Drop)]
-pub(crate) struct Outcome<S: Drop, C: Drop, W: Write + Drop> {
+pub(crate) struct ThreadsOutcome<S: Drop, C: Drop, W: Write + Drop> {
     pub(crate) joined: Vec<Joined<S>>,
     pub(crate) controlled: Controlled<C>,
     pub(crate) tape: Tape<W>,
@@ -45,13 +45,13 @@ pub(crate) fn run_threads<
     rt: &R,
     slots: &[SharedSlot],
     stop: &AtomicU64,
-    prepared: Vec<Prepared<S>>,
-    room: (Vec<Line<S>>, Vec<Joined<S>>),
+    prepared: Vec<PreparedChannel<S>>,
+    room: (Vec<WriterLine<S>>, Vec<Joined<S>>),
     control: C,
     channels: &[u16],
     log: Vec<Logged>,
     tape: Tape<W>,
-) -> Result<Outcome<S, C, W>, AllocError>
+) -> Result<ThreadsOutcome<S, C, W>, AllocError>
     requires { IsPrepared slots.now prepared room tape
         × MayStart C.given C.answered C.ended control log }
     ensures joined { IfOk result (λ o. (first : Option (List ℕ))
@@ -62,7 +62,7 @@ pub(crate) fn run_threads<
     thread::scope(
         thread::scope_env(),
         rt,
-        move |scope| -> Result<Outcome<S, C, W>, AllocError>
+        move |scope| -> Result<ThreadsOutcome<S, C, W>, AllocError>
             requires { IsPrepared slots.now prepared room tape
                 × MayStart C.given C.answered C.ended control log }
             ensures joined { IfOk result (λ o. (first : Option (List ℕ))
@@ -91,13 +91,13 @@ fn run_in<
     rt: &'s R,
     slots: &'s [SharedSlot],
     stop: &'s AtomicU64,
-    prepared: Vec<Prepared<S>>,
-    room: (Vec<Line<S>>, Vec<Joined<S>>),
+    prepared: Vec<PreparedChannel<S>>,
+    room: (Vec<WriterLine<S>>, Vec<Joined<S>>),
     control: C,
     channels: &'s [u16],
     log: Vec<Logged>,
     tape: Tape<W>,
-) -> Result<Outcome<S, C, W>, AllocError>
+) -> Result<ThreadsOutcome<S, C, W>, AllocError>
     requires { IsPrepared slots.now prepared room tape
         × MayStart C.given C.answered C.ended control log }
     ensures joined { IfOk result (λ o. (first : Option (List ℕ))
@@ -124,10 +124,10 @@ fn run_in<
         }
     };
     let mut tape = tape;
-    let wrote = write_all(rt, stop, &mut lines, &mut tape);
+    let wrote = write_lines(rt, stop, &mut lines, &mut tape);
     let joined = join_all(rt, lines, joined);
     let controlled = controller.join(rt);
-    Ok(Outcome {
+    Ok(ThreadsOutcome {
         joined,
         controlled,
         tape,

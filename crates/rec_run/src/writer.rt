@@ -2,14 +2,14 @@
 pub(crate) mod line;
 pub(crate) mod tape;
 
-ghost use Rattle.std.specs.Prelude.{ℕ, ◌≡◌, ◌+◌, ◌<◌, List, Option, length, true, vec_len, Contains};
+ghost use Rattle.std.specs.Prelude.{ℕ, ◌≡◌, ◌+◌, List, Option, length, true, vec_len, Contains};
 ghost use Rattle.rtrb.specs.Ring.{sent};
 ghost use Rattle.rec_writer.specs.Numbers.{numbered_channels};
 ghost use Rattle.rec_run.specs.Writer.{buffers_in, channels, handles, IsReady, WroteOne, Writes, WroteSo};
 
 use crate::pause::Pause;
 use crate::stop::{is_stopped, set_stop};
-use crate::writer::line::Line;
+use crate::writer::line::WriterLine;
 use crate::writer::tape::Tape;
 use ch11_packet::Blank;
 use eth_frame::FrameSource;
@@ -33,12 +33,12 @@ pub(crate) enum Wrote {
     Link,
 }
 
-/// Writes what the workers send, until each channel has ended, the output fails, or the recording
-/// stops.
-pub(crate) fn write_all<S: FrameSource + Drop, W: Write + Drop, R: Wait>(
+/// Writes what the workers of these lines send, until each channel has ended, the output fails, or the
+/// recording stops.
+pub(crate) fn write_lines<S: FrameSource + Drop, W: Write + Drop, R: Wait>(
     rt: &R,
     stop: &AtomicU64,
-    lines: &mut Vec<Line<S>>,
+    lines: &mut Vec<WriterLine<S>>,
     tape: &mut Tape<W>,
 ) -> Wrote
     requires { IsReady lines.old.items tape.old.writer }
@@ -49,29 +49,12 @@ pub(crate) fn write_all<S: FrameSource + Drop, W: Write + Drop, R: Wait>(
     ensures wrote { (first : Option (List ℕ)) → Writes first tape.old.writer tape.old.bytes
         lines.old.items → WroteSo result first tape.new.writer tape.new.bytes lines.new.items }
 {
-    write_lines(rt, stop, lines.as_mut_slice(), tape)
-}
-
-/// Writes what the workers of these lines send, to the end.
-fn write_lines<S: FrameSource + Drop, W: Write + Drop, R: Wait>(
-    rt: &R,
-    stop: &AtomicU64,
-    lines: &mut [Line<S>],
-    tape: &mut Tape<W>,
-) -> Wrote
-    requires { IsReady lines.old tape.old.writer }
-    ensures lines { (channels lines.new ≡ channels lines.old)
-        × (handles lines.new ≡ handles lines.old) }
-    ensures version { tape.new.writer.version ≡ tape.old.writer.version }
-    ensures wrote { (first : Option (List ℕ)) → Writes first tape.old.writer tape.old.bytes
-        lines.old → WroteSo result first tape.new.writer tape.new.bytes lines.new }
-{
     let mut pause = Pause::new();
     'rounds: for _ in rt.forever() {
         if !lines.iter().any(|line| line.open_yet) {
             return Wrote::Nothing;
         }
-        match write_round(lines, tape) {
+        match write_round(lines.as_mut_slice(), tape) {
             Wrote::Nothing => {
                 if is_stopped(stop) {
                     return Wrote::Nothing;
@@ -95,7 +78,7 @@ fn write_lines<S: FrameSource + Drop, W: Write + Drop, R: Wait>(
 /// Writes one piece of each ring that has one, so that no channel waits for another one's.
 #[tactic(auto, using(crate::proofs::Writes::good_writes))]
 fn write_round<S: FrameSource + Drop, W: Write + Drop>(
-    lines: &mut [Line<S>],
+    lines: &mut [WriterLine<S>],
     tape: &mut Tape<W>,
 ) -> Wrote
     requires { IsReady lines.old tape.old.writer }
@@ -108,7 +91,7 @@ fn write_round<S: FrameSource + Drop, W: Write + Drop>(
 {
     let mut wrote = Wrote::Nothing;
     'lines: for k in 0..lines.len() {
-        match write_at(lines, k, tape) {
+        match write_one(&mut lines[k], tape) {
             Wrote::Nothing => {}
             Wrote::Piece => wrote = Wrote::Piece,
             Wrote::Failed(fault) => return Wrote::Failed(fault),
@@ -118,27 +101,9 @@ fn write_round<S: FrameSource + Drop, W: Write + Drop>(
     wrote
 }
 
-/// Writes the next piece of a line.
-fn write_at<S: FrameSource + Drop, W: Write + Drop>(
-    lines: &mut [Line<S>],
-    k: usize,
-    tape: &mut Tape<W>,
-) -> Wrote
-    requires within { k < length lines.old }
-    requires ready { IsReady lines.old tape.old.writer }
-    ensures lines { (channels lines.new ≡ channels lines.old)
-        × (handles lines.new ≡ handles lines.old) }
-    ensures numbers { numbered_channels tape.new.writer.numbers ≡ numbered_channels tape.old.writer.numbers }
-    ensures version { tape.new.writer.version ≡ tape.old.writer.version }
-    ensures wrote { (first : Option (List ℕ)) → Writes first tape.old.writer tape.old.bytes
-        lines.old → WroteSo result first tape.new.writer tape.new.bytes lines.new }
-{
-    write_one(&mut lines[k], tape)
-}
-
 /// Writes the next piece of a ring, and gives its buffer back.
 fn write_one<S: FrameSource + Drop, W: Write + Drop>(
-    line: &mut Line<S>,
+    line: &mut WriterLine<S>,
     tape: &mut Tape<W>,
 ) -> Wrote
     requires { Contains (numbered_channels tape.old.writer.numbers) line.old.channel }

@@ -21,7 +21,7 @@ use Rattle.rec_reader.specs.Audits.{is_other}
 use Rattle.rec_reader.specs.Upgrades.{is_old, with_checksum, upgraded, spelling_of, upgrade_bytes}
 use Rattle.rec_theorem.specs.OldRecordings.{IsOldPiece, old_output}
 use Rattle.rec_theorem.proofs.Spelled.{IsWritable, held_by, read_packet}
-use Rattle.rec_theorem.proofs.Readings.{packets_after, they_begin}
+use Rattle.rec_theorem.proofs.PacketReadings.{packets_after, they_begin}
 
 writable : (piece : PieceData) → IsOldPiece piece → IsWritable piece
 writable (OfProgram channel counter version first program) is = is.in_range
@@ -53,20 +53,24 @@ module _ (piece : PieceData) (version sequence at : ℕ) (is : IsOldPiece piece)
 
   spelled_anew : spelling_of (upgraded (read_packet WithoutSum piece version sequence at)) ≡ packet_in WithSum piece version sequence
   spelled_anew =
-      ap spelling_of (cond-true (is_old (read_packet WithoutSum piece version sequence at)) (with_checksum (read_packet WithoutSum piece version sequence at)) (read_packet WithoutSum piece version sequence at) is_old_packet)
+      ap spelling_of (cond-true (is_old (read_packet WithoutSum piece version sequence at)) (with_checksum (read_packet WithoutSum piece version sequence at))
+      (read_packet WithoutSum piece version sequence at) is_old_packet)
       ∙ ap (λ l. header_bytes (header_in WithSum piece version sequence) ++ (l ++ packet_trailer WithSum l)) own_bytes
 
 -- ---- all packets
 
-upgraded_from : (version at : ℕ) (earlier pieces : List PieceData) → All IsOldPiece pieces → upgrade_bytes (packets_after WithoutSum version at earlier pieces) ≡ output_in WithSum version earlier pieces
+upgraded_from : (version at : ℕ) (earlier pieces : List PieceData) → All IsOldPiece pieces
+    → upgrade_bytes (packets_after WithoutSum version at earlier pieces) ≡ output_in WithSum version earlier pieces
 upgraded_from version at earlier [] all = refl
 upgraded_from version at earlier (p ∷ ps) all =
     let sequence = next_sequence earlier (packet_channel p) in
     let next = at + written_len WithoutSum (length (piece_bytes p)) in
-    ap (λ l. l ++ upgrade_bytes (packets_after WithoutSum version next (earlier ++ p ∷ []) ps)) (spelled_anew p version sequence at (All-head IsOldPiece p ps all))
+    ap (λ l. l ++ upgrade_bytes (packets_after WithoutSum version next (earlier ++ p ∷ []) ps))
+    (spelled_anew p version sequence at (All-head IsOldPiece p ps all))
     ∙ ap (λ l. packet_in WithSum p version sequence ++ l) (upgraded_from version next (earlier ++ p ∷ []) ps (All-tail IsOldPiece p ps all))
 
-old_from : (version at : ℕ) (earlier pieces : List PieceData) → All IsOldPiece pieces → All (λ (packet : PacketData). is_old packet ≡ true) (packets_after WithoutSum version at earlier pieces)
+old_from : (version at : ℕ) (earlier pieces : List PieceData) → All IsOldPiece pieces
+    → All (λ (packet : PacketData). is_old packet ≡ true) (packets_after WithoutSum version at earlier pieces)
 old_from version at earlier [] all = All-nil (λ (packet : PacketData). is_old packet ≡ true)
 old_from version at earlier (p ∷ ps) all =
     let sequence = next_sequence earlier (packet_channel p) in
@@ -75,7 +79,8 @@ old_from version at earlier (p ∷ ps) all =
     (is_old_packet p version sequence at (All-head IsOldPiece p ps all))
     (old_from version (at + written_len WithoutSum (length (piece_bytes p))) (earlier ++ p ∷ []) ps (All-tail IsOldPiece p ps all))
 
-pub reads_old : (version : ℕ) (pieces : List PieceData) → version < 2 ^ 8 → All IsOldPiece pieces → Reads (old_output version pieces) (packets_after WithoutSum version 0 [] pieces) None
+pub reads_old : (version : ℕ) (pieces : List PieceData) → version < 2 ^ 8 → All IsOldPiece pieces
+    → Reads (old_output version pieces) (packets_after WithoutSum version 0 [] pieces) None
 reads_old version pieces small all =
     subst (λ bs. Reads bs (packets_after WithoutSum version 0 [] pieces) None) (append-nil (old_output version pieces))
     (record { rest = []; held = they_begin WithoutSum version 0 [] pieces [] small (all_writable pieces all); ends = refl })
@@ -83,19 +88,24 @@ reads_old version pieces small all =
 -- bytes have one reading
 abbrev pub HaveOneReading : Type 0
 HaveOneReading =
-    (bytes : List ℕ) (packets others : List PacketData) (fault other : Option ReadFaultKind) → Reads bytes packets fault → Reads bytes others other → (packets ≡ others) × (fault ≡ other)
+    (bytes : List ℕ) (packets others : List PacketData) (fault other : Option ReadFaultKind) → Reads bytes packets fault → Reads bytes others other
+    → (packets ≡ others) × (fault ≡ other)
 
-they_are : HaveOneReading → (version : ℕ) (pieces : List PieceData) (packets : List PacketData) → version < 2 ^ 8 → All IsOldPiece pieces → Reads (old_output version pieces) packets None
+they_are : HaveOneReading → (version : ℕ) (pieces : List PieceData) (packets : List PacketData) → version < 2 ^ 8 → All IsOldPiece pieces
+    → Reads (old_output version pieces) packets None
     → packets ≡ packets_after WithoutSum version 0 [] pieces
 they_are one version pieces packets small all reads =
     (one (old_output version pieces) packets (packets_after WithoutSum version 0 [] pieces) None None reads (reads_old version pieces small all)).0
 
-pub become_new : HaveOneReading → (version : ℕ) (pieces : List PieceData) (packets : List PacketData) → version < 2 ^ 8 → All IsOldPiece pieces → Reads (old_output version pieces) packets None
+pub become_new : HaveOneReading → (version : ℕ) (pieces : List PieceData) (packets : List PacketData) → version < 2 ^ 8 → All IsOldPiece pieces
+    → Reads (old_output version pieces) packets None
     → upgrade_bytes packets ≡ writer_output version pieces
 become_new one version pieces packets small all reads =
     ap upgrade_bytes (they_are one version pieces packets small all reads) ∙ upgraded_from version 0 [] pieces all
 
-pub each_is_old : HaveOneReading → (version : ℕ) (pieces : List PieceData) (packets : List PacketData) → version < 2 ^ 8 → All IsOldPiece pieces → Reads (old_output version pieces) packets None
+pub each_is_old : HaveOneReading → (version : ℕ) (pieces : List PieceData) (packets : List PacketData) → version < 2 ^ 8 → All IsOldPiece pieces
+    → Reads (old_output version pieces) packets None
     → All (λ (packet : PacketData). is_old packet ≡ true) packets
 each_is_old one version pieces packets small all reads =
-    subst (λ ps. All (λ (packet : PacketData). is_old packet ≡ true) ps) (sym (they_are one version pieces packets small all reads)) (old_from version 0 [] pieces all)
+    subst (λ ps. All (λ (packet : PacketData). is_old packet ≡ true) ps) (sym (they_are one version pieces packets small all reads))
+    (old_from version 0 [] pieces all)

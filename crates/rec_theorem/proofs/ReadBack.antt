@@ -6,16 +6,18 @@ use Rattle.rec_reader.specs.Packets.{PacketData}
 use Rattle.rec_reader.specs.Reading.{Reads}
 use Rattle.rec_theorem.specs.Recordable.{AreRecordable}
 use Rattle.rec_theorem.specs.Found.{ReadsBack}
-use Rattle.rec_theorem.proofs.Readings.{packets_of, reads_pieces, all_reflect}
+use Rattle.rec_theorem.proofs.PacketReadings.{packets_of, reads_pieces, all_reflect}
 use Rattle.rec_theorem.proofs.Recorded.{writable_pieces, have_accepted, no_others}
 use Rattle.rec_theorem.proofs.Audited.{approved}
 
 -- bytes have one reading
 abbrev pub OneReading : Type 0
-OneReading = (bytes : List ℕ) (packets others : List PacketData) (fault other : Option ReadFaultKind) → Reads bytes packets fault → Reads bytes others other → (packets ≡ others) × (fault ≡ other)
+OneReading = (bytes : List ℕ) (packets others : List PacketData) (fault other : Option ReadFaultKind) → Reads bytes packets fault → Reads bytes others other
+    → (packets ≡ others) × (fault ≡ other)
 
 -- the packets of the pieces are the reading; each fact on it comes from the pieces beside them
-pub read_back : OneReading → (version : ℕ) (channels : List RecordedChannel) (bytes : List ℕ) → version < 2 ^ 8 → AreRecordable channels → IsRecording version channels bytes → ReadsBack channels bytes
+pub read_back : OneReading → (version : ℕ) (channels : List RecordedChannel) (bytes : List ℕ) → version < 2 ^ 8 → AreRecordable channels
+    → IsRecording version channels bytes → ReadsBack channels bytes
 read_back one version channels bytes small are recording =
     let pieces = recording.0 in
     let of : AreOfChannels channels pieces = recording.2 in

@@ -8,15 +8,16 @@ use Rattle.eth_frame.specs.Frame.{FrameData}
 use Rattle.ch11_packet.specs.FramesRead.{body_frame}
 use Rattle.rec_lane.specs.Offered.{OfferedFrame, accepted}
 use Rattle.rec_lane.specs.Packets.{packets}
-use Rattle.rec_lane.specs.Pieces.{LaneSettings, PieceData, channel_of, piece_frames, groups, program_piece, data_piece, group_pieces, end_piece, channel_pieces, ArePieces}
+use Rattle.rec_lane.specs.Pieces.{LaneSettings, PieceData, channel_of, piece_frames, groups, program_piece}
+use Rattle.rec_lane.specs.Pieces.{data_piece, group_pieces, end_piece, channel_pieces, ArePieces}
 use Rattle.rec_lane.proofs.Contents.{pieces_frames}
 use Rattle.rec_writer.specs.Recording.{RecordedChannel, AreOfChannels, is_of}
 use Rattle.rec_reader.specs.Packets.{PacketData}
 use Rattle.rec_theorem.specs.Recordable.{IsRecordable, AreRecordable}
 use Rattle.rec_theorem.specs.Found.{read_frames, HasAccepted, HasNoOthers}
-use Rattle.rec_theorem.proofs.Lists.{All_with}
+use Rattle.rec_theorem.proofs.JoinedLists.{All_with}
 use Rattle.rec_theorem.proofs.Spelled.{IsWritable, frames_read}
-use Rattle.rec_theorem.proofs.Readings.{AllReflect, frames_reflected}
+use Rattle.rec_theorem.proofs.PacketReadings.{AllReflect, frames_reflected}
 use Rattle.rec_theorem.proofs.Writable.{all_writable}
 
 -- ---- the pieces of a recording are writable
@@ -43,7 +44,8 @@ module _ (P : PieceData → Type 0) (channels : List RecordedChannel) (pieces : 
       → All (λ (piece : PieceData). Any (λ (c : RecordedChannel). c.settings.channel ≡ channel_of piece) channels) pieces → All P pieces
   All_pieces each named = λ k d within.
       let piece = get_or pieces k d in
-      let c = found_among (λ (x : RecordedChannel). All P (filter (is_of x.settings.channel) pieces)) (λ (x : RecordedChannel). x.settings.channel ≡ channel_of piece) channels each (named k d within) in
+      let c = found_among (λ (x : RecordedChannel). All P (filter (is_of x.settings.channel) pieces))
+      (λ (x : RecordedChannel). x.settings.channel ≡ channel_of piece) channels each (named k d within) in
       All_passing (is_of c.0.settings.channel) P pieces c.1 k d within (eq-eqb (channel_of piece) c.0.settings.channel (sym c.2))
 
 -- all pieces of a channel that can be recorded are writable
@@ -51,10 +53,12 @@ pub writable_channel : (c : RecordedChannel) (pieces : List PieceData) → IsRec
 writable_channel c pieces is are = subst (All IsWritable) are.3 (all_writable c are.0 is are.1 are.2)
 
 -- each piece is of some channel, and stands among its pieces
-pub writable_pieces : (channels : List RecordedChannel) (pieces : List PieceData) → AreRecordable channels → AreOfChannels channels pieces → All IsWritable pieces
+pub writable_pieces : (channels : List RecordedChannel) (pieces : List PieceData) → AreRecordable channels → AreOfChannels channels pieces
+    → All IsWritable pieces
 writable_pieces channels pieces are of =
     All_pieces IsWritable channels pieces
-    (All_with IsRecordable (λ (c : RecordedChannel). ArePieces c.settings c.frames c.history (filter (is_of c.settings.channel) pieces)) (λ (c : RecordedChannel). All IsWritable (filter (is_of c.settings.channel) pieces))
+    (All_with IsRecordable (λ (c : RecordedChannel). ArePieces c.settings c.frames c.history (filter (is_of c.settings.channel) pieces))
+    (λ (c : RecordedChannel). All IsWritable (filter (is_of c.settings.channel) pieces))
     (λ c is pieces_are. writable_channel c (filter (is_of c.settings.channel) pieces) is pieces_are) channels are of.each)
     of.named
 
@@ -79,7 +83,8 @@ groups_read : (s : LaneSettings) (gs : List (List OfferedFrame)) → All (ReadsA
 groups_read s [] = All-nil (ReadsAs s)
 groups_read s (g ∷ gs) =
     All-append (ReadsAs s) (group_pieces s g) (flat_map (group_pieces s) gs)
-    (All-append (ReadsAs s) (program_piece s g) (map (data_piece s) (packets s.limit (accepted g))) (program_reads s g) (packets_read s (packets s.limit (accepted g))))
+    (All-append (ReadsAs s) (program_piece s g) (map (data_piece s) (packets s.limit (accepted g))) (program_reads s g)
+    (packets_read s (packets s.limit (accepted g))))
     (groups_read s gs)
 
 -- and all pieces of a channel
@@ -102,7 +107,8 @@ pub channel_read : (s : LaneSettings) (offered : List OfferedFrame) → flat_map
 channel_read s offered = read_as s (channel_pieces s offered) (pieces_read s offered) ∙ ap (read_frames s) (pieces_frames s offered)
 
 -- packets that reflect the pieces of a recording have the accepted frames of each channel
-has_accepted : (packets : List PacketData) (pieces : List PieceData) (c : RecordedChannel) → AllReflect packets pieces → ArePieces c.settings c.frames c.history (filter (is_of c.settings.channel) pieces) → HasAccepted packets c
+has_accepted : (packets : List PacketData) (pieces : List PieceData) (c : RecordedChannel) → AllReflect packets pieces
+    → ArePieces c.settings c.frames c.history (filter (is_of c.settings.channel) pieces) → HasAccepted packets c
 has_accepted packets pieces c all are = record {
   kept = accepted are.0;
   accepted = (are.0, are.1, are.2, refl);
@@ -110,9 +116,11 @@ has_accepted packets pieces c all are = record {
 }
 
 -- so of each channel
-pub have_accepted : (packets : List PacketData) (pieces : List PieceData) (channels : List RecordedChannel) → AllReflect packets pieces → AreOfChannels channels pieces → All (HasAccepted packets) channels
+pub have_accepted : (packets : List PacketData) (pieces : List PieceData) (channels : List RecordedChannel) → AllReflect packets pieces
+    → AreOfChannels channels pieces → All (HasAccepted packets) channels
 have_accepted packets pieces channels all of =
-    All-weaker (λ (c : RecordedChannel). ArePieces c.settings c.frames c.history (filter (is_of c.settings.channel) pieces)) (HasAccepted packets) (λ c are. has_accepted packets pieces c all are) channels of.each
+    All-weaker (λ (c : RecordedChannel). ArePieces c.settings c.frames c.history (filter (is_of c.settings.channel) pieces)) (HasAccepted packets)
+    (λ c are. has_accepted packets pieces c all are) channels of.each
 
 -- ---- other channels
 
@@ -128,5 +136,6 @@ no_others packets pieces channels all named = λ channel apart.
     frames_reflected channel packets pieces all
     ∙ ap (flat_map frames_read) (filter_none (is_of channel) pieces (λ k d within.
     let piece = get_or pieces k d in
-    let c = found_among (λ (x : RecordedChannel). x.settings.channel ≢ channel) (λ (x : RecordedChannel). x.settings.channel ≡ channel_of piece) channels apart (named k d within) in
+    let c = found_among (λ (x : RecordedChannel). x.settings.channel ≢ channel) (λ (x : RecordedChannel). x.settings.channel ≡ channel_of piece) channels apart
+    (named k d within) in
     ne_eqb (channel_of piece) channel (λ same. c.1 (c.2 ∙ same))))

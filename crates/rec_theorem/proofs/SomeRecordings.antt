@@ -14,12 +14,12 @@ use Rattle.eth_frame.specs.Frame.{FrameData, IsFrame}
 use Rattle.rec_channel.specs.History.{Version, IsHistory}
 use Rattle.rec_channel.specs.declared.limits.TheConstants.{MAX_VERSIONS}
 use Rattle.rec_lane.specs.Pieces.{LaneSettings}
-use Rattle.rec_lane.proofs.Meeting.{some_is}
+use Rattle.rec_lane.proofs.FramesMet.{some_is}
 use Rattle.rec_writer.specs.Encoding.{writer_output}
 use Rattle.rec_writer.specs.Numbers.{AreDistinctChannels}
 use Rattle.rec_writer.specs.Recording.{RecordedChannel, IsRecording}
 use Rattle.rec_core.specs.Openings.{IsFilter}
-use Rattle.rec_core.proofs.Serving.{OfTheirChannel}
+use Rattle.rec_core.proofs.ChannelServing.{OfTheirChannel}
 use Rattle.rec_run.specs.Jobs.{AreLaneSettings}
 use Rattle.rec_theorem.specs.Existence.{channel_ids}
 use Rattle.rec_theorem.specs.Recordable.{IsRecordable, AreRecordable}
@@ -28,7 +28,8 @@ use Rattle.rec_theorem.proofs.SomePieces.{SomeOffered, some_pieces}
 -- ---- recordings
 
 -- the pieces of the channels, one after the other, written
-pub some_recording : SomeOffered → OfTheirChannel → (version : ℕ) (channels : List RecordedChannel) → AreRecordable channels → AreDistinctChannels (channel_ids channels) → (bytes : List ℕ) × IsRecording version channels bytes
+pub some_recording : SomeOffered → OfTheirChannel → (version : ℕ) (channels : List RecordedChannel) → AreRecordable channels
+    → AreDistinctChannels (channel_ids channels) → (bytes : List ℕ) × IsRecording version channels bytes
 some_recording some theirs version channels are distinct =
     let pieces = some_pieces some theirs channels are distinct in
     (writer_output version pieces.0, (pieces.0, refl, pieces.1))
@@ -36,8 +37,10 @@ some_recording some theirs version channels are distinct =
 -- ---- channels
 
 -- a program with mark 0, and versions after it, whose marks rise up to the number of frames
-pub some_channel : (settings : LaneSettings) (frames : List FrameData) (first : List Insn) (later : List Version) → AreLaneSettings settings → All IsFrame frames → length frames < 2 ^ 64 → IsFilter first
-    → All (λ (v : Version). IsFilter v.program) later → AllPairs (λ (v w : Version). v.mark ≤ w.mark) later → All (λ (v : Version). v.mark ≤ length frames) later → length later < MAX_VERSIONS
+pub some_channel : (settings : LaneSettings) (frames : List FrameData) (first : List Insn) (later : List Version) → AreLaneSettings settings
+    → All IsFrame frames → length frames < 2 ^ 64 → IsFilter first
+    → All (λ (v : Version). IsFilter v.program) later → AllPairs (λ (v w : Version). v.mark ≤ w.mark) later
+    → All (λ (v : Version). v.mark ≤ length frames) later → length later < MAX_VERSIONS
     → IsRecordable (record { settings = settings; frames = frames; history = record { program = first; mark = 0 } ∷ later })
 some_channel settings frames first later is framed few filter filters rise past short =
     let v : Version = record { program = first; mark = 0 } in
@@ -47,8 +50,10 @@ some_channel settings frames first later is framed few filter filters rise past 
       few_frames = few;
       history = record {
         some = omega arith;
-        valid = All-cons (λ (w : Version). Valid w.program) v later filter.valid (All-weaker (λ (w : Version). IsFilter w.program) (λ (w : Version). Valid w.program) (λ w f. f.valid) later filters);
-        in_range = All-cons (λ (w : Version). AreInRange w.program) v later filter.in_range (All-weaker (λ (w : Version). IsFilter w.program) (λ (w : Version). AreInRange w.program) (λ w f. f.in_range) later filters);
+        valid = All-cons (λ (w : Version). Valid w.program) v later filter.valid
+            (All-weaker (λ (w : Version). IsFilter w.program) (λ (w : Version). Valid w.program) (λ w f. f.valid) later filters);
+        in_range = All-cons (λ (w : Version). AreInRange w.program) v later filter.in_range
+            (All-weaker (λ (w : Version). IsFilter w.program) (λ (w : Version). AreInRange w.program) (λ w f. f.in_range) later filters);
         first = λ w there. ap (λ (x : Version). x.mark) (sym (some_is v w there));
         rise = AllPairs-cons (λ (x y : Version). x.mark ≤ y.mark) v later (λ k d within. omega arith) rise;
         past = All-cons (λ (w : Version). w.mark ≤ length frames) v later (omega arith) past;

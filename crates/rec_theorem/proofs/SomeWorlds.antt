@@ -16,11 +16,11 @@ use Rattle.rec_core.specs.Ties.{takes_of, moves_from, moves_of, close_of, passes
 use Rattle.rec_core.specs.World.{WorldState, EventData}
 use Rattle.rec_core.specs.World.EventData.{OfTake, OfInstall, OfSend, OfWrite, OfClose}
 use Rattle.rec_core.specs.Written.{RunsFromOpening, AreEnded, recorded_channels}
-use Rattle.rec_core.proofs.Serving.{OfTheirChannel}
+use Rattle.rec_core.proofs.ChannelServing.{OfTheirChannel}
 use Rattle.rec_theorem.specs.Events.{IsEvent}
 use Rattle.rec_theorem.specs.Existence.{channel_ids, first_program, spec_of, specs_of}
 use Rattle.rec_theorem.specs.Recordable.{IsRecordable, AreRecordable}
-use Rattle.rec_theorem.proofs.Lists.{All_front, All_back, All_flat}
+use Rattle.rec_theorem.proofs.JoinedLists.{All_front, All_back, All_flat}
 use Rattle.rec_theorem.proofs.SomePieces.{SomeOffered, some_pieces}
 
 -- a recording is a run
@@ -55,7 +55,8 @@ of_specs (c ∷ cs) are = (of_spec c (All-head IsRecordable c cs are), of_specs 
 
 are_takes : (channel : ℕ) (frames : List FrameData) → All IsFrame frames → All IsEvent (takes_of channel frames)
 are_takes channel [] framed = All-nil IsEvent
-are_takes channel (f ∷ fs) framed = All-cons IsEvent (OfTake channel f) (takes_of channel fs) (All-head IsFrame f fs framed) (are_takes channel fs (All-tail IsFrame f fs framed))
+are_takes channel (f ∷ fs) framed = All-cons IsEvent (OfTake channel f) (takes_of channel fs) (All-head IsFrame f fs framed)
+    (are_takes channel fs (All-tail IsFrame f fs framed))
 
 are_moves : (channel number : ℕ) (frames : List FrameData) (later : List Version) → All IsFrame frames → All IsEvent (moves_from channel number frames later)
 are_moves channel number frames [] framed = are_takes channel frames framed
@@ -63,25 +64,35 @@ are_moves channel number frames (v ∷ vs) framed =
     let n = v.mark - number in
     let parts : All IsFrame (take n frames ++ drop n frames) = subst (All IsFrame) (sym (take-append-drop n frames)) framed in
     let rest = moves_from channel v.mark (drop n frames) vs in
-    All-append IsEvent (takes_of channel (take n frames)) (OfInstall channel v.program ∷ rest) (are_takes channel (take n frames) (All_front IsFrame (take n frames) (drop n frames) parts))
-    (All-cons IsEvent (OfInstall channel v.program) rest tt (are_moves channel v.mark (drop n frames) vs (All_back IsFrame (take n frames) (drop n frames) parts)))
+    All-append IsEvent (takes_of channel (take n frames)) (OfInstall channel v.program ∷ rest)
+    (are_takes channel (take n frames) (All_front IsFrame (take n frames) (drop n frames) parts))
+    (All-cons IsEvent (OfInstall channel v.program) rest tt (are_moves channel v.mark (drop n frames) vs
+    (All_back IsFrame (take n frames) (drop n frames) parts)))
 
 are_passes : (piece : PieceData) → All IsEvent (passes_of piece)
-are_passes piece = All-cons IsEvent (OfSend (channel_of piece)) (OfWrite (channel_of piece) ∷ []) tt (All-cons IsEvent (OfWrite (channel_of piece)) [] tt (All-nil IsEvent))
+are_passes piece = All-cons IsEvent (OfSend (channel_of piece)) (OfWrite (channel_of piece) ∷ []) tt
+    (All-cons IsEvent (OfWrite (channel_of piece)) [] tt (All-nil IsEvent))
 
 are_events : (channels : List RecordedChannel) (pieces : List PieceData) → AreRecordable channels → All IsEvent (events_of channels pieces)
 are_events channels pieces are =
     All-append IsEvent (flat_map moves_of channels) (map close_of channels ++ flat_map passes_of pieces)
-    (All_flat IsEvent moves_of channels (All-weaker IsRecordable (λ (c : RecordedChannel). All IsEvent (moves_of c)) (λ c is. are_moves c.settings.channel 0 c.frames (drop 1 c.history) is.framed) channels are))
+    (All_flat IsEvent moves_of channels (All-weaker IsRecordable (λ (c : RecordedChannel). All IsEvent (moves_of c))
+    (λ c is. are_moves c.settings.channel 0 c.frames (drop 1 c.history) is.framed) channels are))
     (All-append IsEvent (map close_of channels) (flat_map passes_of pieces)
     (All-map IsEvent close_of channels (λ k d within. tt))
     (All_flat IsEvent passes_of pieces (λ k d within. are_passes (get_or pieces k d))))
 
 -- ---- the world
 
-pub some_world : RecordingIsRun → SomeOffered → OfTheirChannel → (ring : ℕ) (channels : List RecordedChannel) → 0 < ring → AreRecordable channels → AreSpecs (specs_of channels)
+pub some_world : RecordingIsRun → SomeOffered → OfTheirChannel → (ring : ℕ) (channels : List RecordedChannel) → 0 < ring → AreRecordable channels
+    → AreSpecs (specs_of channels)
     → (new : WorldState) × (run : RunsFromOpening ring (specs_of channels) new) × All IsEvent run.0 × AreEnded new × (recorded_channels new ≡ channels)
 some_world law some theirs ring channels room are specs =
     let pieces = some_pieces some theirs channels are (subst (λ ids. AreDistinctChannels ids) (same_ids channels) specs.distinct) in
-    let run = law ring (specs_of channels) channels pieces.0 room specs (of_specs channels are) pieces.1 in
-    (run.new, (events_of channels pieces.0, unrefused run.replies, run.are_specs, run.filters, run.run), are_events channels pieces.0 are, run.ended, run.channels_are)
+    let run = law ring (specs_of channels) channels pieces.0 room specs (of_specs channels are) pieces.1 in (
+      run.new,
+      (events_of channels pieces.0, unrefused run.replies, run.are_specs, run.filters, run.run),
+      are_events channels pieces.0 are,
+      run.ended,
+      run.channels_are,
+    )

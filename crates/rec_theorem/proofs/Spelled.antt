@@ -36,8 +36,8 @@ use Rattle.rec_reader.specs.Packets.{PacketData, SpellsPacket}
 use Rattle.rec_reader.specs.ChannelFrames.{packet_frames}
 use Rattle.rec_reader.specs.Channels.{Saying, saying_of}
 use Rattle.rec_reader.specs.Channels.Saying.{OfFrames as SaysFrames, OfProgram as SaysProgram, OfEnd as SaysEnd}
-use Rattle.rec_reader.proofs.Stored.{says_record}
-use Rattle.rec_theorem.proofs.Lists.{nothing_if}
+use Rattle.rec_reader.proofs.StoredPrograms.{says_record}
+use Rattle.rec_theorem.proofs.JoinedLists.{nothing_if}
 
 -- the piece's numbers fit its packet
 abbrev pub IsWritable : PieceData → Type 0
@@ -93,8 +93,10 @@ flags_fit WithoutSum = omega arith
 flags_fit WithSum = omega arith
 
 -- a header of numbers in range, with the packet's length from the data's, is one
-made_header : (profile : Profile) (channel n version sequence kind counter : ℕ) → channel < 2 ^ 16 → written_len profile n < 2 ^ 32 → version < 2 ^ 8 → sequence < 2 ^ 8 → kind < 2 ^ 8 → counter < 2 ^ 48
-    → (kind ≡ ETHERNET_DATA → written_len profile n ≤ MAX_ETHERNET_PACKET_LEN) → IsHeader (header_of channel (written_len profile n) n version sequence (profile_flags profile) kind counter)
+made_header : (profile : Profile) (channel n version sequence kind counter : ℕ) → channel < 2 ^ 16 → written_len profile n < 2 ^ 32 → version < 2 ^ 8
+    → sequence < 2 ^ 8 → kind < 2 ^ 8 → counter < 2 ^ 48
+    → (kind ≡ ETHERNET_DATA → written_len profile n ≤ MAX_ETHERNET_PACKET_LEN)
+    → IsHeader (header_of channel (written_len profile n) n version sequence (profile_flags profile) kind counter)
 made_header profile channel n version sequence kind counter a b c d e f most = record {
   channel = a;
   packet_len = b;
@@ -106,12 +108,15 @@ made_header profile channel n version sequence kind counter a b c d e f most = r
   lengths = record { holds = len_holds profile n; checked = len_checked profile n; aligned = len_aligned profile n; most = most };
 }
 
-record_header : (profile : Profile) (n version sequence counter : ℕ) → n < 2 ^ 31 → version < 2 ^ 8 → sequence < 2 ^ 8 → counter < 2 ^ 48 → IsHeader (header_of 0 (written_len profile n) n version sequence (profile_flags profile) COMPUTER_GENERATED_DATA counter)
+record_header : (profile : Profile) (n version sequence counter : ℕ) → n < 2 ^ 31 → version < 2 ^ 8 → sequence < 2 ^ 8 → counter < 2 ^ 48
+    → IsHeader (header_of 0 (written_len profile n) n version sequence (profile_flags profile) COMPUTER_GENERATED_DATA counter)
 record_header profile n version sequence counter few a b c =
-    made_header profile 0 n version sequence COMPUTER_GENERATED_DATA counter (omega arith) (len_fits profile n few) a b (omega arith) c (λ other. absurd (omega (arith, other)))
+    made_header profile 0 n version sequence COMPUTER_GENERATED_DATA counter (omega arith) (len_fits profile n few) a b (omega arith) c
+    (λ other. absurd (omega (arith, other)))
 
 -- so is that of each writable piece
-is_header : (profile : Profile) (piece : PieceData) (version sequence : ℕ) → IsWritable piece → version < 2 ^ 8 → sequence < 2 ^ 8 → IsHeader (header_in profile piece version sequence)
+is_header : (profile : Profile) (piece : PieceData) (version sequence : ℕ) → IsWritable piece → version < 2 ^ 8 → sequence < 2 ^ 8
+    → IsHeader (header_in profile piece version sequence)
 is_header profile (OfProgram channel counter v first program) version sequence is a b =
     let long = length-program channel v first program in
     let few = is.0.few in
@@ -120,10 +125,12 @@ is_header profile (OfFrames channel body) version sequence is a b =
     let long = length-data body.net body.speed body.frames in
     let below : packet_len (length (data_bytes body.net body.speed body.frames)) ≤ MAX_LIMIT = subst (λ n. packet_len n ≤ MAX_LIMIT) (sym long) is.0.fits in
     let most = len_most profile (length (data_bytes body.net body.speed body.frames)) below in
-    made_header profile channel (length (data_bytes body.net body.speed body.frames)) version sequence ETHERNET_DATA (first_counter body.frames) is.1 (omega (arith, most)) a b (omega arith) (first_counter-fits body.frames is.0.in_range) (λ _. most)
+    made_header profile channel (length (data_bytes body.net body.speed body.frames)) version sequence ETHERNET_DATA (first_counter body.frames) is.1
+    (omega (arith, most)) a b (omega arith) (first_counter-fits body.frames is.0.in_range) (λ _. most)
 is_header profile (OfEnd channel counter offered kept) version sequence is a b =
     let long = length-end (record { channel = channel; offered = offered; kept = kept }) in
-    record_header profile (length (end_bytes (record { channel = channel; offered = offered; kept = kept }))) version sequence counter (omega (arith, long)) a b is.1
+    record_header profile (length (end_bytes (record { channel = channel; offered = offered; kept = kept }))) version sequence counter (omega (arith, long)) a
+    b is.1
 
 -- ---- what it holds
 
@@ -133,7 +140,8 @@ plain WithoutSum = record { no_secondary_header = refl; no_secondary_times = ref
 plain WithSum = record { no_secondary_header = refl; no_secondary_times = refl; whole_checksum = refl }
 
 -- the written records are spelled with zeros where anything may stand
-spells_program : (channel version first : ℕ) (program : List Insn) → IsProgramRecord channel version first program → SpellsRecord (ProgramRecord channel version first program) (program_bytes channel version first program)
+spells_program : (channel version first : ℕ) (program : List Insn) → IsProgramRecord channel version first program
+    → SpellsRecord (ProgramRecord channel version first program) (program_bytes channel version first program)
 unfolding program_bytes
 spells_program channel version first program is = (is, 0, 0, refl)
 
@@ -142,7 +150,8 @@ unfolding end_bytes
 spells_end end is = (is, 0, refl)
 
 -- the packet's data are the piece's body, without what stands behind it
-data_are : (profile : Profile) (piece : PieceData) (version sequence : ℕ) → data_in (header_in profile piece version sequence) (piece_bytes piece ++ packet_trailer profile (piece_bytes piece)) ≡ piece_bytes piece
+data_are : (profile : Profile) (piece : PieceData) (version sequence : ℕ)
+    → data_in (header_in profile piece version sequence) (piece_bytes piece ++ packet_trailer profile (piece_bytes piece)) ≡ piece_bytes piece
 data_are profile piece version sequence = take_at (piece_bytes piece) (packet_trailer profile (piece_bytes piece)) (length (piece_bytes piece)) refl
 
 -- the data checksum is right where there is one
@@ -151,19 +160,29 @@ summed WithoutSum body has = absurd (not_checked has)
 summed WithSum body has = written_sum body
 
 -- a piece's body is what its kind says
-has_class : (profile : Profile) (piece : PieceData) (version sequence : ℕ) → IsWritable piece → HasClass (header_in profile piece version sequence) (piece_bytes piece) (held_by piece)
-has_class profile (OfProgram channel counter v first program) version sequence is = ((plain profile, refl, refl), program, spells_program channel v first program is.0, refl)
-has_class profile (OfFrames channel body) version sequence is = ((plain profile, refl), map (body_frame body.net body.speed) body.frames, SpellsBody-written body is.0, length-map body.frames (body_frame body.net body.speed))
-has_class profile (OfEnd channel counter offered kept) version sequence is = ((plain profile, refl, refl), spells_end (record { channel = channel; offered = offered; kept = kept }) is.0)
+has_class : (profile : Profile) (piece : PieceData) (version sequence : ℕ) → IsWritable piece
+    → HasClass (header_in profile piece version sequence) (piece_bytes piece) (held_by piece)
+has_class profile (OfProgram channel counter v first program) version sequence is =
+    ((plain profile, refl, refl), program, spells_program channel v first program is.0, refl)
+has_class profile (OfFrames channel body) version sequence is = (
+  (plain profile, refl),
+  map (body_frame body.net body.speed) body.frames,
+  SpellsBody-written body is.0,
+  length-map body.frames (body_frame body.net body.speed),
+)
+has_class profile (OfEnd channel counter offered kept) version sequence is =
+    ((plain profile, refl, refl), spells_end (record { channel = channel; offered = offered; kept = kept }) is.0)
 
 -- the bytes of a piece's packet spell it
-pub spells_piece : (profile : Profile) (piece : PieceData) (version sequence at : ℕ) → IsWritable piece → version < 2 ^ 8 → sequence < 2 ^ 8 → SpellsPacket (read_packet profile piece version sequence at) (packet_in profile piece version sequence)
+pub spells_piece : (profile : Profile) (piece : PieceData) (version sequence at : ℕ) → IsWritable piece → version < 2 ^ 8 → sequence < 2 ^ 8
+    → SpellsPacket (read_packet profile piece version sequence at) (packet_in profile piece version sequence)
 spells_piece profile piece version sequence at is a b = record {
   is_header = is_header profile piece version sequence is a b;
   whole = refl;
   long = length-packet profile (header_in profile piece version sequence) (piece_bytes piece);
   holds = record {
-    class = subst (λ l. HasClass (header_in profile piece version sequence) l (held_by piece)) (sym (data_are profile piece version sequence)) (has_class profile piece version sequence is);
+    class = subst (λ l. HasClass (header_in profile piece version sequence) l (held_by piece)) (sym (data_are profile piece version sequence))
+        (has_class profile piece version sequence is);
     summed = λ _ has. summed profile (piece_bytes piece) has;
   };
 }
@@ -188,17 +207,21 @@ pub record Reflects (packet : PacketData) (piece : PieceData) : Type 0 where
 
 -- the body of a packet of frames says these frames
 frames_said : (profile : Profile) (channel : ℕ) (body : EthernetBody) (version sequence : ℕ) → IsEthernetBody body
-    → said_frames (data_in (header_in profile (OfFrames channel body) version sequence) (piece_bytes (OfFrames channel body) ++ packet_trailer profile (piece_bytes (OfFrames channel body)))) ≡ map (body_frame body.net body.speed) body.frames
+    → said_frames (data_in (header_in profile (OfFrames channel body) version sequence)
+    (piece_bytes (OfFrames channel body) ++ packet_trailer profile (piece_bytes (OfFrames channel body))))
+    ≡ map (body_frame body.net body.speed) body.frames
 frames_said profile channel body version sequence is =
     ap said_frames (data_are profile (OfFrames channel body) version sequence)
     ∙ said_by_body (map (body_frame body.net body.speed) body.frames) (data_bytes body.net body.speed body.frames) (SpellsBody-written body is)
 
 -- each kind of piece is reflected by its packet
-pub reflects : (profile : Profile) (piece : PieceData) (version sequence at : ℕ) → IsWritable piece → Reflects (read_packet profile piece version sequence at) piece
+pub reflects : (profile : Profile) (piece : PieceData) (version sequence at : ℕ) → IsWritable piece
+    → Reflects (read_packet profile piece version sequence at) piece
 reflects profile (OfProgram channel counter v first program) version sequence at is = record {
   frames = λ other. sym (nothing_if (0 == other)) ∙ nothing_if (channel == other);
   says = says_record (read_packet profile (OfProgram channel counter v first program) version sequence at) channel v first program refl
-      (subst (SpellsRecord (ProgramRecord channel v first program)) (sym (data_are profile (OfProgram channel counter v first program) version sequence)) (spells_program channel v first program is.0));
+      (subst (SpellsRecord (ProgramRecord channel v first program)) (sym (data_are profile (OfProgram channel counter v first program) version sequence))
+      (spells_program channel v first program is.0));
 }
 reflects profile (OfFrames channel body) version sequence at is = record {
   frames = λ other. ap (λ fs. if channel == other then fs else []) (frames_said profile channel body version sequence is.0);

@@ -23,13 +23,14 @@ use Rattle.rec_core.specs.declared.reply.Reply.TheVariants.{Took, Installed, Sen
 use Rattle.rec_core.specs.declared.fault.CoreFault.{CoreFault}
 use Rattle.rec_core.specs.declared.fault.CoreFault.TheVariants.{NoChannel}
 use Rattle.rec_core.specs.Openings.{SpecData}
-use Rattle.rec_core.specs.World.{ChannelState, WorldState, EventData, ChannelDoes, IsInOrder, WorldStep, WorldRun, opening_channel, opening_world, piece_written, world_after}
+use Rattle.rec_core.specs.World.{ChannelState, WorldState, EventData, ChannelDoes, IsInOrder, WorldStep}
+use Rattle.rec_core.specs.World.{WorldRun, opening_channel, opening_world, piece_written, world_after}
 use Rattle.rec_core.specs.World.EventData.{OfTake, OfInstall, OfSend, OfWrite, OfClose}
 use Rattle.rec_core.specs.Worlds.{CoreState, StandsForWorld}
 use Rattle.rec_core.specs.Written.{RunsFromOpening, recorded_channel, recorded_channels, IsCutShort}
-use Rattle.rec_core.proofs.Lists.{set_cases, set_unseen, map_there, there_map, All_there, All_from_places, Any_there}
-use Rattle.rec_core.proofs.Meeting.{LaterLeave}
-use Rattle.rec_core.proofs.Serving.{OfTheirChannel, BeginAll}
+use Rattle.rec_core.proofs.ListPlaces.{set_cases, set_unseen, map_there, there_map, All_there, All_from_places, Any_there}
+use Rattle.rec_core.proofs.ChannelsInOrder.{LaterLeave}
+use Rattle.rec_core.proofs.ChannelServing.{OfTheirChannel, BeginAll}
 use Rattle.rec_core.proofs.Written.{Named, SoundWorld, ids, reached, held_after}
 use Rattle.rec_run.specs.Recorded.{IsCutOf, BeginsChannel}
 use Rattle.rec_run.specs.Jobs.{AreLaneSettings}
@@ -52,13 +53,22 @@ framed_more fs f all is =
     (All-append IsFrame (frames_of fs) (f.frame ∷ []) all (All-cons IsFrame f.frame [] is (All-nil IsFrame)))
 
 -- what a channel does keeps it in range, by cases on the event
-fit_after : (ring : ℕ) (c : ChannelState) (event : EventData) (reply : Reply) (d : ChannelState) (more : List PieceData) → ChannelDoes ring c event reply d more → IsEvent event → IsFit c → IsFit d
+fit_after : (ring : ℕ) (c : ChannelState) (event : EventData) (reply : Reply) (d : ChannelState) (more : List PieceData)
+    → ChannelDoes ring c event reply d more → IsEvent event → IsFit c → IsFit d
 fit_after ring c (OfTake channel frame) (Took number version value) d more does is fit =
-    subst IsFit (sym does.8) (record { settings = fit.settings; most = fit.most; framed = framed_more c.offered does.0 fit.framed (subst IsFrame (sym does.4) is) })
-fit_after ring c (OfInstall channel program) (Installed version mark) d more does is fit = subst IsFit (sym does.4) (record { settings = fit.settings; most = fit.most; framed = fit.framed })
-fit_after ring c (OfSend channel) (Sent which) d more does is fit = subst IsFit (sym does.4) (record { settings = fit.settings; most = fit.most; framed = fit.framed })
-fit_after ring c (OfWrite channel) (Wrote bytes) d more does is fit = subst IsFit (sym does.4) (record { settings = fit.settings; most = fit.most; framed = fit.framed })
-fit_after ring c (OfClose channel) (HasClosed offered kept) d more does is fit = subst IsFit (sym does.3) (record { settings = fit.settings; most = fit.most; framed = fit.framed })
+    subst IsFit (sym does.8) (record {
+      settings = fit.settings;
+      most = fit.most;
+      framed = framed_more c.offered does.0 fit.framed (subst IsFrame (sym does.4) is);
+    })
+fit_after ring c (OfInstall channel program) (Installed version mark) d more does is fit =
+    subst IsFit (sym does.4) (record { settings = fit.settings; most = fit.most; framed = fit.framed })
+fit_after ring c (OfSend channel) (Sent which) d more does is fit =
+    subst IsFit (sym does.4) (record { settings = fit.settings; most = fit.most; framed = fit.framed })
+fit_after ring c (OfWrite channel) (Wrote bytes) d more does is fit =
+    subst IsFit (sym does.4) (record { settings = fit.settings; most = fit.most; framed = fit.framed })
+fit_after ring c (OfClose channel) (HasClosed offered kept) d more does is fit =
+    subst IsFit (sym does.3) (record { settings = fit.settings; most = fit.most; framed = fit.framed })
 fit_after ring c _ _ d more does is fit = absurd does
 
 -- each channel of the world is in range
@@ -73,25 +83,30 @@ set_fit channels at d all fit = All_from_places IsFit (slice_set channels at d) 
 ])
 
 -- so a step keeps a world in range, and events do
-step_fit : (ring : ℕ) (old : WorldState) (event : EventData) (answer : Result Reply CoreFault) (new : WorldState) → WorldStep ring old event answer new → IsEvent event → FitWorld old → FitWorld new
+step_fit : (ring : ℕ) (old : WorldState) (event : EventData) (answer : Result Reply CoreFault) (new : WorldState) → WorldStep ring old event answer new
+    → IsEvent event → FitWorld old → FitWorld new
 step_fit ring old event (Ok reply) new step is fit =
     subst FitWorld (sym step.6)
-    (set_fit old.channels step.0 step.2 fit (fit_after ring step.1 event reply step.2 step.3 step.5 is (All_there IsFit old.channels step.0 step.1 fit step.4.there)))
+    (set_fit old.channels step.0 step.2 fit (fit_after ring step.1 event reply step.2 step.3 step.5 is
+    (All_there IsFit old.channels step.0 step.1 fit step.4.there)))
 step_fit ring old event (Err NoChannel) new step is fit = subst FitWorld (sym step.1) fit
 step_fit ring old event (Err fault) new step is fit = subst FitWorld (sym step.4) fit
 
-run_fit : (ring : ℕ) (events : List EventData) (answers : List (Result Reply CoreFault)) (old new : WorldState) → WorldRun ring old events answers new → All IsEvent events → FitWorld old → FitWorld new
+run_fit : (ring : ℕ) (events : List EventData) (answers : List (Result Reply CoreFault)) (old new : WorldState) → WorldRun ring old events answers new
+    → All IsEvent events → FitWorld old → FitWorld new
 run_fit ring [] [] old new run are fit = subst FitWorld (sym run) fit
 run_fit ring [] (answer ∷ answers) old new run are fit = absurd run
 run_fit ring (event ∷ events) [] old new run are fit = absurd run
 run_fit ring (event ∷ events) (answer ∷ answers) old new run are fit =
-    run_fit ring events answers run.0 new run.2 (All-tail IsEvent event events are) (step_fit ring old event answer run.0 run.1 (All-head IsEvent event events are) fit)
+    run_fit ring events answers run.0 new run.2 (All-tail IsEvent event events are)
+    (step_fit ring old event answer run.0 run.1 (All-head IsEvent event events are) fit)
 
 -- the opening world is in range
 opening_fit : (specs : List SpecData) → All IsSpec specs → All IsFit (map opening_channel specs)
 opening_fit specs are =
     All-map IsFit opening_channel specs
-    (All-weaker IsSpec (λ (s : SpecData). IsFit (opening_channel s)) (λ s is. record { settings = is.settings; most = is.most; framed = All-nil IsFrame }) specs are)
+    (All-weaker IsSpec (λ (s : SpecData). IsFit (opening_channel s)) (λ s is. record { settings = is.settings; most = is.most; framed = All-nil IsFrame })
+    specs are)
 
 -- a channel in range and in order can be recorded: it has at most as many frames as it may have
 channel_recordable : (c : ChannelState) → IsFit c → IsInOrder c → IsRecordable (recorded_channel c)
@@ -108,7 +123,8 @@ channel_recordable c fit order =
     }
 
 -- the channels of a world to which events led can be recorded
-pub world_recordable : (ring : ℕ) (specs : List SpecData) (new : WorldState) → (run : RunsFromOpening ring specs new) → All IsSpec specs → All IsEvent run.0 → All IsInOrder new.channels → AreRecordable (recorded_channels new)
+pub world_recordable : (ring : ℕ) (specs : List SpecData) (new : WorldState) → (run : RunsFromOpening ring specs new) → All IsSpec specs → All IsEvent run.0
+    → All IsInOrder new.channels → AreRecordable (recorded_channels new)
 world_recordable ring specs new run are events orders =
     let fit = run_fit ring run.0 run.1 (opening_world specs) new run.4 events (opening_fit specs are) in
     All-map IsRecordable recorded_channel new.channels
@@ -118,7 +134,8 @@ world_recordable ring specs new run are events orders =
 -- ---- one more piece
 
 -- an event more
-run_more : (ring : ℕ) (events : List EventData) (answers : List (Result Reply CoreFault)) (old mid new : WorldState) (event : EventData) (answer : Result Reply CoreFault)
+run_more : (ring : ℕ) (events : List EventData) (answers : List (Result Reply CoreFault)) (old mid new : WorldState) (event : EventData)
+    (answer : Result Reply CoreFault)
     → WorldRun ring old events answers mid → WorldStep ring mid event answer new → WorldRun ring old (events ++ event ∷ []) (answers ++ answer ∷ []) new
 run_more ring [] [] old mid new event answer run step = (new, subst (λ w. WorldStep ring w event answer new) run step, refl)
 run_more ring [] (a ∷ answers) old mid new event answer run step = absurd run
@@ -130,7 +147,8 @@ abbrev completed : WorldState → (at : ℕ) → ChannelState → PieceData → 
 completed w at c piece = world_after w at (piece_written c) (piece ∷ [])
 
 -- that world is reached by writing the piece, which stands in its channel's ring
-completes : (ring : ℕ) (specs : List SpecData) (before : List ℕ) (writer : WriterState) (w : WorldState) → RunsFromOpening ring specs w → (s : IsCutShort before writer w) → RunsFromOpening ring specs (completed w s.at s.channel s.piece)
+completes : (ring : ℕ) (specs : List SpecData) (before : List ℕ) (writer : WriterState) (w : WorldState) → RunsFromOpening ring specs w
+    → (s : IsCutShort before writer w) → RunsFromOpening ring specs (completed w s.at s.channel s.piece)
 completes ring specs before writer w run s =
     let channel = s.channel.settings.channel in
     let bytes = written_len WithSum (length (piece_bytes s.piece)) in
@@ -142,18 +160,25 @@ completes ring specs before writer w run s =
       record { there = s.there; named = refl },
       (s.piece, s.next, s.sent, λ version sequence. length-packet WithSum (piece_header s.piece version sequence) (piece_bytes s.piece), refl, refl),
       refl,
-    ) in
-    (run.0 ++ OfWrite channel ∷ [], run.1 ++ Ok (Wrote bytes) ∷ [], run.2, run.3, run_more ring run.0 run.1 (opening_world specs) w (completed w s.at s.channel s.piece) (OfWrite channel) (Ok (Wrote bytes)) run.4 step)
+    ) in (
+      run.0 ++ OfWrite channel ∷ [],
+      run.1 ++ Ok (Wrote bytes) ∷ [],
+      run.2,
+      run.3,
+      run_more ring run.0 run.1 (opening_world specs) w (completed w s.at s.channel s.piece) (OfWrite channel) (Ok (Wrote bytes)) run.4 step,
+    )
 
 -- ---- what was written of the channels
 
 -- each written piece is of one of the channels
-named_recorded : (w : WorldState) → SoundWorld w → All (λ (piece : PieceData). Any (λ (c : RecordedChannel). c.settings.channel ≡ channel_of piece) (recorded_channels w)) w.out
+named_recorded : (w : WorldState) → SoundWorld w → All (λ (piece : PieceData). Any (λ (c : RecordedChannel). c.settings.channel ≡ channel_of piece)
+    (recorded_channels w)) w.out
 named_recorded w s =
     All-weaker (Named (ids w)) (λ (piece : PieceData). Any (λ (c : RecordedChannel). c.settings.channel ≡ channel_of piece) (recorded_channels w))
     (λ piece n.
     let from = map_there (λ (c : ChannelState). c.settings.channel) w.channels n.0 (channel_of piece) n.1 in
-    Any_there (λ (c : RecordedChannel). c.settings.channel ≡ channel_of piece) (recorded_channels w) n.0 (recorded_channel from.0) (there_map recorded_channel w.channels n.0 from.0 from.1) from.2)
+    Any_there (λ (c : RecordedChannel). c.settings.channel ≡ channel_of piece) (recorded_channels w) n.0 (recorded_channel from.0)
+    (there_map recorded_channel w.channels n.0 from.0 from.1) from.2)
     w.out s.named
 
 -- and those of each channel begin its pieces
@@ -165,7 +190,8 @@ begin_recorded w s =
 
 -- what a world has written of its channels, and then perhaps a part of a piece, is a recording that
 -- was cut short
-taken_cut : (version : ℕ) (channels : List RecordedChannel) (w after : WorldState) (begun : List PieceData) (cut : List ℕ) → SoundWorld after → after.out ≡ w.out ++ begun → recorded_channels after ≡ channels → IsCutOf version w.out begun cut
+taken_cut : (version : ℕ) (channels : List RecordedChannel) (w after : WorldState) (begun : List PieceData) (cut : List ℕ) → SoundWorld after
+    → after.out ≡ w.out ++ begun → recorded_channels after ≡ channels → IsCutOf version w.out begun cut
     → IsCutRecording version channels (writer_output version w.out ++ cut)
 taken_cut version channels w after begun cut sound out same is = record {
   pieces = w.out;
@@ -174,13 +200,16 @@ taken_cut version channels w after begun cut sound out same is = record {
   cut_is = is;
   bytes_are = refl;
   named = subst (All (λ (piece : PieceData). Any (λ (c : RecordedChannel). c.settings.channel ≡ channel_of piece) channels)) out
-      (subst (λ cs. All (λ (piece : PieceData). Any (λ (c : RecordedChannel). c.settings.channel ≡ channel_of piece) cs) after.out) same (named_recorded after sound));
+      (subst (λ cs. All (λ (piece : PieceData). Any (λ (c : RecordedChannel). c.settings.channel ≡ channel_of piece) cs) after.out) same
+      (named_recorded after sound));
   begin = subst (λ ps. All (BeginsChannel ps) channels) out (subst (All (BeginsChannel after.out)) same (begin_recorded after sound));
 }
 
-module _ (leave : LaterLeave) (theirs : OfTheirChannel) (begin : BeginAll) (ring : ℕ) (specs : List SpecData) (before : List ℕ) (core : CoreState) (w : WorldState) (run : RunsFromOpening ring specs w) where
+module _ (leave : LaterLeave) (theirs : OfTheirChannel) (begin : BeginAll) (ring : ℕ) (specs : List SpecData) (before : List ℕ) (core : CoreState)
+    (w : WorldState) (run : RunsFromOpening ring specs w) where
   -- where the output failed, one piece was begun
-  failed_cut : (s : IsCutShort before core.writer w) → IsCutRecording core.writer.version (recorded_channels w) (writer_output core.writer.version w.out ++ s.cut)
+  failed_cut : (s : IsCutShort before core.writer w) → IsCutRecording core.writer.version (recorded_channels w)
+      (writer_output core.writer.version w.out ++ s.cut)
   failed_cut s =
       let after = completed w s.at s.channel s.piece in
       taken_cut core.writer.version (recorded_channels w) w after (s.piece ∷ []) s.cut
@@ -189,7 +218,8 @@ module _ (leave : LaterLeave) (theirs : OfTheirChannel) (begin : BeginAll) (ring
 
   -- and where it works, none was
   working_cut : (cut : List ℕ) → cut ≡ [] → IsCutRecording core.writer.version (recorded_channels w) (writer_output core.writer.version w.out ++ cut)
-  working_cut cut none = taken_cut core.writer.version (recorded_channels w) w w [] cut (reached leave theirs begin ring specs w run) (sym (append-nil w.out)) refl none
+  working_cut cut none = taken_cut core.writer.version (recorded_channels w) w w [] cut (reached leave theirs begin ring specs w run) (sym (append-nil w.out))
+      refl none
 
   -- so at any time the output has the beginning of a recording
   pub world_cut : ((core.writer.failed ≡ true) → IsCutShort before core.writer w) → StandsForWorld ring (Some before) core w

@@ -14,15 +14,16 @@ use Rattle.ch11_packet.proofs.Bodies.{few_frames}
 use Rattle.rec_channel.specs.History.{Version, IsHistory}
 use Rattle.rec_lane.specs.Offered.{OfferedFrame, Met, MetFrom, AllMet, frames_of, accepted, is_accepted}
 use Rattle.rec_lane.specs.Packets.{FitsLimit, AreLongestFronts, packets}
-use Rattle.rec_lane.specs.Pieces.{LaneSettings, has_group_version, groups, program_piece, data_piece, group_pieces, last_counter_from, end_piece, channel_pieces}
+use Rattle.rec_lane.specs.Pieces.{LaneSettings, has_group_version, groups, program_piece, data_piece}
+use Rattle.rec_lane.specs.Pieces.{group_pieces, last_counter_from, end_piece, channel_pieces}
 use Rattle.rec_lane.proofs.Contents.{parts_whole}
 use Rattle.rec_lane.proofs.Fronts.{packets_longest}
-use Rattle.rec_core.proofs.Lists.{map_there, All_there}
+use Rattle.rec_core.proofs.ListPlaces.{map_there, All_there}
 use Rattle.rec_writer.specs.Recording.{RecordedChannel}
 use Rattle.rec_run.specs.Jobs.{AreLaneSettings}
 use Rattle.rec_theorem.specs.Recordable.{IsRecordable}
 use Rattle.rec_theorem.proofs.Spelled.{IsWritable}
-use Rattle.rec_theorem.proofs.Lists.{All_parts, All_flat}
+use Rattle.rec_theorem.proofs.JoinedLists.{All_parts, All_flat}
 
 -- ---- what is known of each offered frame
 
@@ -41,7 +42,8 @@ program_of : (history : List Version) (f : OfferedFrame) → Met history f → (
 program_of history f met = map_there (λ (v : Version). v.program) history f.version f.program met.program
 
 -- the version in force is one of the history, and so its program is valid and in range
-one_known : (history : List Version) (count offered : ℕ) (f : OfferedFrame) → IsHistory offered history → Met history f → IsFrame f.frame → f.number < count → IsKnown history count f
+one_known : (history : List Version) (count offered : ℕ) (f : OfferedFrame) → IsHistory offered history → Met history f → IsFrame f.frame → f.number < count
+    → IsKnown history count f
 one_known history count offered f h met framed below =
     let v = program_of history f met in
     record {
@@ -54,7 +56,8 @@ one_known history count offered f h met framed below =
     }
 
 -- so of frames that are numbered on
-all_known_from : (history : List Version) (offered number : ℕ) (fs : List OfferedFrame) → IsHistory offered history → MetFrom history number fs → All IsFrame (frames_of fs) → All (IsKnown history (number + length fs)) fs
+all_known_from : (history : List Version) (offered number : ℕ) (fs : List OfferedFrame) → IsHistory offered history → MetFrom history number fs
+    → All IsFrame (frames_of fs) → All (IsKnown history (number + length fs)) fs
 all_known_from history offered number [] h met framed = All-nil (IsKnown history (number + 0))
 all_known_from history offered number (f ∷ fs) h met framed =
     let is = met.0 in
@@ -64,7 +67,8 @@ all_known_from history offered number (f ∷ fs) h met framed =
     (subst (λ n. All (IsKnown history n) fs) long (all_known_from history offered (number + 1) fs h met.2 (All-tail IsFrame f.frame (frames_of fs) framed)))
 
 -- each frame that was offered to a channel that can be recorded
-pub all_known : (c : RecordedChannel) (offered : List OfferedFrame) → IsRecordable c → AllMet c.history offered → frames_of offered ≡ c.frames → All (IsKnown c.history (length c.frames)) offered
+pub all_known : (c : RecordedChannel) (offered : List OfferedFrame) → IsRecordable c → AllMet c.history offered → frames_of offered ≡ c.frames
+    → All (IsKnown c.history (length c.frames)) offered
 all_known c offered is met same =
     let long : length offered ≡ length c.frames = sym (length-map offered (λ (f : OfferedFrame). f.frame)) ∙ ap length same in
     subst (λ n. All (IsKnown c.history n) offered) (let e : 0 + length offered ≡ length c.frames = omega (arith, long) in e)
@@ -87,7 +91,8 @@ all_pack limit frames [] are = All-nil (Packs limit)
 all_pack limit frames (p ∷ ps) are = All-cons (Packs limit) p ps (are.1.fits, some_long p are.1.some) (all_pack limit are.0 ps are.2)
 
 -- a packet of such frames is writable: at 30 bytes and more for each frame they are few
-writable_packet : (s : LaneSettings) (frames : List FrameData) → AreLaneSettings s → Packs s.limit frames → All IsFrame frames → IsWritable (data_piece s frames)
+writable_packet : (s : LaneSettings) (frames : List FrameData) → AreLaneSettings s → Packs s.limit frames → All IsFrame frames
+    → IsWritable (data_piece s frames)
 writable_packet s frames is packs framed =
     let fits = packs.0 in
     let most = is.most in
@@ -103,7 +108,8 @@ writable_packet s frames is packs framed =
       is.channel_fits,
     )
 
-writable_packets : (s : LaneSettings) (ps : List (List FrameData)) → AreLaneSettings s → All (Packs s.limit) ps → All (λ (p : List FrameData). All IsFrame p) ps → All IsWritable (map (data_piece s) ps)
+writable_packets : (s : LaneSettings) (ps : List (List FrameData)) → AreLaneSettings s → All (Packs s.limit) ps
+    → All (λ (p : List FrameData). All IsFrame p) ps → All IsWritable (map (data_piece s) ps)
 writable_packets s [] is packs framed = All-nil IsWritable
 writable_packets s (p ∷ ps) is packs framed =
     All-cons IsWritable (data_piece s p) (map (data_piece s) ps)
@@ -114,7 +120,8 @@ writable_packets s (p ∷ ps) is packs framed =
 pub accepted_framed : (history : List Version) (count : ℕ) (group : List OfferedFrame) → All (IsKnown history count) group → All IsFrame (accepted group)
 accepted_framed history count group known =
     All-map IsFrame (λ (f : OfferedFrame). f.frame) (filter is_accepted group)
-    (All-filter is_accepted (λ (f : OfferedFrame). IsFrame f.frame) group (All-weaker (IsKnown history count) (λ (f : OfferedFrame). IsFrame f.frame) (λ f is. is.framed) group known))
+    (All-filter is_accepted (λ (f : OfferedFrame). IsFrame f.frame) group
+    (All-weaker (IsKnown history count) (λ (f : OfferedFrame). IsFrame f.frame) (λ f is. is.framed) group known))
 
 -- ---- the pieces of a group, and of a channel
 
@@ -151,13 +158,15 @@ module _ (s : LaneSettings) (history : List Version) (count : ℕ) (is : AreLane
       (All_parts IsFrame ps (subst (All IsFrame) (sym (parts_whole _ (accepted group))) framed)))
 
   -- the last counter is one of a frame, or 0
-  last_counter_fits : (counter : ℕ) (offered : List OfferedFrame) → counter < 2 ^ 48 → All (IsKnown history count) offered → last_counter_from counter offered < 2 ^ 48
+  last_counter_fits : (counter : ℕ) (offered : List OfferedFrame) → counter < 2 ^ 48 → All (IsKnown history count) offered
+      → last_counter_from counter offered < 2 ^ 48
   last_counter_fits counter [] fits known = fits
   last_counter_fits counter (f ∷ fs) fits known =
       last_counter_fits f.frame.counter fs (All-head (IsKnown history count) f fs known).framed.counter (All-tail (IsKnown history count) f fs known)
 
   -- the end is writable
-  writable_end : (offered : List OfferedFrame) → length offered ≤ count → length (accepted offered) ≤ length offered → All (IsKnown history count) offered → IsWritable (end_piece s offered)
+  writable_end : (offered : List OfferedFrame) → length offered ≤ count → length (accepted offered) ≤ length offered → All (IsKnown history count) offered
+      → IsWritable (end_piece s offered)
   writable_end offered long kept known = (
     record {
       named = is.named;
@@ -169,11 +178,13 @@ module _ (s : LaneSettings) (history : List Version) (count : ℕ) (is : AreLane
   )
 
   -- and so are all pieces
-  writable_pieces : (offered : List OfferedFrame) → length offered ≤ count → length (accepted offered) ≤ length offered → All (IsKnown history count) offered → All IsWritable (channel_pieces s offered)
+  writable_pieces : (offered : List OfferedFrame) → length offered ≤ count → length (accepted offered) ≤ length offered → All (IsKnown history count) offered
+      → All IsWritable (channel_pieces s offered)
   writable_pieces offered long kept known =
       All-append IsWritable (flat_map (group_pieces s) (groups offered)) (end_piece s offered ∷ [])
       (All_flat IsWritable (group_pieces s) (groups offered)
-      (All-weaker (λ (g : List OfferedFrame). All (IsKnown history count) g) (λ (g : List OfferedFrame). All IsWritable (group_pieces s g)) writable_group (groups offered)
+      (All-weaker (λ (g : List OfferedFrame). All (IsKnown history count) g) (λ (g : List OfferedFrame). All IsWritable (group_pieces s g)) writable_group
+      (groups offered)
       (All_parts (IsKnown history count) (groups offered) (subst (All (IsKnown history count)) (sym (parts_whole has_group_version offered)) known))))
       (All-cons IsWritable (end_piece s offered) [] (writable_end offered long kept known) (All-nil IsWritable))
 
@@ -182,13 +193,16 @@ pub kept_of : (offered : List OfferedFrame) → length (accepted offered) ≤ le
 kept_of [] = omega arith
 kept_of (f ∷ fs) =
     let others = kept_of fs in
-    elim (is_accepted f) as (λ (b : Bool). length (frames_of (filter is_accepted fs)) ≤ length fs → length (frames_of (if b then f ∷ filter is_accepted fs else filter is_accepted fs)) ≤ length (f ∷ fs)) [
+    elim (is_accepted f) as (λ (b : Bool). length (frames_of (filter is_accepted fs)) ≤ length fs
+    → length (frames_of (if b then f ∷ filter is_accepted fs else filter is_accepted fs)) ≤ length (f ∷ fs)) [
       | true ↦ (λ e. omega (arith, e))
       | false ↦ (λ e. omega (arith, e))
     ] others
 
 -- the pieces of a channel that can be recorded are writable
-pub all_writable : (c : RecordedChannel) (offered : List OfferedFrame) → IsRecordable c → AllMet c.history offered → frames_of offered ≡ c.frames → All IsWritable (channel_pieces c.settings offered)
+pub all_writable : (c : RecordedChannel) (offered : List OfferedFrame) → IsRecordable c → AllMet c.history offered → frames_of offered ≡ c.frames
+    → All IsWritable (channel_pieces c.settings offered)
 all_writable c offered is met same =
     let long : length offered ≡ length c.frames = sym (length-map offered (λ (f : OfferedFrame). f.frame)) ∙ ap length same in
-    writable_pieces c.settings c.history (length c.frames) is.settings is.few_frames is.few_versions offered (omega (arith, long)) (kept_of offered) (all_known c offered is met same)
+    writable_pieces c.settings c.history (length c.frames) is.settings is.few_frames is.few_versions offered (omega (arith, long)) (kept_of offered)
+    (all_known c offered is met same)

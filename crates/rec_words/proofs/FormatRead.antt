@@ -1,7 +1,8 @@
 -- The settings that are read are those of the format, and so are the faults.
 -- idea: the reader goes from key to key and ends at the first fault, so with each key the keys before it are right; the
 -- format says exactly this of the first key that is wrong, and of settings where none is.
-use Rattle.std.proofs.Common.{ℕ, suc, ◌≡◌, ◌≢◌, ◌≤◌, inl, inr, Bool, true, false, true≢false, ◌==◌, List, [], ◌∷◌, ◌++◌, length, All, Option, None, Some, Result, Ok, Err, MatchResult, refl, sym, ap, subst, ◌∙◌, arith, codes, eq-eqb}
+use Rattle.std.proofs.Common.{ℕ, suc, ◌≡◌, ◌≢◌, ◌≤◌, inl, inr, Bool, true, false, true≢false, ◌==◌, List, [], ◌∷◌, ◌++◌, length, All}
+use Rattle.std.proofs.Common.{Option, None, Some, Result, Ok, Err, MatchResult, refl, sym, ap, subst, ◌∙◌, arith, codes, eq-eqb}
 use Rattle.std.specs.Prelude.{nat_le, ◌&&◌, ◌↔◌, if◌then◌else◌, option_map, unwrap_or}
 use Rattle.std.specs.List.{AllZip, list_any}
 use Rattle.std.proofs.lemmas.Bool.{le-leb, leb-true, and_from, and_parts, eqb-true, ne_eqb}
@@ -15,9 +16,14 @@ use Rattle.toml.specs.Parse.{parse_document}
 use Rattle.ch11_packet.specs.declared.limit.TheConstants.{MIN_LIMIT, MAX_LIMIT}
 use Rattle.ch11_packet.specs.declared.frames.word.TheConstants.{MAX_SPEED}
 use Rattle.rec_channel.specs.declared.limits.TheConstants.{MAX_CHANNELS, MAX_RING}
-use Rattle.rec_words.specs.Settings.{Fault, syntax, value, channels, same_channel, ChannelData, SettingsData, top_keys, channel_keys, only, number_in, text_in, required, number_or, channel_in, tables_in, enough, tables_of, channel_tables, channels_in, repeated, distinct, settings_in, settings, most_of_8_bits, most_of_16_bits, most_of_63_bits}
-use Rattle.rec_words.specs.Format.{Key, of_number, of_text, document_format, channel_format, IsWell, IsWrong, HasOnly, HasTableFault, IsChannel, AreTables, ids_of, AreDistinctIds, AreDocumentSettings, AreNoTables, IsOfFirstTable, IsFirstRepeated, RepeatsId, IsDocumentFault, IsFaultOfText, AreSettingsOf}
-use Rattle.rec_words.proofs.KeysRead.{then_says, then_ok, only_says, only_ok, number_required, text_required, number_or_says, number_required_ok, text_required_ok, number_or_ok, well_number, well_text, well_or}
+use Rattle.rec_words.specs.Settings.{Fault, syntax, value, channels, same_channel, ChannelData, SettingsData, top_keys, channel_keys, only}
+use Rattle.rec_words.specs.Settings.{number_in, text_in, required, number_or, channel_in, tables_in, enough, tables_of, channel_tables, channels_in}
+use Rattle.rec_words.specs.Settings.{repeated, distinct, settings_in, settings, most_of_8_bits, most_of_16_bits, most_of_63_bits}
+use Rattle.rec_words.specs.Format.{Key, of_number, of_text, document_format, channel_format, IsWell, IsWrong, HasOnly, HasTableFault}
+use Rattle.rec_words.specs.Format.{IsChannel, AreTables, ids_of, AreDistinctIds, AreDocumentSettings, AreNoTables, IsOfFirstTable}
+use Rattle.rec_words.specs.Format.{IsFirstRepeated, RepeatsId, IsDocumentFault, IsFaultOfText, AreSettingsOf}
+use Rattle.rec_words.proofs.KeysRead.{then_says, then_ok, only_says, only_ok, number_required, text_required, number_or_says}
+use Rattle.rec_words.proofs.KeysRead.{number_required_ok, text_required_ok, number_or_ok, well_number, well_text, well_or}
 
 -- ---- one channel
 
@@ -40,9 +46,11 @@ abbrev max_key : Key
 max_key = record { name = codes "max"; kind = of_number 0 most_of_63_bits; needed = false }
 
 -- a key that is wrong, after others that are well
-wrong_at : (known : List (List ℕ)) (keys : List Key) (m : Members) (before : List Key) (key : Key) (after : List Key) (fault : Fault) → HasOnly known m → keys ≡ before ++ key ∷ after → All (IsWell m) before → IsWrong m key fault
+wrong_at : (known : List (List ℕ)) (keys : List Key) (m : Members) (before : List Key) (key : Key) (after : List Key) (fault : Fault) → HasOnly known m
+    → keys ≡ before ++ key ∷ after → All (IsWell m) before → IsWrong m key fault
     → HasTableFault known keys m fault
-wrong_at known keys m before key after fault has are well wrong = inr (has, record { before = before; key = key; after = after; keys_are = are; well = well; wrong = wrong })
+wrong_at known keys m before key after fault has are well wrong =
+    inr (has, record { before = before; key = key; after = after; keys_are = are; well = well; wrong = wrong })
 
 channel_says : (m : Members) → MatchResult (channel_in m) (IsChannel m) (HasTableFault channel_keys channel_format m)
 channel_says m =
@@ -58,7 +66,8 @@ channel_says m =
     let four = All-push (IsWell m) (id_key ∷ feed_key ∷ filter_key ∷ []) net_key three (well_or 0 0 most_of_8_bits net (codes "net") m n) in
     then_says (IsChannel m) (number_or 0 0 MAX_SPEED (codes "speed") m) _ (number_or_says 0 0 MAX_SPEED (codes "speed") m) (λ speed s.
     let five = All-push (IsWell m) (id_key ∷ feed_key ∷ filter_key ∷ net_key ∷ []) speed_key four (well_or 0 0 MAX_SPEED speed (codes "speed") m s) in
-    then_says (IsChannel m) (number_or most_of_63_bits 0 most_of_63_bits (codes "max") m) _ (number_or_says most_of_63_bits 0 most_of_63_bits (codes "max") m) (λ max x.
+    then_says (IsChannel m) (number_or most_of_63_bits 0 most_of_63_bits (codes "max") m) _ (number_or_says most_of_63_bits 0 most_of_63_bits (codes "max") m)
+    (λ max x.
     record {
       only = has;
       id_is = i.1 ∙ ap (λ y. Some y) i.2.0;
@@ -81,12 +90,14 @@ channel_says m =
 channel_ok : (m : Members) (c : ChannelData) → IsChannel m c → channel_in m ≡ Ok c
 channel_ok m c is =
     then_ok (only channel_keys m) m _ _ (only_ok channel_keys m is.only)
-    (then_ok (required (number_in 1 most_of_16_bits (codes "id")) (codes "id") m) c.id _ _ (number_required_ok 1 most_of_16_bits c.id (codes "id") m is.id_is is.named is.id_fits)
+    (then_ok (required (number_in 1 most_of_16_bits (codes "id")) (codes "id") m) c.id _ _
+    (number_required_ok 1 most_of_16_bits c.id (codes "id") m is.id_is is.named is.id_fits)
     (then_ok (required (text_in (codes "feed")) (codes "feed") m) c.feed _ _ (text_required_ok (codes "feed") c.feed m is.feed_is)
     (then_ok (required (text_in (codes "filter")) (codes "filter") m) c.filter _ _ (text_required_ok (codes "filter") c.filter m is.filter_is)
     (then_ok (number_or 0 0 most_of_8_bits (codes "net") m) c.net _ _ (number_or_ok 0 0 most_of_8_bits c.net (codes "net") m is.net_is)
     (then_ok (number_or 0 0 MAX_SPEED (codes "speed") m) c.speed _ _ (number_or_ok 0 0 MAX_SPEED c.speed (codes "speed") m is.speed_is)
-    (then_ok (number_or most_of_63_bits 0 most_of_63_bits (codes "max") m) c.max _ _ (number_or_ok most_of_63_bits 0 most_of_63_bits c.max (codes "max") m is.max_is) refl))))))
+    (then_ok (number_or most_of_63_bits 0 most_of_63_bits (codes "max") m) c.max _ _
+    (number_or_ok most_of_63_bits 0 most_of_63_bits c.max (codes "max") m is.max_is) refl))))))
 
 -- ---- all channels
 
@@ -128,12 +139,14 @@ enough_by m tables true e are =
 enough_by m tables false e are = inr (inr (
   tables,
   are,
-  λ (low, high). true≢false (sym (and_from (nat_le 1 (length tables)) (nat_le (length tables) MAX_CHANNELS) (le-leb 1 (length tables) low) (le-leb (length tables) MAX_CHANNELS high)) ∙ e),
+  λ (low, high). true≢false (sym (and_from (nat_le 1 (length tables)) (nat_le (length tables) MAX_CHANNELS) (le-leb 1 (length tables) low)
+      (le-leb (length tables) MAX_CHANNELS high)) ∙ e),
   refl,
 ))
 
 items_by : (m : Members) (items : Items) (found : Option (List Members)) → get_member (codes "channel") m ≡ Some (array items) → tables_in items ≡ found
-    → MatchResult (unwrap_or (option_map enough found) (Err (value (codes "channel")))) (λ ts. AreTables m ts × (1 ≤ length ts) × (length ts ≤ MAX_CHANNELS)) (AreNoTables m)
+    → MatchResult (unwrap_or (option_map enough found) (Err (value (codes "channel")))) (λ ts. AreTables m ts × (1 ≤ length ts) × (length ts ≤ MAX_CHANNELS))
+    (AreNoTables m)
 items_by m items None is none = inr (inl (
   array items,
   is,
@@ -169,7 +182,8 @@ tables_ok : (m : Members) (tables : List Members) → AreTables m tables → 1 �
 tables_ok m tables are some few =
     ap (λ found. unwrap_or (option_map tables_of found) (Err channels)) are.1
     ∙ ap (λ found. unwrap_or (option_map enough found) (Err (value (codes "channel")))) are.2
-    ∙ ap (λ b. if b then Ok tables else Err channels) (and_from (nat_le 1 (length tables)) (nat_le (length tables) MAX_CHANNELS) (le-leb 1 (length tables) some) (le-leb (length tables) MAX_CHANNELS few))
+    ∙ ap (λ b. if b then Ok tables else Err channels) (and_from (nat_le 1 (length tables)) (nat_le (length tables) MAX_CHANNELS)
+    (le-leb 1 (length tables) some) (le-leb (length tables) MAX_CHANNELS few))
 
 -- ---- IDs
 
@@ -191,7 +205,8 @@ in_middle P (x ∷ xs) y ys all = in_middle P xs y ys (All-tail P x (xs ++ y ∷
 
 distinct_before : (xs : List ℕ) (id : ℕ) (ys : List ℕ) → AreDistinctIds (xs ++ id ∷ ys) → All (λ x. x ≢ id) xs
 distinct_before [] id ys d = All-nil (λ x. x ≢ id)
-distinct_before (x ∷ xs) id ys d = All-cons (λ y. y ≢ id) x xs (in_middle (λ y. x ≢ y) xs id ys (heads x (xs ++ id ∷ ys) d)) (distinct_before xs id ys (tails x (xs ++ id ∷ ys) d))
+distinct_before (x ∷ xs) id ys d = All-cons (λ y. y ≢ id) x xs (in_middle (λ y. x ≢ y) xs id ys (heads x (xs ++ id ∷ ys) d))
+    (distinct_before xs id ys (tails x (xs ++ id ∷ ys) d))
 
 -- the first repeated ID, if there is one
 abbrev RepeatedSays : List ℕ → Option ℕ → Type 0
@@ -206,7 +221,8 @@ repeated_by earlier id rest true e d later =
     let any = Any-from_list_any (λ before. before == id) earlier e in
     record { before = earlier; after = rest; ids_are = refl; distinct = d; repeats = (any.0, any.1, any.2, any.3, eqb-true any.1 id any.4) }
 repeated_by earlier id rest false e d later =
-    let new : All (λ x. x ≢ id) earlier = λ k x within same. true≢false (sym (list_any_at (λ before. before == id) earlier k x within (eq-eqb _ id same)) ∙ e) in
+    let new : All (λ x. x ≢ id) earlier = λ k x within same. true≢false (sym (list_any_at (λ before. before == id) earlier k x within (eq-eqb _ id same))
+    ∙ e) in
     subst (λ ids. RepeatedSays ids (repeated (earlier ++ id ∷ []) rest)) (append_assoc earlier (id ∷ []) rest) (later (distinct_push earlier id d new))
 
 repeated_say : (earlier rest : List ℕ) → AreDistinctIds earlier → RepeatedSays (earlier ++ rest) (repeated earlier rest)
@@ -225,8 +241,10 @@ distinct_by : (tables : List Members) (all : List ChannelData) (found : Option �
 distinct_by tables all None zip says = (refl, says)
 distinct_by tables all (Some id) zip says = (all, zip, id, says, refl)
 
-distinct_says : (tables : List Members) (all : List ChannelData) → AllZip IsChannel tables all → MatchResult (distinct all) (λ a. (a ≡ all) × AreDistinctIds (ids_of all)) (RepeatsId tables)
-distinct_says tables all zip = distinct_by tables all (repeated [] (ids_of all)) zip (repeated_say [] (ids_of all) (λ i j e before within. absurd (omega (arith, within))))
+distinct_says : (tables : List Members) (all : List ChannelData) → AllZip IsChannel tables all
+    → MatchResult (distinct all) (λ a. (a ≡ all) × AreDistinctIds (ids_of all)) (RepeatsId tables)
+distinct_says tables all zip = distinct_by tables all (repeated [] (ids_of all)) zip
+    (repeated_say [] (ids_of all) (λ i j e before within. absurd (omega (arith, within))))
 
 distinct_all : (all : List ChannelData) → AreDistinctIds (ids_of all) → distinct all ≡ Ok all
 distinct_all all d = ap (λ found. unwrap_or (option_map (λ id. Err (same_channel id)) found) (Ok all)) (repeated_none [] (ids_of all) d)
@@ -246,7 +264,8 @@ document_says : (m : Members) → MatchResult (settings_in m) (AreDocumentSettin
 document_says m =
     let wrong = wrong_at top_keys document_format m in
     then_says (AreDocumentSettings m) (only top_keys m) _ (only_says top_keys m) (λ ms has.
-    then_says (AreDocumentSettings m) (number_or 65536 MIN_LIMIT MAX_LIMIT (codes "limit") m) _ (number_or_says 65536 MIN_LIMIT MAX_LIMIT (codes "limit") m) (λ limit l.
+    then_says (AreDocumentSettings m) (number_or 65536 MIN_LIMIT MAX_LIMIT (codes "limit") m) _ (number_or_says 65536 MIN_LIMIT MAX_LIMIT (codes "limit") m)
+    (λ limit l.
     let one = All-cons (IsWell m) limit_key [] (well_or 65536 MIN_LIMIT MAX_LIMIT limit (codes "limit") m l) (All-nil (IsWell m)) in
     then_says (AreDocumentSettings m) (number_or 64 1 MAX_RING (codes "ring") m) _ (number_or_says 64 1 MAX_RING (codes "ring") m) (λ ring r.
     let two = All-push (IsWell m) (limit_key ∷ []) ring_key one (well_or 64 1 MAX_RING ring (codes "ring") m r) in
@@ -287,11 +306,13 @@ document_ok m s are =
 
 -- ---- the text
 
-text_by : (text : List ℕ) (found : Option Members) → parse_document text ≡ found → MatchResult (unwrap_or (option_map settings_in found) (Err syntax)) (AreSettingsOf text) (IsFaultOfText text)
+text_by : (text : List ℕ) (found : Option Members) → parse_document text ≡ found
+    → MatchResult (unwrap_or (option_map settings_in found) (Err syntax)) (AreSettingsOf text) (IsFaultOfText text)
 text_by text None is = inl (is, refl)
 text_by text (Some m) is = lifted (settings_in m) (document_says m)
   where
-    lifted : (r : Result SettingsData Fault) → MatchResult r (AreDocumentSettings m) (IsDocumentFault m) → MatchResult r (AreSettingsOf text) (IsFaultOfText text)
+    lifted : (r : Result SettingsData Fault) → MatchResult r (AreDocumentSettings m) (IsDocumentFault m)
+        → MatchResult r (AreSettingsOf text) (IsFaultOfText text)
     lifted (Ok s) says = (m, is, says)
     lifted (Err f) says = inr (m, is, says)
 

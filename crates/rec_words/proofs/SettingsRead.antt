@@ -1,5 +1,7 @@
 -- Loops over keys, values and channels; a fault through the steps that follow it.
-use Rattle.std.proofs.Common.{ℕ, ◌≡◌, ◌<◌, ◌≤◌, ◌+◌, Bool, true, true≢false, suc, rules, ◌||◌, ◌==◌, List, [], ◌∷◌, ◌++◌, map, take, drop, length, get_or, refl, sym, ap, ◌∙◌, codes, Option, None, Some, option_map, option_and_then, IsSome, if◌then◌else◌, Result, Ok, Err, String, Global, string_bytes}
+use Rattle.std.proofs.Common.{ℕ, ◌≡◌, ◌<◌, ◌≤◌, ◌+◌, Bool, true, true≢false, suc, rules, ◌||◌, ◌==◌, List, [], ◌∷◌, ◌++◌, map}
+use Rattle.std.proofs.Common.{take, drop, length, get_or, refl, sym, ap, ◌∙◌, codes, Option, None, Some, option_map}
+use Rattle.std.proofs.Common.{option_and_then, IsSome, if◌then◌else◌, Result, Ok, Err, String, Global, string_bytes}
 use Rattle.std.proofs.lemmas.List.{append_assoc, append-nil, drop_all, drop_more, take_more, map-append}
 use Rattle.std.proofs.lemmas.Option.{none-some, cond_some}
 use Rattle.std.specs.List.{list_any}
@@ -12,7 +14,8 @@ use Rattle.rec_channel.specs.declared.limits.TheConstants.{MAX_CHANNELS}
 use Rattle.rec_words.specs.declared.settings.fault.SettingsFault.{SettingsFault}
 use Rattle.rec_words.specs.declared.settings.fault.SettingsFault.TheVariants.{Syntax, Unknown, Missing, Value as BadValue, Channels, SameChannel, Memory}
 use Rattle.rec_words.specs.declared.settings.ChannelSettings.{ChannelSettings}
-use Rattle.rec_words.specs.Settings.{Fault, syntax, unknown, missing, value, channels, same_channel, ChannelData, ◌>>=◌, keys_of, tables_in, channel_tables, enough, channel_in, channels_in, repeated, distinct}
+use Rattle.rec_words.specs.Settings.{Fault, syntax, unknown, missing, value, channels, same_channel, ChannelData, ◌>>=◌, keys_of}
+use Rattle.rec_words.specs.Settings.{tables_in, channel_tables, enough, channel_in, channels_in, repeated, distinct}
 use Rattle.rec_words.specs.SettingsViews.{Reports, channel_data}
 
 -- the keys of a map's entries, as members
@@ -26,7 +29,8 @@ any_of_map p f [] = refl
 any_of_map p f (x ∷ xs) = rw (any_of_map p f xs)
 
 -- a fault of one reading is that of another, which goes on from it
-pub reports_like : {A B : Type 0} (r : Result A Fault) (s : Result B Fault) → ((f : Fault) → r ≡ Err f → s ≡ Err f) → (fault : SettingsFault) → Reports r fault → Reports s fault
+pub reports_like : {A B : Type 0} (r : Result A Fault) (s : Result B Fault) → ((f : Fault) → r ≡ Err f → s ≡ Err f) → (fault : SettingsFault) → Reports r fault
+    → Reports s fault
 reports_like r s same Syntax e = same syntax e
 reports_like r s same (Unknown key) e = same (unknown (string_bytes key)) e
 reports_like r s same (Missing key) e = same (missing key.now) e
@@ -42,7 +46,8 @@ ids cs = map (λ c. c.id) cs
 -- the next ID, which repeats an earlier one or doesn't
 pub repeated_here : (cs : List ChannelSettings) (k : ℕ) (d : ChannelSettings) → k < length cs
     → repeated (ids (take k cs)) (ids (drop k cs))
-    ≡ (if list_any (λ before. before == (get_or cs k d).id) (ids (take k cs)) then Some (get_or cs k d).id else repeated (ids (take (k + 1) cs)) (ids (drop (k + 1) cs)))
+    ≡ (if list_any (λ before. before == (get_or cs k d).id) (ids (take k cs)) then Some (get_or cs k d).id else repeated (ids (take (k + 1) cs))
+    (ids (drop (k + 1) cs)))
 repeated_here cs k d h = rw (drop_more cs k d h, take_more cs k d h, map-append (λ (c : ChannelSettings). c.id) (take k cs) (get_or cs k d ∷ []))
 
 -- the tables of values, by the first value

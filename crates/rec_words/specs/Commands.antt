@@ -3,7 +3,8 @@ use Rattle.std.specs.Prelude.{◌≡◌, ◌≢◌, List, [], ◌∷◌, Option,
 use Rattle.clap.specs.Words.{App, Row, Rule, Text, first_of, new_app, new_rule, with_rule, with_subcommand}
 use Rattle.clap.specs.declared.builder.ArgAction.TheVariants.{Set}
 use Rattle.rec_words.specs.declared.words.Words.{Words}
-use Rattle.rec_words.specs.declared.words.Words.TheVariants.{NoCommand, Asm, Dis, Verify, Run, List as ListOf, Audit, Extract, Upgrade, Record, Simulate, Version}
+use Rattle.rec_words.specs.declared.words.Words.TheVariants.{NoCommand, Asm, Dis, Verify, Run, List as ListOf, Audit}
+use Rattle.rec_words.specs.declared.words.Words.TheVariants.{Extract, Upgrade, Record, Simulate, Version}
 
 -- a word that must be given
 abbrev pub operand_rule : Text → Rule

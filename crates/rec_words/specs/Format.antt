@@ -7,19 +7,20 @@ use Rattle.toml.specs.Parse.{parse_document}
 use Rattle.ch11_packet.specs.declared.limit.TheConstants.{MIN_LIMIT, MAX_LIMIT}
 use Rattle.ch11_packet.specs.declared.frames.word.TheConstants.{MAX_SPEED}
 use Rattle.rec_channel.specs.declared.limits.TheConstants.{MAX_CHANNELS, MAX_RING}
-use Rattle.rec_words.specs.Settings.{Fault, syntax, unknown, missing, value, channels, same_channel, ChannelData, SettingsData, top_keys, channel_keys, keys_of, tables_in, most_of_8_bits, most_of_16_bits, most_of_63_bits}
+use Rattle.rec_words.specs.Settings.{Fault, syntax, unknown, missing, value, channels, same_channel, ChannelData, SettingsData, top_keys}
+use Rattle.rec_words.specs.Settings.{channel_keys, keys_of, tables_in, most_of_8_bits, most_of_16_bits, most_of_63_bits}
 
 -- ---- keys
 
 -- what a key may have: a whole number in a range, or a text
-pub data Kind : Type 0 where
-  of_number : (least most : ℕ) → Kind
-  of_text : Kind
+pub data KeyKind : Type 0 where
+  of_number : (least most : ℕ) → KeyKind
+  of_text : KeyKind
 
 -- a key of a table, what it may have, and whether it must be set
 pub record Key : Type 0 where
   pub name : List ℕ
-  pub kind : Kind
+  pub kind : KeyKind
   pub needed : Bool
 
 -- the keys of the document beside its channels, in the order in which they are judged
@@ -42,7 +43,7 @@ channel_format =
     ∷ []
 
 -- what was found is of this kind
-abbrev pub IsOfKind : Kind → Data → Type 0
+abbrev pub IsOfKind : KeyKind → Data → Type 0
 IsOfKind (of_number least most) found =
     (n : ℕ) × (found ≡ integer (pos n)) × (least ≤ n) × (n ≤ most)
 IsOfKind of_text found = (written : List ℕ) × (found ≡ string written)

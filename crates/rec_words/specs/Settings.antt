@@ -1,5 +1,6 @@
 -- What the settings of a recording are: by the table of a TOML document, or the first fault in it.
-use Rattle.std.specs.Prelude.{ℕ, pos, Bool, ◌&&◌, ◌==◌, nat_le, if◌then◌else◌, List, [], ◌∷◌, ◌++◌, map, length, Option, None, Some, option_map, option_and_then, unwrap_or, Result, Ok, Err, bytes_eq, codes}
+use Rattle.std.specs.Prelude.{ℕ, pos, Bool, ◌&&◌, ◌==◌, nat_le, if◌then◌else◌, List, [], ◌∷◌, ◌++◌, map, length, Option, None}
+use Rattle.std.specs.Prelude.{Some, option_map, option_and_then, unwrap_or, Result, Ok, Err, bytes_eq, codes}
 use Rattle.std.specs.List.{list_any}
 use Rattle.toml.specs.Data.{Data, integer, string, array, Items, no_items, item, Members, no_members, member, as_table, get_member}
 use Rattle.toml.specs.Parse.{parse_document}

@@ -1,3 +1,3 @@
-pub mod Places
+pub mod NumberPlaces
 pub mod Putting
-pub mod Recordings
+pub mod OneChannelRecordings

@@ -1,17 +1,19 @@
 -- What a writer stands for after a packet, and after a part of one.
 -- idea: the next number of a channel ID is the count of its packets, so one packet more is one more there and nothing
 -- elsewhere, since no ID stands twice; the output is what was written before with the packet, or a part of it, behind.
-use Rattle.std.proofs.Common.{inl, inr, Result, Ok, Err, OnOk, IfOk, IfErr, ℕ, zero, suc, ◌+◌, ◌≡◌, ◌≢◌, ◌<◌, List, [], ◌∷◌, ◌++◌, length, take, drop, map, All, Option, None, Some, get_or, refl, sym, ◌∙◌, ap, subst, arith, if◌then◌else◌}
+use Rattle.std.proofs.Common.{inl, inr, Result, Ok, Err, OnOk, IfOk, IfErr, ℕ, zero, suc, ◌+◌, ◌≡◌, ◌≢◌, ◌<◌, List, [], ◌∷◌, ◌++◌, length}
+use Rattle.std.proofs.Common.{take, drop, map, All, Option, None, Some, get_or, refl, sym, ◌∙◌, ap, subst, arith, if◌then◌else◌}
 use Rattle.std.specs.Prelude.{slice_get, ◌-◌, slice_set, ◌%◌, ◌^◌, ◌==◌, min, count_by, Bool, true, false}
 use Rattle.std.specs.Io.KnownBytes.{Appends}
 use Rattle.std.proofs.KnownBytes.{Appends-trans}
-use Rattle.std.proofs.lemmas.List.{append_assoc, append-nil, length-append, length-map, length-set, length-drop, length-take-le, take-append-drop, get_or-set_other}
+use Rattle.std.proofs.lemmas.List.{append_assoc, append-nil, length-append, length-map, length-set}
+use Rattle.std.proofs.lemmas.List.{length-drop, length-take-le, take-append-drop, get_or-set_other}
 use Rattle.std.proofs.lemmas.List.Sums.{sum_by-append}
 use Rattle.std.proofs.lemmas.Bool.{cases_Bool, cases_lt, cases_eq, eq-eqb, eqb-true}
 use Rattle.std.proofs.lemmas.Grind.{get_or-set_at}
 use Rattle.std.proofs.Math.Seq.{map-set_same}
 use Rattle.std.proofs.lemmas.Option.{slice_get_within, get_or_from_slice_get}
-use Rattle.rec_writer.proofs.Places.{channel_at, other_default}
+use Rattle.rec_writer.proofs.NumberPlaces.{channel_at, other_default}
 use Rattle.rec_lane.specs.Pieces.{PieceData}
 use Rattle.rec_writer.specs.declared.numbers.Numbered.{Numbered}
 use Rattle.rec_writer.specs.Encoding.{piece_packet, packet_channel, has_channel, next_sequence, output_after, writer_output}
@@ -22,32 +24,43 @@ use Rattle.rec_writer.specs.Writers.{WriterState, HasWritten, IsCutPiece, IsWrit
 
 -- the packet of a further piece goes behind the others
 pub output_more : (version : ℕ) (earlier pieces : List PieceData) (piece : PieceData)
-    → output_after version earlier (pieces ++ piece ∷ []) ≡ output_after version earlier pieces ++ piece_packet piece version (next_sequence (earlier ++ pieces) (packet_channel piece))
-output_more version earlier [] piece = append-nil (piece_packet piece version (next_sequence earlier (packet_channel piece))) ∙ ap (λ ps. piece_packet piece version (next_sequence ps (packet_channel piece))) (sym (append-nil earlier))
+    → output_after version earlier (pieces ++ piece ∷ []) ≡ output_after version earlier pieces
+    ++ piece_packet piece version (next_sequence (earlier ++ pieces) (packet_channel piece))
+output_more version earlier [] piece = append-nil (piece_packet piece version (next_sequence earlier (packet_channel piece)))
+    ∙ ap (λ ps. piece_packet piece version (next_sequence ps (packet_channel piece))) (sym (append-nil earlier))
 output_more version earlier (p ∷ ps) piece =
     let first = piece_packet p version (next_sequence earlier (packet_channel p)) in
-    ap (λ bytes. first ++ bytes) (output_more version (earlier ++ p ∷ []) ps piece ∙ ap (λ qs. output_after version (earlier ++ p ∷ []) ps ++ piece_packet piece version (next_sequence qs (packet_channel piece))) (append_assoc earlier (p ∷ []) ps))
-    ∙ sym (append_assoc first (output_after version (earlier ++ p ∷ []) ps) (piece_packet piece version (next_sequence (earlier ++ p ∷ ps) (packet_channel piece))))
+    ap (λ bytes. first ++ bytes) (output_more version (earlier ++ p ∷ []) ps piece
+    ∙ ap (λ qs. output_after version (earlier ++ p ∷ []) ps ++ piece_packet piece version (next_sequence qs (packet_channel piece)))
+    (append_assoc earlier (p ∷ []) ps))
+    ∙ sym (append_assoc first (output_after version (earlier ++ p ∷ []) ps)
+    (piece_packet piece version (next_sequence (earlier ++ p ∷ ps) (packet_channel piece))))
 
 -- ---- the numbers
 
-counted_more : (pieces : List PieceData) (piece : PieceData) (channel : ℕ) → count_by (has_channel channel) (pieces ++ piece ∷ []) ≡ count_by (has_channel channel) pieces + (if packet_channel piece == channel then 1 else 0)
+counted_more : (pieces : List PieceData) (piece : PieceData) (channel : ℕ)
+    → count_by (has_channel channel) (pieces ++ piece ∷ []) ≡ count_by (has_channel channel) pieces + (if packet_channel piece == channel then 1 else 0)
 counted_more pieces piece channel = sum_by-append (λ (p : PieceData). if has_channel channel p then 1 else 0) pieces (piece ∷ []) ∙ omega arith
 
-pub sequence_same : (pieces : List PieceData) (piece : PieceData) (channel : ℕ) → packet_channel piece ≡ channel → next_sequence (pieces ++ piece ∷ []) channel ≡ (next_sequence pieces channel + 1) % 256
+pub sequence_same : (pieces : List PieceData) (piece : PieceData) (channel : ℕ) → packet_channel piece ≡ channel
+    → next_sequence (pieces ++ piece ∷ []) channel ≡ (next_sequence pieces channel + 1) % 256
 sequence_same pieces piece channel same =
     let here : (packet_channel piece == channel) ≡ true = eq-eqb (packet_channel piece) channel same in
     let count = counted_more pieces piece channel ∙ ap (λ b. count_by (has_channel channel) pieces + (if b then 1 else 0)) here in
     ap (λ n. n % 256) count ∙ omega arith
 
-pub sequence_other : (pieces : List PieceData) (piece : PieceData) (channel : ℕ) → packet_channel piece ≢ channel → next_sequence (pieces ++ piece ∷ []) channel ≡ next_sequence pieces channel
-sequence_other pieces piece channel other = elim (cases_Bool (packet_channel piece == channel)) as (λ _. next_sequence (pieces ++ piece ∷ []) channel ≡ next_sequence pieces channel) [
-  | inl same ↦ absurd (other (eqb-true (packet_channel piece) channel same))
-  | inr not_same ↦ (let count = counted_more pieces piece channel ∙ ap (λ b. count_by (has_channel channel) pieces + (if b then 1 else 0)) not_same in ap (λ n. n % 256) (count ∙ omega arith))
-]
+pub sequence_other : (pieces : List PieceData) (piece : PieceData) (channel : ℕ) → packet_channel piece ≢ channel
+    → next_sequence (pieces ++ piece ∷ []) channel ≡ next_sequence pieces channel
+sequence_other pieces piece channel other = elim (cases_Bool (packet_channel piece == channel))
+    as (λ _. next_sequence (pieces ++ piece ∷ []) channel ≡ next_sequence pieces channel) [
+      | inl same ↦ absurd (other (eqb-true (packet_channel piece) channel same))
+      | inr not_same ↦ (let count = counted_more pieces piece channel ∙ ap (λ b. count_by (has_channel channel) pieces + (if b then 1 else 0)) not_same in
+          ap (λ n. n % 256) (count ∙ omega arith))
+    ]
 
 -- channel IDs that stand at two indexes differ
-apart : (channels : List ℕ) (i j : ℕ) → AreDistinctChannels channels → i < length channels → j < length channels → i ≢ j → get_or channels i 0 ≢ get_or channels j 0
+apart : (channels : List ℕ) (i j : ℕ) → AreDistinctChannels channels → i < length channels → j < length channels → i ≢ j
+    → get_or channels i 0 ≢ get_or channels j 0
 apart channels i j distinct below_i below_j other = elim (cases_lt i j) as (λ _. get_or channels i 0 ≢ get_or channels j 0) [
   | inl before ↦ distinct i j 0 before below_j
   | inr after ↦ (λ same. distinct j i 0 (omega (arith, after, other)) below_i (sym same))
@@ -64,9 +77,11 @@ next_numbers pieces piece numbers at distinct there next = λ k d within.
     let same_count = length-set numbers at more in
     let below : at < length numbers = (let e = slice_get_within (numbered_channels numbers) at (packet_channel piece) there in omega (arith, e, count)) in
     let below_k : k < length numbers = omega (arith, within, same_count) in
-    let channel : packet_channel piece ≡ number.channel = sym (get_or_from_slice_get (numbered_channels numbers) at (packet_channel piece) 0 there) ∙ channel_at numbers at in
+    let channel : packet_channel piece ≡ number.channel = sym (get_or_from_slice_get (numbered_channels numbers) at (packet_channel piece) 0 there)
+    ∙ channel_at numbers at in
     let sequence : number.next ≡ next_sequence pieces number.channel = next at (record { channel = 0; next = 0 }) below in
-    elim (cases_eq k at) as (λ _. (get_or (slice_set numbers at more) k d).next ≡ next_sequence (pieces ++ piece ∷ []) (get_or (slice_set numbers at more) k d).channel) [
+    elim (cases_eq k at) as (λ _. (get_or (slice_set numbers at more) k d).next
+    ≡ next_sequence (pieces ++ piece ∷ []) (get_or (slice_set numbers at more) k d).channel) [
       | inl same ↦ (
           let is : get_or (slice_set numbers at more) k d ≡ more = get_or-set_at numbers at k more d same below in
           ap (λ (n : Numbered). n.next) is
@@ -77,7 +92,8 @@ next_numbers pieces piece numbers at distinct there next = λ k d within.
           let is : get_or (slice_set numbers at more) k d ≡ get_or numbers k d = get_or-set_other numbers at k more d other in
           let differs : packet_channel piece ≢ (get_or numbers k d).channel = λ e.
           apart (numbered_channels numbers) at k distinct (omega (arith, below, count)) (omega (arith, below_k, count)) (λ f. other (sym f))
-          (channel_at numbers at ∙ (sym channel ∙ (e ∙ (ap (λ (n : Numbered). n.channel) (other_default numbers k d (record { channel = 0; next = 0 }) below_k) ∙ sym (channel_at numbers k))))) in
+          (channel_at numbers at ∙ (sym channel ∙ (e ∙ (ap (λ (n : Numbered). n.channel) (other_default numbers k d (record { channel = 0; next = 0 }) below_k)
+          ∙ sym (channel_at numbers k))))) in
           ap (λ (n : Numbered). n.next) is
           ∙ (next k d below_k
           ∙ (sym (sequence_other pieces piece (get_or numbers k d).channel differs)
@@ -88,7 +104,8 @@ next_numbers pieces piece numbers at distinct there next = λ k d within.
 pub same_channels : (numbers : List Numbered) (at : ℕ) → numbered_channels (with_packet numbers at) ≡ numbered_channels numbers
 same_channels numbers at =
     let number : Numbered = number_at numbers at in
-    map-set_same (λ (n : Numbered). n.channel) numbers at (record { channel = number.channel; next = (number.next + 1) % 256 }) (record { channel = 0; next = 0 }) refl
+    map-set_same (λ (n : Numbered). n.channel) numbers at (record { channel = number.channel; next = (number.next + 1) % 256 })
+    (record { channel = 0; next = 0 }) refl
 
 pub channels_after : (old new : List Numbered) (at : ℕ) → new ≡ with_packet old at → numbered_channels new ≡ numbered_channels old
 channels_after old new at counted = ap numbered_channels counted ∙ same_channels old at
@@ -113,11 +130,13 @@ put_whole old new piece at distinct there version whole bytes numbers sent first
   whole_is = (let e = h.whole_is in let l = length-append pieces (piece ∷ []) in omega (arith, whole, e, l));
   bytes_is = bytes ∙ h.bytes_is;
   held_is =
-      let all : writer_output old.version (pieces ++ piece ∷ []) ++ [] ≡ (writer_output old.version pieces ++ []) ++ piece_packet piece old.version (number_at old.numbers at).next =
+      let all : writer_output old.version (pieces ++ piece ∷ []) ++ []
+      ≡ (writer_output old.version pieces ++ []) ++ piece_packet piece old.version (number_at old.numbers at).next =
       append-nil (writer_output old.version (pieces ++ piece ∷ []))
       ∙ (output_more old.version [] pieces piece
       ∙ (ap (λ bs. bs ++ piece_packet piece old.version (next_sequence pieces (packet_channel piece))) (sym (append-nil (writer_output old.version pieces)))
-      ∙ ap (λ n. (writer_output old.version pieces ++ []) ++ piece_packet piece old.version n) (sym (sequence_at pieces piece old.numbers at there h.numbers_are)))) in
+      ∙ ap (λ n. (writer_output old.version pieces ++ []) ++ piece_packet piece old.version n)
+      (sym (sequence_at pieces piece old.numbers at there h.numbers_are)))) in
       subst (λ v. Appends first new.held (writer_output v (pieces ++ piece ∷ []) ++ [])) (sym version)
       (subst (λ bs. Appends first new.held bs) (sym all) (Appends-trans _ _ _ _ _ h.held_is sent));
   numbers_are = subst (λ ns. AreNext (pieces ++ piece ∷ []) ns) (sym numbers) (next_numbers pieces piece old.numbers at distinct there h.numbers_are);
@@ -152,7 +171,8 @@ pub put_part : (old new : WriterState) (piece : PieceData) (at n : ℕ)
     → (cut : List ℕ) × IsCutPiece old.version pieces piece cut × HasWritten first pieces cut new
 put_part old new piece at n there version whole bytes numbers below sent first pieces h =
     let packet = piece_packet piece old.version (number_at old.numbers at).next in
-    let same : packet ≡ piece_packet piece old.version (next_sequence pieces (packet_channel piece)) = ap (piece_packet piece old.version) (sequence_at pieces piece old.numbers at there h.numbers_are) in (
+    let same : packet ≡ piece_packet piece old.version (next_sequence pieces (packet_channel piece)) =
+    ap (piece_packet piece old.version) (sequence_at pieces piece old.numbers at there h.numbers_are) in (
       take n packet,
       record {
         rest = drop n packet;
@@ -164,7 +184,8 @@ put_part old new piece at n there version whole bytes numbers below sent first p
         bytes_is = bytes ∙ sym (length-take-le n packet (omega (arith, below)));
         held_is =
             subst (λ v. Appends first new.held (writer_output v pieces ++ take n packet)) (sym version)
-            (subst (λ bs. Appends first new.held (bs ++ take n packet)) (append-nil (writer_output old.version pieces)) (Appends-trans _ _ _ _ _ h.held_is sent));
+            (subst (λ bs. Appends first new.held (bs ++ take n packet)) (append-nil (writer_output old.version pieces))
+            (Appends-trans _ _ _ _ _ h.held_is sent));
         numbers_are = subst (λ ns. AreNext pieces ns) (sym numbers) h.numbers_are;
       },
     )
@@ -201,7 +222,8 @@ fresh_are : (channels : List ℕ) → numbered_channels (fresh_numbers channels)
 fresh_are channels = ap (λ xs. 0 ∷ xs) (fresh_channels channels)
 
 fresh_next : (channels : List ℕ) → AreNext [] (fresh_numbers channels)
-fresh_next channels = All-map (λ (n : Numbered). n.next ≡ next_sequence [] n.channel) (λ (channel : ℕ). record { channel = channel; next = 0 }) (0 ∷ channels) (λ k d within. refl)
+fresh_next channels = All-map (λ (n : Numbered). n.next ≡ next_sequence [] n.channel) (λ (channel : ℕ). record { channel = channel; next = 0 }) (0 ∷ channels)
+    (λ k d within. refl)
 
 fresh_distinct : (channels : List ℕ) → All (λ (channel : ℕ). channel ≢ 0) channels → AreDistinctChannels channels → AreDistinctChannels (0 ∷ channels)
 fresh_distinct channels named distinct zero (suc j) d before within = λ e. named j d (omega (arith, within)) (sym e)

@@ -7,7 +7,7 @@ ghost use Rattle.rec_run.specs.Threads.{job_at, jobs_of, JoinedOf, AreOver, AreE
 ghost use Rattle.rec_run.specs.Writer.{CameFrom, AllCame};
 
 use crate::worker::thread::WorkerDone;
-use crate::writer::line::Line;
+use crate::writer::line::WriterLine;
 use eth_frame::FrameSource;
 use std::thread::Threads;
 
@@ -22,7 +22,7 @@ pub(crate) struct Joined<S: Drop> {
 /// Waits for the workers' ends, one after the other.
 pub(crate) fn join_all<S: FrameSource + Drop, R: Threads>(
     rt: &R,
-    lines: Vec<Line<S>>,
+    lines: Vec<WriterLine<S>>,
     joined: Vec<Joined<S>>,
 ) -> Vec<Joined<S>>
     requires { (vec_len joined ≡ 0) × (vec_len lines ≤ vec_capacity joined) }
@@ -37,11 +37,11 @@ pub(crate) fn join_all<S: FrameSource + Drop, R: Threads>(
 }
 
 /// Waits for a worker's end, and looks what it has left in its ring.
-fn join_one<S: FrameSource + Drop, R: Threads>(rt: &R, line: Line<S>) -> Joined<S>
+fn join_one<S: FrameSource + Drop, R: Threads>(rt: &R, line: WriterLine<S>) -> Joined<S>
     ensures { (pieces : List PieceData) → CameFrom pieces line
         → JoinedOf S.left S.failures S.ending pieces (job_at line) result }
 {
-    let Line {
+    let WriterLine {
         channel,
         handle,
         mut pieces,

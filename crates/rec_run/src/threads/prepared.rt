@@ -14,7 +14,7 @@ use rtrb::{Consumer, Producer};
 
 /// A job with all that its worker needs, and the writer's ends of its rings.
 #[derive(Drop)]
-pub(crate) struct Prepared<S: Drop> {
+pub(crate) struct PreparedChannel<S: Drop> {
     pub(crate) job: Job<S>,
     pub(crate) tools: Tools,
     pub(crate) pieces: Consumer<Piece>,

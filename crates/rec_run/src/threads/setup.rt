@@ -9,9 +9,9 @@ ghost use Rattle.rec_run.specs.Threads.{jobs_in, job_at, jobs_of, IsUnread, AreU
 
 use crate::job::Job;
 use crate::ranges::a_job_is_in_range;
-use crate::threads::prepared::Prepared;
+use crate::threads::prepared::PreparedChannel;
 use crate::worker::thread::{Tools, start};
-use crate::writer::line::Line;
+use crate::writer::line::WriterLine;
 use ch11_packet::{Blank, Limit};
 use eth_frame::FrameSource;
 use rec_channel::{MAX_VERSIONS, SharedSlot, Slot};
@@ -73,12 +73,16 @@ fn make_tools(
 }
 
 /// Makes what a job's worker needs.
-fn prepare_one<S: Drop>(alloc: Global, ring: usize, job: Job<S>) -> Result<Prepared<S>, AllocError>
+fn prepare_one<S: Drop>(
+    alloc: Global,
+    ring: usize,
+    job: Job<S>,
+) -> Result<PreparedChannel<S>, AllocError>
     ensures { IfOk result (λ p. p.job ≡ job) }
 {
     a_job_is_in_range(&job);
     let (tools, pieces, returns) = make_tools(alloc, ring, job.spec)?;
-    Ok(Prepared {
+    Ok(PreparedChannel {
         job,
         tools,
         pieces,
@@ -92,7 +96,7 @@ pub(crate) fn prepare_all<S: Drop>(
     alloc: Global,
     ring: usize,
     jobs: Vec<Job<S>>,
-) -> Result<Vec<Prepared<S>>, AllocError>
+) -> Result<Vec<PreparedChannel<S>>, AllocError>
     ensures jobs { IfOk result (λ p. jobs_in p.items ≡ jobs.items) }
     ensures len { IfOk result (λ p. vec_len p ≡ vec_len jobs) }
 {
@@ -124,12 +128,12 @@ fn start_one<'s, E, S: FrameSource + Send + Drop + 's, R: Threads + Wait + Sync>
     rt: &'s R,
     slot: &'s SharedSlot,
     stop: &'s AtomicU64,
-    prepared: Prepared<S>,
-) -> Result<Line<S>, AllocError>
+    prepared: PreparedChannel<S>,
+) -> Result<WriterLine<S>, AllocError>
     ensures job { IfOk result (λ l. job_at l ≡ prepared.job) }
     ensures unread { IfOk result IsUnread }
 {
-    let Prepared {
+    let PreparedChannel {
         job,
         tools,
         pieces,
@@ -138,7 +142,7 @@ fn start_one<'s, E, S: FrameSource + Send + Drop + 's, R: Threads + Wait + Sync>
     } = prepared;
     let channel = job.spec.channel;
     let handle = start(scope, rt, job, slot, stop, tools)?;
-    Ok(Line {
+    Ok(WriterLine {
         channel,
         handle,
         pieces,
@@ -154,8 +158,8 @@ pub(crate) fn start_all<'s, E, S: FrameSource + Send + Drop + 's, R: Threads + W
     rt: &'s R,
     slots: &'s [SharedSlot],
     stop: &'s AtomicU64,
-    prepared: Vec<Prepared<S>>,
-    lines: &mut Vec<Line<S>>,
+    prepared: Vec<PreparedChannel<S>>,
+    lines: &mut Vec<WriterLine<S>>,
 ) -> Result<(), AllocError>
     requires slots { length slots.now ≡ vec_len prepared }
     requires room { (lines.old.items ≡ []) × (vec_len prepared ≤ vec_capacity lines.old) }

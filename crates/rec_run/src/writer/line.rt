@@ -12,7 +12,7 @@ use std::thread::PromisedHandle;
 
 /// A worker's thread, and the writer's ends of its rings.
 #[derive(Drop)]
-pub(crate) struct Line<S: FrameSource + Drop> {
+pub(crate) struct WriterLine<S: FrameSource + Drop> {
     pub(crate) channel: u16,
     pub(crate) handle: PromisedHandle<WorkerDone<S>, Works<S>>,
     pub(crate) pieces: Consumer<Piece>,

@@ -1,6 +1,6 @@
 use Rattle.std.proofs.Common.{rules, sym, ◌∙◌, arith}
 use Rattle.bpf_asm.specs.FirstFault.LabelBreaks.{Missing, Back}
-use Rattle.bpf_asm.proofs.Tables.{table_missing, label_there}
+use Rattle.bpf_asm.proofs.LabelTables.{table_missing, label_there}
 use Rattle.bpf_asm.proofs.assembler.offset.Goals as goal
 
 pub returns-in_default : goal.returns-in_default
@@ -14,4 +14,5 @@ returns-then-target-at c = λ known is.
 
 pub returns : goal.returns
 returns c = λ known is.
-    label_there known c.args.name.now c.in-Some.target _ ((is c.args.name.now c.in-Some.target).0 (sym c.index_of.ensures ∙ c.in-Some.is)) (omega (arith, c.if-target-at.false))
+    label_there known c.args.name.now c.in-Some.target _ ((is c.args.name.now c.in-Some.target).0 (sym c.index_of.ensures ∙ c.in-Some.is))
+    (omega (arith, c.if-target-at.false))

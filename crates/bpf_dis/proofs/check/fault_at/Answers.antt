@@ -1,6 +1,6 @@
 use Rattle.std.proofs.lemmas.Bool.{both_ways}
 use Rattle.bpf_insn.specs.Forms.{form}
-use Rattle.bpf_dis.proofs.FirstFaults.{said_inside}
+use Rattle.bpf_dis.proofs.ProgramFaults.{said_inside}
 use Rattle.bpf_dis.proofs.check.fault_at.Goals as goal
 
 pub returns-else-jumps_out-clause-fault : goal.returns-else-jumps_out-clause-fault

@@ -2,7 +2,7 @@ use Rattle.std.proofs.Common.{get_or, below_more, arith}
 use Rattle.std.proofs.lemmas.Option.{slice_get-get_or}
 use Rattle.bpf_insn.specs.declared.insn.Insn.{Insn}
 use Rattle.bpf_insn.proofs.Ranges.{all_in_range}
-use Rattle.bpf_dis.proofs.FirstFaults.{fault_is, said_more}
+use Rattle.bpf_dis.proofs.ProgramFaults.{fault_is, said_more}
 use Rattle.bpf_dis.proofs.check.first_fault.Goals as goal
 
 pub returns-in-Some-clause-fault : goal.returns-in-Some-clause-fault

@@ -5,7 +5,7 @@ use Rattle.std.proofs.lemmas.Option.{slice_get-get_or}
 use Rattle.bpf_insn.specs.declared.insn.Insn.{Insn}
 use Rattle.bpf_insn.specs.Flow.{FormJumpsOut}
 use Rattle.bpf_dis.specs.Targets.{targets_from, is_target}
-use Rattle.bpf_dis.proofs.FirstFaults.{inside_at}
+use Rattle.bpf_dis.proofs.ProgramFaults.{inside_at}
 use Rattle.bpf_dis.proofs.LabelledTargets.{leads, labelled_more}
 use Rattle.bpf_dis.proofs.labels.label_all.Goals as goal
 use Rattle.bpf_dis.proofs.labels.label_all.Goals.{in-Some, in_default}

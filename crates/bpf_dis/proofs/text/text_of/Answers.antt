@@ -1,6 +1,6 @@
 use Rattle.std.proofs.Common.{ℕ, List, Err, sym, ap, subst}
 use Rattle.bpf_asm.specs.Denotes.{Denotes}
-use Rattle.bpf_dis.proofs.FirstFaults.{no_fault, one_fault}
+use Rattle.bpf_dis.proofs.ProgramFaults.{no_fault, one_fault}
 use Rattle.bpf_dis.proofs.ProgramTexts.{text_denotes}
 use Rattle.bpf_dis.proofs.text.text_of.Goals as goal
 

@@ -12,12 +12,15 @@ returns-in_err-push-clause-memory c =
     let piece = stretch_data c.in-Some-next_piece.piece in
     let left = pieces_in c.in-Some-next_piece.after in
     let done = c.pieces.invariant.done in
-    let all : (done.0 ++ piece ∷ []) ++ left ≡ pieces_in c.in-Some.rest = append_assoc done.0 (piece ∷ []) left ∙ (ap (λ ps. done.0 ++ ps) (sym c.in-Some-next_piece.ensures.pieces) ∙ done.1) in
+    let all : (done.0 ++ piece ∷ []) ++ left ≡ pieces_in c.in-Some.rest =
+    append_assoc done.0 (piece ∷ []) left ∙ (ap (λ ps. done.0 ++ ps) (sym c.in-Some-next_piece.ensures.pieces) ∙ done.1) in
     let more = done_more done.0 piece c.pieces.program.items c.in_ok-insn.insn done.2 c.in_ok-insn.ensures in
     let some : 0 < length (done.0 ++ piece ∷ []) = rw length-append (omega arith) in
     let begins : pieces_from 0 c.args.text.now ≡ pieces_in c.of.result = rw (c.of.ensures.at, c.of.ensures.bytes) refl in
-    let whole : pieces_from 0 c.args.text.now ≡ stretch_data c.in-Some.first ∷ ((done.0 ++ piece ∷ []) ++ left) = begins ∙ (c.in-Some.ensures.pieces ∙ ap (λ ps. stretch_data c.in-Some.first ∷ ps) (sym all)) in
-    rw whole (reads_an_insn (stretch_data c.in-Some.first) (done.0 ++ piece ∷ []) left c.in_ok-said.said (c.pieces.program.items ++ c.in_ok-insn.insn ∷ []) c.in_ok-said.ensures more some))
+    let whole : pieces_from 0 c.args.text.now ≡ stretch_data c.in-Some.first ∷ ((done.0 ++ piece ∷ []) ++ left) =
+    begins ∙ (c.in-Some.ensures.pieces ∙ ap (λ ps. stretch_data c.in-Some.first ∷ ps) (sym all)) in
+    rw whole (reads_an_insn (stretch_data c.in-Some.first) (done.0 ++ piece ∷ []) left c.in_ok-said.said (c.pieces.program.items ++ c.in_ok-insn.insn ∷ [])
+    c.in_ok-said.ensures more some))
 
 pub pieces-preserved : goal.pieces-preserved
 pieces-preserved c =
@@ -27,7 +30,8 @@ pieces-preserved c =
     let before = c.pieces.program.items in
     let insn = c.in_ok-insn.insn in
     record {
-      whole = rw c.in_ok-push.ensures.items (after_piece before piece left insn c.in_ok-insn.ensures ∙ (ap (λ ps. after before (insns_of ps)) (sym c.in-Some-next_piece.ensures.pieces) ∙ c.pieces.invariant.whole));
+      whole = rw c.in_ok-push.ensures.items (after_piece before piece left insn c.in_ok-insn.ensures
+          ∙ (ap (λ ps. after before (insns_of ps)) (sym c.in-Some-next_piece.ensures.pieces) ∙ c.pieces.invariant.whole));
       done = (
         done.0 ++ piece ∷ [],
         append_assoc done.0 (piece ∷ []) left ∙ (ap (λ ps. done.0 ++ ps) (sym c.in-Some-next_piece.ensures.pieces) ∙ done.1),

@@ -29,5 +29,6 @@ digits-preserved c =
 
 pub returns : goal.returns
 returns c =
-    let all : c.digits.value ≡ digits_value 10 c.args.digits.now = c.digits.invariant.0 ∙ ap (λ ds. digits_value 10 ds) (take_all c.digits.digit-index c.args.digits.now c.digits-test.false) in
+    let all : c.digits.value ≡ digits_value 10 c.args.digits.now =
+    c.digits.invariant.0 ∙ ap (λ ds. digits_value 10 ds) (take_all c.digits.digit-index c.args.digits.now c.digits-test.false) in
     (omega (arith, all, c.digits.invariant.1), all)

@@ -8,18 +8,21 @@ use Rattle.bpf_verify.proofs.masks.first_unset.Goals.{else-reads_scratch-via-the
 pub is_clear-requires : goal.is_clear-requires
 is_clear-requires c =
     let i = c.fetch-form.result.1 in
-    let reads = reads_at c.args.insns.now c.reads.at c.fetch-form.result.0 i c.fetch-form.ensures ((c.reads_scratch.ensures.decides i i.k).1 (c.if-reads_scratch.true, refl)) in
+    let reads = reads_at c.args.insns.now c.reads.at c.fetch-form.result.0 i c.fetch-form.ensures
+    ((c.reads_scratch.ensures.decides i i.k).1 (c.if-reads_scratch.true, refl)) in
     read_below c.args.insns.now c.reads.at i.k c.requires.well_formed reads
 
 pub returns-then-is_clear-clause-reads : goal.returns-then-is_clear-clause-reads
 returns-then-is_clear-clause-reads c =
     let i = c.fetch-form.result.1 in
-    reads_at c.args.insns.now c.reads.at c.fetch-form.result.0 i c.fetch-form.ensures ((c.reads_scratch.ensures.decides i i.k).1 (c.if-reads_scratch.true, refl))
+    reads_at c.args.insns.now c.reads.at c.fetch-form.result.0 i c.fetch-form.ensures
+    ((c.reads_scratch.ensures.decides i i.k).1 (c.if-reads_scratch.true, refl))
 
 pub returns-then-is_clear-clause-unset : goal.returns-then-is_clear-clause-unset
 returns-then-is_clear-clause-unset c =
     let i = c.fetch-form.result.1 in
-    let reads = reads_at c.args.insns.now c.reads.at c.fetch-form.result.0 i c.fetch-form.ensures ((c.reads_scratch.ensures.decides i i.k).1 (c.if-reads_scratch.true, refl)) in
+    let reads = reads_at c.args.insns.now c.reads.at c.fetch-form.result.0 i c.fetch-form.ensures
+    ((c.reads_scratch.ensures.decides i i.k).1 (c.if-reads_scratch.true, refl)) in
     let below = read_below c.args.insns.now c.reads.at i.k c.requires.well_formed reads in
     (c.requires.masks c.reads.at i.k c.reads-test.true below).0 (c.is_clear.ensures.0 c.if-is_clear.true)
 
@@ -34,4 +37,5 @@ reads-preserved c =
     ])
 
 pub returns-clause-none : goal.returns-clause-none
-returns-clause-none c = λ at path word inside unset. c.reads.invariant at path word (let before : at < c.reads.at = omega (arith, inside, c.reads-test.false) in before) unset
+returns-clause-none c = λ at path word inside unset. c.reads.invariant at path word
+    (let before : at < c.reads.at = omega (arith, inside, c.reads-test.false) in before) unset

@@ -1,4 +1,4 @@
-use Rattle.bpf_verify.specs.Refusals.{NoUnsetReadBelow}
+use Rattle.bpf_verify.specs.Flaws.{NoUnsetReadBelow}
 use Rattle.bpf_verify.proofs.masks.first_unset.Given as goal
 
 abbrev pub invariant-reads : goal.invariant-reads

@@ -2,7 +2,7 @@ use Rattle.std.proofs.Common.{◌∙◌, ◌↔◌, length, ap, sym, subst, arit
 use Rattle.std.specs.Prelude.{slice_index}
 use Rattle.bpf_insn.specs.declared.insn.TheConstants.{MAX_INSNS}
 use Rattle.bpf_insn.specs.Uses.{FormWritesWord}
-use Rattle.bpf_verify.proofs.Places.{there}
+use Rattle.bpf_verify.proofs.InsnPlaces.{there}
 use Rattle.bpf_verify.specs.Masks.{IsClear}
 use Rattle.bpf_verify.proofs.Arrivals.{ArrivesFromBelow, arrives_after, arrives_from_below, first_masks_arrive, first_masks_long}
 use Rattle.bpf_verify.proofs.WellFormed.{leads_within, write_below}
@@ -23,7 +23,11 @@ pub mask_after-mask-requires : goal.mask_after-mask-requires
 mask_after-mask-requires c =
     let i = c.fetch-form.result.1 in
     let f = c.fetch-form.result.0 in
-    λ word writes. write_below c.args.insns.now c.places.at word c.requires (i, c.fetch-form.ensures.0, there (λ o j. FormWritesWord o j word) i f c.fetch-form.ensures.1 writes)
+    λ word writes. write_below c.args.insns.now c.places.at word c.requires (
+      i,
+      c.fetch-form.ensures.0,
+      there (λ o j. FormWritesWord o j word) i f c.fetch-form.ensures.1 writes,
+    )
 
 pub pass_mask-requires-clause-within : goal.pass_mask-requires-clause-within
 pass_mask-requires-clause-within c = λ to leads.
@@ -35,7 +39,8 @@ places-preserved c =
     let masks = c.places.invariant.masks in
     record {
       long = c.pass_mask.array_long;
-      masks = λ to word inside below. arrives_after c.args.insns.now c.places.at to word c.fetch-form.result.0 c.fetch-form.result.1 _ _ _ _ c.fetch-form.ensures c.places-test.true
+      masks = λ to word inside below. arrives_after c.args.insns.now c.places.at to word c.fetch-form.result.0 c.fetch-form.result.1 _ _ _ _
+          c.fetch-form.ensures c.places-test.true
           (masks to word inside below)
           (masks c.places.at word c.places-test.true below)
           (c.mask_after-mask.ensures word below)

@@ -18,7 +18,8 @@ returns-then-not-leads_unwritten c =
       decides = (
         λ no. absurd (both_ways _ refl no),
         λ unset.
-            let walk = subst (λ xs. WalksUnset c.args.insns.now c.places.at xs c.args.word) (drop-cons rest n 0 c.places-test.true) (c.places.invariant.0 unset) in
+            let walk = subst (λ xs. WalksUnset c.args.insns.now c.places.at xs c.args.word) (drop-cons rest n 0 c.places-test.true)
+            (c.places.invariant.0 unset) in
             absurd (both_ways _ c.if-not-leads_unwritten.true (c.leads_unwritten.ensures.1 walk.0)),
       );
     }

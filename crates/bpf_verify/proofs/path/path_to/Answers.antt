@@ -38,7 +38,8 @@ back-preserved-then-is_clear c =
       );
       room = omega (arith, c.push-then-is_clear.ensures.len, inv.room, inv.order.0, c.back-test.true);
       order = ((let same : from ≤ from = omega arith in same), (let below : from ≤ c.args.at = omega (arith, inv.order.0, inv.order.1) in below));
-      unset = (c.requires.masks from c.args.word inside c.requires.word).0 (subst (λ x. IsClear (slice_index c.args.masks.now x) c.args.word) c.from.ensures (c.is_clear.ensures.0 c.if-is_clear.true));
+      unset = (c.requires.masks from c.args.word inside c.requires.word).0
+          (subst (λ x. IsClear (slice_index c.args.masks.now x) c.args.word) c.from.ensures (c.is_clear.ensures.0 c.if-is_clear.true));
       passed = λ at above below edge unwritten arrives. absurd (omega (arith, above, below));
     }
 
@@ -61,7 +62,8 @@ back-preserved c =
       order = ((let below : from ≤ c.back.next = omega (arith, inv.order.0) in below), inv.order.1);
       unset = inv.unset;
       passed = λ at above below edge unwritten arrives. elim (at_or_above at c.back.from above) as (λ _. ⊥) [
-        | inl e ↦ skipped (subst (λ x. Edge p x c.back.next) e edge) (subst (λ x. WritesWord p x c.args.word → ⊥) e unwritten) (subst (λ x. ArrivesUnset p x c.args.word) e arrives)
+        | inl e ↦ skipped (subst (λ x. Edge p x c.back.next) e edge) (subst (λ x. WritesWord p x c.args.word → ⊥) e unwritten)
+            (subst (λ x. ArrivesUnset p x c.args.word) e arrives)
         | inr later ↦ inv.passed at later below edge unwritten arrives
       ];
     }
@@ -71,7 +73,8 @@ returns c =
     let p = c.args.insns.now in
     let inv = c.back.invariant in
     let inside : c.back.next < length p = omega (arith, inv.order.1, c.requires.place) in
-    let at_start : c.back.next ≡ 0 = elim ((arrives_from_below p c.back.next c.back.next c.args.word inside (omega arith)).0 inv.unset) as (λ _. c.back.next ≡ 0) [
+    let at_start : c.back.next ≡ 0 = elim ((arrives_from_below p c.back.next c.back.next c.args.word inside (omega arith)).0 inv.unset)
+    as (λ _. c.back.next ≡ 0) [
       | inl e ↦ e
       | inr h ↦ absurd (inv.passed h.0 (let done : c.back.from ≤ h.0 = omega (arith, c.back-test.false) in done) h.1 h.3 h.4 h.2)
     ] in

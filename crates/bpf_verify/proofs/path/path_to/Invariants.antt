@@ -8,7 +8,8 @@ use Rattle.bpf_verify.proofs.path.path_to.Given as goal
 
 abbrev pub invariant-back : goal.invariant-back
 invariant-back l = record {
-  path : (earlier : List ℕ) × (reverse l.path.items ≡ earlier ++ l.at ∷ []) × GoesFrom l.insns l.next (reverse l.path.items) × NoneWrites l.insns earlier l.word;
+  path : (earlier : List ℕ) × (reverse l.path.items ≡ earlier ++ l.at ∷ []) × GoesFrom l.insns l.next (reverse l.path.items)
+      × NoneWrites l.insns earlier l.word;
   room : array_vec_len l.path + l.next ≤ l.at + 1;
   order : (l.from ≤ l.next) × (l.next ≤ l.at);
   unset : ArrivesUnset l.insns l.next l.word;

@@ -6,7 +6,8 @@ use Rattle.bpf_verify.proofs.verifier.break_at.Goals as goal
 pub returns-then-uses_word_past_scratch-clause-flaw : goal.returns-then-uses_word_past_scratch-clause-flaw
 returns-then-uses_word_past_scratch-clause-flaw c = (
   refl,
-  uses_word_past_scratch c.args.insns.now c.args.at c.args.insn c.in-Some.form (c.requires.insn, sym c.in-Some.ensures.table) (c.uses_word_past_scratch.ensures.0 c.if-uses_word_past_scratch.true),
+  uses_word_past_scratch c.args.insns.now c.args.at c.args.insn c.in-Some.form (c.requires.insn, sym c.in-Some.ensures.table)
+      (c.uses_word_past_scratch.ensures.0 c.if-uses_word_past_scratch.true),
 )
 
 pub returns-else-jumps_out-clause-flaw : goal.returns-else-jumps_out-clause-flaw

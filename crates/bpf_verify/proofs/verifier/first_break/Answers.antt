@@ -14,7 +14,11 @@ places-preserved c =
     let insn : Insn = get_or c.args.insns.now c.places.at none in
     record {
       unbroken = below_more _ _ c.places.invariant.unbroken c.in_default.ensures.flaw;
-      ranged = below_more _ _ c.places.invariant.ranged (insn, slice_get-get_or c.args.insns.now c.places.at none c.places-test.true, c.in_default.ensures.in_range);
+      ranged = below_more _ _ c.places.invariant.ranged (
+        insn,
+        slice_get-get_or c.args.insns.now c.places.at none c.places-test.true,
+        c.in_default.ensures.in_range,
+      );
     }
 
 pub returns-clause-flaw : goal.returns-clause-flaw

@@ -1,5 +1,5 @@
 use Rattle.bpf_insn.proofs.Ranges.{AreInRangeBefore}
-use Rattle.bpf_verify.specs.Refusals.{NoneBreaksBelow}
+use Rattle.bpf_verify.specs.Flaws.{NoneBreaksBelow}
 use Rattle.bpf_verify.proofs.verifier.first_break.Given as goal
 
 abbrev pub invariant-places : goal.invariant-places

@@ -3,7 +3,9 @@ use Rattle.std.proofs.lemmas.Bool.{both_ways}
 use Rattle.ch11_packet.specs.Views.{header_data}
 use Rattle.ch11_packet.proofs.Classing.{Passes, held_found, fault_found, sum_fault}
 use Rattle.ch11_packet.proofs.class.classify.Goals as goal
-use Rattle.ch11_packet.proofs.class.classify.Goals.{else-not-is_other-via-then-not-is_other+then-has_checksum+else-not-has_sum, else-not-is_other-via-then-not-is_other+else-has_checksum, else-not-is_other-via-else-not-is_other}
+use Rattle.ch11_packet.proofs.class.classify.Goals.{else-not-is_other-via-then-not-is_other+then-has_checksum+else-not-has_sum}
+use Rattle.ch11_packet.proofs.class.classify.Goals.{else-not-is_other-via-then-not-is_other+else-has_checksum}
+use Rattle.ch11_packet.proofs.class.classify.Goals.{else-not-is_other-via-else-not-is_other}
 
 pub returns-then-not-has_sum-clause-fault : goal.returns-then-not-has_sum-clause-fault
 returns-then-not-has_sum-clause-fault c =

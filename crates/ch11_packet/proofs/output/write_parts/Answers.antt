@@ -7,4 +7,5 @@ returns-in-Err-write_bytes-clause-part g c =
 
 pub returns-in-Err-write_bytes-2-clause-part : goal.returns-in-Err-write_bytes-2-clause-part
 returns-in-Err-write_bytes-2-clause-part g c =
-    third_part _ _ _ _ _ _ _ _ c.in-Ok.ensures.whole c.in-Ok-write_bytes.ensures.whole c.in-Err-write_bytes-2.ensures.part.1 c.in-Err-write_bytes-2.ensures.part.0
+    third_part _ _ _ _ _ _ _ _ c.in-Ok.ensures.whole c.in-Ok-write_bytes.ensures.whole c.in-Err-write_bytes-2.ensures.part.1
+    c.in-Err-write_bytes-2.ensures.part.0

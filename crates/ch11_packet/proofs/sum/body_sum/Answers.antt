@@ -10,4 +10,5 @@ pub words-preserved : goal.words-preserved
 words-preserved c =
     let rest = c.words.rest.now in
     let long = length-drop 4 rest in
-    sum_more _ c.words.sum c.from_le_bytes-sum.result rest _ c.in-len4-up.len_at_least (take_all _ (drop 4 rest) (omega (arith, long))) c.from_le_bytes-sum.ensures c.words.invariant
+    sum_more _ c.words.sum c.from_le_bytes-sum.result rest _ c.in-len4-up.len_at_least (take_all _ (drop 4 rest) (omega (arith, long)))
+    c.from_le_bytes-sum.ensures c.words.invariant

@@ -1,6 +1,6 @@
 use Rattle.std.specs.Prelude.{string_bytes}
 use Rattle.std.proofs.lemmas.Result.{on_ok_weaker}
-use Rattle.cli_filters.proofs.Answered.{lines_answered}
+use Rattle.cli_filters.proofs.AnswerLines.{lines_answered}
 use Rattle.cli_filters.proofs.no_words.answer_lines.Goals as goal
 
 pub returns : goal.returns

@@ -11,7 +11,8 @@ pub returns-in_default : goal.returns-in_default
 returns-in_default g c =
     let ended = subst (λ taken. GivesNext taken c.packets.reader c.next_packet.new.reader) c.in_default.is c.in_ok-owned.ensures.gives in
     record {
-      all = λ recording begins. (let so_far = c.packets.invariant recording begins in all_counted c.next_packet.new.reader c.packets.counts so_far.0 ended so_far.1);
+      all = λ recording begins. (let so_far = c.packets.invariant recording begins in
+          all_counted c.next_packet.new.reader c.packets.counts so_far.0 ended so_far.1);
     }
 
 pub packets-preserved : goal.packets-preserved

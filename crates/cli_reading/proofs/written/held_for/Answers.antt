@@ -18,7 +18,8 @@ packets-init g c =
 pub returns-in_default : goal.returns-in_default
 returns-in_default g c =
     record {
-      written = all_written (g.P.PerPacket.bytes_for c.args.written.now) g.P.PerPacket.counts (g.I.Read.remaining c.args.input) c.packets.counter c.in_ok-reader.reader c.packets.reader c.next_packet.new.reader
+      written = all_written (g.P.PerPacket.bytes_for c.args.written.now) g.P.PerPacket.counts (g.I.Read.remaining c.args.input) c.packets.counter
+          c.in_ok-reader.reader c.packets.reader c.next_packet.new.reader
           c.packets.held.items c.args.written.now c.packets.written c.in_ok-reader.ensures.begins c.packets.invariant.1
           (subst (λ taken. GivesNext taken c.packets.reader c.next_packet.new.reader) c.in_default.is c.in_ok-owned.ensures.gives);
     }
@@ -29,8 +30,10 @@ packets-preserved g c =
       c.write_packet.ensures.same c.if-not-write_packet.false ∙ c.packets.invariant.0,
       λ recording begins. (let so_far = c.packets.invariant.1 recording begins in (
         one_more_given c.next_packet.new.reader _ so_far.0 gives,
-        one_more_went_out (g.P.PerPacket.bytes_for c.args.written.now) (g.P.PerPacket.bytes_for c.packets.written) so_far.0.packets _ _ (Some []) (Some c.packets.held.items)
-            (Some c.write_packet.new.out.items) so_far.1 c.packets.invariant.0 c.packet.ensures.same (c.write_packet.ensures.written c.if-not-write_packet.false),
+        one_more_went_out (g.P.PerPacket.bytes_for c.args.written.now) (g.P.PerPacket.bytes_for c.packets.written) so_far.0.packets _ _ (Some [])
+            (Some c.packets.held.items)
+            (Some c.write_packet.new.out.items) so_far.1 c.packets.invariant.0 c.packet.ensures.same
+            (c.write_packet.ensures.written c.if-not-write_packet.false),
         one_more_step g.P.PerPacket.counts so_far.0.packets _ _ c.args.written.now c.packets.written c.write_packet.new.self so_far.2 c.packet.ensures.same
             (c.write_packet.ensures.counted c.if-not-write_packet.false),
       )),

@@ -12,5 +12,6 @@ invariant-packets g l =
     (g.P.PerPacket.bytes_for l.written ≡ g.P.PerPacket.bytes_for l.initial.written)
     × ((recording : List ℕ) → HasRead recording [] l.initial.reader
     → (had : HasGiven l.counter recording l.reader)
-    × WentOut (g.P.PerPacket.bytes_for l.initial.written) had.packets (writer_contents g.W.Write.contents l.initial.output) (writer_contents g.W.Write.contents l.output) × CountsPackets had.packets l.counts
+    × WentOut (g.P.PerPacket.bytes_for l.initial.written) had.packets (writer_contents g.W.Write.contents l.initial.output)
+    (writer_contents g.W.Write.contents l.output) × CountsPackets had.packets l.counts
     × FoldsTo g.P.PerPacket.counts l.initial.written had.packets l.written)

@@ -1,7 +1,7 @@
 use Rattle.std.proofs.Common.{◌-◌, length, rules, subst, sym}
 use Rattle.std.specs.Io.KnownBytes.{Consumes}
 use Rattle.std.proofs.KnownBytes.{Consumes-trans}
-use Rattle.eth_frame.proofs.Filled.{take-put_mid-more}
+use Rattle.eth_frame.proofs.BufferFill.{take-put_mid-more}
 use Rattle.eth_frame.proofs.buffer.fill.Goals as goal
 
 pub pieces-preserved : goal.pieces-preserved

@@ -1,4 +1,4 @@
-use Rattle.eth_frame.proofs.OneReading.{said, meant, one}
+use Rattle.eth_frame.proofs.OneFeedReading.{said, meant, one}
 use Rattle.eth_frame.proofs.laws.feed_has_one_reading.Goals as goal
 
 pub returns-clause-said : goal.returns-clause-said

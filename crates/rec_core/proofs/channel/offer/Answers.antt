@@ -31,5 +31,6 @@ returns-clause-took c =
       settings_stay = c.offer-value.ensures.settings ∙ ap (λ (l : LaneState). l.settings) ready;
       meets = subst (λ (l : LaneState). Meets l met (offered_now l version program frame value)) ready c.offer-value.ensures.met;
       makes = subst (λ (l : LaneState). MakesCertain l (offered_now l version program frame value) given) ready c.offer-value.ensures.pieces;
-      added = ap pieces_data c.append.ensures ∙ (map-append piece_data c.reserve.new.self.items c.offer-value.result.pieces.items ∙ ap (λ ps. pieces_data ps ++ given) c.in_ok-reserve.ensures.items);
+      added = ap pieces_data c.append.ensures ∙ (map-append piece_data c.reserve.new.self.items c.offer-value.result.pieces.items
+          ∙ ap (λ ps. pieces_data ps ++ given) c.in_ok-reserve.ensures.items);
     }

@@ -6,13 +6,14 @@ use Rattle.rec_core.specs.declared.fault.CoreFault.{CoreFault}
 use Rattle.rec_core.specs.World.{EventData}
 use Rattle.rec_core.specs.Worlds.{RunsCut}
 use Rattle.rec_core.specs.Views.{event_data, events_data}
-use Rattle.rec_core.proofs.Lists.{map_more}
-use Rattle.rec_core.proofs.Stepping.{runs_none, runs_more, run_alone}
+use Rattle.rec_core.proofs.ListPlaces.{map_more}
+use Rattle.rec_core.proofs.WorldSteps.{runs_none, runs_more, run_alone}
 use Rattle.rec_core.proofs.run.run_world.Goals as goal
 
 pub events-init : goal.events-init
 events-init g c = (
-  subst (λ (answers : List (Result Reply CoreFault)). RunsCut c.args.world.now c.args.world.now [] answers) (sym c.in_ok-answers.ensures.items) (runs_none c.args.world.now),
+  subst (λ (answers : List (Result Reply CoreFault)). RunsCut c.args.world.now c.args.world.now [] answers) (sym c.in_ok-answers.ensures.items)
+      (runs_none c.args.world.now),
   (λ failed. refl),
   refl,
   c.in_ok-answers.ensures.len,
@@ -28,8 +29,10 @@ events-preserved g c =
     let before = take c.events.event-index c.args.events.now in
     let more = map_more event_data c.args.events.now c.events.event-index c.event-item.result (omega arith) c.event-item.is in (
       subst (λ (events : List EventData). RunsCut start next events c.push_reserved.new.self.items) (sym more)
-          (subst (λ (answers : List (Result Reply CoreFault)). RunsCut start next (events_data before ++ event_data c.event-item.result ∷ []) answers) (sym push.items)
-          (runs_more start c.events.world next (events_data before) c.events.answers.items (event_data c.event-item.result) c.step.result inv.0 c.step.ensures.cut)),
+          (subst (λ (answers : List (Result Reply CoreFault)). RunsCut start next (events_data before ++ event_data c.event-item.result ∷ []) answers)
+          (sym push.items)
+          (runs_more start c.events.world next (events_data before) c.events.answers.items (event_data c.event-item.result) c.step.result inv.0
+          c.step.ensures.cut)),
       (λ failed. c.step.ensures.silent (ap (λ (w : WriterState). w.failed) (inv.1 failed) ∙ failed) ∙ inv.1 failed),
       c.step.ensures.version ∙ inv.2,
       omega (arith, push.len, inv.3),

@@ -11,5 +11,6 @@ specs-preserved c =
     let inv = c.specs.invariant in (
       c.push.ensures.items ∙ (ap (λ ns. ns ++ channel ∷ []) inv.0 ∙ sym (channels_more c.args.specs.now c.specs.k c.index-specs-k.result (omega arith))),
       omega (arith, c.push.ensures.len, inv.1),
-      subst (λ ns. All (λ (n : ℕ). n ≢ 0) ns) (sym c.push.ensures.items) (All-push (λ (n : ℕ). n ≢ 0) c.specs.channels.items channel inv.2 (let named = spec.lane.named in λ e. omega (arith, e, named))),
+      subst (λ ns. All (λ (n : ℕ). n ≢ 0) ns) (sym c.push.ensures.items)
+          (All-push (λ (n : ℕ). n ≢ 0) c.specs.channels.items channel inv.2 (let named = spec.lane.named in λ e. omega (arith, e, named))),
     )

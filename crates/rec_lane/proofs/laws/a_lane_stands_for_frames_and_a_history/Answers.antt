@@ -1,4 +1,4 @@
-use Rattle.rec_lane.proofs.Meeting.{takes_frame, ends}
+use Rattle.rec_lane.proofs.FramesMet.{takes_frame, ends}
 use Rattle.rec_lane.proofs.laws.a_lane_stands_for_frames_and_a_history.Goals as goal
 
 pub returns-clause-takes : goal.returns-clause-takes

@@ -1,4 +1,4 @@
-use Rattle.rec_lane.proofs.Meeting.{one_list, some_list, accepted_once}
+use Rattle.rec_lane.proofs.FramesMet.{one_list, some_list, accepted_once}
 use Rattle.rec_lane.proofs.laws.accepted_frames_are_one_list.Goals as goal
 
 pub returns-clause-one : goal.returns-clause-one

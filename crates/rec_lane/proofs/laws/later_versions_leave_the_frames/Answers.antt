@@ -1,4 +1,4 @@
-use Rattle.rec_lane.proofs.Meeting.{later_list, before_list}
+use Rattle.rec_lane.proofs.FramesMet.{later_list, before_list}
 use Rattle.rec_lane.proofs.laws.later_versions_leave_the_frames.Goals as goal
 
 pub returns-clause-kept : goal.returns-clause-kept

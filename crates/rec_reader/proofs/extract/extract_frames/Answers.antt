@@ -17,4 +17,5 @@ frames-init g c = (record { bytes = []; taken = Appends-nil _; whole = refl }, c
 
 pub returns-in_default-clause-counts : goal.returns-in_default-clause-counts
 returns-in_default-clause-counts g c =
-    counts_nothing _ c.args.packet.now.what (data_in (header_data c.args.packet.now.header) c.args.packet.now.body.now) (λ count is. true≢false (sym (c.in_default.ensures.some.1 (count, is))))
+    counts_nothing _ c.args.packet.now.what (data_in (header_data c.args.packet.now.header) c.args.packet.now.body.now)
+    (λ count is. true≢false (sym (c.in_default.ensures.some.1 (count, is))))

@@ -1,5 +1,5 @@
 use Rattle.std.proofs.lemmas.List.Concat.{flat_map-append}
-use Rattle.rec_reader.proofs.Cuts.{reads_as_front}
+use Rattle.rec_reader.proofs.CutRecordings.{reads_as_front}
 use Rattle.rec_reader.proofs.laws.a_cut_recording_reads_as_its_front.Goals as goal
 
 pub returns-clause-packets : goal.returns-clause-packets

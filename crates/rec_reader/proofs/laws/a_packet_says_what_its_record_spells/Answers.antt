@@ -1,4 +1,4 @@
-use Rattle.rec_reader.proofs.Stored.{says_record}
+use Rattle.rec_reader.proofs.StoredPrograms.{says_record}
 use Rattle.rec_reader.proofs.laws.a_packet_says_what_its_record_spells.Goals as goal
 
 pub returns : goal.returns

@@ -1,4 +1,4 @@
-use Rattle.rec_reader.proofs.OneReading.{Known, no_longer, one_packet, one_reading, they_follow}
+use Rattle.rec_reader.proofs.OneRecordingReading.{Known, no_longer, one_packet, one_reading, they_follow}
 use Rattle.rec_reader.proofs.laws.bytes_have_one_reading.Goals as goal
 
 known : goal.After-a_packet_holds_one_thing → Known

@@ -1,7 +1,7 @@
 use Rattle.std.proofs.Common.{ap}
 use Rattle.ch11_packet.specs.declared.class.ClassFault.TheVariants.{DataChecksum, Body}
 use Rattle.rec_reader.specs.ChannelFrames.{frames_held}
-use Rattle.rec_reader.proofs.Cuts.{spells_again}
+use Rattle.rec_reader.proofs.CutRecordings.{spells_again}
 use Rattle.rec_reader.proofs.Splitting.{bad_bytes}
 use Rattle.rec_reader.proofs.laws.what_is_not_judged_makes_no_difference.Goals as goal
 

@@ -13,13 +13,15 @@ returns-in_err-what-clause-fault c =
     let split = c.in-Some.ensures.cases in
     let fault = c.in_err-what.field-0.0 in
     is_told c.args.bytes.now c.from_residual-in_err-what.result (class_kind fault) c.from_residual-in_err-what.ensures.1
-    (bad_packet _ _ _ _ _ fault c.in_ok-header.ensures.header (split_is _ _ _ _ split.1 split.2) (omega (arith, split.3, c.in_ok-header.header.in_range.lengths.holds))
+    (bad_packet _ _ _ _ _ fault c.in_ok-header.ensures.header (split_is _ _ _ _ split.1 split.2)
+    (omega (arith, split.3, c.in_ok-header.header.in_range.lengths.holds))
     ((c.in_err-what.ensures.fault fault).0 refl))
 
 pub returns-clause-packet : goal.returns-clause-packet
 returns-clause-packet c =
     let split = c.in-Some.ensures.cases in
-    first_packet c.args.at _ _ _ _ _ _ c.in_ok-header.ensures.header (split_is _ _ _ _ split.1 split.2) (omega (arith, split.3, c.in_ok-header.header.in_range.lengths.holds))
+    first_packet c.args.at _ _ _ _ _ _ c.in_ok-header.ensures.header (split_is _ _ _ _ split.1 split.2)
+    (omega (arith, split.3, c.in_ok-header.header.in_range.lengths.holds))
     c.in_ok-what.ensures.holds
 
 pub returns-clause-shorter : goal.returns-clause-shorter

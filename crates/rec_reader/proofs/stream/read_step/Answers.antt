@@ -1,7 +1,7 @@
 use Rattle.std.proofs.Common.{◌≡◌, ◌+◌, ◌-◌, ◌++◌, length, take, ap, subst, ◌∙◌, arith, take_all, replicate}
 use Rattle.std.specs.Io.KnownBytes.{Consumes}
 use Rattle.std.specs.Vec.{vec_len}
-use Rattle.rec_reader.proofs.Filled.{lent_to_end, grown_front, length-room}
+use Rattle.rec_reader.proofs.StreamFill.{lent_to_end, grown_front, length-room}
 use Rattle.rec_reader.proofs.stream.read_step.Goals as goal
 
 pub returns-clause-taken : goal.returns-clause-taken
@@ -19,6 +19,7 @@ returns-clause-taken g c =
     let len : length part ≡ c.args.step = omega (arith, room, long) in
     let whole = take_all c.in_ok-filled.filled part (omega (arith, len, c.if-filled-step.false)) in
     let ended = lent_to_end grown.len start lent part grown.items (omega (arith, vlen)) (omega (arith, long)) room in
-    let items = val ∙ c.in_ok-resize.ensures.items ∙ ap (λ l. take (start + c.args.step) l ++ replicate (start + c.args.step - vec_len c.reserve_exact.new.self) 0) kept in
+    let items = val ∙ c.in_ok-resize.ensures.items ∙ ap (λ l. take (start + c.args.step) l
+    ++ replicate (start + c.args.step - vec_len c.reserve_exact.new.self) 0) kept in
     let front = ap (take start) items ∙ grown_front start c.args.step c.args.body.now.items _ (omega (arith, c.len-start.ensures, c.args.body.now.ok)) in
     (part, len, ended ∙ ap (λ l. l ++ part) front, subst (Consumes _ _) whole c.in_ok-filled.ensures.taken)

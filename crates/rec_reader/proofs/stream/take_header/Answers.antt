@@ -10,5 +10,6 @@ returns-in_err-header-clause-fault g c =
     let fault = c.in_err-header.field-0.0 in
     let len : length head ≡ HEADER_LEN = omega (arith, c.fill.auto.places) in
     let whole = take_all c.in_ok-filled.filled head (omega arith) in
-    told_header (g.R.Read.remaining c.args.input.now) (g.R.Read.remaining c.fill.new.reader) head c.from_residual-in_err-header.result fault c.from_residual-in_err-header.ensures.1
+    told_header (g.R.Read.remaining c.args.input.now) (g.R.Read.remaining c.fill.new.reader) head c.from_residual-in_err-header.result fault
+    c.from_residual-in_err-header.ensures.1
     len (subst (Consumes _ _) whole c.in_ok-filled.ensures.taken) ((c.in_err-header.ensures.fault fault).0 refl)

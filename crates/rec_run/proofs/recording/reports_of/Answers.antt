@@ -21,6 +21,7 @@ workers-preserved g c =
       (
         inv.1.0 ++ one ∷ [],
         inv.1.1 ∙ ap (λ xs. inv.1.0 ++ xs) s.0 ∙ sym (append_assoc inv.1.0 (one ∷ []) _),
-        subst (λ rs. AllZip (TellsOf c.args.log.now) (inv.1.0 ++ one ∷ []) rs) (sym push.items) (zip_push (TellsOf c.args.log.now) inv.1.0 c.workers.reports.items one c.in_ok-report_of.field-0 inv.1.2 c.in_ok-report_of.ensures),
+        subst (λ rs. AllZip (TellsOf c.args.log.now) (inv.1.0 ++ one ∷ []) rs) (sym push.items)
+            (zip_push (TellsOf c.args.log.now) inv.1.0 c.workers.reports.items one c.in_ok-report_of.field-0 inv.1.2 c.in_ok-report_of.ensures),
       ),
     )

@@ -11,6 +11,7 @@ returns-clause-ended c = λ ring specs before core new run are events ended stan
 pub returns-clause-always : goal.returns-clause-always
 returns-clause-always c = λ ring specs before core new run are events stands small.
     let channels = world_recordable ring specs new run are events (c.a_run_writes_each_channel_in_order.ensures.channels ring specs new run) in
-    let cut = world_cut c.later_versions_leave_the_frames.ensures.kept c.pieces_are_of_their_channel.ensures c.pieces_so_far_begin_all_pieces.ensures.frames ring specs before core new run
+    let cut = world_cut c.later_versions_leave_the_frames.ensures.kept c.pieces_are_of_their_channel.ensures c.pieces_so_far_begin_all_pieces.ensures.frames
+    ring specs before core new run
     (c.a_failed_output_is_cut_in_one_piece.ensures.cut ring before core new stands) stands in
     (cut.0, cut.1, c.a_cut_recording_is_read_back.ensures.failed core.writer.version (recorded_channels new) cut.0 small channels cut.2)

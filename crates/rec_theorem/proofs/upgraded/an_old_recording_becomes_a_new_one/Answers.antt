@@ -1,7 +1,7 @@
 use Rattle.ch11_packet.specs.Profiles.Profile.{WithoutSum}
 use Rattle.std.proofs.Common.{[]}
 use Rattle.rec_theorem.proofs.OldPieces.{reads_old, become_new, each_is_old}
-use Rattle.rec_theorem.proofs.Readings.{packets_after}
+use Rattle.rec_theorem.proofs.PacketReadings.{packets_after}
 use Rattle.rec_theorem.proofs.upgraded.an_old_recording_becomes_a_new_one.Goals as goal
 
 pub returns-clause-read : goal.returns-clause-read

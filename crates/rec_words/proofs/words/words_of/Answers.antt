@@ -18,10 +18,12 @@ pub returns-in-Ok-clause-asked : goal.returns-in-Ok-clause-asked
 returns-in-Ok-clause-asked c =
     let app = c.in_ok-command.ensures.app in
     let rows = (c.in-Ok.ensures.matches (ap is_simple app ∙ simple)).1 in
-    subst (λ a. AsksFor (subcommand_of a (map string_bytes c.args.words.now)) c.command_in.result) app (subst (λ o. AsksFor o c.command_in.result) rows c.command_in.ensures)
+    subst (λ a. AsksFor (subcommand_of a (map string_bytes c.args.words.now)) c.command_in.result) app
+    (subst (λ o. AsksFor o c.command_in.result) rows c.command_in.ensures)
 
 pub returns-in-Err-clause-takes : goal.returns-in-Err-clause-takes
-returns-in-Err-clause-takes c = λ taken. c.fault_from.ensures.memory (c.in-Err.ensures.passes (ap (λ a. takes a (map string_bytes c.args.words.now)) c.in_ok-command.ensures.app ∙ taken))
+returns-in-Err-clause-takes c = λ taken. c.fault_from.ensures.memory
+    (c.in-Err.ensures.passes (ap (λ a. takes a (map string_bytes c.args.words.now)) c.in_ok-command.ensures.app ∙ taken))
 
 pub returns-in-Err-clause-kinds : goal.returns-in-Err-clause-kinds
 returns-in-Err-clause-kinds c =

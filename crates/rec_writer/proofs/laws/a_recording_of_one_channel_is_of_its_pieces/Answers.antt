@@ -1,4 +1,4 @@
-use Rattle.rec_writer.proofs.Recordings.{one_recorded, only_recorded}
+use Rattle.rec_writer.proofs.OneChannelRecordings.{one_recorded, only_recorded}
 use Rattle.rec_writer.proofs.laws.a_recording_of_one_channel_is_of_its_pieces.Goals as goal
 
 pub returns-clause-recording : goal.returns-clause-recording

@@ -1,5 +1,5 @@
 use Rattle.std.proofs.Common.{◌≡◌, ◌+◌, vec_len, rules, refl, sym, ◌∙◌}
-use Rattle.bpf_asm.proofs.Tables.{draft_insn, draft_full}
+use Rattle.bpf_asm.proofs.LabelTables.{draft_insn, draft_full}
 use Rattle.bpf_asm.proofs.draft.Draft.add_insn.Goals as goal
 
 pub returns-then-len-eq-MAX_INSNS : goal.returns-then-len-eq-MAX_INSNS

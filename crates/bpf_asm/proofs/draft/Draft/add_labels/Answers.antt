@@ -1,7 +1,7 @@
 use Rattle.std.proofs.Common.{◌≡◌, [], ◌∷◌, ◌++◌, refl, sym, ◌∙◌, ap, append_assoc}
 use Rattle.std.proofs.lemmas.Result.{err_from_is_err_and}
 use Rattle.bpf_asm.specs.Views.{labels_in}
-use Rattle.bpf_asm.proofs.Tables.{draft_empty}
+use Rattle.bpf_asm.proofs.LabelTables.{draft_empty}
 use Rattle.bpf_asm.proofs.Assembling.{twice_so_far, some_within}
 use Rattle.bpf_asm.proofs.draft.Draft.add_labels.Goals as goal
 

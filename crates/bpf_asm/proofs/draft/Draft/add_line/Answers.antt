@@ -3,12 +3,13 @@ use Rattle.std.proofs.lemmas.Result.{err_from_is_err_and}
 use Rattle.bpf_asm.specs.FirstFault.LineBreaks.{InTokens}
 use Rattle.bpf_asm.specs.Views.{line_in, labels_in, reading_data}
 use Rattle.bpf_asm.specs.Drafts.{label_shape}
-use Rattle.bpf_asm.proofs.Readings.{fault_is}
+use Rattle.bpf_asm.proofs.LineReadings.{fault_is}
 use Rattle.bpf_asm.proofs.Assembling.{labels_break, insn_breaks, read_none, insn_added}
 use Rattle.bpf_asm.proofs.draft.Draft.add_line.Goals as goal
 
 pub returns-in-Err-clause-added : goal.returns-in-Err-clause-added
-returns-in-Err-clause-added c = λ shapes at h. rw c.in_line.ensures (inr (InTokens c.in-Err.fault (fault_is (line_in c.args.text) c.in-Err.fault c.in-Err.ensures)))
+returns-in-Err-clause-added c = λ shapes at h. rw c.in_line.ensures
+    (inr (InTokens c.in-Err.fault (fault_is (line_in c.args.text) c.in-Err.fault c.in-Err.ensures)))
 
 pub returns-in_err-add_labels-clause-added : goal.returns-in_err-add_labels-clause-added
 returns-in_err-add_labels-clause-added c = λ shapes at h.

@@ -16,8 +16,20 @@ append-requires-in-insns c =
     let so_far : c.insns.body.items ≡ c.append.new.body.items ++ flat_map insn_bytes (take at insns) = c.insns.invariant in
     let head : length c.append.new.body.items ≡ 28 = rw (c.append.ensures, c.new-body.ensures) refl in
     let eight : length c.to_bytes.result ≡ 8 = ap length c.to_bytes.ensures.layout in
-    omega (arith, ap length so_far, length-append c.append.new.body.items (flat_map insn_bytes (take at insns)), length-insns (take at insns), length-take-le at insns (omega arith), lt, few, same, head, eight)
+    omega (
+      arith,
+      ap length so_far,
+      length-append c.append.new.body.items (flat_map insn_bytes (take at insns)),
+      length-insns (take at insns),
+      length-take-le at insns (omega arith),
+      lt,
+      few,
+      same,
+      head,
+      eight,
+    )
 
 pub insns-preserved : goal.insns-preserved
 insns-preserved c =
-    insns_more c.append.new.body.items c.insns.body.items c.to_bytes.result _ c.insns-insns.result.now c.insns.insn-index _ c.insns-test.true c.insns.invariant c.to_bytes.ensures.layout c.append-in-insns.ensures
+    insns_more c.append.new.body.items c.insns.body.items c.to_bytes.result _ c.insns-insns.result.now c.insns.insn-index _ c.insns-test.true c.insns.invariant
+    c.to_bytes.ensures.layout c.append-in-insns.ensures

@@ -13,5 +13,7 @@ pub returns : goal.returns
 returns c = record {
   at = λ count len.
       let found = c.in_ok-bytes.ensures.lookup.0 in
-      insn_read count c.args.at c.args.insns.now c.in_ok-bytes.bytes.now c.from_bytes.result (λ i. omega (arith, c.type_inv.insns i)) (omega (arith, len, c.from-start.ensures, found.1)) (found.2 ∙ eight_there c.args.insns.now c.from-start.result c.args.at c.from-start.ensures) c.from_bytes.ensures.inverse;
+      insn_read count c.args.at c.args.insns.now c.in_ok-bytes.bytes.now c.from_bytes.result (λ i. omega (arith, c.type_inv.insns i))
+      (omega (arith, len, c.from-start.ensures, found.1)) (found.2 ∙ eight_there c.args.insns.now c.from-start.result c.args.at c.from-start.ensures)
+      c.from_bytes.ensures.inverse;
 }

@@ -23,7 +23,8 @@ returns-in_err-head-clause-record g c =
     let len : length c.fill.new.places ≡ HEAD_LEN = omega (arith, c.fill.auto.places) in
     let whole = take_all c.in_ok-filled.filled c.fill.new.places (omega arith) in
     let p = err_from_is_err_and c.from_residual-in_err-head.result c.from_residual-in_err-head.ensures.1 in
-    rw (p.1, p.2) (TakesRecord-head (g.R.Read.remaining c.args.reader.now) (g.R.Read.remaining c.fill.new.reader) None c.fill.new.places c.in_err-head.field-0.0 None
+    rw (p.1, p.2) (TakesRecord-head (g.R.Read.remaining c.args.reader.now) (g.R.Read.remaining c.fill.new.reader) None c.fill.new.places
+    c.in_err-head.field-0.0 None
     len c.in_err-head.ensures.fault (subst (Consumes _ _) whole c.in_ok-filled.ensures.taken))
 
 pub returns-in_err-take_body-clause-record : goal.returns-in_err-take_body-clause-record
@@ -32,7 +33,8 @@ returns-in_err-take_body-clause-record g c =
     let whole = take_all c.in_ok-filled.filled c.fill.new.places (omega arith) in
     let cut = rw c.in_ok-head.ensures.len at c.in_err-take_body.ensures.fault in
     let p = err_from_is_err_and c.from_residual-in_err-take_body.result c.from_residual-in_err-take_body.ensures.1 in
-    rw (p.1, p.2) (TakesRecord-cut (g.R.Read.remaining c.args.reader.now) (g.R.Read.remaining c.fill.new.reader) None c.fill.new.places c.in_err-take_body.field-0.0 None
+    rw (p.1, p.2) (TakesRecord-cut (g.R.Read.remaining c.args.reader.now) (g.R.Read.remaining c.fill.new.reader) None c.fill.new.places
+    c.in_err-take_body.field-0.0 None
     len c.in_ok-head.ensures.fault (subst (Consumes _ _) whole c.in_ok-filled.ensures.taken) cut)
 
 pub returns-clause-record : goal.returns-clause-record
@@ -40,5 +42,7 @@ returns-clause-record g c =
     let len : length c.fill.new.places ≡ HEAD_LEN = omega (arith, c.fill.auto.places) in
     let whole = take_all c.in_ok-filled.filled c.fill.new.places (omega arith) in
     let head = c.in_ok-head.ensures in
-    TakesRecord-held (g.R.Read.remaining c.args.reader.now) (g.R.Read.remaining c.fill.new.reader) (g.R.Read.remaining c.take_body.new.reader) c.fill.new.places c.in_ok-head.head c.take_body.new.buffer
-    len head.fault (record { counter = head.counter; crc_error = head.crc_error; frame_error = head.frame_error; len = head.len }) (subst (Consumes _ _) whole c.in_ok-filled.ensures.taken) c.in_ok-take_body.ensures.ok
+    TakesRecord-held (g.R.Read.remaining c.args.reader.now) (g.R.Read.remaining c.fill.new.reader) (g.R.Read.remaining c.take_body.new.reader)
+    c.fill.new.places c.in_ok-head.head c.take_body.new.buffer
+    len head.fault (record { counter = head.counter; crc_error = head.crc_error; frame_error = head.frame_error; len = head.len })
+    (subst (Consumes _ _) whole c.in_ok-filled.ensures.taken) c.in_ok-take_body.ensures.ok

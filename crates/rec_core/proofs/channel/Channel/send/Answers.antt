@@ -1,7 +1,7 @@
 use Rattle.std.proofs.Common.{ap}
 use Rattle.rec_lane.specs.Views.{piece_data, pieces_data}
 use Rattle.rec_core.specs.Views.{channel_parts}
-use Rattle.rec_core.proofs.Serves.{not_full, send_sends}
+use Rattle.rec_core.proofs.EventsServed.{not_full, send_sends}
 use Rattle.rec_core.proofs.channel.Channel.send.Goals as goal
 
 pub returns-clause-answers : goal.returns-clause-answers

@@ -37,7 +37,8 @@ returns-then-is_current-clause-in_history c =
 pub returns-else-is_current-clause-value : goal.returns-else-is_current-clause-value
 returns-else-is_current-clause-value c =
     let isnt = sym c.is_current.ensures.current ∙ c.if-is_current.false in
-    runs_first c.args.self.now.current c.args.drawn.version (arc_value c.args.drawn.program) (view (frame_data c.args.frame.now)) c.offer_first.result.value isnt c.offer_first.ensures.value
+    runs_first c.args.self.now.current c.args.drawn.version (arc_value c.args.drawn.program) (view (frame_data c.args.frame.now)) c.offer_first.result.value
+    isnt c.offer_first.ensures.value
 
 pub returns-else-is_current-clause-met : goal.returns-else-is_current-clause-met
 returns-else-is_current-clause-met c = λ before stands.
@@ -48,10 +49,12 @@ returns-else-is_current-clause-met c = λ before stands.
 pub returns-else-is_current-clause-pieces : goal.returns-else-is_current-clause-pieces
 returns-else-is_current-clause-pieces c = λ before stands.
     let isnt = sym c.is_current.ensures.current ∙ c.if-is_current.false in
-    first_pieces _ before _ _ _ _ isnt c.offer_first.ensures.roomy stands ∙ ap (λ ps. pieces_so_far c.args.self.now.settings before ++ ps) (sym c.offer_first.ensures.pieces)
+    first_pieces _ before _ _ _ _ isnt c.offer_first.ensures.roomy stands
+    ∙ ap (λ ps. pieces_so_far c.args.self.now.settings before ++ ps) (sym c.offer_first.ensures.pieces)
 
 pub returns-else-is_current-clause-in_history : goal.returns-else-is_current-clause-in_history
 returns-else-is_current-clause-in_history c =
-    c.a_lane_stands_for_frames_and_a_history.ensures.takes c.args.self.now c.offer_first.new.self (frame_data c.args.frame.now) c.args.drawn.version (arc_value c.args.drawn.program)
+    c.a_lane_stands_for_frames_and_a_history.ensures.takes c.args.self.now c.offer_first.new.self (frame_data c.args.frame.now) c.args.drawn.version
+    (arc_value c.args.drawn.program)
     c.offer_first.result.value (pieces_data c.offer_first.result.pieces.items)
     (returns-else-is_current-clause-value c) (returns-else-is_current-clause-met c) (returns-else-is_current-clause-pieces c)

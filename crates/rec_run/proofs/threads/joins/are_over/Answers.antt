@@ -5,7 +5,8 @@ use Rattle.rec_run.proofs.threads.joins.are_over.Goals as goal
 
 pub channels-preserved : goal.channels-preserved
 channels-preserved g c =
-    let here = at_read c.args.joined.now (λ j. (j.remaining ≡ 0) × IsOverThen j.done.end) c.channels.one-index c.one-item.result (omega arith) c.one-item.is (omega arith, c.is_over.ensures.0 c.if-not-is_over.false) in
+    let here = at_read c.args.joined.now (λ j. (j.remaining ≡ 0) × IsOverThen j.done.end) c.channels.one-index c.one-item.result (omega arith) c.one-item.is
+    (omega arith, c.is_over.ensures.0 c.if-not-is_over.false) in
     AllWithin-more (λ j. (j.remaining ≡ 0) × IsOverThen j.done.end) c.args.joined.now 0 c.channels.one-index c.channels.invariant here
 
 pub returns : goal.returns

@@ -13,6 +13,7 @@ workers-preserved g c =
       (
         inv.2.0 ++ job_at l ∷ [],
         jobs_step l _ _ s.0 _ inv.2.0 inv.2.1,
-        λ pieces all. joined_push g.S.FrameSource.left g.S.FrameSource.failures g.S.FrameSource.ending pieces inv.2.0 _ _ (job_at l) _ c.push_reserved.ensures.items (inv.2.2 pieces all) (c.join_one.ensures pieces (came_head l _ _ s.0 pieces (inv.1 pieces all))),
+        λ pieces all. joined_push g.S.FrameSource.left g.S.FrameSource.failures g.S.FrameSource.ending pieces inv.2.0 _ _ (job_at l) _
+            c.push_reserved.ensures.items (inv.2.2 pieces all) (c.join_one.ensures pieces (came_head l _ _ s.0 pieces (inv.1 pieces all))),
       ),
     )

@@ -15,4 +15,5 @@ invariant-workers g l =
     (vec_len l.joined + into_iter_len rest ≤ vec_capacity l.joined)
     × ((pieces : List PieceData) → AllCame pieces l.fn.lines.items → AllCame pieces (into_iter_items rest))
     × ((js : List (Job _)) × (jobs_of l.fn.lines.items ≡ js ++ jobs_of (into_iter_items rest))
-    × ((pieces : List PieceData) → AllCame pieces l.fn.lines.items → AllZip (JoinedOf g.S.FrameSource.left g.S.FrameSource.failures g.S.FrameSource.ending pieces) js l.joined.items))
+    × ((pieces : List PieceData) → AllCame pieces l.fn.lines.items
+    → AllZip (JoinedOf g.S.FrameSource.left g.S.FrameSource.failures g.S.FrameSource.ending pieces) js l.joined.items))

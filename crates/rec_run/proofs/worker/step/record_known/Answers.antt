@@ -1,4 +1,4 @@
-use Rattle.std.proofs.Common.{◌≡◌, ◌∷◌, ◌++◌, [], true, ◌∙◌, ap, sym, subst, inl, inr, refl}
+use Rattle.std.proofs.Common.{◌≡◌, ◌∷◌, ◌++◌, [], true, ◌∙◌, ap, sym, subst, inl}
 use Rattle.std.proofs.lemmas.List.{append-nil}
 use Rattle.rtrb.specs.Ring.{sent}
 use Rattle.eth_frame.specs.Views.{frame_data}
@@ -16,7 +16,9 @@ returns-in-None-clause-records g c =
     let o = c.offer_known-packet.ensures in
     let current = sym c.is_current.ensures.current ∙ c.if-not-is_current.false in
     let last = subst (λ ms. is_last_met (versions_met ms) v ≡ true) c.as_slice.ensures.value c.in-Some.ensures.met in
-    let offers = known_offers c.args.worker.now.lane c.offer_known-packet.new.self (met_by c.args.worker.now) (frame_data c.args.frame.now) v c.offer_known-packet.result.value c.offer_known-packet.result.packet [] last (ap packet_pieces c.in-None.is) (o.value v [] current) (o.met v [] current) (o.pieces v [] current) o.settings in
+    let offers = known_offers c.args.worker.now.lane c.offer_known-packet.new.self (met_by c.args.worker.now) (frame_data c.args.frame.now) v
+    c.offer_known-packet.result.value c.offer_known-packet.result.packet [] last (ap packet_pieces c.in-None.is) (o.value v [] current)
+    (o.met v [] current) (o.pieces v [] current) o.settings in
     takes_whole _ _ _ _ _ (sent c.args.worker.now.ring) (sent c.args.worker.now.ring) [] offers (sym (append-nil _))
 
 pub returns-then-send-clause-records : goal.returns-then-send-clause-records
@@ -25,7 +27,9 @@ returns-then-send-clause-records g c =
     let o = c.offer_known-packet.ensures in
     let current = sym c.is_current.ensures.current ∙ c.if-not-is_current.false in
     let last = subst (λ ms. is_last_met (versions_met ms) v ≡ true) c.as_slice.ensures.value c.in-Some.ensures.met in
-    let offers = known_offers c.args.worker.now.lane c.offer_known-packet.new.self (met_by c.args.worker.now) (frame_data c.args.frame.now) v c.offer_known-packet.result.value c.offer_known-packet.result.packet (Data c.in-Some-packet.packet ∷ []) last (ap packet_pieces c.in-Some-packet.is) (o.value v [] current) (o.met v [] current) (o.pieces v [] current) o.settings in
+    let offers = known_offers c.args.worker.now.lane c.offer_known-packet.new.self (met_by c.args.worker.now) (frame_data c.args.frame.now) v
+    c.offer_known-packet.result.value c.offer_known-packet.result.packet (Data c.in-Some-packet.packet ∷ []) last (ap packet_pieces c.in-Some-packet.is)
+    (o.value v [] current) (o.met v [] current) (o.pieces v [] current) o.settings in
     takes_whole _ _ _ _ _ (sent c.args.worker.now.ring) (sent c.send.new.ring) (Data c.in-Some-packet.packet ∷ []) offers (c.send.ensures.went c.if-send.true)
 
 pub returns-else-send-clause-records : goal.returns-else-send-clause-records
@@ -34,5 +38,10 @@ returns-else-send-clause-records g c =
     let o = c.offer_known-packet.ensures in
     let current = sym c.is_current.ensures.current ∙ c.if-not-is_current.false in
     let last = subst (λ ms. is_last_met (versions_met ms) v ≡ true) c.as_slice.ensures.value c.in-Some.ensures.met in
-    let offers = known_offers c.args.worker.now.lane c.offer_known-packet.new.self (met_by c.args.worker.now) (frame_data c.args.frame.now) v c.offer_known-packet.result.value c.offer_known-packet.result.packet (Data c.in-Some-packet.packet ∷ []) last (ap packet_pieces c.in-Some-packet.is) (o.value v [] current) (o.met v [] current) (o.pieces v [] current) o.settings in
-    (tt, inl (takes_part _ _ _ _ _ (sent c.args.worker.now.ring) (sent c.send.new.ring) (Data c.in-Some-packet.packet ∷ []) offers (Data c.in-Some-packet.packet ∷ [], ap (λ ps. ps ++ Data c.in-Some-packet.packet ∷ []) (c.send.ensures.kept c.if-send.false))))
+    let offers = known_offers c.args.worker.now.lane c.offer_known-packet.new.self (met_by c.args.worker.now) (frame_data c.args.frame.now) v
+    c.offer_known-packet.result.value c.offer_known-packet.result.packet (Data c.in-Some-packet.packet ∷ []) last (ap packet_pieces c.in-Some-packet.is)
+    (o.value v [] current) (o.met v [] current) (o.pieces v [] current) o.settings in (
+      tt,
+      inl (takes_part _ _ _ _ _ (sent c.args.worker.now.ring) (sent c.send.new.ring) (Data c.in-Some-packet.packet ∷ []) offers
+          (Data c.in-Some-packet.packet ∷ [], ap (λ ps. ps ++ Data c.in-Some-packet.packet ∷ []) (c.send.ensures.kept c.if-send.false))),
+    )

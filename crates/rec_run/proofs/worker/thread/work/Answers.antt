@@ -11,5 +11,6 @@ frames-init g c =
       ((refl, refl, refl, refl), refl),
       refl,
       ap (λ (l : LaneState). l.settings) r.lane_is,
-      starts g.S.FrameSource.left g.S.FrameSource.failures g.S.FrameSource.ending c.args.job.source c.args.job.max c.args.tools.lane _ _ _ r.lane_is (ap (λ ms. versions_met ms) r.none_met) (ap (λ ps. pieces_data ps) r.none_sent),
+      starts g.S.FrameSource.left g.S.FrameSource.failures g.S.FrameSource.ending c.args.job.source c.args.job.max c.args.tools.lane _ _ _ r.lane_is
+          (ap (λ ms. versions_met ms) r.none_met) (ap (λ ps. pieces_data ps) r.none_sent),
     )

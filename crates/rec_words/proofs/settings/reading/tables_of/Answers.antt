@@ -27,5 +27,6 @@ returns c =
     let least : 0 < length values = grind (arith, c.is_empty.ensures, c.as_slice-values.ensures.value, c.if-is_empty.false) in (
       some.0,
       rw c.as_slice-values.ensures.value some.1,
-      of ∙ enough_tables some.0 (length values) (tables_length values some.0 some.1) least (rw c.as_slice-values.ensures.value at c.if-values-gt-MAX_CHANNELS.false),
+      of ∙ enough_tables some.0 (length values) (tables_length values some.0 some.1) least
+          (rw c.as_slice-values.ensures.value at c.if-values-gt-MAX_CHANNELS.false),
     )

@@ -9,7 +9,8 @@ pub append_frame-requires-clause-room : goal.append_frame-requires-clause-room
 append_frame-requires-clause-room c =
     let b = c.self.inside.body in
     let len = length c.args.frame.now.bytes.now in
-    let room = room_for b.count b.net b.speed b.limit (vec_capacity b.bytes) b.bytes.items len c.self.invariant (subst (λ (v : OpenBody). Fits v len) (sym c.self.view_is) c.requires) in
+    let room = room_for b.count b.net b.speed b.limit (vec_capacity b.bytes) b.bytes.items len c.self.invariant
+    (subst (λ (v : OpenBody). Fits v len) (sym c.self.view_is) c.requires) in
     let same = b.bytes.ok in
     omega (arith, room, same)
 
@@ -25,7 +26,8 @@ invariant_of-self c =
     let frame = frame_data c.args.frame.now in
     (IsOpen-push b.count b.net b.speed b.limit (vec_capacity b.bytes) (vec_capacity c.append_frame.new.body)
     b.bytes.items c.append_frame.new.body.items frame c.self.invariant c.args.frame.now.in_range
-    (subst (λ (v : OpenBody). Fits v (length frame.bytes)) (sym c.self.view_is) c.requires) c.append_frame.ensures.items c.append_frame.ensures.capacity).is_open
+    (subst (λ (v : OpenBody). Fits v (length frame.bytes)) (sym c.self.view_is) c.requires) c.append_frame.ensures.items
+    c.append_frame.ensures.capacity).is_open
 
 pub returns : goal.returns
 returns c =

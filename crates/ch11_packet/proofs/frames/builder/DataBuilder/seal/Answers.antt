@@ -11,7 +11,8 @@ new-requires c =
     let b = c.self.inside.body in
     let some = some_frames b.count b.bytes.items (λ e. c.requires (ap (λ (v : OpenBody). v.frames) (sym c.self.view_is) ∙ e)) in
     let summed = c.body_sum-sum.ensures.sum ∙ ap body_sum c.as_slice.ensures.value in
-    (IsSealed-IsOpen b.count b.net b.speed b.limit (vec_capacity b.bytes) _ b.bytes.items _ c.self.invariant some (rw c.to_le_bytes.ensures (search rules)) summed).is_sealed
+    (IsSealed-IsOpen b.count b.net b.speed b.limit (vec_capacity b.bytes) _ b.bytes.items _ c.self.invariant some (rw c.to_le_bytes.ensures (search rules))
+    summed).is_sealed
 
 pub returns-clause-sealed : goal.returns-clause-sealed
 returns-clause-sealed c =

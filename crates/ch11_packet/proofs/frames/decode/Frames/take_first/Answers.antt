@@ -10,15 +10,18 @@ returns-in_err-frame-clause-none c =
 
 pub overflow_sub-count : goal.overflow_sub-count
 overflow_sub-count c =
-    let first = takes_first c.self.inside.count (read_frame_data c.in_ok-frame.frame) c.self.inside.bytes.now c.in_ok-frame.after.now c.self.invariant c.in_ok-frame.ensures.first in
+    let first = takes_first c.self.inside.count (read_frame_data c.in_ok-frame.frame) c.self.inside.bytes.now c.in_ok-frame.after.now c.self.invariant
+    c.in_ok-frame.ensures.first in
     omega (arith, first.some)
 
 pub invariant_of-self : goal.invariant_of-self
 invariant_of-self c =
-    let first = takes_first c.self.inside.count (read_frame_data c.in_ok-frame.frame) c.self.inside.bytes.now c.in_ok-frame.after.now c.self.invariant c.in_ok-frame.ensures.first in
+    let first = takes_first c.self.inside.count (read_frame_data c.in_ok-frame.frame) c.self.inside.bytes.now c.in_ok-frame.after.now c.self.invariant
+    c.in_ok-frame.ensures.first in
     search (rules, first.others)
 
 pub returns-clause-first : goal.returns-clause-first
 returns-clause-first c =
-    let first = takes_first c.self.inside.count (read_frame_data c.in_ok-frame.frame) c.self.inside.bytes.now c.in_ok-frame.after.now c.self.invariant c.in_ok-frame.ensures.first in
+    let first = takes_first c.self.inside.count (read_frame_data c.in_ok-frame.frame) c.self.inside.bytes.now c.in_ok-frame.after.now c.self.invariant
+    c.in_ok-frame.ensures.first in
     grind (arith, first.whole)

@@ -1,8 +1,8 @@
 use Rattle.std.proofs.Common.{◌∷◌, [], ◌++◌, sym, subst, inr}
 use Rattle.rec_reader.specs.Audits.{AreLines}
-use Rattle.rec_reader.proofs.Closing.{ClosesThese, one_more_closed, turn_whole, turn_next, turn_end, turn_found, ends_with, all_closed}
-use Rattle.rec_reader.proofs.Standing.{keeps_these}
-use Rattle.rec_reader.proofs.Recordings.{passed_on}
+use Rattle.rec_reader.proofs.AuditorEnd.{ClosesThese, one_more_closed, turn_whole, turn_next, turn_end, turn_found, ends_with, all_closed}
+use Rattle.rec_reader.proofs.AuditorStanding.{keeps_these}
+use Rattle.rec_reader.proofs.RecordingPackets.{passed_on}
 use Rattle.rec_reader.proofs.audits.auditor.Auditor.end.Goals as goal
 
 pub returns-in_err-close-clause-audits : goal.returns-in_err-close-clause-audits
@@ -16,7 +16,8 @@ returns-in_err-close-clause-audits c = λ packets stands.
     let whole = turn_whole channels.entries is.0 c.channels.channel-iterator c.next.new.self (channel, state) is.1 c.in-Some-2.ensures.steps in
     let there = turn_found channels is.0 c.next.new.self channel state given.6 whole in
     passed_on packets c.from_residual.result c.in_err-close.field-0.0 c.from_residual.ensures.1
-    (inr (inr (ends_with channels is.0 c.next.new.self c.channels.lines.items channel state c.in_err-close.field-0.0 given.5 whole there is.2 c.in_err-close.ensures.closed packets keeps.passed keeps.channels)))
+    (inr (inr (ends_with channels is.0 c.next.new.self c.channels.lines.items channel state c.in_err-close.field-0.0 given.5 whole there is.2
+    c.in_err-close.ensures.closed packets keeps.passed keeps.channels)))
 
 pub channels-preserved : goal.channels-preserved
 channels-preserved c =

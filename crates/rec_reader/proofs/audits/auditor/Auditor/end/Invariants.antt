@@ -1,6 +1,6 @@
 use Rattle.std.proofs.Common.{◌≡◌, ℕ, ◌++◌, List}
 use Rattle.rec_reader.specs.declared.audits.channel.ChannelState.{ChannelState}
-use Rattle.rec_reader.proofs.Closing.{ClosesThese}
+use Rattle.rec_reader.proofs.AuditorEnd.{ClosesThese}
 use Rattle.rec_reader.proofs.audits.auditor.Auditor.end.Given as goal
 
 -- the channels so far are right at the end, and have their lines

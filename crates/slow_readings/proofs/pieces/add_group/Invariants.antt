@@ -1,6 +1,0 @@
--- Each packet takes up one of the frames that are left at least.
-use Rattle.std.proofs.Common.{◌-◌, vec_len}
-use Rattle.slow_readings.proofs.pieces.add_group.Given as goal
-
-abbrev pub decreases-loop-from : goal.decreases-loop-from
-decreases-loop-from l = vec_len l.kept - l.from
