@@ -8,27 +8,20 @@ from typing import Callable, NamedTuple, NoReturn, Optional
 
 from bpfrec_host.ending import full_name, tell
 from bpfrec_host.live.help import ABOUT, MORE
-from bpfrec_host.live.names import Refusal
+from bpfrec_host.live.words import Way, words_of
 from bpfrec_host.words import Parser
 
 MAX_SECONDS, MAX_BYTES = 999_999_999, 10**15 - 1
-CHANNEL = re.compile(r"[1-9][0-9]{0,4}")
 # The options that are the capture's own: those with a value, and those without.
 VALUED = ("--origin", "--buffer", "--direction", "--clock", "--check-sequence")
 PLAIN = ("--quiet", "--no-promiscuous")
 
 
-class Way(NamedTuple):
-    """An interface and the channel that it is."""
-
-    interface: str
-    channel: int
-
-
 class Arguments(NamedTuple):
     """What live is told to do."""
 
-    settings: str
+    # None where all frames are wanted.
+    settings: Optional[str]
     out: str
     ways: list[Way]
     # The capture's options, as they were given.
@@ -95,7 +88,7 @@ def parser() -> Parser:
     name = full_name("live")
     made = LiveParser(
         prog=name,
-        usage=f"{name} [OPTION..] SETTINGS OUT [INTERFACE=CHANNEL..]",
+        usage=f"{name} [OPTION..] [SETTINGS] OUT [INTERFACE[=CHANNEL[:EXPRESSION]]..]",
         description=ABOUT,
         epilog=MORE,
         allow_abbrev=False,
@@ -136,14 +129,11 @@ def kept(options: list[str]) -> type[argparse.Action]:
 def read(words: list[str]) -> Arguments:
     """The arguments of a command line; one that is wrong ends live, or is a Refusal."""
     given = parser().parse_args(words)
-    named = given.words[1:] if given.words[:1] == ["--"] else given.words
-    if len(named) < 2:
-        raise Refusal(2, f"live: it takes SETTINGS and OUT: {full_name('live')} --help has its words")
-    settings, out, *ways = named
+    named = words_of(given.words[1:] if given.words[:1] == ["--"] else given.words)
     return Arguments(
-        settings=settings,
-        out=f"./{out}" if out.startswith("-") else out,
-        ways=ways_of(ways),
+        settings=named.settings,
+        out=named.out,
+        ways=named.ways,
         options=given.options,
         every=given.every,
         size=given.size,
@@ -154,16 +144,3 @@ def read(words: list[str]) -> Arguments:
         is_strict=given.strict,
         mode=given.mode,
     )
-
-
-def ways_of(words: list[str]) -> list[Way]:
-    """Which interface is which channel."""
-    found: list[Way] = []
-    for word in words:
-        interface, _, channel = word.rpartition("=")
-        if not interface or not CHANNEL.fullmatch(channel):
-            raise Refusal(2, f"live: no INTERFACE=CHANNEL: {word}")
-        if any(it.channel == int(channel) for it in found):
-            raise Refusal(2, f"live: channel {channel} has two interfaces")
-        found.append(Way(interface, int(channel)))
-    return found

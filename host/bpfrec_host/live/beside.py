@@ -10,17 +10,22 @@ from bpfrec_host.live.facts import Writer
 from bpfrec_host.live.keeper import Keeper
 from bpfrec_host.live.loop import Loop
 from bpfrec_host.live.names import facts_path, remove
-from bpfrec_host.live.observer import Observer
 from bpfrec_host.live.recorder import Recorded
 
 
 class Beside:
-    """The keepers of a run's recordings; `say` takes a line for who watches."""
+    """The keepers of a run's recordings. `synced` takes a recording and the moment up to which it is on its disk, and
+    `say` a line for who watches."""
 
     def __init__(
-        self, loop: Loop, writer: Writer, events: Events, observer: Observer, say: Callable[[str], None]
+        self,
+        loop: Loop,
+        writer: Writer,
+        events: Events,
+        synced: Callable[[Recorded, float], None],
+        say: Callable[[str], None],
     ) -> None:
-        self.loop, self.writer, self.events, self.observer, self.say = loop, writer, events, observer, say
+        self.loop, self.writer, self.events, self.synced, self.say = loop, writer, events, synced, say
         self.threads: list[Keeper] = []
 
     def begin(self, it: Recorded) -> None:
@@ -76,7 +81,7 @@ class Beside:
     def tell(self, it: Recorded, moment: Optional[float]) -> None:
         """Tells the same."""
         if moment is not None:
-            self.observer.synced(it.about.out, moment)
+            self.synced(it, moment)
         elif not it.is_told and not it.recording.has_failed:
             it.is_told = True
             self.say(f"live: {facts_path(it.about.out)} can't be written")

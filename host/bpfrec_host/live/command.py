@@ -4,20 +4,21 @@ from __future__ import annotations
 
 import os
 import shutil
+from typing import Optional
 
 from bpfrec_host import program
 from bpfrec_host.ending import tell
 from bpfrec_host.live.arguments import Arguments, parser, read
-from bpfrec_host.live.folder import Folder, judge_settings, read_settings
+from bpfrec_host.live.folder import Folder, judge_settings, made_settings, read_settings
 from bpfrec_host.live.loop import Signals
 from bpfrec_host.live.names import Files, Names, Refusal, is_special, refuse_folder
-from bpfrec_host.live.observer import Observers
+from bpfrec_host.live.observer import Observer
 from bpfrec_host.live.run import Programs, Run
 
 __all__ = ["parser", "run"]
 
 
-def run(words: list[str]) -> int:
+def run(words: list[str], observer: Optional[Observer] = None) -> int:
     """Records: the status."""
     # A signal may come before there is anything to end.
     signals = Signals()
@@ -25,9 +26,9 @@ def run(words: list[str]) -> int:
         given = read(words)
         programs = find_programs(given)
         look_ahead(given)
-        text, settings = read_settings(given.settings)
+        text, settings = read_settings(given.settings) if given.settings else made_settings(given.ways)
         judge_settings(settings, given)
-        folder = Folder(text, settings, given.ways, given.is_rotating())
+        folder = Folder(text, settings, given)
     except Refusal as refusal:
         tell(refusal.line)
         return refusal.status
@@ -35,7 +36,7 @@ def run(words: list[str]) -> int:
         folder.remove_all()
         tell("live: it was ended before anything was begun")
         return 3
-    return Run(given, programs, folder, signals, Observers()).run()
+    return Run(given, programs, folder, signals, observer).run()
 
 
 def find_programs(given: Arguments) -> Programs:
@@ -53,10 +54,11 @@ def find_programs(given: Arguments) -> Programs:
 
 def look_ahead(given: Arguments) -> None:
     """Refuses what can't be read, and an OUT that would be lost or can't be created."""
-    if not os.access(given.settings, os.R_OK) or os.path.isdir(given.settings):
-        raise Refusal(3, f"file {given.settings}")
-    if os.path.exists(given.out) and os.path.samefile(given.out, given.settings):
-        raise Refusal(3, f"file {given.out}")
+    if given.settings is not None:
+        if not os.access(given.settings, os.R_OK) or os.path.isdir(given.settings):
+            raise Refusal(3, f"file {given.settings}")
+        if os.path.exists(given.out) and os.path.samefile(given.out, given.settings):
+            raise Refusal(3, f"file {given.out}")
     if not given.is_rotating():
         Files(given.mode, given.is_forced).refuse_overwriting(given.out)
         if not is_special(given.out):

@@ -71,7 +71,9 @@ class Writer:
         if listing is None:
             return None
         text = self.answer("dis", "-", given=listing)
-        return {"channel": channel, "listing": listing.decode(errors="ignore"), "text": text}
+        made: Entry = {"channel": channel, "listing": listing.decode(errors="ignore"), "text": text}
+        given = [it.expression for it in self.given.ways if it.channel == channel and it.expression]
+        return {**made, "expression": given[0]} if given else made
 
     def answer(self, *words: str, given: bytes = b"") -> str:
         """What the program prints; nothing where it can't be run."""

@@ -5,6 +5,7 @@ Its files, below `top`:
     settings        SETTINGS, as it was when the run began
     events          what the capture notes, a line of JSON each
     now             a link to the folder of the recording that goes on; to `gate` until OUT is there
+    given/          the filters that the arguments give channels
     filters/        of recordings that follow one another: the filter that each channel has by now
     <number>/       a recording: <channel>.pipe, settings.toml, answers, report, audit, audit_errors, and what `guard`
                     needs: about.json
@@ -22,8 +23,10 @@ from typing import Any, Optional
 from bpfrec_host.formats.limits import MAX_LISTING_LEN
 from bpfrec_host.formats.settings import NoReader, NoToml, Settings, settings_of
 from bpfrec_host.formats.settings_text import text_of
-from bpfrec_host.live.arguments import Arguments, Way
+from bpfrec_host.live.arguments import Arguments
+from bpfrec_host.live.expressions import listing_of, settings_text
 from bpfrec_host.live.names import Refusal
+from bpfrec_host.live.words import Way
 
 
 def read_settings(path: str) -> tuple[str, Settings]:
@@ -43,6 +46,12 @@ def read_settings(path: str) -> tuple[str, Settings]:
         raise Refusal(2, f"live: {path}: settings 1 Syntax: {fault}") from None
 
 
+def made_settings(ways: list[Way]) -> tuple[str, Settings]:
+    """The settings of a run that was given none."""
+    text = settings_text(ways)
+    return text, settings_of("-", text)
+
+
 def judge_settings(settings: Settings, given: Arguments) -> None:
     """Refuses settings that lack a channel of an interface, or its filter where the kernel is to run it; and channels
     without interfaces of recordings that follow one another."""
@@ -57,7 +66,8 @@ def judge_settings(settings: Settings, given: Arguments) -> None:
         tables = [it for it in settings.channels if is_channel(it.table, way.channel)]
         if not tables:
             raise Refusal(2, f"live: {given.settings} has no table [[channel]] with a line id = {way.channel}")
-        if given.is_prefiltered and not any(it.path("filter") for it in tables):
+        has_filter = way.expression or given.settings is None or any(it.path("filter") for it in tables)
+        if given.is_prefiltered and not has_filter:
             what = f'live: --prefilter wants a line filter = ".." of channel {way.channel}'
             raise Refusal(2, f"{what} in {given.settings}")
 
@@ -71,8 +81,10 @@ def is_channel(table: dict[str, Any], channel: int) -> bool:
 class Folder:
     """The private folder of a run."""
 
-    def __init__(self, text: str, settings: Settings, ways: list[Way], keeps_filters: bool) -> None:
-        self.text, self.settings, self.ways = text, settings, ways
+    def __init__(self, text: str, settings: Settings, given: Arguments) -> None:
+        self.text, self.settings, self.ways = text, settings, given.ways
+        # The listings that the arguments give channels, in place of those of SETTINGS.
+        listings = {it.channel: listing_of(it) for it in given.ways if it.expression or given.settings is None}
         holder = os.environ.get("TMPDIR") or "/tmp"
         try:
             self.top = Path(tempfile.mkdtemp(prefix="bpfrec.", dir=holder))
@@ -80,11 +92,14 @@ class Folder:
             raise Refusal(3, f"file {holder}: {error.strerror}") from None
         (self.top / "settings").write_text(text, encoding="utf-8")
         (self.top / "filters").mkdir()
+        (self.top / "given").mkdir()
+        for channel, listing in listings.items():
+            self.given_filter(channel).write_text(listing, encoding="utf-8")
         self.events = self.top / "events"
         self.events.touch()
         self.make_pipes("gate")
         self.point_to("gate")
-        if keeps_filters:
+        if given.is_rotating():
             self.keep_filters()
 
     # ---- recordings
@@ -147,9 +162,8 @@ class Folder:
         way = next((it for it in self.ways if is_channel(table, it.channel)), None)
         if way is None:
             return table
-        changed = {**table, "feed": f"{made}/{way.channel}.pipe"}
-        kept = self.kept_filter(way.channel)
-        return {**changed, "filter": str(kept)} if kept.exists() else changed
+        path = self.filter_of(way.channel, table.get("filter"))
+        return {**table, "feed": f"{made}/{way.channel}.pipe", **({} if path is None else {"filter": path})}
 
     # ---- filters
 
@@ -157,29 +171,41 @@ class Folder:
         """Where a channel's filter is kept."""
         return self.top / "filters" / str(channel)
 
+    def given_filter(self, channel: int) -> Path:
+        """Where the filter is that the arguments give a channel."""
+        return self.top / "given" / str(channel)
+
+    def filter_of(self, channel: int, path: Any) -> Any:
+        """The file of a channel's filter, for which SETTINGS have this path: one that is kept, or given, or that."""
+        for it in (self.kept_filter(channel), self.given_filter(channel)):
+            if it.exists():
+                return str(it)
+        return path
+
     def keep_filters(self) -> None:
-        """Keeps the filters of the settings as they are at the beginning, for all recordings."""
+        """Keeps the filters of channels with interfaces as they are at the beginning, for all recordings."""
         wanted = {it.channel for it in self.ways}
-        for channel in self.settings.channels:
-            path, named = channel.path("filter"), channel.table.get("id")
-            if path and isinstance(named, int) and named in wanted:
-                copy_listing(path, self.kept_filter(named))
+        for channel, path in self.filters():
+            if channel in wanted:
+                copy_listing(path, self.kept_filter(channel))
 
     def filters(self) -> list[tuple[int, str]]:
         """The file of each channel's filter, as it is by now."""
         found = []
         for channel in self.settings.channels:
-            named, path = channel.table.get("id"), channel.path("filter")
+            named = channel.table.get("id")
+            path = self.filter_of(named, channel.path("filter")) if isinstance(named, int) else None
             if isinstance(named, int) and path:
-                kept = self.kept_filter(named)
-                found.append((named, str(kept) if kept.exists() else path))
+                found.append((named, path))
         return found
 
     def prefilters(self) -> list[str]:
         """The capture's arguments that give the kernel the filters."""
         found: list[str] = []
         for way in self.ways:
-            paths = [it.path("filter") for it in self.settings.channels if is_channel(it.table, way.channel)]
+            given = self.given_filter(way.channel)
+            tables = [it for it in self.settings.channels if is_channel(it.table, way.channel)]
+            paths = [str(given)] if given.exists() else [it.path("filter") or "" for it in tables]
             found += ["--prefilter", f"{way.interface}={next(it for it in paths if it)}"]
         return found
 

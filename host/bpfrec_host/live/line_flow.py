@@ -7,7 +7,6 @@ from typing import Callable
 from bpfrec_host.live.changes import ANSWER, MAX_WAITING, Changes, Input
 from bpfrec_host.live.folder import Folder
 from bpfrec_host.live.loop import Loop
-from bpfrec_host.live.observer import Observer
 from bpfrec_host.live.recorder import Recorded
 
 
@@ -61,8 +60,9 @@ class LineFlow:
             self.loop.on_room(it.lines.writer, None)
             it.lines.close()
 
-    def told(self, it: Recorded, answer: str, observer: Observer) -> str:
-        """How an answer is told: with the recording, where another one may follow."""
+    def told(self, it: Recorded, answer: str, changed: Callable[[Recorded, int, int], None]) -> str:
+        """How an answer is told: with the recording, where another one may follow. `changed` is called with a channel
+        and the version that its filter has by now."""
         found = ANSWER.fullmatch(answer)
         if not found or not it.lines.unanswered:
             return answer
@@ -70,6 +70,6 @@ class LineFlow:
         self.changes.answered(it.lines.unanswered.pop(0), is_installed)
         if not is_installed:
             return answer
-        _, channel, version, mark = answer.split(" ")[:4]
-        observer.filter_changed(int(channel), int(version), int(mark))
+        _, channel, version = answer.split(" ")[:3]
+        changed(it, int(channel), int(version))
         return f"{answer} in {it.about.out}" if self.is_rotating else answer

@@ -1,58 +1,55 @@
-"""Who is told how a run goes: each event of it, once, by the loop. An observer must not wait."""
+"""Who is told how a run goes. An observer must not wait: the loop calls it."""
 
 from __future__ import annotations
 
-from typing import Any, Optional, Protocol
+from collections.abc import Iterable, Sequence
+from typing import NamedTuple, Optional, Protocol
 
-from bpfrec_host.live.arguments import Way
+
+class Setup(NamedTuple):
+    """A channel of a recording, with the interface that it has and the version of its filter; None where its feed is a
+    file or a pipe."""
+
+    channel: int
+    interface: Optional[str]
+    version: int = 0
+
+
+class Counts(NamedTuple):
+    """What the capture has counted of an interface since the run began. `skipped` frames were cut short, or of no length
+    that a feed takes; `waited` is for how many milliseconds the interface's pipe was full."""
+
+    frames: int
+    bytes: int
+    dropped: int
+    missed: int
+    skipped: int
+    waited: int
 
 
 class Observer(Protocol):
-    """Takes what happens."""
+    """Takes what happens, each time with the moment, in seconds of `time.monotonic()`."""
 
-    def recording_begun(self, out: str, descriptor: Optional[int], ways: list[Way], begun: str) -> None:
-        """A recorder has opened OUT; `descriptor` is live's own of it, None where it is no file."""
+    def recording_begun(self, number: int, path: str, channels: Iterable[Setup], now: float) -> None:
+        """A recorder has opened OUT, which is empty."""
 
-    def counted(self, interface: str, counts: dict[str, Any]) -> None:
-        """The capture has counted an interface's frames: the keys are those of a count in the facts."""
+    def capture_counted(self, interface: str, counts: Counts, now: float) -> None:
+        """The capture has counted so much of an interface; each second."""
 
-    def filter_changed(self, channel: int, version: int, mark: int) -> None:
-        """A channel has another filter, from its frame `mark` on."""
+    def filter_changed(self, channel: int, version: int, is_same: bool = False) -> None:
+        """A line changed a filter of the recording that goes on; `is_same` says that it was given the program that it
+        had, as to close a packet."""
 
-    def synced(self, out: str, moment: float) -> None:
-        """What OUT had at that moment of time.monotonic() is on its disk."""
+    def synced(self, now: float) -> None:
+        """The recording that goes on was forced to its disk."""
 
-    def recording_ended(self, out: str, status: int, report: list[str], audit: Optional[list[str]]) -> None:
-        """A recording has ended, with this status of its recorder or its audit, and what they printed."""
+    def recording_ended(
+        self, number: int, status: int, now: float, report: Sequence[str] = (), audit: Sequence[str] = ()
+    ) -> None:
+        """A recorder has ended, with this status and these lines, and so has the audit of what it recorded."""
 
+    def tick(self, now: float) -> None:
+        """A second has gone by."""
 
-class Observers:
-    """All that are told."""
-
-    def __init__(self, *observers: Observer) -> None:
-        self.all = observers
-
-    def recording_begun(self, out: str, descriptor: Optional[int], ways: list[Way], begun: str) -> None:
-        """Tells each."""
-        for it in self.all:
-            it.recording_begun(out, descriptor, ways, begun)
-
-    def counted(self, interface: str, counts: dict[str, Any]) -> None:
-        """Tells each."""
-        for it in self.all:
-            it.counted(interface, counts)
-
-    def filter_changed(self, channel: int, version: int, mark: int) -> None:
-        """Tells each."""
-        for it in self.all:
-            it.filter_changed(channel, version, mark)
-
-    def synced(self, out: str, moment: float) -> None:
-        """Tells each."""
-        for it in self.all:
-            it.synced(out, moment)
-
-    def recording_ended(self, out: str, status: int, report: list[str], audit: Optional[list[str]]) -> None:
-        """Tells each."""
-        for it in self.all:
-            it.recording_ended(out, status, report, audit)
+    def ended(self, now: float) -> None:
+        """All has ended."""

@@ -4,13 +4,13 @@ from __future__ import annotations
 
 import os
 import signal
-import subprocess
 import time
 from typing import NamedTuple, Optional
 
 from bpfrec_host.live import children, outputs, system
 from bpfrec_host.live.arguments import Arguments
 from bpfrec_host.live.beside import Beside
+from bpfrec_host.live.capture import Capture
 from bpfrec_host.live.events import Events
 from bpfrec_host.live.facts import About, Writer
 from bpfrec_host.live.folder import Folder
@@ -21,14 +21,13 @@ from bpfrec_host.live.loop import Loop, Signals
 from bpfrec_host.live.machine import FILE_FAULT, Machine
 from bpfrec_host.live.names import Files, Names, is_special
 from bpfrec_host.live.observer import Observer
-from bpfrec_host.live.output import Lines, Printed
 from bpfrec_host.live.recorder import Recorded
+from bpfrec_host.live.telling import Telling
 from bpfrec_host.live.watches import Watches
+from bpfrec_host.live.watching import Watching
 
 # After a full disk the next recording begins once there is so much room.
 ROOM = 1 << 20
-# An interface whose reader has left waits so long for word that a recorder follows, in seconds.
-HOLD = 3
 
 
 class Programs(NamedTuple):
@@ -42,22 +41,24 @@ class Run:
     """All of a run. It is the machine's hands."""
 
     def __init__(
-        self, given: Arguments, programs: Programs, folder: Folder, signals: Signals, observer: Observer
+        self, given: Arguments, programs: Programs, folder: Folder, signals: Signals, observer: Optional[Observer]
     ) -> None:
-        self.given, self.programs, self.folder, self.observer = given, programs, folder, observer
+        self.given, self.programs, self.folder = given, programs, folder
         self.files = Files(given.mode, given.is_forced)
         self.writer = Writer(given, folder, programs.bpfrec, self.files)
         # Before anything runs that it may have to end.
         self.guard = Guard(self.writer)
-        self.loop, self.watches = Loop(signals, self.end_by_signal), Watches()
-        self.events, self.lines, self.printed = Events(folder.events), Lines(), Printed()
+        self.loop, self.watches, self.events = Loop(signals, self.end_by_signal), Watches(), Events(folder.events)
+        self.telling = Telling(self.loop, self.printing_failed)
+        self.say = self.telling.say
+        self.watching = Watching(observer, folder)
+        self.capture = Capture(programs.capture, given, folder, self.loop)
         self.line_flow = LineFlow(self.loop, folder, given.is_rotating(), self.now)
         self.outputs = outputs.Outputs(self.watches, given.size is not None, self.begin_recording, self.say)
-        self.beside = Beside(self.loop, self.writer, self.events, observer, self.say)
+        self.beside = Beside(self.loop, self.writer, self.events, self.synced, self.say)
         self.names = Names(given.out)
         self.recordings: dict[int, Recorded] = {}
         self.count, self.told_of, self.signals_came = 0, "", 0
-        self.capture: Optional[children.Child] = None
         first = self.prepare(self.names.next()[1] if given.is_rotating() else given.out)
         plan = Plan(bool(given.ways), given.every, given.size, given.is_audited, given.is_strict)
         self.machine = Machine(plan, self, first, (programs.capture, programs.bpfrec))
@@ -85,16 +86,18 @@ class Run:
         self.line_flow.read()
         self.machine.unanswered = len(self.now().lines.unanswered)
         now, pause = time.monotonic(), self.watches.pause()
-        moments = [self.machine.deadline(now), self.outputs.look_at, None if pause is None else now + pause]
+        moments = [self.machine.deadline(now), self.outputs.look_at, self.watching.deadline()]
+        moments.append(None if pause is None else now + pause)
         next_moment = min((it for it in moments if it is not None), default=None)
         self.loop.turn(None if next_moment is None else max(0.0, next_moment - now))
         if pause is not None:
             self.watches.look_at_all()
         now = time.monotonic()
         self.outputs.tick(now)
+        self.watching.tick(now)
         self.machine.unanswered = len(self.now().lines.unanswered)
         self.machine.tick(now)
-        self.loop.on_room(self.printed.descriptor, self.printed.write if self.printed.waiting else None)
+        self.telling.write_on()
 
     def finish(self) -> None:
         """Ends what still runs beside: threads, what wasn't printed, and the guard."""
@@ -103,19 +106,11 @@ class Run:
                 outputs.discard(it)
             it.close()
         self.beside.join()
-        self.print_rest()
+        came = self.signals_came
+        self.telling.finish(lambda: self.signals_came > max(came, 1))
+        self.watching.all_ended()
         self.guard.dismiss()
         self.folder.remove_all()
-
-    def print_rest(self) -> None:
-        """Waits until standard output has taken all; a second signal ends that."""
-        came = self.signals_came
-        while self.printed.waiting and (self.signals_came == came or self.signals_came < 2):
-            self.loop.on_room(self.printed.descriptor, self.printed.write)
-            self.loop.turn(None)
-        if self.printed.waiting:
-            self.printed.fail()
-        self.check_printed()
 
     def end_by_signal(self) -> None:
         """A signal came that ends the run."""
@@ -164,15 +159,25 @@ class Run:
     def begin_recording(self, it: Recorded) -> None:
         """A recorder has opened OUT."""
         self.machine.opened(it.recording)
-        self.observer.recording_begun(it.about.out, it.descriptor, self.given.ways, it.about.begun)
+        self.watching.begun(it)
         self.beside.begin(it)
+
+    def synced(self, it: Recorded, moment: float) -> None:
+        """A recording was forced to its disk."""
+        if it.recording is self.machine.now:
+            self.watching.synced(moment)
 
     def take_answers(self, it: Recorded) -> None:
         """Tells the recorder's answers, and sees whether its output failed."""
         for answer in it.answered():
-            self.say(self.line_flow.told(it, answer, self.observer))
+            self.say(self.line_flow.told(it, answer, self.filter_changed))
             if answer.startswith("run 2 Output"):
                 self.machine.output_failed(it.recording, time.monotonic())
+
+    def filter_changed(self, it: Recorded, channel: int, version: int) -> None:
+        """A line changed a filter."""
+        if it.recording is self.machine.now:
+            self.watching.changed(channel, version)
 
     def end_recorder(self, it: Recorded, status: int) -> None:
         """A recorder has ended."""
@@ -201,15 +206,9 @@ class Run:
 
     def start_capture(self) -> None:
         """Starts the capture of all interfaces."""
-        words = [self.programs.capture, *self.given.options]
-        if self.given.is_prefiltered:
-            words += self.folder.prefilters()
-        words += ["--events", str(self.folder.events), "--parent", str(os.getpid())]
-        words += ["--hold", str(HOLD)] if self.given.is_rotating() else []
-        streams = (subprocess.DEVNULL, None, None)
-        manner = children.CAPTURE._replace(kept=[self.guard.all])
-        self.capture = children.start([*words, *self.folder.sources()], streams, manner)
-        self.loop.follow(self.capture, self.end_capture)
+        if self.watching.is_on():
+            self.capture.read_lines(self.say, self.watching.counted)
+        self.capture.start(self.guard.all, self.end_capture)
 
     def point_to(self, recording: Recording) -> None:
         """Has the capture find the pipes of this recording."""
@@ -217,12 +216,12 @@ class Run:
 
     def signal_capture(self, number: signal.Signals) -> None:
         """Sends the capture a signal."""
-        if self.capture:
-            self.capture.send(number)
+        self.capture.send(number)
 
     def end_capture(self, status: int) -> None:
         """The capture has ended."""
         self.look_at_events()
+        self.capture.end()
         self.machine.capture_ended(status, time.monotonic())
 
     def look_at_events(self) -> None:
@@ -299,21 +298,9 @@ class Run:
 
     # ---- what is told
 
-    def say(self, line: str) -> None:
-        """Tells a line on standard error."""
-        self.lines.say(line)
-
-    def print(self, text: str) -> bool:
-        """Prints a text on standard output: whether that can be done."""
-        self.printed.put(text)
-        return self.check_printed()
-
-    def check_printed(self) -> bool:
-        """Whether standard output takes what is printed; the first time that it doesn't is told."""
-        if self.printed.has_failed and self.machine.recorded != FILE_FAULT:
-            self.say("file -")
-            self.machine.recorded = self.machine.recorded or FILE_FAULT
-        return not self.printed.has_failed
+    def printing_failed(self) -> None:
+        """Standard output can't be written."""
+        self.machine.recorded = self.machine.recorded or FILE_FAULT
 
     def tell_report(self, recording: Recording) -> bool:
         """Tells what the recorder printed: whether that could be done."""
@@ -321,7 +308,7 @@ class Run:
         if self.given.is_rotating():
             it.report = f"recording {it.about.out}\n{it.text('report')}"
             return True
-        return self.print(it.text("report"))
+        return self.telling.print(it.text("report"))
 
     def tell_lost(self) -> bool:
         """Tells what interfaces lost in all, as the last lines: whether one did."""
@@ -359,10 +346,9 @@ class Run:
         """Tells what is known of a recording at its end, and lets go all that it has."""
         it = self.recorded(recording)
         if it.report:
-            self.print(it.report)
+            self.telling.print(it.report)
         self.outputs.end(it)
-        report, audit = it.text("report").splitlines(), it.text("audit").splitlines()
-        self.observer.recording_ended(it.about.out, status, report, audit or None)
+        self.watching.ended(it, status)
         self.beside.end(it, status)
         if recording is not self.machine.now:
             del self.recordings[recording.number]
