@@ -33,12 +33,21 @@ class Arguments(NamedTuple):
     is_forced: bool
     is_audited: bool
     is_strict: bool
+    # After how many seconds a channel's open packet is closed; None for never.
+    flush: Optional[int]
+    # How many recordings are kept at most, and how many bytes are to be free on their disk.
+    keep: Optional[int]
+    keep_free: Optional[int]
     # The mode of the files that are created; None is the usual one, less what umask takes away.
     mode: Optional[int]
 
     def is_rotating(self) -> bool:
         """Whether recordings follow one another."""
         return self.every is not None or self.size is not None
+
+    def keeps_filters(self) -> bool:
+        """Whether filters are kept, which may be given to a recorder once more."""
+        return self.is_rotating() or self.flush is not None
 
     def clock(self) -> str:
         """Whose times the frames have."""
@@ -100,6 +109,11 @@ def parser() -> Parser:
     made.add_argument("--size", metavar="BYTES", type=size, help="begins a new recording at so many bytes")
     sync = number(0, MAX_SECONDS, 9, f"from 0 to {MAX_SECONDS}")
     made.add_argument("--sync", metavar="SECONDS", type=sync, default=1, help="how often OUT goes to its disk")
+    made.add_argument("--flush", metavar="SECONDS", type=seconds, help="closes packets that are open for so long")
+    count = number(1, MAX_SECONDS, 9, f"from 1 to {MAX_SECONDS}")
+    made.add_argument("--keep", metavar="N", type=count, help="keeps the last N of recordings that follow one another")
+    free = number(1, MAX_BYTES, 15, "from 1 on")
+    made.add_argument("--keep-free", metavar="BYTES", type=free, help="keeps so much free, by removing the oldest")
     made.add_argument("--mode", metavar="MODE", type=file_mode, help="who may read OUT and its facts")
     made.add_argument("--prefilter", action="store_true", help="has the kernel run the filters too")
     made.add_argument("--no-audit", action="store_true", help="audits nothing")
@@ -142,5 +156,8 @@ def read(words: list[str]) -> Arguments:
         is_forced=given.force,
         is_audited=not given.no_audit,
         is_strict=given.strict,
+        flush=given.flush,
+        keep=given.keep,
+        keep_free=given.keep_free,
         mode=given.mode,
     )

@@ -61,10 +61,12 @@ def is_foreground() -> bool:
 
 
 class Change(NamedTuple):
-    """A line that the recorder has and hasn't answered: the copy of the listing that it names, and its channel."""
+    """A line that the recorder has and hasn't answered: the copy of the listing that it names, its channel, and whether
+    live gave it itself."""
 
     channel: int
     copy: Optional[Path]
+    is_own: bool = False
 
 
 class Pipe:

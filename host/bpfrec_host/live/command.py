@@ -59,6 +59,7 @@ def look_ahead(given: Arguments) -> None:
             raise Refusal(3, f"file {given.settings}")
         if os.path.exists(given.out) and os.path.samefile(given.out, given.settings):
             raise Refusal(3, f"file {given.out}")
+    refuse_together(given)
     if not given.is_rotating():
         Files(given.mode, given.is_forced).refuse_overwriting(given.out)
         if not is_special(given.out):
@@ -69,3 +70,14 @@ def look_ahead(given: Arguments) -> None:
     if os.path.exists(given.out) and not os.path.isfile(given.out):
         raise Refusal(2, f"live: --every and --size make files, and {given.out} is none")
     refuse_folder(Names(given.out).next()[1])
+
+
+def refuse_together(given: Arguments) -> None:
+    """Refuses options that don't go together."""
+    is_ring = given.keep is not None or given.keep_free is not None
+    if is_ring and not given.is_rotating():
+        raise Refusal(2, "live: --keep and --keep-free need --every or --size")
+    if is_ring and not given.is_audited:
+        raise Refusal(2, "live: --keep and --keep-free remove what was audited, and --no-audit audits nothing")
+    if given.flush is not None and not given.ways:
+        raise Refusal(2, "live: --flush needs an interface")

@@ -99,7 +99,7 @@ class Folder:
         self.events.touch()
         self.make_pipes("gate")
         self.point_to("gate")
-        if given.is_rotating():
+        if given.keeps_filters():
             self.keep_filters()
 
     # ---- recordings
@@ -159,11 +159,12 @@ class Folder:
 
     def table(self, table: dict[str, Any], made: Path) -> dict[str, Any]:
         """The same of a channel's table."""
-        way = next((it for it in self.ways if is_channel(table, it.channel)), None)
-        if way is None:
+        named = table.get("id")
+        if not isinstance(named, int):
             return table
-        path = self.filter_of(way.channel, table.get("filter"))
-        return {**table, "feed": f"{made}/{way.channel}.pipe", **({} if path is None else {"filter": path})}
+        path = self.filter_of(named, table.get("filter"))
+        changed = table if path is None else {**table, "filter": path}
+        return {**changed, "feed": f"{made}/{named}.pipe"} if any(it.channel == named for it in self.ways) else changed
 
     # ---- filters
 
@@ -183,11 +184,9 @@ class Folder:
         return path
 
     def keep_filters(self) -> None:
-        """Keeps the filters of channels with interfaces as they are at the beginning, for all recordings."""
-        wanted = {it.channel for it in self.ways}
+        """Keeps the filters as they are at the beginning, for all recordings."""
         for channel, path in self.filters():
-            if channel in wanted:
-                copy_listing(path, self.kept_filter(channel))
+            copy_listing(path, self.kept_filter(channel))
 
     def filters(self) -> list[tuple[int, str]]:
         """The file of each channel's filter, as it is by now."""

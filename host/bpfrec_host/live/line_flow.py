@@ -2,9 +2,10 @@
 
 from __future__ import annotations
 
-from typing import Callable
+from typing import Callable, Optional
 
-from bpfrec_host.live.changes import ANSWER, MAX_WAITING, Changes, Input
+from bpfrec_host.live.arguments import Arguments
+from bpfrec_host.live.changes import ANSWER, MAX_WAITING, Change, Changes, Input
 from bpfrec_host.live.folder import Folder
 from bpfrec_host.live.loop import Loop
 from bpfrec_host.live.recorder import Recorded
@@ -13,13 +14,13 @@ from bpfrec_host.live.recorder import Recorded
 class LineFlow:
     """The lines of a run; `now` gives the recording that goes on."""
 
-    def __init__(self, loop: Loop, folder: Folder, is_rotating: bool, now: Callable[[], Recorded]) -> None:
-        self.loop, self.is_rotating, self.now = loop, is_rotating, now
-        self.input, self.changes = Input(), Changes(folder, is_rotating)
+    def __init__(self, loop: Loop, folder: Folder, given: Arguments, now: Callable[[], Recorded]) -> None:
+        self.loop, self.given, self.now = loop, given, now
+        self.input, self.changes = Input(), Changes(folder, given.keeps_filters())
 
     def is_open(self) -> bool:
-        """Whether a line may come still."""
-        return self.input.descriptor is not None
+        """Whether a line may come still, from standard input or from live itself."""
+        return self.input.descriptor is not None or self.given.flush is not None
 
     def read(self) -> None:
         """Has lines read as long as the recorder takes them."""
@@ -36,7 +37,7 @@ class LineFlow:
             it.lines.put(*self.changes.copied(line))
         if self.input.descriptor is None and descriptor is not None:
             self.loop.on_read(descriptor, None)
-            it.lines.is_ending = True
+            it.lines.is_ending = not self.is_open()
         self.push(it)
 
     def push(self, it: Recorded) -> None:
@@ -60,16 +61,15 @@ class LineFlow:
             self.loop.on_room(it.lines.writer, None)
             it.lines.close()
 
-    def told(self, it: Recorded, answer: str, changed: Callable[[Recorded, int, int], None]) -> str:
-        """How an answer is told: with the recording, where another one may follow. `changed` is called with a channel
-        and the version that its filter has by now."""
+    def told(self, it: Recorded, answer: str, changed: Callable[[Change, str], None]) -> Optional[str]:
+        """How an answer is told: with the recording, where another one may follow; None where it isn't. `changed` is
+        called with each line that was answered, and its answer."""
         found = ANSWER.fullmatch(answer)
         if not found or not it.lines.unanswered:
             return answer
-        is_installed = found[1] == "installed"
-        self.changes.answered(it.lines.unanswered.pop(0), is_installed)
-        if not is_installed:
-            return answer
-        _, channel, version = answer.split(" ")[:3]
-        changed(it, int(channel), int(version))
-        return f"{answer} in {it.about.out}" if self.is_rotating else answer
+        change, is_installed = it.lines.unanswered.pop(0), found[1] == "installed"
+        self.changes.answered(change, is_installed)
+        changed(change, answer)
+        if change.is_own:
+            return None
+        return f"{answer} in {it.about.out}" if is_installed and self.given.is_rotating() else answer

@@ -11,8 +11,10 @@ from bpfrec_host.live import children, outputs, system
 from bpfrec_host.live.arguments import Arguments
 from bpfrec_host.live.beside import Beside
 from bpfrec_host.live.capture import Capture
+from bpfrec_host.live.changes import Change
 from bpfrec_host.live.events import Events
 from bpfrec_host.live.facts import About, Writer
+from bpfrec_host.live.flush import Flush
 from bpfrec_host.live.folder import Folder
 from bpfrec_host.live.guard import Guard, open_and_close
 from bpfrec_host.live.life import Plan, Recording
@@ -22,6 +24,7 @@ from bpfrec_host.live.machine import FILE_FAULT, Machine
 from bpfrec_host.live.names import Files, Names, is_special
 from bpfrec_host.live.observer import Observer
 from bpfrec_host.live.recorder import Recorded
+from bpfrec_host.live.ring import Ring
 from bpfrec_host.live.telling import Telling
 from bpfrec_host.live.watches import Watches
 from bpfrec_host.live.watching import Watching
@@ -53,7 +56,9 @@ class Run:
         self.say = self.telling.say
         self.watching = Watching(observer, folder)
         self.capture = Capture(programs.capture, given, folder, self.loop)
-        self.line_flow = LineFlow(self.loop, folder, given.is_rotating(), self.now)
+        self.line_flow = LineFlow(self.loop, folder, given, self.now)
+        self.flush = Flush(given.flush, folder, self.line_flow.push, self.say) if given.flush is not None else None
+        self.ring = Ring(given.keep, given.keep_free, self.room, self.say)
         self.outputs = outputs.Outputs(self.watches, given.size is not None, self.begin_recording, self.say)
         self.beside = Beside(self.loop, self.writer, self.events, self.synced, self.say)
         self.names = Names(given.out)
@@ -87,6 +92,7 @@ class Run:
         self.machine.unanswered = len(self.now().lines.unanswered)
         now, pause = time.monotonic(), self.watches.pause()
         moments = [self.machine.deadline(now), self.outputs.look_at, self.watching.deadline()]
+        moments += [self.ring.deadline(), self.flush.deadline() if self.flush else None]
         moments.append(None if pause is None else now + pause)
         next_moment = min((it for it in moments if it is not None), default=None)
         self.loop.turn(None if next_moment is None else max(0.0, next_moment - now))
@@ -95,6 +101,9 @@ class Run:
         now = time.monotonic()
         self.outputs.tick(now)
         self.watching.tick(now)
+        self.ring.tick(now)
+        if self.flush:
+            self.flush.tick(now)
         self.machine.unanswered = len(self.now().lines.unanswered)
         self.machine.tick(now)
         self.telling.write_on()
@@ -106,6 +115,7 @@ class Run:
                 outputs.discard(it)
             it.close()
         self.beside.join()
+        self.ring.join()
         came = self.signals_came
         self.telling.finish(lambda: self.signals_came > max(came, 1))
         self.watching.all_ended()
@@ -161,6 +171,8 @@ class Run:
         self.machine.opened(it.recording)
         self.watching.begun(it)
         self.beside.begin(it)
+        if self.flush and it.is_created:
+            self.flush.begin(it, time.monotonic())
 
     def synced(self, it: Recorded, moment: float) -> None:
         """A recording was forced to its disk."""
@@ -170,14 +182,21 @@ class Run:
     def take_answers(self, it: Recorded) -> None:
         """Tells the recorder's answers, and sees whether its output failed."""
         for answer in it.answered():
-            self.say(self.line_flow.told(it, answer, self.filter_changed))
+            told = self.line_flow.told(it, answer, lambda change, said: self.take_change(it, change, said))
+            if told is not None:
+                self.say(told)
             if answer.startswith("run 2 Output"):
                 self.machine.output_failed(it.recording, time.monotonic())
 
-    def filter_changed(self, it: Recorded, channel: int, version: int) -> None:
-        """A line changed a filter."""
-        if it.recording is self.machine.now:
-            self.watching.changed(channel, version)
+    def take_change(self, it: Recorded, change: Change, answer: str) -> None:
+        """The recorder has answered a line."""
+        word, channel, version = answer.split(" ")[:3]
+        if it.recording is not self.machine.now:
+            return
+        if word == "installed":
+            self.watching.changed(int(channel), int(version), change.is_own)
+        elif change.is_own and self.flush:
+            self.flush.answered(change, answer)
 
     def end_recorder(self, it: Recorded, status: int) -> None:
         """A recorder has ended."""
@@ -189,6 +208,8 @@ class Run:
 
     def end_lines(self, recording: Recording) -> None:
         """Ends the lines that change filters."""
+        if self.flush:
+            self.flush.end(self.recorded(recording))
         self.line_flow.end(self.recorded(recording))
 
     def let_go(self, recording: Recording) -> None:
@@ -292,6 +313,10 @@ class Run:
         """How many bytes OUT has."""
         return self.recorded(recording).size()
 
+    def room(self) -> int:
+        """How many bytes are free on the disk of OUT."""
+        return outputs.room_beside(self.machine.now)
+
     def has_room(self, recording: Recording) -> bool:
         """Whether the disk has room for a next recording."""
         return outputs.room_beside(recording) >= ROOM
@@ -349,6 +374,7 @@ class Run:
             self.telling.print(it.report)
         self.outputs.end(it)
         self.watching.ended(it, status)
+        self.ring.ended(it, status)
         self.beside.end(it, status)
         if recording is not self.machine.now:
             del self.recordings[recording.number]

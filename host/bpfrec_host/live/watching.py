@@ -37,10 +37,10 @@ class Watching:
         if self.observer:
             self.observer.capture_counted(interface, counts, time.monotonic())
 
-    def changed(self, channel: int, version: int) -> None:
-        """A line changed a filter of the recording that goes on."""
+    def changed(self, channel: int, version: int, is_same: bool) -> None:
+        """A line changed a filter of the recording that goes on, or gave it once more."""
         if self.observer:
-            self.observer.filter_changed(channel, version)
+            self.observer.filter_changed(channel, version, is_same)
 
     def synced(self, moment: float) -> None:
         """The recording that goes on was forced to its disk."""
