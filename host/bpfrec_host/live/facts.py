@@ -9,10 +9,13 @@ import subprocess
 from pathlib import Path
 from typing import Any, NamedTuple, Optional
 
+from bpfrec_host.formats.facts import NoFacts, origin_in, utc_of
 from bpfrec_host.formats.limits import MAX_LISTING_LEN
+from bpfrec_host.live.adapters import adapter_of
 from bpfrec_host.live.arguments import Arguments
 from bpfrec_host.live.folder import Folder, listing_in
 from bpfrec_host.live.names import Files, facts_path, remove
+from bpfrec_host.live.synchronisation import synchronisation
 
 Entry = dict[str, Any]
 # Where a run was killed, as shells have it.
@@ -55,6 +58,9 @@ class Writer:
             "begun": about.begun,
             "clock": self.given.clock(),
             "prefilter": self.given.is_prefiltered,
+            "origin_utc": None,
+            "adapters": [adapter_of(it.interface, self.given.clock()) for it in self.given.ways],
+            "synchronisation": {"begin": synchronisation(), "end": None},
             "interfaces": [{"interface": it.interface, "channel": it.channel} for it in self.given.ways],
             "settings": self.folder.text,
             "filters": [it for it in (self.filter(*named) for named in self.folder.filters()) if it],
@@ -90,6 +96,9 @@ class Writer:
         """Writes the facts by what was noted; the status is None while the recording goes on. An OSError says that
         they can't be written; then those of before stay."""
         facts = {**self.beginning(about), **noted, **self.ending(about, status)}
+        facts["origin_utc"] = utc_of_origin(noted["origins"])
+        if status is not None:
+            facts["synchronisation"] = {**facts["synchronisation"], "end": synchronisation()}
         path = facts_path(about.out)
         following = f"{path}.new"
         try:
@@ -109,6 +118,14 @@ class Writer:
             "audit": lines_of(made / "audit"),
             "status": status,
         }
+
+
+def utc_of_origin(origins: list[Entry]) -> Optional[str]:
+    """The moment of counter 0 as UTC, by the first origin; None where there is none of a year with four digits."""
+    try:
+        return utc_of(origin_in(origins[0], "origin").moment) if origins else None
+    except NoFacts:
+        return None
 
 
 def replace(path: str, following: str, files: Files, data: bytes) -> None:
