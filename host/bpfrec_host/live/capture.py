@@ -7,7 +7,7 @@ import signal
 import subprocess
 from typing import Callable, Optional
 
-from bpfrec_host.live import children
+from bpfrec_host.live import children, system
 from bpfrec_host.live.arguments import Arguments
 from bpfrec_host.live.capture_lines import CaptureLines
 from bpfrec_host.live.folder import Folder
@@ -44,6 +44,8 @@ class Capture:
         errors = self.lines.writer if self.lines else None
         manner = children.CAPTURE._replace(kept=[everybody])
         self.child = children.start(self.words(), (subprocess.DEVNULL, None, errors), manner)
+        # It alone needs the permission to capture.
+        system.give_capabilities_up()
         self.loop.follow(self.child, ended)
         if self.lines:
             self.lines.follow()

@@ -18,19 +18,20 @@ Stream = Union[int, IO[bytes]]
 
 class Manner(NamedTuple):
     """How a program is started: the signals that it ignores, those that it finds blocked and waiting, the descriptors
-    that it keeps, and the signal that it gets from the kernel when live dies."""
+    that it keeps, the signal that it gets from the kernel when live dies, and whether it gets live's capabilities."""
 
     ignored: Sequence[signal.Signals] = ()
     blocked: Sequence[signal.Signals] = ()
     kept: Sequence[int] = ()
     ends_by: Optional[signal.Signals] = None
+    has_capabilities: bool = False
 
 
 # The recorder ends with its pipes: a signal that ended it would cut the recording. A limit of the size of files is told
 # as a failed output.
 RECORDER = Manner(ignored=(*ENDING, signal.SIGTTOU, signal.SIGXFSZ))
 # The capture takes these signals once it is ready for them, and none is lost before.
-CAPTURE = Manner(ignored=(signal.SIGTTOU,), blocked=HELD)
+CAPTURE = Manner(ignored=(signal.SIGTTOU,), blocked=HELD, has_capabilities=True)
 # An audit may take as long as the recording is large, and nobody waits for it once live has died.
 AUDIT = Manner(ignored=(*ENDING, signal.SIGTTOU), ends_by=signal.SIGKILL)
 
@@ -81,6 +82,8 @@ def start(words: Sequence[str], streams: tuple[Stream, Optional[Stream], Optiona
         for it in manner.ignored:
             signal.signal(it, signal.SIG_IGN)
         signal.pthread_sigmask(signal.SIG_SETMASK, manner.blocked)
+        if not manner.has_capabilities:
+            system.keep_capabilities_from_children()
         if manner.ends_by is not None:
             system.end_with_parent(manner.ends_by, parent)
 

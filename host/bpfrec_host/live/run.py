@@ -22,6 +22,7 @@ from bpfrec_host.live.line_flow import LineFlow
 from bpfrec_host.live.loop import Loop, Signals
 from bpfrec_host.live.machine import FILE_FAULT, Machine
 from bpfrec_host.live.names import Files, Names, is_special
+from bpfrec_host.live.notify import Notifier
 from bpfrec_host.live.observer import Observer
 from bpfrec_host.live.recorder import Recorded
 from bpfrec_host.live.ring import Ring
@@ -58,6 +59,7 @@ class Run:
         self.capture = Capture(programs.capture, given, folder, self.loop)
         self.line_flow = LineFlow(self.loop, folder, given, self.now)
         self.flush = Flush(given.flush, folder, self.line_flow.push, self.say) if given.flush is not None else None
+        self.notifier = Notifier()
         self.ring = Ring(given.keep, given.keep_free, self.room, self.say)
         self.outputs = outputs.Outputs(self.watches, given.size is not None, self.begin_recording, self.say)
         self.beside = Beside(self.loop, self.writer, self.events, self.synced, self.say)
@@ -92,7 +94,7 @@ class Run:
         self.machine.unanswered = len(self.now().lines.unanswered)
         now, pause = time.monotonic(), self.watches.pause()
         moments = [self.machine.deadline(now), self.outputs.look_at, self.watching.deadline()]
-        moments += [self.ring.deadline(), self.flush.deadline() if self.flush else None]
+        moments += [self.ring.deadline(), self.notifier.deadline(), self.flush.deadline() if self.flush else None]
         moments.append(None if pause is None else now + pause)
         next_moment = min((it for it in moments if it is not None), default=None)
         self.loop.turn(None if next_moment is None else max(0.0, next_moment - now))
@@ -102,6 +104,9 @@ class Run:
         self.outputs.tick(now)
         self.watching.tick(now)
         self.ring.tick(now)
+        if self.machine.is_ending or self.machine.is_concluding:
+            self.notifier.stopping(now)
+        self.notifier.tick(now)
         if self.flush:
             self.flush.tick(now)
         self.machine.unanswered = len(self.now().lines.unanswered)
@@ -170,6 +175,7 @@ class Run:
         """A recorder has opened OUT."""
         self.machine.opened(it.recording)
         self.watching.begun(it)
+        self.notifier.ready(it.about.out)
         self.beside.begin(it)
         if self.flush and it.is_created:
             self.flush.begin(it, time.monotonic())

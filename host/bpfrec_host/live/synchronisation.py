@@ -2,14 +2,14 @@
 
 from __future__ import annotations
 
-import ctypes
 import os
 import re
 import shutil
+import struct
 import subprocess
 from typing import Any, Optional
 
-from bpfrec_host.live.system import LIBC
+from bpfrec_host.live import system
 
 # How long each is asked at most, in seconds.
 PATIENCE = 2
@@ -19,25 +19,10 @@ CHRONY_FIELDS = 14
 Entry = dict[str, Any]
 
 
-class Adjustment(ctypes.Structure):
-    """The kernel's state of the clock, as adjtimex(2) has it."""
-
-    _fields_ = [
-        ("modes", ctypes.c_uint),
-        ("offset", ctypes.c_long),
-        ("frequency", ctypes.c_long),
-        ("maximum_error", ctypes.c_long),
-        ("estimated_error", ctypes.c_long),
-        ("status", ctypes.c_int),
-        ("constant", ctypes.c_long),
-        ("precision", ctypes.c_long),
-        ("tolerance", ctypes.c_long),
-        ("time", ctypes.c_long * 2),
-        ("tick", ctypes.c_long),
-        ("unused", ctypes.c_long * 8),
-        ("tai", ctypes.c_int),
-        ("more", ctypes.c_int * 11),
-    ]
+# The kernel's state of the clock, as adjtimex(2) has it on machines of 64 bits: modes, offset, frequency, greatest and
+# estimated error, status, time constant, precision, tolerance, time, tick, eight numbers of a signal, TAI - UTC.
+LONG_LEN = 8
+ADJUSTMENT = struct.Struct("@Ixxxxllllixxxxlllqql8li44x")
 
 
 def synchronisation() -> Entry:
@@ -47,16 +32,17 @@ def synchronisation() -> Entry:
 
 def by_kernel() -> Optional[Entry]:
     """What the kernel was told of its clock, lengths of time in seconds."""
-    found = Adjustment()
-    if LIBC.adjtimex(ctypes.byref(found)) < 0:
+    room = bytearray(ADJUSTMENT.size)
+    if struct.calcsize("l") != LONG_LEN or system.adjust(room) < 0:
         return None
-    unit = MICROSECONDS * 1_000 if found.status & NANO else MICROSECONDS
+    _, offset, _, maximum, estimated, status, *_, tai = ADJUSTMENT.unpack(room)
+    unit = MICROSECONDS * 1_000 if status & NANO else MICROSECONDS
     return {
-        "is_synchronised": not found.status & UNSYNCHRONISED,
-        "offset": f"{found.offset / unit:.9f}",
-        "estimated_error": f"{found.estimated_error / MICROSECONDS:.6f}",
-        "maximum_error": f"{found.maximum_error / MICROSECONDS:.6f}",
-        "tai_offset": found.tai,
+        "is_synchronised": not status & UNSYNCHRONISED,
+        "offset": f"{offset / unit:.9f}",
+        "estimated_error": f"{estimated / MICROSECONDS:.6f}",
+        "maximum_error": f"{maximum / MICROSECONDS:.6f}",
+        "tai_offset": tai,
     }
 
 
