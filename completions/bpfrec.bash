@@ -44,11 +44,11 @@ _bpfrec_tool() {
     local options='' kind=''
     case ${1##*/} in
         bpfrec-capture) options='-r --origin --buffer --direction --prefilter --no-promiscuous --clock --check-sequence --interface --quiet --strict --hold --events --parent --help' kind='*' ;;
-        bpfrec-live) options='--force --every --size --sync --mode --prefilter --no-audit --strict --origin --buffer --direction --clock --check-sequence --quiet --no-promiscuous --help' kind=toml ;;
+        bpfrec-live) options='--force --every --size --sync --flush --keep --keep-free --mode --prefilter --no-audit --strict --origin --buffer --direction --clock --check-sequence --quiet --no-promiscuous --help' kind=toml ;;
         bpfrec-convert) options='from-pcap to-pcap show make --origin --interface --facts --drop-check-sequence --help' kind='*' ;;
         bpfrec-info) options='--json --html --help' kind=ch11 ;;
         bpfrec-salvage) options='--help' kind=ch11 ;;
-        bpfrec-preflight) options='--out --capture --help' kind=toml ;;
+        bpfrec-preflight) options='--out --capture --live --help' kind=toml ;;
     esac
     if [[ ${COMP_WORDS[COMP_CWORD]} == -* || ${1##*/} == bpfrec-convert && $COMP_CWORD == 1 ]]; then
         _bpfrec_words "$options"

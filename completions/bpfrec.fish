@@ -64,6 +64,9 @@ complete -c bpfrec-live -l force
 complete -c bpfrec-live -l every
 complete -c bpfrec-live -l size
 complete -c bpfrec-live -l sync
+complete -c bpfrec-live -l flush
+complete -c bpfrec-live -l keep
+complete -c bpfrec-live -l keep-free
 complete -c bpfrec-live -l mode
 complete -c bpfrec-live -l prefilter
 complete -c bpfrec-live -l no-audit
@@ -94,5 +97,6 @@ complete -c bpfrec-salvage -l help
 complete -c bpfrec-salvage -ka '(__fish_complete_suffix .ch11)'
 complete -c bpfrec-preflight -l out
 complete -c bpfrec-preflight -l capture
+complete -c bpfrec-preflight -l live
 complete -c bpfrec-preflight -l help
 complete -c bpfrec-preflight -ka '(__fish_complete_suffix .toml)'

@@ -57,8 +57,8 @@ def tools():
 
 
 def words_of(parser):
-    """What a tool takes, as its parser says, without the option for help."""
-    _, _, *words = parser.format_usage().split()
+    """What a tool takes, as its parser says first, without the option for help."""
+    _, _, *words = parser.format_usage().split(f"\n       {parser.prog} ")[0].split()
     found = " ".join(it for it in words if it != "[-h]")
     return re.sub("[{}]", "", found).replace(",", "|").replace("...", "..")
 
