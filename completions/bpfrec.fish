@@ -45,22 +45,6 @@ complete -c bpfrec -n '__bpfrec_at simulate 1' -ka '(__fish_complete_suffix .scr
 complete -c bpfrec -n __fish_use_subcommand -a version -d 'Prints the program\'s version'
 complete -c bpfrec -n '__bpfrec_at help 1' -a version
 complete -c bpfrec -n __fish_use_subcommand -a help -d 'Prints help for a command'
-complete -c bpfrec-live -l prefilter
-complete -c bpfrec-live -l force
-complete -c bpfrec-live -l no-audit
-complete -c bpfrec-live -l strict
-complete -c bpfrec-live -l every
-complete -c bpfrec-live -l size
-complete -c bpfrec-live -l sync
-complete -c bpfrec-live -l quiet
-complete -c bpfrec-live -l no-promiscuous
-complete -c bpfrec-live -l origin
-complete -c bpfrec-live -l buffer
-complete -c bpfrec-live -l direction
-complete -c bpfrec-live -l clock
-complete -c bpfrec-live -l check-sequence
-complete -c bpfrec-live -l help
-complete -c bpfrec-live -ka '(__fish_complete_suffix .toml)'
 complete -c bpfrec-capture -s r
 complete -c bpfrec-capture -l origin
 complete -c bpfrec-capture -l buffer
@@ -76,6 +60,26 @@ complete -c bpfrec-capture -l hold
 complete -c bpfrec-capture -l events
 complete -c bpfrec-capture -l parent
 complete -c bpfrec-capture -l help
+complete -c bpfrec-live -l force
+complete -c bpfrec-live -l every
+complete -c bpfrec-live -l size
+complete -c bpfrec-live -l sync
+complete -c bpfrec-live -l flush
+complete -c bpfrec-live -l keep
+complete -c bpfrec-live -l keep-free
+complete -c bpfrec-live -l mode
+complete -c bpfrec-live -l prefilter
+complete -c bpfrec-live -l no-audit
+complete -c bpfrec-live -l strict
+complete -c bpfrec-live -l origin
+complete -c bpfrec-live -l buffer
+complete -c bpfrec-live -l direction
+complete -c bpfrec-live -l clock
+complete -c bpfrec-live -l check-sequence
+complete -c bpfrec-live -l quiet
+complete -c bpfrec-live -l no-promiscuous
+complete -c bpfrec-live -l help
+complete -c bpfrec-live -ka '(__fish_complete_suffix .toml)'
 complete -c bpfrec-convert -n __fish_use_subcommand -a from-pcap
 complete -c bpfrec-convert -n __fish_use_subcommand -a to-pcap
 complete -c bpfrec-convert -n __fish_use_subcommand -a show
@@ -93,5 +97,6 @@ complete -c bpfrec-salvage -l help
 complete -c bpfrec-salvage -ka '(__fish_complete_suffix .ch11)'
 complete -c bpfrec-preflight -l out
 complete -c bpfrec-preflight -l capture
+complete -c bpfrec-preflight -l live
 complete -c bpfrec-preflight -l help
 complete -c bpfrec-preflight -ka '(__fish_complete_suffix .toml)'

@@ -11,7 +11,7 @@ from bpfrec_host.__main__ import TOOLS as PYTHON_TOOLS
 
 COMMANDS, HELP = ROOT / "crates/rec_words/src/command_line.rt", ROOT / "crates/rec_words/src/command_line/help.rt"
 FORMATS = ROOT / "docs/user/FORMATS.md"
-LIVE, CAPTURE = ROOT / "host/bin/live", ROOT / "capture/src/arguments.c"
+CAPTURE = ROOT / "capture/src/arguments.c"
 
 
 class Word(NamedTuple):
@@ -37,7 +37,6 @@ class Tool(NamedTuple):
 
 # The tools that aren't Python: what they do, their words, and where their options stand.
 OTHER_TOOLS = {
-    "live": ("records network interfaces, and audits the recording", "SETTINGS OUT INTERFACE=CHANNEL..", LIVE),
     "capture": ("makes feeds of interfaces, as their frames come, and of captures", "INTERFACE=PIPE..", CAPTURE),
 }
 # The files that a word of a tool is.
@@ -58,8 +57,8 @@ def tools():
 
 
 def words_of(parser):
-    """What a tool takes, as its parser says, without the option for help."""
-    _, _, *words = parser.format_usage().split()
+    """What a tool takes, as its parser says first, without the option for help."""
+    _, _, *words = parser.format_usage().split(f"\n       {parser.prog} ")[0].split()
     found = " ".join(it for it in words if it != "[-h]")
     return re.sub("[{}]", "", found).replace(",", "|").replace("...", "..")
 
@@ -75,10 +74,9 @@ def options_of(parser):
 
 
 def options_in(file):
-    """The options that a tool takes, as its source has them: a label of bash's `case`, or a line of a help text in C."""
+    """The options that a tool takes, as its source has them: each begins a line of a help text in C."""
     text = file.read_text()
-    body = text[text.index("read_words() {") :].split("\n}\n")[0] if file == LIVE else ""
-    labels = re.findall(r"^ {12}(-[^)]*)\)", body, re.MULTILINE) or re.findall(r'^ {4}"  (-\S+)', text, re.MULTILINE)
+    labels = re.findall(r'^ {4}"  (-\S+)', text, re.MULTILINE)
     found = dict.fromkeys(it for label in labels for it in re.findall(r"--[a-z-]+", label) if it != "--help")
     return [*(["-r"] if "] -r FILE" in text else []), *found, "--help"]
 

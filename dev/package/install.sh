@@ -18,15 +18,14 @@ cd "$(dirname "$0")/../.." || exit 3
 PREFIX=${PREFIX:-/usr/local} DESTDIR=${DESTDIR:-} ZSH=${ZSH:-share/zsh/site-functions}
 to=$DESTDIR$PREFIX
 # The tools in Python, and all.
-tools=(convert info preflight salvage)
-names=(capture live "${tools[@]}")
+tools=(live convert info preflight salvage)
+names=(capture "${tools[@]}")
 
 # Each file, as its mode, where it stands here or what it is made of, and where it goes.
 files() {
     local file
     echo "755 bin/bpfrec bin/bpfrec"
     echo "755 bin/capture libexec/bpfrec/bpfrec-capture"
-    echo "755 host/bin/live libexec/bpfrec/bpfrec-live"
     echo "755 host/bpfrec_host libexec/bpfrec/bpfrec-host.pyz"
     echo "644 man/bpfrec.1 share/man/man1/bpfrec.1"
     echo "644 completions/bpfrec.bash share/bash-completion/completions/bpfrec"
@@ -60,7 +59,7 @@ links() {
 # What an installation from before had, and none has any more.
 remove_old() {
     local name
-    rm -f "$to"/libexec/bpfrec/{ch11.py,facts.py,bpfrec-feed,bpfrec-info,bpfrec-preflight,bpfrec-salvage}
+    rm -f "$to"/libexec/bpfrec/{ch11.py,facts.py,bpfrec-feed,bpfrec-info,bpfrec-live,bpfrec-preflight,bpfrec-salvage}
     for name in bin/bpfrec-feed share/man/man1/bpfrec-feed.1 share/bash-completion/completions/bpfrec-feed \
         share/fish/vendor_completions.d/bpfrec-feed.fish; do
         rm -f "$to/$name"

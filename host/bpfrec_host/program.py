@@ -48,6 +48,16 @@ def places() -> list[str]:
     return [*[str(folder.parent.parent / "bin" / "bpfrec")] * is_installed, str(folder / "bpfrec"), "bpfrec"]
 
 
+def capture_path() -> str:
+    """The path of the program that captures, also where it isn't there: what CAPTURE names in the environment, or the
+    one in bin/ of the checkout, or beside the archive that is this package."""
+    named = os.environ.get("CAPTURE")
+    if named:
+        return named
+    holder = Path(__file__).resolve().parents[1]
+    return str(holder.parent / ("bpfrec-capture" if holder.is_file() else "bin/capture"))
+
+
 def run(*words: str, stdin: Union[int, IO[bytes]] = subprocess.DEVNULL) -> subprocess.CompletedProcess[str]:
     """Runs the program with these words to its end, and takes what it prints."""
     return subprocess.run(

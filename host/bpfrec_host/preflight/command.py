@@ -4,6 +4,7 @@ from __future__ import annotations
 
 import argparse
 import signal
+from typing import Container
 
 from bpfrec_host import program
 from bpfrec_host.ending import full_name, say, tell
@@ -11,6 +12,7 @@ from bpfrec_host.formats.limits import MAX_NUMBER
 from bpfrec_host.formats.settings import Channel, NoReader, Settings, reader
 from bpfrec_host.preflight.inputs import judge_capture, judge_channel_feed, judge_feed, judge_filter, judge_shared_feeds
 from bpfrec_host.preflight.keys import judge_channel_keys, judge_ids, judge_top, read_settings
+from bpfrec_host.preflight.live import judge_live
 from bpfrec_host.preflight.output import judge_memory, judge_out
 from bpfrec_host.preflight.report import NotJudged, Report
 from bpfrec_host.words import Parser
@@ -27,6 +29,12 @@ Run it in the folder in which the recording will run, since paths are used as th
 - the memory that the buffers of the recording take at most, beside what is available.
 
 With --capture it records FEED through each filter into /dev/null, and says how many frames are kept.
+
+With --live it judges the arguments of `live` that follow, as `--live --every 3600 wire.toml flight.ch11 eth0=1`: the
+same of SETTINGS and OUT, which may not be there; whether each interface is there and up and whether the kernel joins
+its frames; the permission to capture; what the kernel keeps of frames, beside the memory that is available; and the
+expressions that are filters.
+
 It creates nothing but temporary files, empties nothing, and opens no pipe, since that would wait for
 the pipe's other end.
 """
@@ -44,21 +52,26 @@ It runs bpfrec: what BPFREC names, or the one beside it. Nothing of this tool is
 
 def parser() -> Parser:
     """The arguments of bpfrec-preflight."""
+    name = full_name("preflight")
     made = Parser(
-        prog=full_name("preflight"),
-        usage=f"{full_name('preflight')} SETTINGS [--out OUT] [--capture FEED]",
+        prog=name,
+        usage=f"{name} SETTINGS [--out OUT] [--capture FEED]\n       {name} --live ARGUMENT..",
         description=ABOUT,
         epilog=MORE,
         allow_abbrev=False,
     )
-    made.add_argument("settings", metavar="SETTINGS", help="the settings of the recording")
+    made.add_argument("settings", metavar="SETTINGS", nargs="?", help="the settings of the recording")
     made.add_argument("--out", metavar="OUT", help="the file of the recording")
     made.add_argument("--capture", metavar="FEED", help="a feed on which each filter is tried")
+    made.add_argument("--live", metavar="ARGUMENT", nargs=argparse.REMAINDER, help="the arguments of a run of live")
     return made
 
 
 def judge(given: argparse.Namespace, report: Report) -> None:
     """Judges all that is named."""
+    if given.live is not None:
+        judge_live(given.live, judge_settings, report)
+        return
     settings = read_settings(given.settings, report)
     valid = [] if settings is None else judge_settings(settings, report)
     if given.out is not None:
@@ -68,8 +81,9 @@ def judge(given: argparse.Namespace, report: Report) -> None:
             judge_capture(settings, channel, given.capture, report)
 
 
-def judge_settings(settings: Settings, report: Report) -> list[Channel]:
-    """Judges settings with their filters and feeds: the channels that have a valid filter."""
+def judge_settings(settings: Settings, report: Report, piped: Container[int] = ()) -> list[Channel]:
+    """Judges settings with their filters and feeds, but for the channels whose feed is a pipe of live's: the channels
+    that have a valid filter."""
     judge_top(settings, report)
     for channel in settings.channels:
         judge_channel_keys(settings, channel, report)
@@ -78,7 +92,8 @@ def judge_settings(settings: Settings, report: Report) -> list[Channel]:
     for channel in settings.channels:
         if judge_filter(settings, channel, report):
             valid.append(channel)
-        judge_channel_feed(settings, channel, report)
+        if channel.table.get("id") not in piped:
+            judge_channel_feed(settings, channel, report)
     judge_shared_feeds(settings, report)
     judge_memory(settings, report)
     return valid
@@ -88,7 +103,10 @@ def run(words: list[str]) -> int:
     """Names what is wrong: the status."""
     # A reader of the findings may leave, as `head` does.
     signal.signal(signal.SIGPIPE, signal.SIG_DFL)
-    given, report = parser().parse_args(words), Report()
+    made, report = parser(), Report()
+    given = made.parse_args(words)
+    if given.settings is None and given.live is None:
+        made.error("the following arguments are required: SETTINGS")
     try:
         reader()
         program.find()

@@ -1,0 +1,276 @@
+"""Tries the machine of host/bin/live by itself, without a process: every order of what may happen to a run."""
+
+from __future__ import annotations
+
+import itertools
+import random
+from collections.abc import Callable
+
+import pytest
+from live_world import KILLED, Phase, Plan, World
+from support import judge, judge_quietly
+
+SINGLE, ROTATING, FILES = Plan(True), Plan(True, every=10), Plan(False)
+PLANS = {"single": SINGLE, "rotating": ROTATING, "without interfaces": FILES}
+
+# ---- what may happen
+
+
+def channels_end(world: World) -> None:
+    """Each channel has all its frames, so the recorder ends by itself."""
+    it = world.now()
+    world.end_recorder(it, 0) if it.has_opened else None
+
+
+def capture_dies(world: World) -> None:
+    world.end_capture(KILLED)
+
+
+def recorder_dies(world: World) -> None:
+    world.end_recorder(world.now(), KILLED)
+
+
+def signal_comes(world: World) -> None:
+    world.machine.told_to_end(world.time)
+
+
+def disk_is_full(world: World) -> None:
+    it = world.now()
+    if it.is_running and it.has_opened:
+        world.has_space = False
+        world.machine.output_failed(it.recording, world.time)
+        world.has_space = True
+
+
+def due_but_cannot_follow(world: World) -> None:
+    world.can_follow = False
+    world.wait(11)
+
+
+def due(world: World) -> None:
+    world.can_follow = True
+    world.wait(11)
+
+
+EVENTS: dict[str, Callable[[World], None]] = {
+    "the channels end": channels_end,
+    "the capture dies": capture_dies,
+    "the recorder dies": recorder_dies,
+    "a signal": signal_comes,
+    "a second signal": signal_comes,
+    "a full disk": disk_is_full,
+    "a hand-over that can't begin": due_but_cannot_follow,
+    "a hand-over": due,
+}
+HARMLESS = {"the channels end", "a signal", "a second signal", "a hand-over that can't begin", "a hand-over"}
+
+
+# ---- when it happens
+
+
+def at_once(_: World) -> None:
+    """Before anything is open."""
+
+
+def while_opening(world: World) -> None:
+    """All interfaces are open, and the recorder isn't."""
+    world.ready()
+
+
+def while_going(world: World) -> None:
+    world.ready()
+    world.settle()
+
+
+def while_handing_over(world: World) -> None:
+    while_going(world)
+    world.wait(11)
+
+
+MOMENTS = {it.__name__: it for it in (at_once, while_opening, while_going, while_handing_over)}
+
+
+def played(plan: Plan, moment: Callable[[World], None], order: tuple[str, ...], is_late: bool) -> World:
+    """A run in which this happens in this order; `is_late` lets the consequences come only behind all of it."""
+    world = World(plan)
+    world.machine.begin(world.time)
+    moment(world)
+    for name in order:
+        EVENTS[name](world)
+        if not is_late:
+            world.settle()
+    world.ready()
+    world.settle()
+    world.machine.told_to_end(world.time)
+    world.finish()
+    return world
+
+
+def judge_run(what: str, world: World, order: tuple[str, ...]) -> None:
+    judge_quietly(f"{what}: something is left", not world.is_left())
+    status, is_refused = world.machine.status(False), world.machine.is_refused
+    for it in world.played.values():
+        number = it.recording.number
+        judge_quietly(f"{what}: recording {number} is left {it.recording.phase}", is_refused or is_over(it))
+        judge_quietly(f"{what}: recording {number} was told {it.told} times", it.told <= 1 and len(it.concluded) <= 1)
+        if it.has_opened and not is_refused:
+            judge_quietly(f"{what}: recording {number} was opened and isn't told", it.told == 1)
+        if it.concluded == [0]:
+            judge_quietly(f"{what}: recording {number} is well and isn't audited", it.audits == 1)
+    harm = [name for name in order if name not in HARMLESS]
+    died = [line for line in world.said if "was ended by signal" in line or "can't be written any more" in line]
+    judge_quietly(f"{what}: status 0 after {harm}: {world.said}", status != 0 or not died)
+    judge_quietly(f"{what}: status {status} without harm: {world.said}", status == 0 or harm or is_refused)
+
+
+def is_over(it) -> bool:
+    return it.recording.phase is Phase.AUDITED and len(it.concluded) == 1
+
+
+# ---- the trials
+
+
+def orders() -> list[tuple[str, ...]]:
+    """Every order of up to three of them, and drawn orders of all."""
+    drawn, names = random.Random(64), list(EVENTS)
+    found = [order for count in (1, 2, 3) for order in itertools.permutations(names, count)]
+    return found + [tuple(drawn.sample(names, len(names))) for _ in range(500)]
+
+
+@pytest.mark.parametrize("name", PLANS)
+def test_every_order(name: str) -> None:
+    """However it comes, nothing hangs or is left, and each recording is told once and audited where it is well."""
+    count = 0
+    for order in orders():
+        for moment, is_late in itertools.product(MOMENTS, (False, True)):
+            what = f"{name}: {moment}{' (late)' if is_late else ''}: {', '.join(order)}"
+            world = played(PLANS[name], MOMENTS[moment], order, is_late)
+            judge_run(what, world, order)
+            count += 1
+    judge(f"{name}: {count} orders of what may happen end well", True)
+
+
+def test_phases() -> None:
+    """The life of recordings that follow one another."""
+    world = World(ROTATING)
+    world.machine.begin(world.time)
+    first = world.now().recording
+    judge("it begins by opening", first.phase is Phase.OPENING)
+    while_going(world)
+    judge("then it is going", first.phase is Phase.GOING)
+    world.wait(9.9)
+    judge("and goes on until the next one is due", world.machine.now is first)
+    world.wait(0.2)
+    second = world.now().recording
+    judge("then it hands over", (first.phase, second.phase) == (Phase.HANDING_OVER, Phase.OPENING))
+    world.consequences.insert(0, lambda: None)
+    world.settle()
+    judge("and is audited", (first.phase, second.phase) == (Phase.AUDITED, Phase.GOING))
+    world.machine.told_to_end(world.time)
+    world.settle()
+    judge("so is the last", second.phase is Phase.AUDITED and world.machine.is_done())
+    judge("with status 0", world.machine.status(False) == 0 and world.machine.status(True) == 0)
+
+
+def test_statuses() -> None:
+    """The status of a run: its recorders', else its audits', else the capture's, else that of losses."""
+    strict = World(Plan(True, is_strict=True))
+    strict.machine.captured = 0
+    judge("lost frames", (strict.machine.status(False), strict.machine.status(True)) == (0, 5))
+    strict.machine.captured = 1
+    judge("a capture that failed", strict.machine.status(True) == 1)
+    strict.machine.audited_by = 1
+    strict.machine.recorded = 3
+    judge("a recorder that failed", strict.machine.status(True) == 3)
+
+
+@pytest.mark.parametrize("status", [2, 3])
+def test_nothing_begun(status: int) -> None:
+    """An interface that can't be opened, or wrong options: nothing is recorded, and the status is the capture's."""
+    world = World(SINGLE)
+    world.machine.begin(0)
+    world.end_capture(status)
+    world.finish()
+    it = world.now()
+    judge(
+        "nothing is begun",
+        world.machine.status(False) == status and not it.is_created and it.told == 0 and world.said == [],
+    )
+
+
+def test_out_that_is_taken() -> None:
+    """OUT can't be created once all is open."""
+    world = World(SINGLE)
+    world.machine.begin(0)
+    world.has_space = False
+    world.ready()
+    world.finish()
+    judge("an OUT that can't be created", world.machine.status(False) == 3 and not world.is_left())
+
+
+def test_recorder_is_hurried() -> None:
+    """A capture whose recorder has ended is told again, since it may wait for a pipe that nobody reads."""
+    world = World(SINGLE)
+    world.machine.begin(0)
+    world.ready()
+    world.settle()
+    world.end_recorder(world.now(), 0)
+    world.consequences.clear()
+    world.wait(1.05)
+    judge("not within a second", world.asked_to_end == 1)
+    world.wait(0.1)
+    judge("but behind it", world.asked_to_end == 2)
+    world.finish()
+
+
+def test_stuck_recorder() -> None:
+    """A recorder whose output failed, and whose feeds have ended, is killed two seconds later."""
+    world = World(SINGLE)
+    world.machine.begin(0)
+    while_going(world)
+    world.machine.output_failed(world.now().recording, 0)
+    world.now().has_opened = False
+    world.settle()
+    judge("it is given two seconds", not world.is_capturing and world.now().is_running)
+    world.wait(2.1)
+    world.settle()
+    judge("and then killed", not world.now().is_running and world.machine.status(False) == 1)
+
+
+def test_room() -> None:
+    """After a full disk the next recording waits for room, and longer after each failure."""
+    world = World(ROTATING)
+    world.machine.begin(0)
+    while_going(world)
+    for turn in range(3):
+        it = world.now()
+        world.has_space = False
+        world.machine.output_failed(it.recording, world.time)
+        world.settle()
+        pause = 0.5 * 2 ** (turn + 1)
+        world.wait(pause - 0.01)
+        judge_quietly("nothing follows at once", world.now() is it)
+        world.wait(0.02)
+        judge_quietly("nor without room", world.now() is it)
+        world.has_space = True
+        world.wait(1.0)
+        world.settle()
+        judge_quietly("but then", world.now() is not it and world.now().recording.phase is Phase.GOING)
+        judge_quietly("the failed one is told", it.concluded == [1] and it.audits == 0)
+    judge("recordings go on once there is room, and later each time", True)
+    world.wait(10)
+    world.settle()
+    judge("a recording that is handed over ends the row", world.machine.failures == 0)
+
+
+def test_unanswered_line() -> None:
+    """No recording follows as long as a line isn't answered, since its filter is known only then."""
+    world = World(ROTATING)
+    world.machine.begin(0)
+    while_going(world)
+    world.machine.unanswered = 1
+    world.wait(20)
+    judge("it waits for the answer", world.machine.now.number == 1)
+    world.machine.unanswered = 0
+    world.wait(0)
+    judge("and then goes over", world.machine.now.number == 2)

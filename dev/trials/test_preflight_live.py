@@ -1,0 +1,105 @@
+"""Tries host/bin/preflight --live, which takes the arguments of host/bin/live: each fault is one that live has too."""
+
+import os
+import subprocess
+from pathlib import Path
+
+import pytest
+from namespace import set_link
+from recordings import nothing_left, settings_of, write_settings
+from support import LIVE, NOBODY, ROOT, Running, judge, judge_quietly, outcome, run
+
+WANTED = {"bin/bpfrec": "make build", "bin/capture": "make build", "ip": "iproute2", "tcpdump": "tcpdump"}
+pytestmark = pytest.mark.usefixtures("namespace")
+PREFLIGHT = ROOT / "host/bin/preflight"
+
+
+def told(*words: object) -> tuple[int, list[str], list[str]]:
+    """The status, the faults and the notes of a run of live that is judged."""
+    done = outcome(PREFLIGHT, "--live", *words)
+    lines = done.stdout.splitlines()
+    judge_quietly(f"{words}: {done.stderr}", done.stderr == "" and lines and lines[-1].endswith(" faults"))
+    faults = [it for it in lines[:-1] if ": note: " not in it]
+    judge_quietly(f"{words}: {lines[-1]}", lines[-1] == f"{len(faults)} faults")
+    return done.returncode, faults, [it for it in lines[:-1] if ": note: " in it]
+
+
+def test_nothing_is_wrong(work: Path) -> None:
+    """Channels with interfaces need no feed, and what may be lost is a note."""
+    settings = settings_of(work)
+    status, faults, notes = told("--every", 60, settings, work / "out.ch11", "rx0=1", "rx1=2")
+    judge("nothing is wrong", (status, faults) == (0, []), faults)
+    for what in ("rx0: note: it is there, and its frames are not joined", "out_00001.ch11: note: ", "buffers: note: "):
+        judge(f"a note on {what}", any(what in it for it in notes), notes)
+    judge("nothing is created", sorted(it.name for it in work.glob("out*")) == [] and nothing_left(work))
+
+
+def test_joined_frames(work: Path) -> None:
+    run("ip", "link", "add", "jx0", "type", "veth", "peer", "name", "jx1")
+    set_link("jx0", "up")
+    _, faults, notes = told(work / "out.ch11", "jx0")
+    judge(
+        "an interface whose frames are joined",
+        faults == [] and any("ethtool -K jx0 " in it for it in notes),
+        notes,
+    )
+    judge("and that has no carrier", any(it.startswith("jx0: note: it has no carrier") for it in notes), notes)
+
+
+def cases(work: Path) -> list[tuple[list, str]]:
+    settings = settings_of(work)
+    (work / "there.ch11").write_bytes(b"kept")
+    other = work / "other"
+    other.mkdir()
+    missing = write_settings(other, f'id = 1\nfilter = "{work}/missing"')
+    return [
+        ([settings, work / "out.ch11", "rx0=1", "nowhere0=2"], "nowhere0: no such interface"),
+        ([settings, work / "out.ch11", "rx0=3"], f"live: {settings} has no table [[channel]] with a line id = 3"),
+        ([settings, "rx0=1"], f"live: OUT is missing: it stands between {settings} and rx0=1"),
+        (
+            [settings, work / "there.ch11", "rx0=1", "rx1=2"],
+            f"{work}/there.ch11: {work}/there.ch11 is there: give it another",
+        ),
+        ([missing, work / "out.ch11", "rx0=1"], f"{missing}:5: channel 1: file {work}/missing: missing"),
+        ([work / "out.ch11", "rx0=1:udp portt 5"], "rx0: rx0=1:udp portt 5: tcpdump: can't parse filter expression"),
+        ([work / "no/out.ch11", "rx0"], f"{work}/no/out.ch11: file {work}/no/out.ch11: its folder is missing"),
+    ]
+
+
+def test_faults(work: Path) -> None:
+    """Each is one that live has too, which then begins nothing."""
+    for words, line in cases(work):
+        status, faults, _ = told(*words)
+        judge(f"a fault: {line}", status == 1 and len(faults) == 1 and faults[0].startswith(line), faults)
+        running = Running(work, LIVE, "--quiet", *words)
+        judge_quietly(f"live says so too: {running.told()}", running.ended()[0] != 0 and nothing_left(work))
+
+
+def test_interface_that_is_down(work: Path) -> None:
+    set_link("rx1", "down")
+    _, faults, _ = told(settings_of(work), work / "out.ch11", "rx0=1", "rx1=2")
+    judge("an interface that is down", faults == ["rx1: it is down: ip link set rx1 up"], faults)
+
+
+def test_buffers(work: Path) -> None:
+    _, faults, _ = told("--buffer", 2_047, work / "out.ch11", *[f"rx0={at}" for at in range(1, 65)])
+    judge(
+        "more memory than there is",
+        len(faults) == 1 and faults[0].startswith("buffers: the kernel keeps up to 4094 MiB"),
+    )
+
+
+def test_permission(work: Path) -> None:
+    for path in (work, settings_of(work), work / "all"):
+        path.chmod(0o777)
+    done = subprocess.run(
+        [PREFLIGHT, "--live", work / "live.toml", work / "out.ch11", "rx0=1", "rx1=2"],
+        user=NOBODY,
+        group=NOBODY,
+        extra_groups=[],
+        capture_output=True,
+        text=True,
+        env={**os.environ, "TMPDIR": str(work)},
+    )
+    line = "capture: no permission to capture: be root, or once setcap cap_net_raw=ep "
+    judge("no permission", done.returncode == 1 and line in done.stdout, done.stdout + done.stderr)

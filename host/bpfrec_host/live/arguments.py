@@ -1,0 +1,163 @@
+"""The arguments of bpfrec-live."""
+
+from __future__ import annotations
+
+import argparse
+import re
+from typing import Callable, NamedTuple, NoReturn, Optional
+
+from bpfrec_host.ending import full_name, tell
+from bpfrec_host.live.help import ABOUT, MORE
+from bpfrec_host.live.words import Way, words_of
+from bpfrec_host.words import Parser
+
+MAX_SECONDS, MAX_BYTES = 999_999_999, 10**15 - 1
+# The options that are the capture's own: those with a value, and those without.
+VALUED = ("--origin", "--buffer", "--direction", "--clock", "--check-sequence")
+PLAIN = ("--quiet", "--no-promiscuous")
+
+
+class Arguments(NamedTuple):
+    """What live is told to do."""
+
+    # None where all frames are wanted.
+    settings: Optional[str]
+    out: str
+    ways: list[Way]
+    # The capture's options, as they were given.
+    options: list[str]
+    every: Optional[int]
+    size: Optional[int]
+    sync: int
+    is_prefiltered: bool
+    is_forced: bool
+    is_audited: bool
+    is_strict: bool
+    # After how many seconds a channel's open packet is closed; None for never.
+    flush: Optional[int]
+    # How many recordings are kept at most, and how many bytes are to be free on their disk.
+    keep: Optional[int]
+    keep_free: Optional[int]
+    # The mode of the files that are created; None is the usual one, less what umask takes away.
+    mode: Optional[int]
+
+    def is_rotating(self) -> bool:
+        """Whether recordings follow one another."""
+        return self.every is not None or self.size is not None
+
+    def keeps_filters(self) -> bool:
+        """Whether filters are kept, which may be given to a recorder once more."""
+        return self.is_rotating() or self.flush is not None
+
+    def clock(self) -> str:
+        """Whose times the frames have."""
+        given = [it for at, it in enumerate(self.options) if at and self.options[at - 1] == "--clock"]
+        return "adapter" if given[-1:] == ["adapter"] else "host"
+
+
+class LiveParser(Parser):
+    """A parser that says what is wrong in one line."""
+
+    def error(self, message: str) -> NoReturn:
+        """Ends where the arguments are wrong."""
+        tell(f"live: {fault_of(message)}")
+        self.exit(2)
+
+
+def fault_of(message: str) -> str:
+    """A fault of argparse in the words of live."""
+    found = re.fullmatch(r"argument (--[a-z-]+): (.*)", message)
+    if found:
+        return f"{found[1]} {'needs a value' if found[2].startswith('expected') else found[2]}"
+    found = re.fullmatch(r"unrecognized arguments: (\S+).*", message, re.DOTALL)
+    return f"no such option: {found[1]}" if found else message
+
+
+def number(least: int, most: int, digits: int, said: str) -> Callable[[str], int]:
+    """What reads a number of a range, without zeros ahead."""
+
+    def read(word: str) -> int:
+        is_one = re.fullmatch(rf"0|[1-9][0-9]{{0,{digits - 1}}}", word) is not None
+        if not is_one or not least <= int(word) <= most:
+            raise argparse.ArgumentTypeError(f"needs a number {said}")
+        return int(word)
+
+    return read
+
+
+def file_mode(word: str) -> int:
+    """The mode of a file, as chmod has it."""
+    if not re.fullmatch(r"0?[0-7]{3}", word):
+        raise argparse.ArgumentTypeError("needs a mode of three octal digits, as 0640")
+    return int(word, 8)
+
+
+def parser() -> Parser:
+    """The arguments of bpfrec-live."""
+    name = full_name("live")
+    made = LiveParser(
+        prog=name,
+        usage=f"{name} [OPTION..] [SETTINGS] OUT [INTERFACE[=CHANNEL[:EXPRESSION]]..]",
+        description=ABOUT,
+        epilog=MORE,
+        allow_abbrev=False,
+    )
+    seconds = number(1, MAX_SECONDS, 9, f"from 1 to {MAX_SECONDS}")
+    made.add_argument("--force", action="store_true", help="overwrites an OUT that is there")
+    made.add_argument("--every", metavar="SECONDS", type=seconds, help="begins a new recording after so long")
+    size = number(1, MAX_BYTES, 15, "from 1 on")
+    made.add_argument("--size", metavar="BYTES", type=size, help="begins a new recording at so many bytes")
+    sync = number(0, MAX_SECONDS, 9, f"from 0 to {MAX_SECONDS}")
+    made.add_argument("--sync", metavar="SECONDS", type=sync, default=1, help="how often OUT goes to its disk")
+    made.add_argument("--flush", metavar="SECONDS", type=seconds, help="closes packets that are open for so long")
+    count = number(1, MAX_SECONDS, 9, f"from 1 to {MAX_SECONDS}")
+    made.add_argument("--keep", metavar="N", type=count, help="keeps the last N of recordings that follow one another")
+    free = number(1, MAX_BYTES, 15, "from 1 on")
+    made.add_argument("--keep-free", metavar="BYTES", type=free, help="keeps so much free, by removing the oldest")
+    made.add_argument("--mode", metavar="MODE", type=file_mode, help="who may read OUT and its facts")
+    made.add_argument("--prefilter", action="store_true", help="has the kernel run the filters too")
+    made.add_argument("--no-audit", action="store_true", help="audits nothing")
+    made.add_argument("--strict", action="store_true", help="status 5 where an interface lost frames")
+    options: list[str] = []
+    for option in VALUED:
+        made.add_argument(option, metavar="VALUE", action=kept(options), help="as of capture")
+    for option in PLAIN:
+        made.add_argument(option, nargs=0, action=kept(options), help="as of capture")
+    made.set_defaults(options=options)
+    made.add_argument("words", nargs=argparse.REMAINDER, help=argparse.SUPPRESS)
+    return made
+
+
+def kept(options: list[str]) -> type[argparse.Action]:
+    """An action that keeps an option of the capture's as it was given."""
+
+    class Kept(argparse.Action):
+        """Keeps the option and its value."""
+
+        def __call__(self, _: object, __: object, values: object, option: Optional[str] = None) -> None:
+            options.extend([option or "", *([values] if isinstance(values, str) else [])])
+
+    return Kept
+
+
+def read(words: list[str]) -> Arguments:
+    """The arguments of a command line; one that is wrong ends live, or is a Refusal."""
+    given = parser().parse_args(words)
+    named = words_of(given.words[1:] if given.words[:1] == ["--"] else given.words)
+    return Arguments(
+        settings=named.settings,
+        out=named.out,
+        ways=named.ways,
+        options=given.options,
+        every=given.every,
+        size=given.size,
+        sync=given.sync,
+        is_prefiltered=given.prefilter,
+        is_forced=given.force,
+        is_audited=not given.no_audit,
+        is_strict=given.strict,
+        flush=given.flush,
+        keep=given.keep,
+        keep_free=given.keep_free,
+        mode=given.mode,
+    )

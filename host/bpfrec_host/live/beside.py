@@ -1,0 +1,87 @@
+"""What is kept safe of each recording: its bytes on the disk, and the facts beside it."""
+
+from __future__ import annotations
+
+import os
+from typing import Callable, Optional
+
+from bpfrec_host.live.events import Events
+from bpfrec_host.live.facts import Writer
+from bpfrec_host.live.keeper import Keeper
+from bpfrec_host.live.loop import Loop
+from bpfrec_host.live.names import facts_path, remove
+from bpfrec_host.live.recorder import Recorded
+
+
+class Beside:
+    """The keepers of a run's recordings. `synced` takes a recording and the moment up to which it is on its disk, and
+    `say` a line for who watches."""
+
+    def __init__(
+        self,
+        loop: Loop,
+        writer: Writer,
+        events: Events,
+        synced: Callable[[Recorded, float], None],
+        say: Callable[[str], None],
+    ) -> None:
+        self.loop, self.writer, self.events, self.synced, self.say = loop, writer, events, synced, say
+        self.threads: list[Keeper] = []
+
+    def begin(self, it: Recorded) -> None:
+        """A recorder has opened OUT: from now on it is forced to its disk."""
+        if not it.is_created or it.descriptor is None:
+            return
+        if self.writer.files.is_forced:
+            # Those that are there are of what was overwritten.
+            remove(facts_path(it.about.out))
+        folder, pause = os.path.dirname(it.about.out), self.writer.given.sync
+        it.keeper = Keeper(it.descriptor, folder, pause, lambda moment: self.kept(it, moment))
+        it.keeper.start()
+        self.threads.append(it.keeper)
+        self.write(it)
+
+    def write(self, it: Recorded) -> None:
+        """Has the facts of a recording written that goes on."""
+        if it.keeper and self.events.origins:
+            about, noted = it.about, self.events.facts(it.about.feed)
+            it.keeper.write(lambda: self.writer.write(about, noted, None))
+
+    def end(self, it: Recorded, status: int) -> None:
+        """Has the last facts of a recording written, and its folder removed."""
+        self.events.read()
+        about, noted = it.about, self.events.facts(it.about.feed)
+        is_written = bool(self.events.origins) and it.is_created
+
+        def last() -> None:
+            try:
+                if is_written:
+                    self.writer.write(about, noted, status)
+            finally:
+                self.writer.folder.remove(about.number)
+
+        self.events.forget(about.feed)
+        if it.keeper:
+            it.keeper.write(last)
+            it.keeper.end()
+        else:
+            self.writer.folder.remove(about.number)
+
+    def join(self) -> None:
+        """Waits until all is written."""
+        for thread in self.threads:
+            thread.end()
+            thread.join()
+        self.loop.take_calls()
+
+    def kept(self, it: Recorded, moment: Optional[float]) -> None:
+        """A recording is on its disk up to a moment; or its facts couldn't be written. Called by its keeper."""
+        self.loop.call_soon(lambda: self.tell(it, moment))
+
+    def tell(self, it: Recorded, moment: Optional[float]) -> None:
+        """Tells the same."""
+        if moment is not None:
+            self.synced(it, moment)
+        elif not it.is_told and not it.recording.has_failed:
+            it.is_told = True
+            self.say(f"live: {facts_path(it.about.out)} can't be written")

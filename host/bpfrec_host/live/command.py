@@ -1,0 +1,83 @@
+"""The command line of bpfrec-live: what would be lost or would not work is refused before anything is begun."""
+
+from __future__ import annotations
+
+import os
+import shutil
+from typing import Optional
+
+from bpfrec_host import program
+from bpfrec_host.ending import tell
+from bpfrec_host.live.arguments import Arguments, parser, read
+from bpfrec_host.live.folder import Folder, judge_settings, made_settings, read_settings
+from bpfrec_host.live.loop import Signals
+from bpfrec_host.live.names import Files, Names, Refusal, is_special, refuse_folder
+from bpfrec_host.live.observer import Observer
+from bpfrec_host.live.run import Programs, Run
+
+__all__ = ["parser", "run"]
+
+
+def run(words: list[str], observer: Optional[Observer] = None) -> int:
+    """Records: the status."""
+    # A signal may come before there is anything to end.
+    signals = Signals()
+    try:
+        given = read(words)
+        programs = find_programs(given)
+        look_ahead(given)
+        text, settings = read_settings(given.settings) if given.settings else made_settings(given.ways)
+        judge_settings(settings, given)
+        folder = Folder(text, settings, given)
+    except Refusal as refusal:
+        tell(refusal.line)
+        return refusal.status
+    if signals.come():
+        folder.remove_all()
+        tell("live: it was ended before anything was begun")
+        return 3
+    return Run(given, programs, folder, signals, observer).run()
+
+
+def find_programs(given: Arguments) -> Programs:
+    """The programs that are run, where they can be."""
+    try:
+        bpfrec = program.find()
+    except program.Missing as why:
+        raise Refusal(3, f"live: {why}") from None
+    capture = program.capture_path()
+    if given.ways and not shutil.which(capture):
+        made = "make build makes it where libpcap's headers are (apt-get install libpcap-dev)"
+        raise Refusal(3, f"live: {capture} is missing: {made}")
+    return Programs(bpfrec, capture)
+
+
+def look_ahead(given: Arguments) -> None:
+    """Refuses what can't be read, and an OUT that would be lost or can't be created."""
+    if given.settings is not None:
+        if not os.access(given.settings, os.R_OK) or os.path.isdir(given.settings):
+            raise Refusal(3, f"file {given.settings}")
+        if os.path.exists(given.out) and os.path.samefile(given.out, given.settings):
+            raise Refusal(3, f"file {given.out}")
+    refuse_together(given)
+    if not given.is_rotating():
+        Files(given.mode, given.is_forced).refuse_overwriting(given.out)
+        if not is_special(given.out):
+            refuse_folder(given.out)
+        return
+    if not given.ways:
+        raise Refusal(2, "live: --every and --size want an interface")
+    if os.path.exists(given.out) and not os.path.isfile(given.out):
+        raise Refusal(2, f"live: --every and --size make files, and {given.out} is none")
+    refuse_folder(Names(given.out).next()[1])
+
+
+def refuse_together(given: Arguments) -> None:
+    """Refuses options that don't go together."""
+    is_ring = given.keep is not None or given.keep_free is not None
+    if is_ring and not given.is_rotating():
+        raise Refusal(2, "live: --keep and --keep-free need --every or --size")
+    if is_ring and not given.is_audited:
+        raise Refusal(2, "live: --keep and --keep-free remove what was audited, and --no-audit audits nothing")
+    if given.flush is not None and not given.ways:
+        raise Refusal(2, "live: --flush needs an interface")

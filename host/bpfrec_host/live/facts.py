@@ -1,0 +1,153 @@
+"""The facts beside a recording, OUT.json, as docs/user/FORMATS.md has them: made, and put in the place of earlier ones."""
+
+from __future__ import annotations
+
+import json
+import os
+import socket
+import subprocess
+from pathlib import Path
+from typing import Any, NamedTuple, Optional
+
+from bpfrec_host.formats.facts import NoFacts, origin_in, utc_of
+from bpfrec_host.formats.limits import MAX_LISTING_LEN
+from bpfrec_host.live.adapters import adapter_of
+from bpfrec_host.live.arguments import Arguments
+from bpfrec_host.live.folder import Folder, listing_in
+from bpfrec_host.live.names import Files, facts_path, remove
+from bpfrec_host.live.synchronisation import synchronisation
+
+Entry = dict[str, Any]
+# Where a run was killed, as shells have it.
+KILLED_STATUS = 137
+
+
+class About(NamedTuple):
+    """A recording: its number, its OUT, the number of its feed, and when it began."""
+
+    number: int
+    out: str
+    feed: int
+    begun: str
+
+
+class Writer:
+    """Makes the facts of recordings of a run, and writes them."""
+
+    def __init__(self, given: Arguments, folder: Folder, bpfrec: str, files: Files) -> None:
+        self.given, self.folder, self.bpfrec, self.files = given, folder, bpfrec, files
+
+    def prepare(self, about: About) -> None:
+        """Leaves what is known of a recording when it begins, for whoever writes its facts where live is killed."""
+        made = self.folder.of(about.number)
+        (made / "about.json").write_text(json.dumps(about), encoding="utf-8")
+
+    def beginning(self, about: About) -> Entry:
+        """What is known of a recording when it begins; it is found once."""
+        kept = self.folder.of(about.number) / "beginning.json"
+        try:
+            found: Entry = json.loads(kept.read_bytes())
+            return found
+        except (OSError, ValueError):
+            pass
+        made = {
+            "facts": 1,
+            "recording": os.path.basename(about.out),
+            "host": socket.gethostname(),
+            "program": self.answer("version").strip(),
+            "begun": about.begun,
+            "clock": self.given.clock(),
+            "prefilter": self.given.is_prefiltered,
+            "origin_utc": None,
+            "adapters": [adapter_of(it.interface, self.given.clock()) for it in self.given.ways],
+            "synchronisation": {"begin": synchronisation(), "end": None},
+            "interfaces": [{"interface": it.interface, "channel": it.channel} for it in self.given.ways],
+            "settings": self.folder.text,
+            "filters": [it for it in (self.filter(*named) for named in self.folder.filters()) if it],
+        }
+        try:
+            kept.write_bytes(encoded(made))
+        except OSError:
+            pass
+        return made
+
+    def filter(self, channel: int, path: str) -> Optional[Entry]:
+        """A channel's filter: its listing, and its text."""
+        listing = listing_in(path, MAX_LISTING_LEN)
+        if listing is None:
+            return None
+        text = self.answer("dis", "-", given=listing)
+        made: Entry = {"channel": channel, "listing": listing.decode(errors="ignore"), "text": text}
+        given = [it.expression for it in self.given.ways if it.channel == channel and it.expression]
+        return {**made, "expression": given[0]} if given else made
+
+    def answer(self, *words: str, given: bytes = b"") -> str:
+        """What the program prints; nothing where it can't be run."""
+        try:
+            # In a session of its own, so that no signal to all ends it.
+            done = subprocess.run(
+                [self.bpfrec, *words], input=given, capture_output=True, check=False, start_new_session=True
+            )
+        except OSError:
+            return ""
+        return done.stdout.decode(errors="ignore")
+
+    def write(self, about: About, noted: Entry, status: Optional[int]) -> None:
+        """Writes the facts by what was noted; the status is None while the recording goes on. An OSError says that
+        they can't be written; then those of before stay."""
+        facts = {**self.beginning(about), **noted, **self.ending(about, status)}
+        facts["origin_utc"] = utc_of_origin(noted["origins"])
+        if status is not None:
+            facts["synchronisation"] = {**facts["synchronisation"], "end": synchronisation()}
+        path = facts_path(about.out)
+        following = f"{path}.new"
+        try:
+            replace(path, following, self.files, encoded(facts))
+        except OSError:
+            remove(following)
+            raise
+
+    def ending(self, about: About, status: Optional[int]) -> Entry:
+        """What is known of a recording's end."""
+        if status is None:
+            return {"state": "recording", "report": None, "audit": None, "status": None}
+        made = self.folder.of(about.number)
+        return {
+            "state": "ended",
+            "report": lines_of(made / "report"),
+            "audit": lines_of(made / "audit"),
+            "status": status,
+        }
+
+
+def utc_of_origin(origins: list[Entry]) -> Optional[str]:
+    """The moment of counter 0 as UTC, by the first origin; None where there is none of a year with four digits."""
+    try:
+        return utc_of(origin_in(origins[0], "origin").moment) if origins else None
+    except NoFacts:
+        return None
+
+
+def replace(path: str, following: str, files: Files, data: bytes) -> None:
+    """Writes a file anew, so that it is whole at any moment, also where power is lost."""
+    remove(following)
+    descriptor = Files(files.mode).create(following)
+    with open(descriptor, "wb") as file:
+        file.write(data)
+        file.flush()
+        os.fdatasync(descriptor)
+    os.replace(following, path)
+
+
+def lines_of(path: Path) -> Optional[list[str]]:
+    """The lines of a file; None where it isn't there."""
+    try:
+        return path.read_bytes().decode(errors="ignore").splitlines()
+    except OSError:
+        return None
+
+
+def encoded(facts: Entry) -> bytes:
+    """Facts as JSON, a line for each key; what a name has beside UTF-8 is left out."""
+    lines = [f" {json.dumps(key)}: {json.dumps(value, ensure_ascii=False)}" for key, value in facts.items()]
+    return ("{\n" + ",\n".join(lines) + "\n}\n").encode(errors="ignore")

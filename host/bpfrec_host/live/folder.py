@@ -1,0 +1,232 @@
+"""The private folder of a run: for each recording the settings with its pipes, and what its recorder prints.
+
+Its files, below `top`:
+
+    settings        SETTINGS, as it was when the run began
+    events          what the capture notes, a line of JSON each
+    now             a link to the folder of the recording that goes on; to `gate` until OUT is there
+    given/          the filters that the arguments give channels
+    filters/        of recordings that follow one another: the filter that each channel has by now
+    <number>/       a recording: <channel>.pipe, settings.toml, answers, report, audit, audit_errors, and what `guard`
+                    needs: about.json
+"""
+
+from __future__ import annotations
+
+import os
+import shutil
+import stat
+import tempfile
+from pathlib import Path
+from typing import Any, Optional
+
+from bpfrec_host.formats.limits import MAX_LISTING_LEN
+from bpfrec_host.formats.settings import NoReader, NoToml, Settings, settings_of
+from bpfrec_host.formats.settings_text import text_of
+from bpfrec_host.live.arguments import Arguments
+from bpfrec_host.live.expressions import listing_of, settings_text
+from bpfrec_host.live.names import Refusal
+from bpfrec_host.live.words import Way
+
+
+def read_settings(path: str) -> tuple[str, Settings]:
+    """The text of SETTINGS and what it says; a Refusal where it can't be read."""
+    try:
+        with open(path, "rb") as file:
+            data = file.read(MAX_LISTING_LEN + 1)
+        if len(data) > MAX_LISTING_LEN:
+            raise Refusal(3, f"file {path}")
+        text = data.decode()
+        return text, settings_of(path, text)
+    except (OSError, UnicodeDecodeError):
+        raise Refusal(3, f"file {path}") from None
+    except NoReader as why:
+        raise Refusal(3, f"live: {why}") from None
+    except NoToml as fault:
+        raise Refusal(2, f"live: {path}: settings 1 Syntax: {fault}") from None
+
+
+def made_settings(ways: list[Way]) -> tuple[str, Settings]:
+    """The settings of a run that was given none."""
+    text = settings_text(ways)
+    return text, settings_of("-", text)
+
+
+def judge_settings(settings: Settings, given: Arguments) -> None:
+    """Refuses settings that lack a channel of an interface, or its filter where the kernel is to run it; and channels
+    without interfaces of recordings that follow one another."""
+    wanted = {it.channel for it in given.ways}
+    for channel in settings.channels:
+        named = channel.table.get("id")
+        if given.is_rotating() and not (isinstance(named, int) and named in wanted):
+            told = "one without a line id" if named is None else named
+            what = "live: --every and --size want an interface for each channel"
+            raise Refusal(2, f"{what}, and {told} of {given.settings} has none")
+    for way in given.ways:
+        tables = [it for it in settings.channels if is_channel(it.table, way.channel)]
+        if not tables:
+            raise Refusal(2, f"live: {given.settings} has no table [[channel]] with a line id = {way.channel}")
+        has_filter = way.expression or given.settings is None or any(it.path("filter") for it in tables)
+        if given.is_prefiltered and not has_filter:
+            what = f'live: --prefilter wants a line filter = ".." of channel {way.channel}'
+            raise Refusal(2, f"{what} in {given.settings}")
+
+
+def is_channel(table: dict[str, Any], channel: int) -> bool:
+    """Whether a table is that of a channel."""
+    named = table.get("id")
+    return isinstance(named, int) and not isinstance(named, bool) and named == channel
+
+
+class Folder:
+    """The private folder of a run."""
+
+    def __init__(self, text: str, settings: Settings, given: Arguments) -> None:
+        self.text, self.settings, self.ways = text, settings, given.ways
+        # The listings that the arguments give channels, in place of those of SETTINGS.
+        listings = {it.channel: listing_of(it) for it in given.ways if it.expression or given.settings is None}
+        holder = os.environ.get("TMPDIR") or "/tmp"
+        try:
+            self.top = Path(tempfile.mkdtemp(prefix="bpfrec.", dir=holder))
+        except OSError as error:
+            raise Refusal(3, f"file {holder}: {error.strerror}") from None
+        (self.top / "settings").write_text(text, encoding="utf-8")
+        (self.top / "filters").mkdir()
+        (self.top / "given").mkdir()
+        for channel, listing in listings.items():
+            self.given_filter(channel).write_text(listing, encoding="utf-8")
+        self.events = self.top / "events"
+        self.events.touch()
+        self.make_pipes("gate")
+        self.point_to("gate")
+        if given.keeps_filters():
+            self.keep_filters()
+
+    # ---- recordings
+
+    def of(self, number: int) -> Path:
+        """The folder of a recording."""
+        return self.top / str(number)
+
+    def make_pipes(self, name: str) -> None:
+        """Makes a folder with a pipe for each interface."""
+        made = self.top / name
+        made.mkdir()
+        for way in self.ways:
+            os.mkfifo(made / f"{way.channel}.pipe")
+
+    def make(self, number: int) -> Path:
+        """Makes the folder of a recording: the pipes, and the settings with them."""
+        self.make_pipes(str(number))
+        made = self.of(number)
+        os.mkfifo(made / "answers")
+        (made / "settings.toml").write_text(text_of(self.document(made)), encoding="utf-8", errors="surrogateescape")
+        return made
+
+    def remove(self, number: int) -> None:
+        """Removes the folder of a recording."""
+        shutil.rmtree(self.of(number), ignore_errors=True)
+
+    def remove_all(self) -> None:
+        """Removes all of it."""
+        shutil.rmtree(self.top, ignore_errors=True)
+
+    def point_to(self, name: str) -> None:
+        """Has the capture find the pipes of this folder."""
+        following = self.top / "next"
+        following.unlink(missing_ok=True)
+        following.symlink_to(name)
+        following.replace(self.top / "now")
+
+    def pipes(self, number: int) -> list[Path]:
+        """The pipes of a recording."""
+        return [self.of(number) / f"{way.channel}.pipe" for way in self.ways]
+
+    def sources(self) -> list[str]:
+        """The capture's arguments: each interface with its pipe."""
+        return [f"{way.interface}={self.top}/now/{way.channel}.pipe" for way in self.ways]
+
+    # ---- settings
+
+    def document(self, made: Path) -> dict[str, Any]:
+        """The settings of a recording: pipes in place of the feeds of channels with interfaces, and the filters that
+        are kept in place of those of SETTINGS."""
+        document = dict(self.settings.document)
+        tables = document.get("channel")
+        if isinstance(tables, list):
+            document["channel"] = [self.table(it, made) if isinstance(it, dict) else it for it in tables]
+        return document
+
+    def table(self, table: dict[str, Any], made: Path) -> dict[str, Any]:
+        """The same of a channel's table."""
+        named = table.get("id")
+        if not isinstance(named, int):
+            return table
+        path = self.filter_of(named, table.get("filter"))
+        changed = table if path is None else {**table, "filter": path}
+        return {**changed, "feed": f"{made}/{named}.pipe"} if any(it.channel == named for it in self.ways) else changed
+
+    # ---- filters
+
+    def kept_filter(self, channel: int) -> Path:
+        """Where a channel's filter is kept."""
+        return self.top / "filters" / str(channel)
+
+    def given_filter(self, channel: int) -> Path:
+        """Where the filter is that the arguments give a channel."""
+        return self.top / "given" / str(channel)
+
+    def filter_of(self, channel: int, path: Any) -> Any:
+        """The file of a channel's filter, for which SETTINGS have this path: one that is kept, or given, or that."""
+        for it in (self.kept_filter(channel), self.given_filter(channel)):
+            if it.exists():
+                return str(it)
+        return path
+
+    def keep_filters(self) -> None:
+        """Keeps the filters as they are at the beginning, for all recordings."""
+        for channel, path in self.filters():
+            copy_listing(path, self.kept_filter(channel))
+
+    def filters(self) -> list[tuple[int, str]]:
+        """The file of each channel's filter, as it is by now."""
+        found = []
+        for channel in self.settings.channels:
+            named = channel.table.get("id")
+            path = self.filter_of(named, channel.path("filter")) if isinstance(named, int) else None
+            if isinstance(named, int) and path:
+                found.append((named, path))
+        return found
+
+    def prefilters(self) -> list[str]:
+        """The capture's arguments that give the kernel the filters."""
+        found: list[str] = []
+        for way in self.ways:
+            given = self.given_filter(way.channel)
+            tables = [it for it in self.settings.channels if is_channel(it.table, way.channel)]
+            paths = [str(given)] if given.exists() else [it.path("filter") or "" for it in tables]
+            found += ["--prefilter", f"{way.interface}={next(it for it in paths if it)}"]
+        return found
+
+
+def copy_listing(path: str, copy: Path) -> bool:
+    """Copies a listing that is a regular file, and a byte more than one may have: whether it is one."""
+    data = listing_in(path, MAX_LISTING_LEN + 1)
+    if data is None:
+        return False
+    try:
+        copy.write_bytes(data)
+    except OSError:
+        copy.unlink(missing_ok=True)
+        return False
+    return True
+
+
+def listing_in(path: str, most: int) -> Optional[bytes]:
+    """The first bytes of a regular file; None where it is none, or can't be read."""
+    try:
+        descriptor = os.open(path, os.O_RDONLY | os.O_NONBLOCK | os.O_CLOEXEC)
+        with open(descriptor, "rb") as file:
+            return file.read(most) if stat.S_ISREG(os.fstat(descriptor).st_mode) else None
+    except (OSError, ValueError):
+        return None

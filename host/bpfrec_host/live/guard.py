@@ -1,0 +1,118 @@
+"""A process that waits for live's end: where live was killed, what it left ends whole, and nothing of it stays."""
+
+from __future__ import annotations
+
+import json
+import os
+import select
+import shutil
+import signal
+from pathlib import Path
+from typing import Optional
+
+from bpfrec_host.live.children import ENDING, opened, status_of
+from bpfrec_host.live.events import Events
+from bpfrec_host.live.facts import KILLED_STATUS, About, Writer
+from bpfrec_host.live.names import facts_path
+
+# How often the pipes are opened for which a recorder may wait, in seconds.
+PAUSE = 0.05
+
+
+class Guard:
+    """The guard, as live has it. Live ends it by `dismiss`; else it acts once live has died.
+
+    Two pipes tell it of ends: one that live alone has open, and one that each program that live starts has open too.
+    """
+
+    def __init__(self, writer: Writer) -> None:
+        own_reader, self.own = os.pipe()
+        all_reader, self.all = os.pipe()
+        self.pid = os.fork()
+        if self.pid == 0:
+            os.close(self.own)
+            os.close(self.all)
+            try:
+                watch(writer, own_reader, all_reader)
+            finally:
+                os._exit(0)
+        os.close(own_reader)
+        os.close(all_reader)
+        self.descriptor = opened(self.pid)
+        self.code: Optional[int] = None
+
+    def status(self) -> Optional[int]:
+        """Its status; None while it runs."""
+        if self.code is None:
+            found, code = os.waitpid(self.pid, os.WNOHANG)
+            self.code = status_of(os.waitstatus_to_exitcode(code)) if found else None
+        return self.code
+
+    def close(self) -> None:
+        """Closes the descriptor by which its end is told."""
+        if self.descriptor is not None:
+            os.close(self.descriptor)
+            self.descriptor = None
+
+    def dismiss(self) -> None:
+        """Ends the guard, since live has ended all itself."""
+        try:
+            os.write(self.own, b"x")
+        except OSError:
+            # It was killed.
+            pass
+        if self.code is None:
+            os.waitpid(self.pid, 0)
+
+
+def watch(writer: Writer, own: int, everybody: int) -> None:
+    """Waits for live's end, in the process of the guard."""
+    os.setpgid(0, 0)
+    for it in (*ENDING, signal.SIGTTOU):
+        signal.signal(it, signal.SIG_IGN)
+    null = os.open(os.devnull, os.O_RDWR)
+    for stream in range(3):
+        os.dup2(null, stream)
+    if os.read(own, 1):
+        return
+    end_rest(writer.folder.top, everybody)
+    for made in sorted(it for it in writer.folder.top.iterdir() if (it / "about.json").exists()):
+        write_facts(writer, made)
+    shutil.rmtree(writer.folder.top, ignore_errors=True)
+
+
+def end_rest(top: Path, everybody: int) -> None:
+    """Waits until all programs that live started have ended. The capture ends as by TERM, and the recorders with their
+    pipes; one that still opens its pipes is let go."""
+    while not select.select([everybody], [], [], PAUSE)[0]:
+        for pipe in top.glob("[0-9]*/*.pipe"):
+            open_and_close(pipe)
+
+
+def open_and_close(pipe: Path) -> None:
+    """Opens a pipe to write and closes it, which lets go whoever waits for its writer."""
+    try:
+        os.close(os.open(pipe, os.O_RDWR | os.O_NONBLOCK | os.O_CLOEXEC))
+    except OSError:
+        pass
+
+
+def write_facts(writer: Writer, made: Path) -> None:
+    """Writes the last facts of a recording of which nobody else will."""
+    events = Events(writer.folder.events)
+    events.read()
+    try:
+        about = About(*json.loads((made / "about.json").read_bytes()))
+        if events.origins and os.path.isfile(about.out) and not has_ended(about.out):
+            writer.write(about, events.facts(about.feed), KILLED_STATUS)
+    except (OSError, ValueError, TypeError):
+        pass
+
+
+def has_ended(out: str) -> bool:
+    """Whether the facts beside a recording have its end."""
+    try:
+        with open(facts_path(out), "rb") as file:
+            return bool(json.load(file)["state"] == "ended")
+    except (OSError, ValueError, TypeError, KeyError):
+        return False

@@ -1,0 +1,122 @@
+"""The thread that forces a recording to its disk and writes the facts beside it, for which nobody waits."""
+
+from __future__ import annotations
+
+import os
+import threading
+import time
+from typing import Callable, Optional
+
+# Facts that change are written so often at most, in seconds; the last ones at once.
+FACTS_PAUSE = 1.0
+# What a thread tells: the moment up to which a recording is on its disk, or None where facts couldn't be written.
+Told = Callable[[Optional[float]], None]
+
+
+class Keeper(threading.Thread):
+    """Forces one file to its disk every so many seconds, and its folder once; and writes facts that it is given."""
+
+    def __init__(self, descriptor: int, folder: str, pause: int, told: Told) -> None:
+        super().__init__(daemon=True, name="keeper")
+        self.descriptor, self.folder, self.pause, self.told = os.dup(descriptor), folder, pause, told
+        self.changed = threading.Condition()
+        self.facts: Optional[Callable[[], None]] = None
+        self.is_ending = self.is_released = False
+        self.next_sync = self.next_write = time.monotonic()
+
+    def write(self, facts: Callable[[], None]) -> None:
+        """Has facts written soon, in place of those that wait."""
+        with self.changed:
+            self.facts = facts
+            self.changed.notify()
+
+    def release(self) -> None:
+        """Closes the file, which is forced to its disk no more: its room is free where it is removed."""
+        with self.changed:
+            self.is_released = True
+            self.changed.notify()
+
+    def end(self) -> None:
+        """Ends the thread once it has written the facts that it has."""
+        with self.changed:
+            self.is_ending = True
+            self.changed.notify()
+
+    def run(self) -> None:
+        """Does what is due until it is ended."""
+        if self.pause:
+            force_folder(self.folder)
+        while True:
+            with self.changed:
+                while not self.is_due():
+                    self.changed.wait(self.seconds_left())
+                facts = self.facts if self.is_ending or self.facts_are_due() else None
+                self.facts = None if facts else self.facts
+                is_ending = self.is_ending
+            if facts:
+                self.try_to_write(facts)
+            if is_ending or self.is_released:
+                self.close()
+            if is_ending and not facts:
+                return
+            self.sync()
+
+    def facts_are_due(self) -> bool:
+        """Whether facts are to be written now."""
+        return self.facts is not None and time.monotonic() >= self.next_write
+
+    def is_due(self) -> bool:
+        """Whether there is something to do now."""
+        is_let_go = self.is_ending or (self.is_released and self.descriptor >= 0)
+        is_sync_due = self.forces() and time.monotonic() >= self.next_sync
+        return is_let_go or is_sync_due or self.facts_are_due()
+
+    def seconds_left(self) -> Optional[float]:
+        """How long until something is due; None where nothing is."""
+        moments = [self.next_sync] * self.forces() + [self.next_write] * (self.facts is not None)
+        return max(0.0, min(moments) - time.monotonic()) if moments else None
+
+    def forces(self) -> bool:
+        """Whether the file is forced to its disk, now and then."""
+        return self.pause > 0 and self.descriptor >= 0
+
+    def try_to_write(self, facts: Callable[[], None]) -> None:
+        """Writes facts, and tells where that can't be done."""
+        self.next_write = time.monotonic() + FACTS_PAUSE
+        try:
+            facts()
+        except OSError:
+            self.told(None)
+
+    def sync(self) -> None:
+        """Forces the file to its disk, where it is due."""
+        begun = time.monotonic()
+        if not self.forces() or begun < self.next_sync:
+            return
+        self.next_sync = begun + self.pause
+        try:
+            os.fdatasync(self.descriptor)
+        except OSError:
+            # The recorder tells of a disk that fails.
+            return
+        self.told(begun)
+
+    def close(self) -> None:
+        """Closes the file."""
+        if self.descriptor >= 0:
+            os.close(self.descriptor)
+            self.descriptor = -1
+
+
+def force_folder(path: str) -> None:
+    """Forces a folder to its disk, so that a new file's name is there."""
+    try:
+        descriptor = os.open(path or ".", os.O_RDONLY | os.O_DIRECTORY | os.O_CLOEXEC)
+    except OSError:
+        return
+    try:
+        os.fsync(descriptor)
+    except OSError:
+        pass
+    finally:
+        os.close(descriptor)

@@ -1,0 +1,45 @@
+"""Recordings and runs, as the machine has them."""
+
+from __future__ import annotations
+
+from enum import Enum
+from typing import NamedTuple, Optional
+
+
+class Phase(Enum):
+    """Where a recording is in its life."""
+
+    OPENING = "opening"
+    GOING = "going"
+    HANDING_OVER = "handing over"
+    ENDING = "ending"
+    AUDITED = "audited"
+
+
+class Plan(NamedTuple):
+    """What a run is to do: whether it has interfaces, after how many seconds and bytes a recording is followed by
+    another one, whether recordings are audited, and whether lost frames make a status."""
+
+    has_interfaces: bool
+    every: Optional[int] = None
+    size: Optional[int] = None
+    audits: bool = True
+    is_strict: bool = False
+
+    def is_rotating(self) -> bool:
+        """Whether recordings follow one another."""
+        return self.every is not None or self.size is not None
+
+
+class Recording:
+    """One recording: what it is called, where it is in its life, whether its output failed, and its recorder's
+    status once that has ended."""
+
+    def __init__(self, number: int, out: str) -> None:
+        self.number, self.out, self.phase = number, out, Phase.OPENING
+        self.has_failed = False
+        self.status: Optional[int] = None
+
+    def has_ended(self) -> bool:
+        """Whether its recorder has ended."""
+        return self.status is not None

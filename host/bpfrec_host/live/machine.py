@@ -1,0 +1,308 @@
+"""The life of recordings, as pure code: what happens comes in as calls, and what is to be done goes out to `Hands`.
+
+A recording is opening until its recorder has opened OUT, and with it all its pipes; then it is going. Where another one
+follows, it is handing over until its recorder has ended. Ending are those whose recorder has ended or has nothing more
+to come, and audited those of which all is told. Times are seconds of a clock that nobody sets.
+"""
+
+from __future__ import annotations
+
+import signal
+from typing import Optional
+
+from bpfrec_host.live.hands import Hands
+from bpfrec_host.live.life import Phase, Plan, Recording
+
+# The statuses of capture by which it says that nothing was begun.
+NOT_BEGUN = (2, 3)
+OUTPUT_FAULT, FILE_FAULT, LOST = 1, 3, 5
+KILLED = 128
+# How long a capture that was told to end has until it is told once more, which hurries it; a recorder whose output
+# failed, and what feeds it has ended, until it is killed; and how often one that still opens its pipes is let go.
+HURRY_AFTER, GIVE_UP_AFTER, LET_GO_PAUSE = 1.1, 2.0, 0.05
+# After a full disk: how long until there may be a next recording, which doubles with each failure in a row up to so
+# many, and how often the room is looked at.
+RETRY_AFTER, MOST_DOUBLINGS, ROOM_PAUSE = 0.5, 7, 1.0
+
+
+class Machine:
+    """The recordings of a run, of which one takes the frames and one more may be ending."""
+
+    def __init__(self, plan: Plan, hands: Hands, first: Recording, names: tuple[str, str]) -> None:
+        self.plan, self.hands, self.now = plan, hands, first
+        self.capture_name, self.recorder_name = names
+        self.old: Optional[Recording] = None
+        self.is_ending = self.is_concluding = self.is_refused = False
+        self.is_ready = not plan.has_interfaces
+        # The capture's status, and the first of the recorders' and of the audits' that isn't 0.
+        self.captured: Optional[int] = None if plan.has_interfaces else 0
+        self.recorded = self.audited_by = 0
+        self.begun, self.unanswered, self.failures, self.next_try = 0.0, 0, 0, 0.0
+        self.hurry_at: Optional[float] = None
+        self.give_up_at: Optional[float] = None
+
+    # ---- what happens
+
+    def begin(self, time: float) -> None:
+        """Starts all."""
+        self.begun = time
+        if not self.plan.has_interfaces and not self.open_output():
+            self.now.status = FILE_FAULT
+            return
+        self.hands.start_recorder(self.now)
+        if self.plan.has_interfaces:
+            self.hands.start_capture()
+
+    def capture_ready(self) -> None:
+        """The capture has opened all interfaces, and waits for the recorder's pipes."""
+        if self.is_ready or self.is_refused:
+            return
+        self.is_ready = True
+        if self.now.has_ended() or self.open_output():
+            self.hands.point_to(self.now)
+
+    def opened(self, recording: Recording) -> None:
+        """A recorder has opened OUT, and all its pipes before."""
+        if recording.phase is Phase.OPENING:
+            recording.phase = Phase.GOING if not recording.has_ended() else Phase.ENDING
+
+    def told_to_end(self, time: float) -> None:
+        """A signal came that ends the run, the first or a later one."""
+        self.is_ending = True
+        if not self.plan.has_interfaces and self.is_open(self.now):
+            # It waits for a feed of its own, and has recorded nothing.
+            self.recorded = self.recorded or FILE_FAULT
+            self.refuse()
+            return
+        self.end_feeding(time)
+
+    def output_failed(self, recording: Recording, time: float) -> None:
+        """A recorder says that OUT can't be written any more."""
+        if recording.has_failed or self.is_ending or recording is not self.now:
+            return
+        recording.has_failed = True
+        what = f"live: {recording.out} can't be written any more"
+        if not self.plan.is_rotating():
+            self.hands.say(f"{what}: the recording ends")
+            self.is_ending = True
+            self.end_feeding(time)
+            self.give_up_at = None if self.plan.has_interfaces else time + GIVE_UP_AFTER
+            return
+        self.hands.say(f"{what}: the next recording begins once there is room")
+        self.hands.signal_capture(signal.SIGUSR2)
+        self.hands.end_lines(recording)
+        self.hands.kill_recorder(recording)
+        self.hands.forget_output(recording)
+        self.unanswered = 0
+        self.failures += 1
+        self.next_try = time + RETRY_AFTER * 2 ** min(self.failures, MOST_DOUBLINGS)
+
+    def recorder_ended(self, recording: Recording, status: int, time: float) -> None:
+        """A recorder has ended."""
+        recording.status = OUTPUT_FAULT if recording.has_failed else status
+        if status > KILLED and not recording.has_failed and not self.is_refused:
+            self.hands.say(recorder_was_killed(self.recorder_name, recording.out, status - KILLED))
+        if recording is self.old:
+            self.tell(recording)
+            return
+        if recording.has_failed and self.plan.is_rotating() and not self.is_ending and self.captured is None:
+            return
+        recording.phase = Phase.ENDING
+        self.end_feeding(time)
+        self.settle()
+
+    def capture_ended(self, status: int, time: float) -> None:
+        """The capture has ended, as it was told to or not."""
+        self.captured = status
+        self.hurry_at = None
+        if status > KILLED and not self.is_refused:
+            self.hands.say(
+                f"live: {self.capture_name} was ended by signal {status - KILLED}, and its interfaces with it"
+            )
+        if status in NOT_BEGUN and not self.is_ready:
+            self.refuse()
+            return
+        if not self.is_ready:
+            self.capture_ready()
+        self.hands.end_lines(self.now)
+        if not self.now.has_ended():
+            self.give_up_at = time + GIVE_UP_AFTER if self.now.has_failed else None
+            if self.now.phase is Phase.OPENING:
+                self.hands.let_go(self.now)
+            else:
+                self.now.phase = Phase.ENDING
+        self.settle()
+
+    def audited(self, recording: Recording, status: int) -> None:
+        """An audit has ended."""
+        self.audited_by = self.audited_by or status
+        self.end(recording, status)
+
+    # ---- time
+
+    def deadline(self, time: float) -> Optional[float]:
+        """When `tick` has something to do next; None where nothing is to come."""
+        moments = [self.hurry_at, self.give_up_at]
+        if self.is_letting_go():
+            moments.append(time + LET_GO_PAUSE)
+        if self.is_waiting_for_room():
+            moments.append(self.next_try)
+        if self.plan.every is not None and self.may_hand_over():
+            moments.append(self.begun + self.plan.every)
+        return min((it for it in moments if it is not None), default=None)
+
+    def tick(self, time: float) -> None:
+        """Does what is due."""
+        if self.hurry_at is not None and time >= self.hurry_at:
+            self.end_feeding(time)
+        if self.give_up_at is not None and time >= self.give_up_at:
+            self.give_up_at = None
+            self.hands.kill_recorder(self.now)
+        if self.is_letting_go():
+            self.hands.let_go(self.now)
+        if self.is_waiting_for_room():
+            if time >= self.next_try:
+                self.next_try = time + ROOM_PAUSE
+                if self.hands.has_room(self.now):
+                    self.hand_over(time)
+        elif self.is_due(time):
+            self.failures = 0
+            self.hand_over(time)
+
+    def is_letting_go(self) -> bool:
+        """Whether a recorder waits for pipes that nobody will open any more."""
+        return self.captured is not None and self.plan.has_interfaces and self.is_open(self.now)
+
+    def is_open(self, recording: Recording) -> bool:
+        """Whether a recorder runs that hasn't opened OUT."""
+        return recording.phase is Phase.OPENING and not recording.has_ended() and not self.is_refused
+
+    def is_waiting_for_room(self) -> bool:
+        """Whether the output failed, and the next recording begins once there is room."""
+        return (
+            self.plan.is_rotating()
+            and self.now.has_failed
+            and not self.is_ending
+            and self.captured is None
+            and self.old is None
+        )
+
+    def may_hand_over(self) -> bool:
+        """Whether another recording may follow: this one is going, so its recorder has opened each of its pipes and
+        the capture too, the one before is done, and each line is answered."""
+        return (
+            self.now.phase is Phase.GOING
+            and not self.now.has_failed
+            and not self.is_ending
+            and self.captured is None
+            and self.old is None
+            and self.unanswered == 0
+        )
+
+    def is_due(self, time: float) -> bool:
+        """Whether another recording is to follow now."""
+        if not self.plan.is_rotating() or not self.may_hand_over():
+            return False
+        if self.plan.every is not None and time >= self.begun + self.plan.every:
+            return True
+        return self.plan.size is not None and self.hands.size(self.now) >= self.plan.size
+
+    # ---- what is done
+
+    def open_output(self) -> bool:
+        """Creates OUT: whether it is there now."""
+        if self.hands.create(self.now):
+            return True
+        self.recorded = self.recorded or FILE_FAULT
+        self.is_refused = True
+        self.is_ending = True
+        if self.captured is None:
+            self.hands.signal_capture(signal.SIGKILL)
+        self.hands.kill_recorder(self.now)
+        return False
+
+    def end_feeding(self, time: float) -> None:
+        """Ends what brings frames: the capture, or without interfaces the lines that change filters."""
+        if self.captured is None:
+            self.hands.signal_capture(signal.SIGTERM)
+            # A recorder that has ended reads no pipe, which the capture may wait for.
+            self.hurry_at = time + HURRY_AFTER if self.now.has_ended() else None
+        elif not self.plan.has_interfaces:
+            self.hands.end_lines(self.now)
+
+    def hand_over(self, time: float) -> None:
+        """Begins the next recording, to which the capture goes over; where it can't be begun this one goes on."""
+        self.begun = time
+        following = self.hands.next_recording()
+        if following is None:
+            return
+        self.old, self.now = self.now, following
+        self.old.phase = Phase.HANDING_OVER
+        self.hands.end_lines(self.old)
+        self.hands.start_recorder(following)
+        self.hands.point_to(following)
+        self.hands.signal_capture(signal.SIGUSR1)
+        if self.old.has_ended():
+            self.tell(self.old)
+
+    def refuse(self) -> None:
+        """Ends a run of which nothing was begun: the recorder waits for its pipes still, and has created nothing."""
+        self.is_refused = True
+        self.hands.kill_recorder(self.now)
+
+    def settle(self) -> None:
+        """Tells of the last recording, once the recorder and the capture have ended."""
+        has_all_ended = self.captured is not None and self.now.has_ended() and self.old is None
+        if not has_all_ended or self.is_concluding or self.is_refused:
+            return
+        self.is_concluding = True
+        self.tell(self.now)
+
+    def tell(self, recording: Recording) -> None:
+        """Tells what a recorder printed, and has the recording audited."""
+        status = recording.status or 0
+        recording.phase = Phase.ENDING
+        self.recorded = self.recorded or status
+        if status != 0 and self.hands.is_empty(recording):
+            self.hands.discard(recording)
+            self.end(recording, status)
+            return
+        if not self.hands.tell_report(recording):
+            self.recorded = self.recorded or FILE_FAULT
+            status = status or FILE_FAULT
+        if status != 0 or not self.plan.audits or not self.hands.audit(recording):
+            self.end(recording, status)
+
+    def end(self, recording: Recording, status: int) -> None:
+        """All is told of a recording."""
+        recording.phase = Phase.AUDITED
+        self.hands.conclude(recording, status)
+        if recording is self.old:
+            self.old = None
+            self.settle()
+
+    # ---- the end
+
+    def is_done(self) -> bool:
+        """Whether all has ended."""
+        if self.is_refused:
+            return self.captured is not None and self.now.has_ended()
+        return self.old is None and self.now.phase is Phase.AUDITED
+
+    def status(self, has_lost: bool) -> int:
+        """The status of the run; `has_lost` says whether frames were lost."""
+        if self.is_refused and self.captured in NOT_BEGUN:
+            return self.captured or 0
+        if self.recorded or self.audited_by:
+            return self.recorded or self.audited_by
+        if self.captured:
+            return 1
+        return LOST if has_lost and self.plan.is_strict else 0
+
+
+def recorder_was_killed(name: str, out: str, number: int) -> str:
+    """What is said of a recorder that a signal ended."""
+    return (
+        f"live: {name} record was ended by signal {number}: {out} has the packets that were written until then, "
+        "which salvage copies"
+    )

@@ -1,0 +1,115 @@
+"""What recordings are called, and how their files are created: never through a link, and never in another's place."""
+
+from __future__ import annotations
+
+import os
+import stat
+from typing import NamedTuple, Optional
+
+# Who may read a recording and its facts, but for what umask takes away.
+USUAL_MODE = 0o640
+
+
+class Refusal(Exception):
+    """Why nothing is begun, and the status for it."""
+
+    def __init__(self, status: int, line: str) -> None:
+        super().__init__(line)
+        self.status, self.line = status, line
+
+
+def facts_path(out: str) -> str:
+    """The file of the facts beside a recording."""
+    return f"{out}.json"
+
+
+def remove(path: str) -> None:
+    """Removes a file that may be there."""
+    try:
+        os.unlink(path)
+    except OSError:
+        pass
+
+
+def is_special(path: str) -> bool:
+    """Whether a path is a pipe or a device, which is opened by its name."""
+    try:
+        mode = os.stat(path).st_mode
+    except OSError:
+        return False
+    return not stat.S_ISREG(mode) and not stat.S_ISDIR(mode)
+
+
+class Files(NamedTuple):
+    """How files are created: the mode that they are given, or the usual one, less what umask takes away; and whether
+    what is there is overwritten."""
+
+    mode: Optional[int] = None
+    is_forced: bool = False
+
+    def create(self, path: str) -> int:
+        """Creates a file, or with --force opens a regular one that is there, without emptying it: a descriptor."""
+        flags = os.O_RDWR | os.O_NOFOLLOW | os.O_CLOEXEC | os.O_NOCTTY | os.O_NONBLOCK
+        if self.is_forced:
+            try:
+                return checked(os.open(path, flags), path)
+            except FileNotFoundError:
+                pass
+        descriptor = os.open(path, flags | os.O_CREAT | os.O_EXCL, USUAL_MODE)
+        if self.mode is not None:
+            os.fchmod(descriptor, self.mode)
+        return descriptor
+
+    def refuse_overwriting(self, out: str) -> None:
+        """Refuses an OUT that is there, which is another flight's, and so are the facts beside it."""
+        if is_special(out):
+            return
+        for path in (out, facts_path(out)):
+            if os.path.lexists(path) and (not self.is_forced or os.path.islink(path)):
+                raise Refusal(3, f"live: {path} is there: {advice(path, self.is_forced)}")
+        if os.path.isdir(out):
+            raise Refusal(3, f"file {out}")
+
+
+def advice(path: str, is_forced: bool) -> str:
+    """What to do about a file that is there."""
+    return "it is a link, which is not followed" if is_forced else "give it another name, or --force"
+
+
+def checked(descriptor: int, path: str) -> int:
+    """A descriptor of a regular file."""
+    if not stat.S_ISREG(os.fstat(descriptor).st_mode):
+        os.close(descriptor)
+        raise OSError(0, "it is no regular file", path)
+    return descriptor
+
+
+def refuse_folder(out: str) -> None:
+    """Refuses an OUT in a folder that isn't there, or in which nothing can be created."""
+    folder = os.path.dirname(out) or "."
+    if not os.path.isdir(folder) or not os.access(folder, os.W_OK | os.X_OK):
+        raise Refusal(3, f"file {out}")
+
+
+class Names:
+    """The names of recordings that follow one another: flight_00001.ch11 and so on for flight.ch11."""
+
+    def __init__(self, out: str) -> None:
+        folder, file = os.path.split(out)
+        stem, dot, ending = file.rpartition(".")
+        if not stem:
+            stem, dot, ending = file, "", ""
+        self.stem, self.ending = os.path.join(folder, stem), f"{dot}{ending}"
+        self.number = 0
+
+    def next(self) -> tuple[int, str]:
+        """The next number whose name nothing has, nor the facts of a recording, and that name."""
+        while True:
+            self.number += 1
+            out = f"{self.stem}_{self.number:05}{self.ending}"
+            if not os.path.lexists(out) and not os.path.lexists(facts_path(out)):
+                return self.number, out
+
+    def give_back(self, number: int) -> None:
+        """Has a name be tried again."""
+        self.number = min(self.number, number - 1)

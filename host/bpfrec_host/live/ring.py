@@ -1,0 +1,93 @@
+"""A ring of recordings: of those that followed one another the oldest are removed, where newer ones or the disk need
+their room. None is removed whose audit didn't say yes."""
+
+from __future__ import annotations
+
+import os
+import stat
+import threading
+from typing import Callable, NamedTuple, Optional
+
+from bpfrec_host.live.names import facts_path, remove
+from bpfrec_host.live.recorder import Recorded
+
+# How often the room on the disk is looked at, in seconds.
+PAUSE = 1.0
+
+
+class Kept(NamedTuple):
+    """A recording that is whole and approved: its name, and which file that was."""
+
+    out: str
+    device: int
+    number: int
+
+    def is_there(self) -> bool:
+        """Whether the name is still that file's."""
+        try:
+            found = os.lstat(self.out)
+        except OSError:
+            return False
+        return stat.S_ISREG(found.st_mode) and (found.st_dev, found.st_ino) == (self.device, self.number)
+
+
+class Ring:
+    """The recordings of a run that may be removed. `keep` is how many of them stay at most, and `keep_free` how many
+    bytes are to be free on their disk; `free` tells that, and `say` takes a line for each that is removed."""
+
+    def __init__(
+        self, keep: Optional[int], keep_free: Optional[int], free: Callable[[], int], say: Callable[[str], None]
+    ) -> None:
+        self.keep, self.keep_free, self.free, self.say = keep, keep_free, free, say
+        self.kept: list[Kept] = []
+        self.next_look = 0.0
+        self.threads: list[threading.Thread] = []
+
+    def ended(self, it: Recorded, status: int) -> None:
+        """A recording has ended, and its audit too."""
+        lines = it.text("audit").splitlines()
+        if status != 0 or not lines or not lines[-1].startswith("yes") or it.descriptor is None or not it.is_there():
+            return
+        found = os.fstat(it.descriptor)
+        self.kept.append(Kept(it.about.out, found.st_dev, found.st_ino))
+        while self.keep is not None and len(self.kept) > self.keep:
+            self.remove_oldest(f"--keep {self.keep}")
+
+    def deadline(self) -> Optional[float]:
+        """When the disk is looked at next; None where nothing could be removed."""
+        return self.next_look if self.keep_free is not None and self.kept else None
+
+    def tick(self, now: float) -> None:
+        """Removes recordings where the disk has too little room."""
+        if self.keep_free is None or now < self.next_look or self.is_removing():
+            return
+        self.next_look = now + PAUSE
+        if self.kept and self.free() < self.keep_free:
+            self.remove_oldest(f"--keep-free {self.keep_free}")
+
+    def is_removing(self) -> bool:
+        """Whether the room of a recording may still come free."""
+        self.threads = [it for it in self.threads if it.is_alive()]
+        return bool(self.threads)
+
+    def remove_oldest(self, why: str) -> None:
+        """Removes the oldest recording, with its facts; one that has another name by now is left as it is."""
+        oldest = self.kept.pop(0)
+        if not oldest.is_there():
+            return
+        self.say(f"live: {oldest.out} was removed: {why}")
+        # A long file takes a moment, for which nobody waits.
+        thread = threading.Thread(target=removed, args=(oldest.out,))
+        thread.start()
+        self.threads.append(thread)
+
+    def join(self) -> None:
+        """Waits until all are removed."""
+        for thread in self.threads:
+            thread.join()
+
+
+def removed(out: str) -> None:
+    """Removes a recording and its facts."""
+    remove(out)
+    remove(facts_path(out))

@@ -1,0 +1,387 @@
+"""A run of live: what the machine decides is done here, and what happens is told to it."""
+
+from __future__ import annotations
+
+import os
+import signal
+import time
+from typing import NamedTuple, Optional
+
+from bpfrec_host.live import children, outputs, system
+from bpfrec_host.live.arguments import Arguments
+from bpfrec_host.live.beside import Beside
+from bpfrec_host.live.capture import Capture
+from bpfrec_host.live.changes import Change
+from bpfrec_host.live.events import Events
+from bpfrec_host.live.facts import About, Writer
+from bpfrec_host.live.flush import Flush
+from bpfrec_host.live.folder import Folder
+from bpfrec_host.live.guard import Guard, open_and_close
+from bpfrec_host.live.life import Plan, Recording
+from bpfrec_host.live.line_flow import LineFlow
+from bpfrec_host.live.loop import Loop, Signals
+from bpfrec_host.live.machine import FILE_FAULT, Machine
+from bpfrec_host.live.names import Files, Names, is_special
+from bpfrec_host.live.notify import Notifier
+from bpfrec_host.live.observer import Observer
+from bpfrec_host.live.recorder import Recorded
+from bpfrec_host.live.ring import Ring
+from bpfrec_host.live.telling import Telling
+from bpfrec_host.live.watches import Watches
+from bpfrec_host.live.watching import Watching
+
+# After a full disk the next recording begins once there is so much room.
+ROOM = 1 << 20
+
+
+class Programs(NamedTuple):
+    """The programs that live runs, by their paths."""
+
+    bpfrec: str
+    capture: str
+
+
+class Run:
+    """All of a run. It is the machine's hands."""
+
+    def __init__(
+        self, given: Arguments, programs: Programs, folder: Folder, signals: Signals, observer: Optional[Observer]
+    ) -> None:
+        self.given, self.programs, self.folder = given, programs, folder
+        self.files = Files(given.mode, given.is_forced)
+        self.writer = Writer(given, folder, programs.bpfrec, self.files)
+        # Before anything runs that it may have to end.
+        self.guard = Guard(self.writer)
+        self.loop, self.watches, self.events = Loop(signals, self.end_by_signal), Watches(), Events(folder.events)
+        self.telling = Telling(self.loop, self.printing_failed)
+        self.say = self.telling.say
+        self.watching = Watching(observer, folder)
+        self.capture = Capture(programs.capture, given, folder, self.loop)
+        self.line_flow = LineFlow(self.loop, folder, given, self.now)
+        self.flush = Flush(given.flush, folder, self.line_flow.push, self.say) if given.flush is not None else None
+        self.notifier = Notifier()
+        self.ring = Ring(given.keep, given.keep_free, self.room, self.say)
+        self.outputs = outputs.Outputs(self.watches, given.size is not None, self.begin_recording, self.say)
+        self.beside = Beside(self.loop, self.writer, self.events, self.synced, self.say)
+        self.names = Names(given.out)
+        self.recordings: dict[int, Recorded] = {}
+        self.count, self.told_of, self.signals_came = 0, "", 0
+        first = self.prepare(self.names.next()[1] if given.is_rotating() else given.out)
+        plan = Plan(bool(given.ways), given.every, given.size, given.is_audited, given.is_strict)
+        self.machine = Machine(plan, self, first, (programs.capture, programs.bpfrec))
+
+    # ---- the loop
+
+    def run(self) -> int:
+        """Records until all has ended: the status."""
+        if self.watches.descriptor is not None:
+            self.loop.on_read(self.watches.descriptor, self.watches.serve)
+        self.watches.add(str(self.folder.events), system.MODIFIED, self.look_at_events)
+        if self.given.is_prefiltered:
+            # A line would change what the kernel doesn't know.
+            self.line_flow.input.end()
+        self.loop.follow(self.guard, self.end_guard)
+        self.machine.begin(time.monotonic())
+        while not self.machine.is_done():
+            self.turn()
+        status = self.machine.status(self.tell_lost())
+        self.finish()
+        return self.machine.recorded or status
+
+    def turn(self) -> None:
+        """Waits for what comes next, and has the machine do what is due."""
+        self.line_flow.read()
+        self.machine.unanswered = len(self.now().lines.unanswered)
+        now, pause = time.monotonic(), self.watches.pause()
+        moments = [self.machine.deadline(now), self.outputs.look_at, self.watching.deadline()]
+        moments += [self.ring.deadline(), self.notifier.deadline(), self.flush.deadline() if self.flush else None]
+        moments.append(None if pause is None else now + pause)
+        next_moment = min((it for it in moments if it is not None), default=None)
+        self.loop.turn(None if next_moment is None else max(0.0, next_moment - now))
+        if pause is not None:
+            self.watches.look_at_all()
+        now = time.monotonic()
+        self.outputs.tick(now)
+        self.watching.tick(now)
+        self.ring.tick(now)
+        if self.machine.is_ending or self.machine.is_concluding:
+            self.notifier.stopping(now)
+        self.notifier.tick(now)
+        if self.flush:
+            self.flush.tick(now)
+        self.machine.unanswered = len(self.now().lines.unanswered)
+        self.machine.tick(now)
+        self.telling.write_on()
+
+    def finish(self) -> None:
+        """Ends what still runs beside: threads, what wasn't printed, and the guard."""
+        for it in self.recordings.values():
+            if self.machine.is_refused and outputs.is_empty(it):
+                outputs.discard(it)
+            it.close()
+        self.beside.join()
+        self.ring.join()
+        came = self.signals_came
+        self.telling.finish(lambda: self.signals_came > max(came, 1))
+        self.watching.all_ended()
+        self.guard.dismiss()
+        self.folder.remove_all()
+
+    def end_by_signal(self) -> None:
+        """A signal came that ends the run."""
+        self.signals_came += 1
+        if self.recordings:
+            self.outputs.look(self.now())
+        self.machine.told_to_end(time.monotonic())
+
+    def end_guard(self, status: int) -> None:
+        """The guard has ended, which it does by itself only once live has."""
+        self.say(f"live: its guard was ended by signal {status - children.KILLED}: all goes on without it")
+
+    # ---- recordings
+
+    def recorded(self, recording: Recording) -> Recorded:
+        """What live has of a recording."""
+        return self.recordings[recording.number]
+
+    def now(self) -> Recorded:
+        """What live has of the recording that goes on."""
+        return self.recorded(self.machine.now)
+
+    def prepare(self, out: str) -> Recording:
+        """Makes the folder of the next recording."""
+        number = self.count + 1
+        made = self.folder.make(number)
+        begun = time.strftime("%Y-%m-%dT%H:%M:%SZ", time.gmtime(time.time()))
+        about = About(number, out, number - 1, begun)
+        self.writer.prepare(about)
+        recording = Recording(number, out)
+        self.recordings[number] = Recorded(recording, made, about)
+        self.count = number
+        return recording
+
+    def start_recorder(self, recording: Recording) -> None:
+        """Starts the recorder, which waits for its pipes."""
+        it = self.recorded(recording)
+        if it.descriptor is None and not is_special(it.about.out):
+            it.hold_place()
+        child = it.start(self.programs.bpfrec, self.guard.all)
+        self.loop.follow(child, lambda status: self.end_recorder(it, status))
+        self.loop.on_read(it.answers, lambda: self.take_answers(it))
+        if not self.line_flow.is_open():
+            self.line_flow.end(it)
+
+    def begin_recording(self, it: Recorded) -> None:
+        """A recorder has opened OUT."""
+        self.machine.opened(it.recording)
+        self.watching.begun(it)
+        self.notifier.ready(it.about.out)
+        self.beside.begin(it)
+        if self.flush and it.is_created:
+            self.flush.begin(it, time.monotonic())
+
+    def synced(self, it: Recorded, moment: float) -> None:
+        """A recording was forced to its disk."""
+        if it.recording is self.machine.now:
+            self.watching.synced(moment)
+
+    def take_answers(self, it: Recorded) -> None:
+        """Tells the recorder's answers, and sees whether its output failed."""
+        for answer in it.answered():
+            told = self.line_flow.told(it, answer, lambda change, said: self.take_change(it, change, said))
+            if told is not None:
+                self.say(told)
+            if answer.startswith("run 2 Output"):
+                self.machine.output_failed(it.recording, time.monotonic())
+
+    def take_change(self, it: Recorded, change: Change, answer: str) -> None:
+        """The recorder has answered a line."""
+        word, channel, version = answer.split(" ")[:3]
+        if it.recording is not self.machine.now:
+            return
+        if word == "installed":
+            self.watching.changed(int(channel), int(version), change.is_own)
+        elif change.is_own and self.flush:
+            self.flush.answered(change, answer)
+
+    def end_recorder(self, it: Recorded, status: int) -> None:
+        """A recorder has ended."""
+        self.take_answers(it)
+        self.loop.on_read(it.answers, None)
+        self.outputs.look(it)
+        self.line_flow.close(it)
+        self.machine.recorder_ended(it.recording, status, time.monotonic())
+
+    def end_lines(self, recording: Recording) -> None:
+        """Ends the lines that change filters."""
+        if self.flush:
+            self.flush.end(self.recorded(recording))
+        self.line_flow.end(self.recorded(recording))
+
+    def let_go(self, recording: Recording) -> None:
+        """Lets a recorder go on that waits for the writer of a pipe."""
+        for pipe in self.folder.pipes(recording.number):
+            open_and_close(pipe)
+
+    def kill_recorder(self, recording: Recording) -> None:
+        """Kills a recorder."""
+        child = self.recorded(recording).child
+        if child:
+            child.send(signal.SIGKILL)
+
+    # ---- the capture
+
+    def start_capture(self) -> None:
+        """Starts the capture of all interfaces."""
+        if self.watching.is_on():
+            self.capture.read_lines(self.say, self.watching.counted)
+        self.capture.start(self.guard.all, self.end_capture)
+
+    def point_to(self, recording: Recording) -> None:
+        """Has the capture find the pipes of this recording."""
+        self.folder.point_to(str(recording.number))
+
+    def signal_capture(self, number: signal.Signals) -> None:
+        """Sends the capture a signal."""
+        self.capture.send(number)
+
+    def end_capture(self, status: int) -> None:
+        """The capture has ended."""
+        self.look_at_events()
+        self.capture.end()
+        self.machine.capture_ended(status, time.monotonic())
+
+    def look_at_events(self) -> None:
+        """Takes what the capture has noted."""
+        if self.events.read() == 0:
+            return
+        if self.events.origins:
+            self.machine.capture_ready()
+        for it in self.recordings.values():
+            self.beside.write(it)
+
+    # ---- OUT
+
+    def create(self, recording: Recording) -> bool:
+        """Creates OUT, which nobody has: whether it is there now."""
+        it = self.recorded(recording)
+        if not is_special(it.about.out):
+            try:
+                it.take_output(self.files.create(it.about.out))
+            except OSError:
+                self.say(f"file {it.about.out}")
+                return False
+            self.outputs.watch(it)
+        return True
+
+    def next_recording(self) -> Optional[Recording]:
+        """Makes the next recording, with OUT and pipes; None, which is told, where that can't be done."""
+        number, out = self.names.next()
+        try:
+            recording = self.created(out)
+            self.outputs.watch(self.recorded(recording))
+            return recording
+        except OSError:
+            self.names.give_back(number)
+        if self.told_of != out and not self.machine.now.has_failed:
+            self.say(f"live: {out} can't be begun: {self.machine.now.out} goes on")
+        self.told_of = out
+        return None
+
+    def created(self, out: str) -> Recording:
+        """A recording with its OUT. An OSError says that it can't be made, and nothing of it is there."""
+        descriptor = self.files.create(out)
+        try:
+            recording = self.prepare(out)
+        except OSError:
+            os.close(descriptor)
+            os.unlink(out)
+            self.folder.remove(self.count + 1)
+            raise
+        self.recorded(recording).take_output(descriptor)
+        return recording
+
+    def forget_output(self, recording: Recording) -> None:
+        """Closes OUT, which would keep its room on the disk."""
+        it = self.recorded(recording)
+        self.outputs.end(it)
+        it.forget()
+
+    def is_empty(self, recording: Recording) -> bool:
+        """Whether nothing is in an OUT that was created for this recording, or none was."""
+        return outputs.is_empty(self.recorded(recording))
+
+    def discard(self, recording: Recording) -> None:
+        """Removes OUT."""
+        outputs.discard(self.recorded(recording))
+
+    def size(self, recording: Recording) -> int:
+        """How many bytes OUT has."""
+        return self.recorded(recording).size()
+
+    def room(self) -> int:
+        """How many bytes are free on the disk of OUT."""
+        return outputs.room_beside(self.machine.now)
+
+    def has_room(self, recording: Recording) -> bool:
+        """Whether the disk has room for a next recording."""
+        return outputs.room_beside(recording) >= ROOM
+
+    # ---- what is told
+
+    def printing_failed(self) -> None:
+        """Standard output can't be written."""
+        self.machine.recorded = self.machine.recorded or FILE_FAULT
+
+    def tell_report(self, recording: Recording) -> bool:
+        """Tells what the recorder printed: whether that could be done."""
+        it = self.recorded(recording)
+        if self.given.is_rotating():
+            it.report = f"recording {it.about.out}\n{it.text('report')}"
+            return True
+        return self.telling.print(it.text("report"))
+
+    def tell_lost(self) -> bool:
+        """Tells what interfaces lost in all, as the last lines: whether one did."""
+        self.events.read()
+        for line in self.events.lost_in_all:
+            self.say(f"live: {line}")
+        return bool(self.events.lost_in_all)
+
+    # ---- the end of a recording
+
+    def audit(self, recording: Recording) -> bool:
+        """Starts an audit; False where OUT is no file that could be audited."""
+        it = self.recorded(recording)
+        if not it.is_created or it.descriptor is None:
+            return False
+        words, manner = [self.programs.bpfrec, "audit", "-"], children.AUDIT._replace(kept=[self.guard.all])
+        # By standard input, so that the file may have any name, and another one by now.
+        with open(f"/proc/self/fd/{it.descriptor}", "rb") as read, open(it.made / "audit", "wb") as answer:
+            with open(it.made / "audit_errors", "wb") as errors:
+                auditor = children.start(words, (read, answer, errors), manner)
+        self.loop.follow(auditor, lambda status: self.end_audit(it, status))
+        return True
+
+    def end_audit(self, it: Recorded, status: int) -> None:
+        """An audit has ended."""
+        for line in it.text("audit_errors").splitlines():
+            self.say(f"file {it.about.out}" if line == "file -" else line)
+        if status > children.KILLED:
+            number = status - children.KILLED
+            self.say(f"live: {self.programs.bpfrec} audit was ended by signal {number}: {it.about.out} isn't audited")
+        it.report += it.text("audit")
+        self.machine.audited(it.recording, status)
+
+    def conclude(self, recording: Recording, status: int) -> None:
+        """Tells what is known of a recording at its end, and lets go all that it has."""
+        it = self.recorded(recording)
+        if it.report:
+            self.telling.print(it.report)
+        self.outputs.end(it)
+        self.watching.ended(it, status)
+        self.ring.ended(it, status)
+        self.beside.end(it, status)
+        if recording is not self.machine.now:
+            del self.recordings[recording.number]
+            it.close()

@@ -1,0 +1,91 @@
+"""Calls of the kernel that Python has no functions for: what ends a child with its parent, capabilities, and watches of
+files. Where they can't be had, as under a Python without ctypes, live does without them."""
+
+from __future__ import annotations
+
+import os
+import struct
+from typing import Any, Iterator
+
+try:
+    import ctypes
+
+    LIBC: Any = ctypes.CDLL(None, use_errno=True)
+except (ImportError, MemoryError, OSError):
+    LIBC = None
+
+PR_SET_PDEATHSIG, PR_CAP_AMBIENT, PR_CAP_AMBIENT_CLEAR_ALL = 1, 47, 4
+# The version of capset(2) that has two words of each set, and this process.
+CAPABILITIES = struct.pack("Ii", 0x20080522, 0)
+NO_CAPABILITIES = bytes(24)
+# What happens to a watched file, as inotify(7) has it.
+MODIFIED, CHANGED, OPENED, RENAMED = 0x2, 0x4, 0x20, 0x800
+# The watch number, what happened, a cookie, and the length of a name behind them.
+EVENT = struct.Struct("iIII")
+EVENTS_LEN = 1 << 16
+
+
+def end_with_parent(signal_number: int, parent: int) -> None:
+    """Has the kernel send this process a signal when its parent dies; at once where that has died already."""
+    if LIBC:
+        LIBC.prctl(PR_SET_PDEATHSIG, signal_number, 0, 0, 0)
+    if os.getppid() != parent:
+        os.kill(os.getpid(), signal_number)
+
+
+def give_capabilities_up() -> None:
+    """Gives up all capabilities, but as root: nothing needs one any more, nor what is started from now on."""
+    if LIBC and os.geteuid() != 0:
+        LIBC.prctl(PR_CAP_AMBIENT, PR_CAP_AMBIENT_CLEAR_ALL, 0, 0, 0)
+        LIBC.capset(CAPABILITIES, NO_CAPABILITIES)
+
+
+def keep_capabilities_from_children() -> None:
+    """Has the program that is run next get none of the capabilities."""
+    if LIBC and os.geteuid() != 0:
+        LIBC.prctl(PR_CAP_AMBIENT, PR_CAP_AMBIENT_CLEAR_ALL, 0, 0, 0)
+
+
+def adjust(state: bytearray) -> int:
+    """Fills in the kernel's state of the clock: less than 0 where it can't be had."""
+    if not LIBC:
+        return -1
+    return int(LIBC.adjtimex((ctypes.c_char * len(state)).from_buffer(state)))
+
+
+def checked(result: int) -> int:
+    """What a call returned; an OSError where it failed."""
+    if result < 0:
+        number = ctypes.get_errno()
+        raise OSError(number, os.strerror(number))
+    return result
+
+
+def open_watches() -> int:
+    """A descriptor from which events of watched files are read, without waiting."""
+    if not LIBC:
+        raise OSError("no watches can be had")
+    return checked(LIBC.inotify_init1(os.O_NONBLOCK | os.O_CLOEXEC))
+
+
+def add_watch(descriptor: int, path: str, events: int) -> int:
+    """Watches a file for these events alone: the number of the watch, which a file has once."""
+    return checked(LIBC.inotify_add_watch(descriptor, os.fsencode(path), events))
+
+
+def remove_watch(descriptor: int, watch: int) -> None:
+    """Ends a watch; one that has ended with its file is left as it is."""
+    LIBC.inotify_rm_watch(descriptor, watch)
+
+
+def read_events(descriptor: int) -> Iterator[tuple[int, int]]:
+    """The events that are there: the number of the watch, and what happened."""
+    try:
+        data = os.read(descriptor, EVENTS_LEN)
+    except BlockingIOError:
+        return
+    at = 0
+    while at < len(data):
+        watch, events, _, length = EVENT.unpack_from(data, at)
+        yield watch, events
+        at += EVENT.size + length

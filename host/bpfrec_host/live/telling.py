@@ -1,0 +1,53 @@
+"""What a run tells: lines on standard error, reports and audits on standard output."""
+
+from __future__ import annotations
+
+from typing import Callable
+
+from bpfrec_host.live.loop import Loop
+from bpfrec_host.live.output import Lines, Printed
+
+
+class Telling:
+    """The standard streams of a run. `failed` is called once, where standard output can't be written."""
+
+    def __init__(self, loop: Loop, failed: Callable[[], None]) -> None:
+        self.loop, self.failed = loop, failed
+        self.lines, self.printed = Lines(), Printed()
+        self.has_told = False
+
+    def say(self, line: str) -> None:
+        """Tells a line on standard error."""
+        self.lines.say(line)
+
+    def print(self, text: str) -> bool:
+        """Prints a text on standard output, now or as there is room: whether that can be done."""
+        self.printed.put(text)
+        return self.check()
+
+    def check(self) -> bool:
+        """Whether standard output takes what is printed; the first time that it doesn't is told."""
+        if self.printed.has_failed and not self.has_told:
+            self.has_told = True
+            self.say("file -")
+            self.failed()
+        return not self.printed.has_failed
+
+    def write_on(self) -> None:
+        """Has the rest written once there is room."""
+        self.loop.on_room(self.printed.descriptor, self.write if self.printed.waiting else None)
+
+    def write(self) -> None:
+        """Writes what there is room for."""
+        self.printed.write()
+        self.check()
+
+    def finish(self, is_given_up: Callable[[], bool]) -> None:
+        """Waits until standard output has taken all, or nobody waits for that any more."""
+        while self.printed.waiting and not is_given_up():
+            self.write_on()
+            self.loop.turn(None)
+        if self.printed.waiting:
+            self.printed.fail()
+        self.write_on()
+        self.check()

@@ -1,0 +1,109 @@
+"""The words behind the options: SETTINGS OUT INTERFACE=CHANNEL.., or OUT INTERFACE.. where all frames are wanted."""
+
+from __future__ import annotations
+
+import os
+import re
+import socket
+from typing import NamedTuple, Optional
+
+from bpfrec_host.ending import full_name
+from bpfrec_host.live.names import Refusal
+
+# A name of an interface has neither `=` nor `/`.
+WAY = re.compile(r"(?P<interface>[^=/\s]+)(?:=(?P<channel>[1-9][0-9]{0,4})(?::(?P<expression>.+))?)?", re.DOTALL)
+# A recording begins with this.
+SYNC_PATTERN = b"\x25\xeb"
+
+
+class Way(NamedTuple):
+    """An interface, the channel that it is, and the expression of tcpdump that is its filter, where one is given."""
+
+    interface: str
+    channel: int
+    expression: Optional[str] = None
+
+
+class Words(NamedTuple):
+    """SETTINGS, which are None where all frames are wanted; OUT; and which interface is which channel."""
+
+    settings: Optional[str]
+    out: str
+    ways: list[Way]
+
+
+def words_of(words: list[str]) -> Words:
+    """What the words say; a Refusal names what is missing or wrong."""
+    help_text = f"{full_name('live')} --help has its words"
+    if not words or (len(words) == 1 and names_settings(words)):
+        raise Refusal(2, f"live: it takes SETTINGS and OUT: {help_text}")
+    if names_settings(words):
+        settings, out, *rest = words
+        if is_way(out):
+            raise Refusal(2, f"live: OUT is missing: it stands between {settings} and {out}")
+        return Words(settings, dashed(out), ways_of(rest))
+    out, *rest = words
+    if not rest:
+        raise Refusal(2, f"live: an INTERFACE is missing: it stands behind {out}")
+    return Words(None, dashed(out), ways_of(numbered(rest)))
+
+
+def dashed(out: str) -> str:
+    """OUT as a path that no program takes for an option."""
+    return f"./{out}" if out.startswith("-") else out
+
+
+def names_settings(words: list[str]) -> bool:
+    """Whether the first word is SETTINGS, and not OUT: by its ending, by what it is, or by the words behind it."""
+    first, *rest = words
+    if first.endswith(".toml"):
+        return True
+    if os.path.isfile(first):
+        return not is_recording(first)
+    return not all(is_way(it) for it in rest)
+
+
+def is_recording(path: str) -> bool:
+    """Whether a file is a recording, also one that is empty yet."""
+    try:
+        with open(path, "rb") as file:
+            return file.read(len(SYNC_PATTERN)) in (b"", SYNC_PATTERN)
+    except OSError:
+        return False
+
+
+def is_way(word: str) -> bool:
+    """Whether a word is an interface with its channel, or an interface that is here."""
+    found = WAY.fullmatch(word)
+    if not found or os.path.lexists(word):
+        return False
+    return found["channel"] is not None or is_interface(word)
+
+
+def is_interface(name: str) -> bool:
+    """Whether there is an interface of this name."""
+    try:
+        return socket.if_nametoindex(name) > 0
+    except (OSError, ValueError):
+        return False
+
+
+def numbered(words: list[str]) -> list[str]:
+    """Interfaces with channels: those that have none get the lowest that no other one has, in their order."""
+    taken = {found["channel"] for found in map(WAY.fullmatch, words) if found}
+    free = (str(it) for it in range(1, len(words) + len(taken) + 1) if str(it) not in taken)
+    return [it if "=" in it else f"{it}={next(free)}" for it in words]
+
+
+def ways_of(words: list[str]) -> list[Way]:
+    """Which interface is which channel."""
+    ways: list[Way] = []
+    for word in words:
+        found = WAY.fullmatch(word)
+        if not found or found["channel"] is None:
+            raise Refusal(2, f"live: no INTERFACE=CHANNEL: {word}")
+        channel = int(found["channel"])
+        if any(it.channel == channel for it in ways):
+            raise Refusal(2, f"live: channel {channel} has two interfaces")
+        ways.append(Way(found["interface"], channel, found["expression"]))
+    return ways

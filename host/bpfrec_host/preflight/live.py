@@ -1,0 +1,170 @@
+"""What `bpfrec-live` would refuse or lose with the same arguments: interfaces, permission, offloads, buffers and OUT."""
+
+from __future__ import annotations
+
+import fcntl
+import os
+import re
+import shutil
+import socket
+import struct
+from typing import Callable, Optional
+
+from bpfrec_host import program
+from bpfrec_host.formats.settings import Settings
+from bpfrec_host.live.adapters import asked
+from bpfrec_host.live.arguments import Arguments, read
+from bpfrec_host.live.expressions import listing_of
+from bpfrec_host.live.folder import is_channel
+from bpfrec_host.live.folder import judge_settings as refuse_settings
+from bpfrec_host.live.names import Files, Names, Refusal, is_special
+from bpfrec_host.preflight.keys import read_settings
+from bpfrec_host.preflight.output import available_memory, judge_out
+from bpfrec_host.preflight.report import Report
+
+MEBIBYTE = 1 << 20
+# What capture asks for of each interface, in MiB, and how much of the memory all have at most; the kernel makes up to
+# twice as much.
+USUAL_BUFFER, BUFFERS_IN_MEMORY, BUFFER_FOLD = 256, 4, 2
+# Stands for the pipes of live's: nothing is ever there.
+NOWHERE = "/dev/null"
+SIOCGIFFLAGS, UP, RUNNING = 0x8913, 0x1, 0x40
+FLAGS = struct.Struct("16sH22x")
+# The commands of ethtool that ask whether frames are joined, by what ethtool -K calls it, and the bit of the answer.
+OFFLOADS = {"gro": (0x2B, 1), "gso": (0x23, 1), "tso": (0x1E, 1), "lro": (0x25, 1 << 15)}
+VALUE = struct.Struct("II")
+
+
+def judge_live(words: list[str], judge: Callable[[Settings, Report, set[int]], object], report: Report) -> None:
+    """Judges the arguments of a run of live. `judge` takes settings, and the channels that have interfaces."""
+    try:
+        given = read(words)
+        settings = read_settings(given.settings, report) if given.settings is not None else None
+        if settings:
+            with_pipes(settings, given)
+            refuse_settings(settings, given)
+    except Refusal as refusal:
+        report.fault("live", without_name(refusal))
+        return
+    if settings:
+        judge(settings, report, {it.channel for it in given.ways})
+    judge_expressions(given, report)
+    judge_live_out(given, settings, report)
+    for way in given.ways:
+        judge_interface(way.interface, report)
+    if given.ways:
+        judge_permission(report)
+        judge_buffers(given, report)
+
+
+def without_name(refusal: Refusal) -> str:
+    """What live would say, without its name ahead."""
+    return refusal.line[len("live: ") :] if refusal.line.startswith("live: ") else refusal.line
+
+
+def with_pipes(settings: Settings, given: Arguments) -> None:
+    """Gives the channels that have interfaces a feed, as live does, so that none is missing."""
+    for way in given.ways:
+        for channel in settings.channels:
+            if is_channel(channel.table, way.channel):
+                channel.table["feed"] = f"{NOWHERE}/{way.channel}"
+
+
+def judge_expressions(given: Arguments, report: Report) -> None:
+    """The filters that the arguments give."""
+    for way in given.ways:
+        if way.expression:
+            try:
+                count = listing_of(way).split("\n")[0].split(",")[0]
+                report.note(way.interface, f"filter {way.expression}: {count} instructions")
+            except Refusal as refusal:
+                report.fault(way.interface, without_name(refusal))
+
+
+def judge_live_out(given: Arguments, settings: Optional[Settings], report: Report) -> None:
+    """OUT, or the first of the recordings that follow one another."""
+    out = Names(given.out).next()[1] if given.is_rotating() else given.out
+    try:
+        Files(given.mode, given.is_forced).refuse_overwriting(out)
+    except Refusal as refusal:
+        report.fault(out, without_name(refusal))
+        return
+    if given.is_rotating() and is_special(given.out):
+        report.fault(given.out, "--every and --size make files, and it is none")
+    channels = [] if settings is None else settings.channels
+    inputs = [it for it in channels if os.path.dirname(it.path("feed") or "") != NOWHERE]
+    judge_out(out, given.settings or os.devnull, inputs, report)
+
+
+# ---- interfaces
+
+
+def judge_interface(interface: str, report: Report) -> None:
+    """Whether an interface is there and up, and whether the kernel joins its frames."""
+    flags = flags_of(interface)
+    if flags is None:
+        report.fault(interface, "no such interface")
+        return
+    if not flags & UP:
+        report.fault(interface, f"it is down: ip link set {interface} up")
+    elif not flags & RUNNING:
+        report.note(interface, "it has no carrier, as where no cable is in it")
+    joins = [name for name, (command, bit) in OFFLOADS.items() if is_on(interface, command, bit)]
+    if joins:
+        options = " ".join(f"{name} off" for name in joins)
+        report.note(interface, f"the kernel may join frames ({', '.join(joins)}): ethtool -K {interface} {options}")
+    else:
+        report.note(interface, "it is there, and its frames are not joined")
+
+
+def flags_of(interface: str) -> Optional[int]:
+    """The flags of an interface; None where there is none."""
+    try:
+        with socket.socket(socket.AF_INET, socket.SOCK_DGRAM) as through:
+            told = fcntl.ioctl(through, SIOCGIFFLAGS, FLAGS.pack(os.fsencode(interface)[:15], 0))
+    except OSError:
+        return None
+    return int(FLAGS.unpack(told)[1])
+
+
+def is_on(interface: str, command: int, bit: int) -> bool:
+    """Whether the driver says that it does something."""
+    told = asked(interface, command, VALUE)
+    return bool(told and told[1] & bit)
+
+
+def judge_permission(report: Report) -> None:
+    """Whether the capture is there and may capture."""
+    capture = program.capture_path()
+    if not shutil.which(capture):
+        report.fault("capture", f"{capture} is missing: make build makes it where libpcap's headers are")
+        return
+    try:
+        socket.socket(socket.AF_PACKET, socket.SOCK_RAW, 0).close()
+        return
+    except OSError:
+        pass
+    try:
+        os.getxattr(capture, "security.capability")
+    except OSError:
+        report.fault("capture", f"no permission to capture: be root, or once setcap cap_net_raw=ep {capture}")
+
+
+def judge_buffers(given: Arguments, report: Report) -> None:
+    """What the kernel may keep of all interfaces' frames, beside the memory that is available."""
+    memory, available = os.sysconf("SC_PHYS_PAGES") * os.sysconf("SC_PAGE_SIZE"), available_memory()
+    share = max(1, memory // MEBIBYTE // BUFFERS_IN_MEMORY // BUFFER_FOLD // len(given.ways))
+    each = asked_buffer(given) or min(USUAL_BUFFER, share)
+    total = each * BUFFER_FOLD * len(given.ways)
+    what = f"the kernel keeps up to {each * BUFFER_FOLD} MiB of each interface's frames, {total} MiB of all"
+    if available is not None and total * MEBIBYTE > available:
+        report.fault("buffers", f"{what}, and {available // MEBIBYTE} MiB are available")
+    else:
+        report.note("buffers", what)
+
+
+def asked_buffer(given: Arguments) -> Optional[int]:
+    """The buffer that --buffer asks for, in MiB."""
+    options = given.options
+    values = [value for name, value in zip(options, options[1:]) if name == "--buffer"]
+    return int(values[-1]) if values and re.fullmatch(r"[0-9]{1,4}", values[-1]) else None
