@@ -1,0 +1,100 @@
+"""A terminal on which the table is written again and again in its place, with the lines that are said above it.
+
+Nothing waits for whoever reads the terminal: what it has no room for is left out.
+"""
+
+from __future__ import annotations
+
+import os
+import re
+from collections.abc import Sequence
+from typing import Optional
+
+from bpfrec_host.live.status.alarms import Alarm
+from bpfrec_host.live.status.table import columns_of, lines_of
+from bpfrec_host.live.status.view import View
+
+CLEAR_BELOW, UP, COLOUR = "\x1b[J", "\x1b[{}F", re.compile("\x1b\\[[0-9;]*m")
+# A terminal of which nothing is known.
+USUAL_SIZE = os.terminal_size((80, 24))
+
+
+class Terminal:
+    """Standard error, where it is a terminal that shows tables. It is opened once more by its name, so that a write
+    that it has no room for ends at once and other programs' writes stay as they are."""
+
+    def __init__(self, stream: int = 2, is_quiet: bool = False) -> None:
+        self.descriptor = -1
+        # The lines that stand there; and what is left of a write that was cut.
+        self.drawn: list[str] = []
+        self.rest = b""
+        try:
+            if not is_quiet and os.isatty(stream) and os.environ.get("TERM", "dumb") != "dumb":
+                flags = os.O_WRONLY | os.O_NONBLOCK | os.O_NOCTTY | os.O_CLOEXEC
+                self.descriptor = os.open(os.ttyname(stream), flags)
+        except OSError:
+            self.descriptor = -1
+
+    def is_shown(self) -> bool:
+        """Whether there is a table at all; where there is none, lines are said as ever."""
+        return self.descriptor >= 0
+
+    def draw(self, view: View, alarms: tuple[Alarm, ...], said: Sequence[str] = ()) -> bool:
+        """Writes the table in the place of the last one, below the lines that are `said`: whether it had room."""
+        if not self.is_shown() or not self.flush():
+            return False
+        size = self.size()
+        lines = lines_of(view, alarms, size.columns - 1, size.lines - 1)
+        erased = self.erasing(size.columns)
+        self.drawn = lines
+        return self.write("".join([erased, *(f"{it}\n" for it in (*said, *lines))]))
+
+    def say(self, lines: Sequence[str]) -> bool:
+        """Writes lines in the place of the table, which comes back below them: whether they had room."""
+        if not self.is_shown() or not self.flush():
+            return False
+        erased, after = self.erasing(self.size().columns), "".join(f"{it}\n" for it in self.drawn)
+        return self.write("".join([erased, *(f"{it}\n" for it in lines), after]))
+
+    def close(self) -> None:
+        """Ends; the last table stays."""
+        if self.is_shown():
+            self.flush()
+            os.close(self.descriptor)
+        self.descriptor = -1
+
+    def size(self) -> os.terminal_size:
+        """The terminal's size by now."""
+        try:
+            found = os.get_terminal_size(self.descriptor)
+        except OSError:
+            return USUAL_SIZE
+        return found if found.columns and found.lines else USUAL_SIZE
+
+    def erasing(self, columns: int) -> str:
+        """What takes the table away, also where the terminal has become narrower since and broke its lines."""
+        rows = sum(max(-(-width_of(it) // columns), 1) for it in self.drawn)
+        return (UP.format(rows) if rows else "") + CLEAR_BELOW
+
+    def flush(self) -> bool:
+        """Whether nothing is left of what was written before."""
+        return not self.rest or self.write("")
+
+    def write(self, text: str) -> bool:
+        """Writes as much as there is room for; the rest goes ahead of what comes next."""
+        data: Optional[bytes] = self.rest + text.encode("utf-8", "replace")
+        while data:
+            try:
+                data = data[os.write(self.descriptor, data) :]
+            except BlockingIOError:
+                break
+            except OSError:
+                # It is gone.
+                data = b""
+        self.rest = data or b""
+        return not self.rest
+
+
+def width_of(line: str) -> int:
+    """How many columns a line takes."""
+    return sum(map(columns_of, COLOUR.sub("", line)))
