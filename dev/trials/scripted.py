@@ -17,7 +17,7 @@ sys.path.insert(0, str(ROOT / "host"))
 from bpfrec_host.live import status
 
 BEGIN = 1_000.0
-FRAME_LENGTH = 250
+FRAME_LENGTH = 60
 PACKET_FRAMES = 200
 
 
@@ -42,7 +42,7 @@ def program(channel: int, version: int, returned: int = 1) -> bytes:
     return packet_of(0, data, 0, COMPUTER, 0, True)
 
 
-def frames(channel: int, count: int, length: int = FRAME_LENGTH, is_summed: bool = True) -> bytes:
+def frames(channel: int, count: int, length: int = 250, is_summed: bool = True) -> bytes:
     """A packet of frames."""
     one = struct.pack("<QI", 0, length) + bytes(length + length % 2)
     return packet_of(channel, struct.pack("<I", count) + one * count, 0, FRAMES, 0, is_summed)
@@ -97,7 +97,7 @@ class Flight:
         self.open[channel] += wire.frames * wire.kept / 100
         while self.open[channel] >= PACKET_FRAMES:
             self.open[channel] -= PACKET_FRAMES
-            self.append(frames(channel, PACKET_FRAMES))
+            self.append(frames(channel, PACKET_FRAMES, FRAME_LENGTH))
 
     def pass_seconds(self, count: int, **more) -> None:
         for _ in range(count):
@@ -116,4 +116,7 @@ NAMES = ("frames", "bytes", "dropped", "missed", "passed", "waited")
 
 def wires_of(count: int) -> dict[int, Wire]:
     """Channels of a usual flight, of many rates."""
-    return {it: Wire(f"eth{it - 1}", frames=40 * (1 + it * 7 % 23), kept=(100, 100, 35, 60)[it % 4]) for it in range(1, count + 1)}
+    return {
+        it: Wire(f"eth{it - 1}", frames=40 * (1 + it * 7 % 23), kept=(100, 100, 35, 60)[it % 4])
+        for it in range(1, count + 1)
+    }

@@ -95,7 +95,7 @@ class Channel:
             skipped=max(counts.skipped - before.skipped, 0),
             waited=max(counts.waited - before.waited, 0),
             version=self.same_since,
-            age=None if self.frame_at is None else now - self.frame_at,
+            age=since(self.frame_at, now),
         )
         # What was lost and waited is told once, in the last of them.
         earlier = last._replace(dropped=0, missed=0, skipped=0, waited=0)
@@ -117,9 +117,9 @@ class Channel:
             version=self.version,
             same_since=self.same_since,
             counts=self.counts,
-            counts_age=None if self.counted_at is None else now - self.counted_at,
-            frame_age=None if self.frame_at is None else now - self.frame_at,
-            lost_age=None if self.lost_at is None else now - self.lost_at,
+            counts_age=since(self.counted_at, now),
+            frame_age=since(self.frame_at, now),
+            lost_age=since(self.lost_at, now),
             kept_frames=self.kept_frames,
             kept_bytes=self.kept_bytes,
             seconds=now - self.begun,
@@ -127,3 +127,8 @@ class Channel:
             unkept=self.unkept(now),
             history=tuple(self.history),
         )
+
+
+def since(moment: Optional[float], now: float) -> Optional[float]:
+    """How long ago a moment was; none is in the future."""
+    return None if moment is None else max(now - moment, 0)

@@ -11,7 +11,7 @@ from math import floor
 from typing import NamedTuple, Optional
 
 from bpfrec_host.formats.ch11 import End, Program
-from bpfrec_host.live.status.channel import Channel
+from bpfrec_host.live.status.channel import Channel, since
 from bpfrec_host.live.status.growth import Growth, Kept, Told
 from bpfrec_host.live.status.view import (
     HISTORY_SECONDS,
@@ -57,7 +57,8 @@ class Model:
     """A run. `sync` is how often OUT is forced to its disk, in seconds, and 0 for never."""
 
     def __init__(self, now: float, sync: float) -> None:
-        self.begun, self.sync, self.synced_at = now, sync, None if sync else now
+        self.begun, self.sync = now, sync
+        self.synced_at: Optional[float] = None
         self.channels: dict[int, Channel] = {}
         self.going: dict[int, Going] = {}
         self.current: Optional[int] = None
@@ -75,8 +76,7 @@ class Model:
         """A recording begins, of these channels."""
         self.going[number] = Going(number, name, now)
         self.current = number
-        if self.sync:
-            self.synced_at = None
+        self.synced_at = None
         kept = {}
         for it in channels:
             kept[it.channel] = self.channels.get(it.channel) or Channel(it.channel, it.interface, now)
@@ -181,7 +181,7 @@ class Model:
             uptime=now - self.begun,
             recording=going.view(now, rate) if going else None,
             disk=None if self.free is None else DiskView(self.free, left),
-            sync=SyncView(self.sync, now - self.synced_at if self.sync and self.synced_at is not None else None),
+            sync=SyncView(self.sync, since(self.synced_at, now)),
             channels=self.channel_views(now),
             recordings=tuple(self.recordings),
             audits=self.audits,

@@ -9,6 +9,7 @@ from __future__ import annotations
 
 import errno
 import io
+import re
 import signal
 import socket
 import socketserver
@@ -32,8 +33,8 @@ MAKING_ROOM_SECONDS = 0.2
 SHORTAGE_SECONDS = 0.1
 # How many may wait to be taken, and how often it is looked whether all ends.
 BACKLOG, POLL_SECONDS = 128, 0.25
-# Names of this machine, beside its loopback addresses, by which a browser may ask.
-LOCAL_NAMES = ("localhost",)
+# The names of this machine's loopback by which a browser may ask: through a tunnel with another port.
+LOCAL = re.compile(r"(?:localhost|127(?:\.[0-9]{1,3}){3}|\[::1\])(?::[0-9]{1,5})?")
 HEADERS = (
     ("Cache-Control", "no-store"),
     ("Content-Security-Policy", CONTENT_POLICY),
@@ -197,11 +198,7 @@ class Handler(BaseHTTPRequestHandler):
 
 def is_local(host: str) -> bool:
     """Whether a header Host names this machine's loopback, with any port or none."""
-    name = host.strip().lower()
-    name = name[: name.rindex("]") + 1] if name.startswith("[") and "]" in name else name.partition(":")[0]
-    parts = name.split(".")
-    is_address = len(parts) == 4 and parts[0] == "127" and all(it.isascii() and it.isdigit() for it in parts)
-    return name in LOCAL_NAMES or name == "[::1]" or is_address
+    return LOCAL.fullmatch(host.strip().lower()) is not None
 
 
 class Server(socketserver.ThreadingMixIn, socketserver.TCPServer):
