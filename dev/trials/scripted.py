@@ -15,7 +15,68 @@ from support import ROOT
 
 sys.path.insert(0, str(ROOT / "host"))
 from bpfrec_host.live import status
+from bpfrec_host.live.status import (
+    Counts,
+    Setup,
+    Status,
+    Terminal,
+    alarms,
+    as_json,
+    counted_in,
+    endpoint_in,
+    growth,
+    metrics,
+    server,
+    table,
+)
+from bpfrec_host.live.status.alarms import Alarm
+from bpfrec_host.live.status.growth import Growth, Kept
+from bpfrec_host.live.status.page import PAGE
+from bpfrec_host.live.status.table import columns_of
+from bpfrec_host.live.status.view import (
+    HISTORY_SECONDS,
+    Audits,
+    ChannelView,
+    DiskView,
+    EndedView,
+    RecordingView,
+    Second,
+    SyncView,
+    Unkept,
+    View,
+)
 
+# The package's names, for trials, which import them from here.
+__all__ = [
+    "Alarm",
+    "Audits",
+    "ChannelView",
+    "Counts",
+    "DiskView",
+    "EndedView",
+    "Growth",
+    "HISTORY_SECONDS",
+    "Kept",
+    "PAGE",
+    "RecordingView",
+    "Second",
+    "Setup",
+    "Status",
+    "SyncView",
+    "Terminal",
+    "Unkept",
+    "View",
+    "alarms",
+    "as_json",
+    "columns_of",
+    "counted_in",
+    "endpoint_in",
+    "growth",
+    "metrics",
+    "server",
+    "status",
+    "table",
+]
 BEGIN = 1_000.0
 FRAME_LENGTH = 60
 PACKET_FRAMES = 200

@@ -5,9 +5,7 @@ from __future__ import annotations
 from collections.abc import Iterable
 
 import pytest
-import scripted  # finds the package
-from bpfrec_host.live.status import alarms
-from bpfrec_host.live.status.view import (
+from scripted import (
     Audits,
     ChannelView,
     Counts,
@@ -18,10 +16,10 @@ from bpfrec_host.live.status.view import (
     SyncView,
     Unkept,
     View,
+    alarms,
 )
 from support import judge
 
-assert scripted
 LIMIT = 65_536
 CALM = Second(10.0, 600.0, 10.0, 600.0, 0, 0, 0, 0, 0, 0.3)
 CHANNEL = ChannelView(

@@ -9,11 +9,8 @@ from pathlib import Path
 from typing import NamedTuple
 
 import pytest
-from bpfrec_host.live.status import Counts, Setup, Status, alarms, as_json, metrics
-from bpfrec_host.live.status.alarms import Alarm
-from bpfrec_host.live.status.view import View
 from schema import FORMATS, faults, schema_of
-from scripted import BEGIN, Flight, Wire, wires_of
+from scripted import BEGIN, Alarm, Counts, Flight, Setup, Status, View, Wire, alarms, as_json, metrics, wires_of
 from support import judge, judge_quietly, outcome
 
 ODD_NAMES = [

@@ -12,12 +12,10 @@ from collections import Counter
 from pathlib import Path
 
 import pytest
-from bpfrec_host.live.status import growth
-from bpfrec_host.live.status.growth import Growth, Kept
-from frames import end_packet
+from frames import end_packet, header_of
 from reading import SAMPLES, ch11, packets_of
 from recorder import RECORDINGS, make_feed, record, write_settings
-from scripted import Flight, Wire, frames, program
+from scripted import Flight, Growth, Kept, Wire, alarms, frames, growth, program
 from support import BPFREC, judge, judge_quietly, outcome
 
 SEED = 64
@@ -191,8 +189,6 @@ def test_bad_bodies(work: Path) -> None:
 
 def test_a_length_that_never_comes(work: Path) -> None:
     """A header that claims gigabytes isn't waited for."""
-    from frames import header_of
-
     head, path = header_of(5, (0xFFFF_FFFC, 100), 0, 0x40, 0, False), work / "long.ch11"
     path.write_bytes(frames(1, 1) + head + frames(2, 2) * 3)
     growing = Growth(str(path))
@@ -274,9 +270,7 @@ def test_a_filter_that_keeps_nothing(work: Path) -> None:
     flight = Flight(work, {1: Wire("eth0", kept=0), 2: Wire("eth1", kept=100)})
     flight.begin()
     flight.pass_seconds(60)
-    from bpfrec_host.live.status.alarms import alarms_of
-
-    found = [(it.name, it.channel) for it in alarms_of(flight.status.model.view(flight.now()), 65_536)]
+    found = [(it.name, it.channel) for it in alarms.alarms_of(flight.status.model.view(flight.now()), 65_536)]
     judge("the channel whose filter keeps nothing is red, and no other", found == [("keeps_nothing", 1)], found)
     flight.end_recording()
     if BPFREC.exists():

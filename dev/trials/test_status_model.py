@@ -10,9 +10,22 @@ import tracemalloc
 from pathlib import Path
 
 import pytest
-from bpfrec_host.live.status import Counts, Setup, Status, counted_in
-from bpfrec_host.live.status.view import HISTORY_SECONDS, View
-from scripted import BEGIN, FRAME_LENGTH, Flight, Wire, frames, program, wires_of
+from frames import end_packet
+from scripted import (
+    BEGIN,
+    FRAME_LENGTH,
+    HISTORY_SECONDS,
+    Counts,
+    Flight,
+    Setup,
+    Status,
+    View,
+    Wire,
+    counted_in,
+    frames,
+    program,
+    wires_of,
+)
 from support import judge, judge_quietly
 
 
@@ -236,8 +249,6 @@ def test_no_audit(work: Path) -> None:
 
 
 def test_an_end_of_a_channel(work: Path) -> None:
-    from frames import end_packet
-
     flight = Flight(work, {1: Wire("eth0"), 2: Wire("eth1")})
     flight.begin()
     flight.append(end_packet(2, 5))

@@ -13,11 +13,8 @@ from pathlib import Path
 
 import pytest
 from browser import Browser, Page
-from scripted import Flight, Wire, wires_of
+from scripted import PAGE, Flight, Wire, status, wires_of
 from support import ROOT, judge, judge_quietly
-
-from bpfrec_host.live import status
-from bpfrec_host.live.status.page import PAGE
 
 WANTED = {"chromium": "chromium"}
 PICTURES = ROOT / "bin/trials/status"

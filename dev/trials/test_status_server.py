@@ -17,11 +17,8 @@ from collections.abc import Iterator
 from pathlib import Path
 
 import pytest
-from scripted import Flight, Wire, wires_of
+from scripted import Flight, Wire, server, status, wires_of
 from support import ROOT, judge, judge_quietly, run, wait_for
-
-from bpfrec_host.live import status
-from bpfrec_host.live.status import server
 
 PATHS = ("/", "/status.json", "/metrics")
 # What each answer must have, by names in lower case.

@@ -14,11 +14,8 @@ from collections.abc import Iterator
 from pathlib import Path
 
 import pytest
-from scripted import Flight, Wire, wires_of
+from scripted import Flight, Terminal, Wire, alarms, columns_of, table, wires_of
 from support import judge, judge_quietly
-
-from bpfrec_host.live.status import Terminal, alarms, table
-from bpfrec_host.live.status.table import columns_of
 
 LIMIT = 65_536
 

@@ -8,7 +8,7 @@ How `live` joins it; all calls are made by one thread, and moments are seconds o
     status.capture_counted(*counted_in(line), now)  # each line of counts, also with --quiet; 10 us
     status.filter_changed(channel, version, is_same)  # at `installed CHANNEL VERSION MARK`; 1 us
     status.synced(now)  # each time when OUT was forced to its disk; 1 us
-    status.tick(now)  # each second: 1 ms for 64 channels, and 10 us for each packet that came, of 4,096 at most
+    status.tick(now)  # each second: 1 ms for 64 channels, and 6 us for each packet that came, of 4,096 at most
     status.recording_ended(number, exit_status, now, report_lines, audit_lines)  # after its audit; as a tick
     status.ended(now), status.close()  # at the end; close takes a quarter of a second at most
 
