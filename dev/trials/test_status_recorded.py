@@ -77,66 +77,57 @@ def asked(status: Status, name: str = "status.json") -> dict:
         return json.load(answer)
 
 
-def test_a_recording(work: Path, recording: Recording) -> None:
-    status = Status(endpoint_in("0"), sync=0, limit=LIMIT)
-    begin = time.monotonic()
-    status.recording_begun(1, str(recording.out), [Setup(1, "rx0"), Setup(2, "rx1")], begin)
+@pytest.fixture
+def status(recording: Recording) -> Iterator[Status]:
+    made = Status(endpoint_in("0"), sync=0, limit=LIMIT)
+    made.recording_begun(1, str(recording.out), [Setup(1, "rx0"), Setup(2, "rx1")], time.monotonic())
+    yield made
+    made.close()
+
+
+def test_a_recording(recording: Recording, status: Status) -> None:
     traffic = Traffic(length=500)
-    used = time.process_time()
     for _ in range(5):
         time.sleep(1)
         recording.follow(status)
-    used = time.process_time() - used
-    told = asked(status)
-    one, two = told["channels"]
-    judge("frames come in", one["offered"]["frames_per_second"] > 50, one["offered"])
-    judge(
-        "what is kept is in the file while it goes on", one["kept"]["frames"] > 100 and two["kept"]["frames"] == 0, told
-    )
-    judge("and no more than came", one["kept"]["frames"] <= traffic.sent)
-    judge("its length is told", told["recording"]["bytes"] > one["kept"]["bytes"] > 100 * 500, told["recording"])
+    judge_going(asked(status), traffic.sent)
     sent = traffic.end()
     time.sleep(1.2)
     recording.follow(status)
     told = asked(status)
-    judge(
-        "all that was sent was offered",
-        [it["offered"]["frames"] for it in told["channels"]] == [sent, sent],
-        told["channels"][0],
-    )
-    judge(
-        "nothing is lost, and nothing wrong",
-        told["recording"]["fault"] is None and told["alarms"] == [],
-        told["alarms"],
-    )
-    # As if it went on for a minute more.
-    status.model.view = later(status.model.view)
-    recording.follow(status)
-    names = {(it["name"], it["channel"]) for it in asked(status)["alarms"]}
-    judge(
-        "the filter that keeps nothing is red before the end",
-        ("keeps_nothing", 2) in names and ("keeps_nothing", 1) not in names,
-        names,
-    )
-    del status.model.view
+    offered = [it["offered"]["frames"] for it in told["channels"]]
+    judge("all that was sent was offered", offered == [sent, sent], offered)
+    judge("nothing is lost, and nothing wrong", told["recording"]["fault"] is None and told["alarms"] == [], told)
+    judge_red(recording, status)
     report = recording.end()
     recording.follow(status)
     found = asked(status)["channels"]
-    judge(
-        "at its end all is told", found[0]["kept"]["frames"] == sent and all(it["has_ended"] for it in found), found[0]
-    )
+    judge("at its end all is told", found[0]["kept"]["frames"] == sent and all(it["has_ended"] for it in found), found)
     audit = outcome(BPFREC, "audit", recording.out).stdout.splitlines()
     status.recording_ended(1, 0, time.monotonic(), report, audit)
     status.ended(time.monotonic())
     told = asked(status)
-    judge(
-        "and the audit's yes",
-        told["recordings"][0]["audit"] == "yes other 0" and told["audits"]["yes"] == 1,
-        told["recordings"],
-    )
+    judge("and the audit's yes", told["recordings"][0]["audit"] == "yes other 0" and told["audits"]["yes"] == 1, told)
     judge("with the report's length", told["recordings"][0]["bytes"] == recording.out.stat().st_size)
-    status.close()
-    judge(f"it took {used:.2f} s of processor time with all that was sent", True)
+
+
+def judge_going(told: dict, sent: int) -> None:
+    """What is told while frames come."""
+    one, two = told["channels"]
+    judge("frames come in", one["offered"]["frames_per_second"] > 50, one["offered"])
+    judge("what is kept is in the file", one["kept"]["frames"] > 100 and two["kept"]["frames"] == 0, told)
+    judge("and no more than came", one["kept"]["frames"] <= sent)
+    judge("its length is told", told["recording"]["bytes"] > one["kept"]["bytes"] > 100 * 500, told["recording"])
+
+
+def judge_red(recording: Recording, status: Status) -> None:
+    """What would be told if it went on so for a minute more."""
+    status.model.view = later(status.model.view)
+    recording.follow(status)
+    del status.model.view
+    names = {(it["name"], it["channel"]) for it in asked(status)["alarms"]}
+    is_red = [("keeps_nothing", channel) in names for channel in (1, 2)]
+    judge("the filter that keeps nothing is red before the end", is_red == [False, True], names)
 
 
 def later(view):
