@@ -30,12 +30,12 @@ def connection(flight: Flight) -> socket.socket:
     return socket.create_connection(place_of(flight), 10)
 
 
-def raw(flight: Flight, request: bytes) -> bytes:
-    """All bytes that a request is answered."""
+def raw(flight: Flight, request: bytes, is_calm: bool = False) -> bytes:
+    """All bytes that a request is answered; `is_calm` has a connection that is reset fail."""
     with connection(flight) as it:
         it.sendall(request)
         found = b""
-        with contextlib.suppress(ConnectionResetError):
+        with contextlib.suppress(*[] if is_calm else [ConnectionResetError]):
             while part := it.recv(1 << 16):
                 found += part
     return found

@@ -67,6 +67,35 @@ def test_who_reads_nothing(work: Path, monkeypatch: pytest.MonkeyPatch) -> None:
     flight.status.close()
 
 
+def test_who_asks_late_and_reads_nothing(work: Path, monkeypatch: pytest.MonkeyPatch) -> None:
+    """Asking and being answered have one time together."""
+    monkeypatch.setattr(server, "MOST_SECONDS", 2.0)
+    flight = Flight(work, wires_of(64), endpoint=endpoint_in("0"))
+    flight.begin()
+    flight.pass_seconds(60)
+    with socket.socket() as it:
+        it.setsockopt(socket.SOL_SOCKET, socket.SO_RCVBUF, 2_048)
+        it.connect(place_of(flight))
+        begin = time.monotonic()
+        time.sleep(1.5)
+        it.sendall(b"GET /status.json HTTP/1.1\r\nHost: localhost\r\n\r\n")
+        # As much as the kernel takes of an answer is gone at once.
+        wait_for("it ends", lambda: not flight.status.server.open, 10)
+        took = time.monotonic() - begin
+    flight.status.close()
+    judge("it ends in its time", took < 3, took)
+
+
+def test_a_head_without_an_end(flight: Flight) -> None:
+    """It is cut where it is too long, and not held until its time is over."""
+    begin, sent = time.monotonic(), 0
+    with connection(flight) as it, contextlib.suppress(ConnectionError):
+        it.sendall(b"GET / HTTP/1.1\r\nX: ")
+        while time.monotonic() - begin < 4:
+            sent += it.send(b"x" * 65_536)
+    judge(f"it took {sent} bytes", time.monotonic() - begin < 2, time.monotonic() - begin)
+
+
 def threads() -> int:
     return sum(it.name.startswith("Thread-") for it in threading.enumerate())
 

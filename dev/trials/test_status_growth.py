@@ -7,12 +7,13 @@ from __future__ import annotations
 
 import os
 import random
+import struct
 import time
 from collections import Counter
 from pathlib import Path
 
 import pytest
-from frames import end_packet, header_of
+from frames import end_packet, header_of, packet_of
 from reading import SAMPLES, ch11, packets_of
 from recorder import RECORDINGS, make_feed, record, write_settings
 from scripted import Flight, Growth, Kept, Wire, alarms, frames, growth, program
@@ -174,6 +175,48 @@ def test_damage(work: Path) -> None:
         judge(f"{name}: what stands behind is read", told == [Kept(1, 4, 1_000)] * 7, told)
 
 
+def test_a_header_that_comes_in_two(work: Path) -> None:
+    """Behind a damaged place, at each length of the header that follows it."""
+    one = frames(1, 1)
+    for length in range(30):
+        path = work / f"{length}.ch11"
+        path.write_bytes(b"damage!!" + one[:length])
+        growing = Growth(str(path))
+        first = growing.read_on()
+        with open(path, "ab") as file:
+            file.write(one[length:] + one)
+        judge_quietly(f"cut to {length}", first == [] and everything(growing) == [Kept(1, 1, 250)] * 2, growing.at)
+    judge("it is found once it is whole", True)
+
+
+def test_what_only_looks_like_a_packet(work: Path) -> None:
+    """A header within damaged bytes, behind which no other stands."""
+    fake, path = frames(9, 1)[:24], work / "fake.ch11"
+    path.write_bytes(b"damage!!" + fake + bytes(40) + frames(1, 1) * 2 + bytes(2_000))
+    growing = Growth(str(path))
+    judge("it isn't believed", Kept(9, 1, 250) not in everything(growing), growing.at)
+    path.write_bytes(b"damage!!" + fake + bytes(40) + frames(1, 1) * 3)
+    growing = Growth(str(path))
+    judge("and what follows is", everything(growing) == [Kept(1, 1, 250)] * 3, growing.at)
+
+
+def test_another_format_of_frames(work: Path) -> None:
+    path, one = work / "format.ch11", frames(1, 2)
+    path.write_bytes(packet_of(1, b"\x02\0\0\x10" + bytes(40), 0, 0x68, 0, True) + one)
+    growing = Growth(str(path))
+    judge("is another's", everything(growing) == [None, Kept(1, 2, 500)] and growing.fault is None, growing.fault)
+
+
+def test_many_faults(work: Path) -> None:
+    """A call meets a few of them; the others are for the next calls."""
+    path = work / "faults.ch11"
+    bad = packet_of(1, b"\xff\xff\0\0" + bytes(40), 0, 0x68, 0, True)
+    path.write_bytes(bad * 1_000)
+    growing = Growth(str(path))
+    growing.read_on()
+    judge("a call has an end", growing.faults <= growth.MOST_FAULTS, growing.faults)
+
+
 def test_bad_bodies(work: Path) -> None:
     broken = (RECORDINGS / "bad_body.ch11").read_bytes()
     path = work / "bad.ch11"
@@ -263,6 +306,25 @@ def test_bounded(work: Path) -> None:
     passed = int(read.read_text().split()[1]) - before
     judge("pieces of 4,096 packets", counts == [growth.MOST_PACKETS, 5_000 - growth.MOST_PACKETS], counts)
     judge(f"{passed} of {len(one) * 5_000} bytes are read", passed < 5_000 * 60)
+
+
+def test_long_records(work: Path) -> None:
+    """What claims to be a record, and is longer than any, isn't read."""
+    path = work / "records.ch11"
+    path.write_bytes(packet_of(0, bytes(4) + b"CBPR" + bytes(400_000), 0, 0, 0, True) * 50)
+    read = Path("/proc/self/io")
+    growing, before = Growth(str(path)), int(read.read_text().split()[1])
+    judge("each is another's", everything(growing) == [None] * 50)
+    passed = int(read.read_text().split()[1]) - before
+    judge(f"{passed} bytes are read", passed < 20_000)
+
+
+def test_a_long_program(work: Path) -> None:
+    path = work / "program.ch11"
+    data = bytes(4) + b"CBPR" + struct.pack("<HHIQHH", 1, 1, 3, 9, 4_096, 0) + bytes(8 * 4_096)
+    path.write_bytes(packet_of(0, data, 0, 0, 0, True))
+    told = everything(Growth(str(path)))
+    judge("the longest program is read", [(it.version, len(it.insns)) for it in told] == [(3, 8 * 4_096)])
 
 
 def test_a_filter_that_keeps_nothing(work: Path) -> None:

@@ -5,6 +5,7 @@ Its moments are the script's, so nothing waits here.
 
 from __future__ import annotations
 
+import os
 import sys
 import tracemalloc
 from pathlib import Path
@@ -132,6 +133,30 @@ def test_lines_that_come_at_odd_times(work: Path) -> None:
         watched.tick(BEGIN + second)
     rates = [it.offered_frames for it in watched.model.view(BEGIN + 20).channels[0].history]
     judge("the rate stays", rates[2:] == pytest.approx([100.0] * 18, rel=0.05), rates)
+    for second in range(21, 41):
+        for moment, more in ((second - 0.3, 0), (second - 0.29, 9)):
+            watched.capture_counted("eth0", Counts(round(100 * moment) + more, 0, 0, 0, 0, 0), BEGIN + moment)
+        watched.tick(BEGIN + second)
+    rates = [it.offered_frames for it in watched.model.view(BEGIN + 40).channels[0].history]
+    judge("also where two come at once", rates[-19:] == pytest.approx([100.0] * 19, rel=0.1), rates)
+
+
+def test_counts_that_go_back(work: Path) -> None:
+    watched = Status(now=BEGIN)
+    watched.recording_begun(1, str(work / "none"), [Setup(1, "eth0")], BEGIN)
+    for second, counts in enumerate([Counts(100, 9, 8, 7, 6, 5), Counts(10, 1, 2, 3, 4, 0)], 1):
+        watched.capture_counted("eth0", counts, BEGIN + second)
+        watched.tick(BEGIN + second)
+    last = watched.model.view(BEGIN + 2).channels[0].history[-1]
+    judge("nothing is less than none", last[:2] == (0, 0) and last[4:8] == (0, 0, 0, 0), last)
+
+
+def test_a_timer_that_wavers(work: Path) -> None:
+    flight = Flight(work, {1: Wire("eth0")})
+    flight.begin()
+    for second in (0.999, 2.001, 2.7, 3.98, 5.02):
+        flight.status.tick(BEGIN + second)
+    judge("each second is met once", len(channel_of(flight, 1).history) == 5)
 
 
 def test_a_tick_that_comes_late(work: Path) -> None:
@@ -205,9 +230,22 @@ def test_versions(work: Path) -> None:
         "the history has the version of each second",
         [it.version for it in channel_of(flight, 1).history] == [0, 1, 1, 5],
     )
+    before = flight.path
     flight.begin("next.ch11")
+    with open(before, "ab") as file:
+        file.write(program(1, 6, 9))
     flight.pass_second()
-    judge("a recording that follows begins anew", versions_of(flight) == (0, 0))
+    judge("a recording that follows begins anew, whatever the old one still tells", versions_of(flight) == (0, 0))
+
+
+def test_a_version_that_is_met_late(work: Path) -> None:
+    flight = Flight(work, {1: Wire("eth0")})
+    flight.begin()
+    flight.status.filter_changed(1, 1)
+    flight.status.filter_changed(1, 2)
+    flight.append(program(1, 1, 7))
+    flight.pass_second()
+    judge("the last that was installed is told", versions_of(flight) == (2, 2))
 
 
 # ---- recordings that follow one another
@@ -232,11 +270,30 @@ def test_recordings_that_follow(work: Path) -> None:
     size = before.stat().st_size
     judge("the first has ended", found.recordings == ((1, before.name, size, 0, "yes other 0"),), found.recordings)
     judge("the end of the old recording isn't the channel's", not channel_of(flight, 1).has_ended)
+    flight.append(frames(1, 100))
     flight.end_recording(["channel 1 ..", "no 5 NoEnd 1"], 1)
     flight.status.ended(flight.now())
     found = view_of(flight)
     judge("audits are counted", found.audits == (1, 1, 0) and found.recordings[-1].is_refused(), found.recordings)
     judge("all has ended", (found.state, found.recording) == ("ended", None))
+    judge("what came last is counted too", channel_of(flight, 1).kept_frames == 3 * 400 + 200 + 2 * 400 + 100)
+
+
+def test_the_length_of_a_recording_that_ended(work: Path) -> None:
+    """It is the recorder's, where that tells it."""
+    for at, (report, wanted) in enumerate([(["wrote 3 12345"], 12_345), ([], len(program(1, 0)))]):
+        flight = Flight(work, {1: Wire("eth0")})
+        flight.begin(f"{at}.ch11")
+        flight.status.recording_ended(1, 0, flight.now(), ["channel 1 ..", *report], [])
+        judge(f"{wanted} bytes", view_of(flight).recordings[0].bytes == wanted)
+
+
+def test_a_new_recording_is_not_synced(work: Path) -> None:
+    flight = Flight(work, {1: Wire("eth0")})
+    flight.begin()
+    flight.pass_second()
+    flight.begin("next.ch11")
+    judge("it wasn't forced to its disk yet", view_of(flight).sync.age is None)
 
 
 def test_no_audit(work: Path) -> None:
@@ -254,6 +311,8 @@ def test_an_end_of_a_channel(work: Path) -> None:
     flight.append(end_packet(2, 5))
     flight.pass_second()
     judge("a channel that has ended is told", [it.has_ended for it in view_of(flight).channels] == [False, True])
+    flight.begin("next.ch11")
+    judge("in the next recording it goes on", [it.has_ended for it in view_of(flight).channels] == [False, False])
 
 
 # ---- what it keeps
@@ -277,6 +336,7 @@ def test_memory(work: Path) -> None:
                 flight.status.tick(flight.now())
 
     minutes(40)
+    files = len(os.listdir("/proc/self/fd"))
     tracemalloc.start()
     before = tracemalloc.get_traced_memory()[0]
     minutes(20)
@@ -288,3 +348,4 @@ def test_memory(work: Path) -> None:
     once = 64 * HISTORY_SECONDS * (sys.getsizeof((0,) * 10) + 8 * sys.getsizeof(1.5)) + (1 << 20)
     judge_quietly(f"memory grew by {grown}", grown < once)
     judge("what is kept doesn't grow with the run", True)
+    judge("nor do the files that are open", len(os.listdir("/proc/self/fd")) <= files)

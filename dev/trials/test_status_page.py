@@ -150,6 +150,24 @@ def test_states(browser: Browser, flown: Callable) -> None:
     judge("the title says it too", page.ask("document.title") == "4 ALARMS, RECORDING - bpfrec")
     names = page.ask("[...document.querySelectorAll('.interface')].map(it => it.textContent)")
     judge("a long name stands whole in the text", names[49] == LONG_NAME)
+    over = page.ask(
+        "[...document.querySelectorAll('.head > *')].filter(it => it.scrollWidth > it.clientWidth"
+        " && getComputedStyle(it).overflowX === 'visible' && getComputedStyle(it).display === 'block').length"
+    )
+    judge("and lies over nothing", over == 0, over)
+
+
+def test_what_is_drawn(browser: Browser, flown: Callable) -> None:
+    """Frames that are kept in packets of twenty seconds are as many each second."""
+    page = opened(browser, flown({1: Wire("eth0", frames=40, kept=25)}), DESKTOP)
+    drawn = page.ask("document.querySelector('path.kept').getAttribute('d')")
+    heights = {float(it) for it in re.findall(r"v-([0-9.]+)h", drawn)}
+    judge("a quarter of what came, in each second", heights == {7.5}, heights)
+    came = {
+        float(it)
+        for it in re.findall(r"v-([0-9.]+)h", page.ask("document.querySelector('path.offered').getAttribute('d')"))
+    }
+    judge("of what came all", came == {30.0}, came)
 
 
 CONTRAST = """(() => {

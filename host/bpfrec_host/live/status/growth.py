@@ -20,14 +20,18 @@ from bpfrec_host.formats.limits import (
     ETHERNET_DATA,
     FRAME_HEADER_LEN,
     HEADER_LEN,
+    INSN_LEN,
     MAX_ETHERNET_PACKET_LEN,
+    MAX_INSNS,
+    PROGRAM_HEAD_LEN,
     RECORD_CHANNEL,
 )
 
 # How much a call looks at, at most: packets; damaged places, bytes behind each, and places in these that look like packets.
 MOST_PACKETS, MOST_FAULTS, MOST_SEARCHED, MOST_PLACES = 4_096, 4, 1 << 20, 1_024
-# What is read of a packet at once.
+# What is read of a packet at once, and the longest record, which is read whole: that of a program.
 FRONT_LEN = HEADER_LEN + END_RECORD_LEN
+MOST_RECORD_LEN = PROGRAM_HEAD_LEN + MAX_INSNS * INSN_LEN
 
 
 class Kept(NamedTuple):
@@ -149,7 +153,8 @@ class Growth:
             return None
         if header.kind == ETHERNET_DATA:
             return kept_by(header, front[HEADER_LEN:])
-        if header.kind != COMPUTER_GENERATED_DATA or header.channel != RECORD_CHANNEL:
+        is_record = header.kind == COMPUTER_GENERATED_DATA and header.channel == RECORD_CHANNEL
+        if not is_record or header.data_len > MOST_RECORD_LEN:
             return None
         data = front[HEADER_LEN : HEADER_LEN + header.data_len]
         if header.data_len > len(data):
@@ -165,25 +170,29 @@ class Growth:
             offset = piece.find(SYNC, offset)
             if offset < 0 or offset + HEADER_LEN > len(piece):
                 break
-            if self.begins_again(self.at + 1 + offset, piece[offset : offset + HEADER_LEN]):
+            begins = self.begins_again(self.at + 1 + offset, piece[offset : offset + HEADER_LEN])
+            if begins:
                 self.at += 1 + offset
                 self.is_searching = False
                 return True
+            if begins is None:
+                break
             offset += 1
         # The last bytes may begin a header that isn't whole yet.
         passed = offset if offset >= 0 else len(piece) - HEADER_LEN + 1
         self.at += max(passed, 0)
         return False
 
-    def begins_again(self, at: int, head: bytes) -> bool:
-        """Whether these bytes of that place are a packet's header and packets go on behind it."""
+    def begins_again(self, at: int, head: bytes) -> Optional[bool]:
+        """Whether these bytes of that place are a packet's header and packets go on behind it; None where that can't be
+        seen yet."""
         if fault_of(head):
             return False
         end = at + header_of(head).packet_len
-        if end >= self.size:
-            return end == self.size
         after = os.pread(self.descriptor, HEADER_LEN, end)
-        return len(after) == HEADER_LEN and fault_of(after) is None
+        if end != self.size and len(after) < HEADER_LEN:
+            return None
+        return end == self.size or fault_of(after) is None
 
 
 def fault_of(head: bytes) -> Optional[tuple[int, str]]:

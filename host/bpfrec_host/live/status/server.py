@@ -29,6 +29,8 @@ from bpfrec_host.live.status.view import View
 MOST_CONNECTIONS, MOST_SECONDS, MOST_HEAD_LEN = 32, 5.0, 8_192
 # How long a new connection waits for the end of the oldest, where there are too many.
 MAKING_ROOM_SECONDS = 0.2
+# How long the rest of a request is waited for that nobody reads.
+DROPPING_SECONDS = 0.2
 # How long it waits where the system has no more descriptors or memory for a connection.
 SHORTAGE_SECONDS = 0.1
 # How many may wait to be taken, and how often it is looked whether all ends.
@@ -178,9 +180,9 @@ class Handler(BaseHTTPRequestHandler):
         self.drop_rest()
 
     def drop_rest(self) -> None:
-        """Takes what came behind the request, so that the answer isn't lost with it."""
+        """Takes what comes behind a request that has a body, so that the answer isn't lost with it."""
         self.connection.shutdown(socket.SHUT_WR)
-        self.connection.settimeout(0)
+        self.connection.settimeout(0 if self.command in ("GET", "HEAD") else DROPPING_SECONDS)
         for _ in range(8):
             if not self.connection.recv(1 << 16):
                 return
@@ -191,9 +193,6 @@ class Handler(BaseHTTPRequestHandler):
 
     def send_error(self, code: int, message: Optional[str] = None, explain: Optional[str] = None) -> None:
         """Says nothing: what is wrong with a request is answered without its words."""
-
-    def log_message(self, format: str, *args: Any) -> None:
-        """Says nothing on standard error."""
 
 
 def is_local(host: str) -> bool:
