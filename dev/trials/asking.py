@@ -4,6 +4,7 @@ from __future__ import annotations
 
 import contextlib
 import socket
+import time
 from collections.abc import Iterator
 from pathlib import Path
 
@@ -34,6 +35,7 @@ def raw(flight: Flight, request: bytes, is_calm: bool = False) -> bytes:
     """All bytes that a request is answered; `is_calm` has a connection that is reset fail."""
     with connection(flight) as it:
         it.sendall(request)
+        time.sleep(0.05 * is_calm)
         found = b""
         with contextlib.suppress(*[] if is_calm else [ConnectionResetError]):
             while part := it.recv(1 << 16):

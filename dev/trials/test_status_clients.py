@@ -71,6 +71,7 @@ def test_who_asks_late_and_reads_nothing(work: Path, monkeypatch: pytest.MonkeyP
     """Asking and being answered have one time together."""
     monkeypatch.setattr(server, "MOST_SECONDS", 2.0)
     flight = Flight(work, wires_of(64), endpoint=endpoint_in("0"))
+    flight.status.server.socket.setsockopt(socket.SOL_SOCKET, socket.SO_SNDBUF, 4_096)
     flight.begin()
     flight.pass_seconds(60)
     with socket.socket() as it:
@@ -79,7 +80,8 @@ def test_who_asks_late_and_reads_nothing(work: Path, monkeypatch: pytest.MonkeyP
         begin = time.monotonic()
         time.sleep(1.5)
         it.sendall(b"GET /status.json HTTP/1.1\r\nHost: localhost\r\n\r\n")
-        # As much as the kernel takes of an answer is gone at once.
+        time.sleep(0.2)
+        judge_quietly("its answer waits", flight.status.server.open)
         wait_for("it ends", lambda: not flight.status.server.open, 10)
         took = time.monotonic() - begin
     flight.status.close()

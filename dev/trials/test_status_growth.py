@@ -180,7 +180,7 @@ def test_a_header_that_comes_in_two(work: Path) -> None:
     one = frames(1, 1)
     for length in range(30):
         path = work / f"{length}.ch11"
-        path.write_bytes(b"damage!!" + one[:length])
+        path.write_bytes(b"damage!!" * 9 + one[:length])
         growing = Growth(str(path))
         first = growing.read_on()
         with open(path, "ab") as file:

@@ -155,6 +155,8 @@ def test_states(browser: Browser, flown: Callable) -> None:
         " && getComputedStyle(it).overflowX === 'visible' && getComputedStyle(it).display === 'block').length"
     )
     judge("and lies over nothing", over == 0, over)
+    lines = page.ask("[...document.querySelectorAll('.head')].map(it => it.getBoundingClientRect().height)")
+    judge("nor breaks its line", lines[49] == lines[0], lines)
 
 
 def test_what_is_drawn(browser: Browser, flown: Callable) -> None:

@@ -6,6 +6,7 @@ import http.client
 import json
 import os
 import signal
+import socket
 import sys
 import threading
 import time
@@ -223,6 +224,18 @@ def test_ipv6(work: Path) -> None:
     judge("it is told in brackets", flight.status.address().startswith("http://[::1]:"), flight.status.address())
     judge("and answers", asked(flight, host="[::1]")[0] == 200)
     flight.status.close()
+
+
+def test_ipv6_alone(work: Path) -> None:
+    """An address of IPv6 serves nobody of IPv4."""
+    try:
+        flight = Flight(work, {1: Wire("eth0")}, endpoint=status.endpoint_in("[::]:0"))
+    except status.NoServer as refused:
+        pytest.skip(f"no IPv6 here: {refused}")
+    with pytest.raises(OSError):
+        socket.create_connection(("127.0.0.1", place_of(flight)[1]), 5)
+    flight.status.close()
+    judge("it isn't reached by IPv4", True)
 
 
 def test_the_loopback_alone(flight: Flight) -> None:

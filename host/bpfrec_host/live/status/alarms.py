@@ -70,7 +70,9 @@ def of_whole(view: View) -> Iterator[Alarm]:
         yield Alarm("unread", WARNING, None, "told late", text)
     if view.audits.no:
         refused = [f"{it.name}: {it.audit}" for it in view.recordings if it.is_refused()][-1:]
-        text = f"the audit of {plural(view.audits.no, 'recording')} said no{''.join(f', last of {it}' for it in refused)}"
+        text = (
+            f"the audit of {plural(view.audits.no, 'recording')} said no{''.join(f', last of {it}' for it in refused)}"
+        )
         yield Alarm("audit", ALARM, None, "audit: no", text)
     if view.state == "waiting" and view.recordings:
         yield Alarm("waiting", ALARM, None, "not recording", "nothing is recorded: the next recording hasn't begun")
@@ -135,14 +137,21 @@ def of_pipe(channel: ChannelView) -> Iterator[Alarm]:
     """Whether the recorder is slower than the wire."""
     waited = sum(it.waited for it in channel.history[-WAITED_SECONDS:])
     if waited >= WAITED_MILLISECONDS:
-        text = f"its pipe was full for {waited:,} ms of the last {WAITED_SECONDS} s: the recorder is slower than the wire"
+        text = (
+            f"its pipe was full for {waited:,} ms of the last {WAITED_SECONDS} s: the recorder is slower than the wire"
+        )
         yield of(channel, "waits", ALARM, "pipe waits", text)
 
 
 def of_filter(channel: ChannelView, limit: int) -> Iterator[Alarm]:
     """Whether the filter keeps nothing of what comes."""
     it = channel.unkept
-    if not it or it.seconds < KEEPS_NOTHING_SECONDS or it.frames < KEEPS_NOTHING_FRAMES or it.bytes < due(channel, limit):
+    if (
+        not it
+        or it.seconds < KEEPS_NOTHING_SECONDS
+        or it.frames < KEEPS_NOTHING_FRAMES
+        or it.bytes < due(channel, limit)
+    ):
         return
     text = (
         f"none of the {it.frames:,} frames that were offered in {duration(it.seconds)} is in the recording: the filter "

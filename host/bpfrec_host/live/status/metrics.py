@@ -43,9 +43,15 @@ CHANNEL_METRICS = (
     Metric("offered_bytes_total", COUNTER, "Bytes of frames that came.", lambda it: it.counts and it.counts.bytes),
     Metric("kept_frames_total", COUNTER, "Frames in recordings.", lambda it: it.kept_frames),
     Metric("kept_bytes_total", COUNTER, "Bytes of frames in recordings.", lambda it: it.kept_bytes),
-    Metric("dropped_frames_total", COUNTER, "Frames that the kernel dropped.", lambda it: it.counts and it.counts.dropped),
-    Metric("missed_frames_total", COUNTER, "Frames that the interface missed.", lambda it: it.counts and it.counts.missed),
-    Metric("skipped_frames_total", COUNTER, "Frames cut short or too long.", lambda it: it.counts and it.counts.skipped),
+    Metric(
+        "dropped_frames_total", COUNTER, "Frames that the kernel dropped.", lambda it: it.counts and it.counts.dropped
+    ),
+    Metric(
+        "missed_frames_total", COUNTER, "Frames that the interface missed.", lambda it: it.counts and it.counts.missed
+    ),
+    Metric(
+        "skipped_frames_total", COUNTER, "Frames cut short or too long.", lambda it: it.counts and it.counts.skipped
+    ),
     Metric(
         "waited_seconds_total",
         COUNTER,

@@ -29,8 +29,6 @@ from bpfrec_host.live.status.view import View
 MOST_CONNECTIONS, MOST_SECONDS, MOST_HEAD_LEN = 32, 5.0, 8_192
 # How long a new connection waits for the end of the oldest, where there are too many.
 MAKING_ROOM_SECONDS = 0.2
-# How long the rest of a request is waited for that nobody reads.
-DROPPING_SECONDS = 0.2
 # How long it waits where the system has no more descriptors or memory for a connection.
 SHORTAGE_SECONDS = 0.1
 # How many may wait to be taken, and how often it is looked whether all ends.
@@ -177,15 +175,6 @@ class Handler(BaseHTTPRequestHandler):
         self.end_headers()
         if self.command != "HEAD":
             self.wfile.write(answer.body)
-        self.drop_rest()
-
-    def drop_rest(self) -> None:
-        """Takes what comes behind a request that has a body, so that the answer isn't lost with it."""
-        self.connection.shutdown(socket.SHUT_WR)
-        self.connection.settimeout(0 if self.command in ("GET", "HEAD") else DROPPING_SECONDS)
-        for _ in range(8):
-            if not self.connection.recv(1 << 16):
-                return
 
     def handle_expect_100(self) -> bool:
         """Asks nobody to go on: no request has more than its head."""
@@ -203,7 +192,7 @@ def is_local(host: str) -> bool:
 class Server(socketserver.ThreadingMixIn, socketserver.TCPServer):
     """Serves until it is closed. At most so many connections are open; where there are more, the oldest is closed."""
 
-    allow_reuse_address, daemon_threads, block_on_close, request_queue_size = True, True, False, BACKLOG
+    allow_reuse_address, daemon_threads, request_queue_size = True, True, BACKLOG
 
     def __init__(self, endpoint: Endpoint, clock: Callable[[], float] = time.monotonic) -> None:
         self.address_family = socket.AF_INET6 if endpoint.address.version == 6 else socket.AF_INET

@@ -39,22 +39,24 @@ class Terminal:
         """Whether there is a table at all; where there is none, lines are said as ever."""
         return self.descriptor >= 0
 
-    def draw(self, view: View, alarms: tuple[Alarm, ...], said: Sequence[str] = ()) -> bool:
-        """Writes the table in the place of the last one, below the lines that are `said`: whether it had room."""
+    def draw(self, view: View, alarms: tuple[Alarm, ...]) -> bool:
+        """Writes the table in the place of the last one: whether there was room to begin with it."""
         if not self.is_shown() or not self.flush():
             return False
         size = self.size()
-        lines = lines_of(view, alarms, size.columns - 1, size.lines - 1)
         erased = self.erasing(size.columns)
-        self.drawn = lines
-        return self.write("".join([erased, *(f"{it}\n" for it in (*said, *lines))]))
+        self.drawn = lines_of(view, alarms, size.columns - 1, size.lines - 1)
+        self.write("".join([erased, *(f"{it}\n" for it in self.drawn)]))
+        return True
 
     def say(self, lines: Sequence[str]) -> bool:
-        """Writes lines in the place of the table, which comes back below them: whether they had room."""
+        """Writes lines in the place of the table, which comes back below them: whether there was room to begin with
+        them. What was begun is written to its end before anything else."""
         if not self.is_shown() or not self.flush():
             return False
         erased, after = self.erasing(self.size().columns), "".join(f"{it}\n" for it in self.drawn)
-        return self.write("".join([erased, *(f"{it}\n" for it in lines), after]))
+        self.write("".join([erased, *(f"{it}\n" for it in lines), after]))
+        return True
 
     def close(self) -> None:
         """Ends; the last table stays."""
