@@ -18,6 +18,7 @@ from scripted import Flight, endpoint_in, server, wires_of
 from support import ROOT, judge, judge_quietly, run, wait_for
 
 PATHS = ("/", "/status.json", "/metrics")
+pytestmark = pytest.mark.timed
 
 
 @pytest.fixture

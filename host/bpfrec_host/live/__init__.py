@@ -1,1 +1,1 @@
-"""`bpfrec-live`: the process that records network interfaces, and what tells how it goes."""
+"""bpfrec-live: records network interfaces by `capture`, `bpfrec record` and `bpfrec audit`, as one command."""

@@ -15,13 +15,12 @@ How `live` joins it; all calls are made by one thread, and moments are seconds o
 No call waits for a client, a terminal or a pipe. Lines for the terminal go through `Terminal.say` while `is_shown()`.
 """
 
+from bpfrec_host.live.observer import Counts, Setup
 from bpfrec_host.live.status.counts import Counted, counted_in
 from bpfrec_host.live.status.endpoint import BadEndpoint, Endpoint, endpoint_in
-from bpfrec_host.live.status.model import Setup
 from bpfrec_host.live.status.observer import Status
 from bpfrec_host.live.status.server import NoServer
 from bpfrec_host.live.status.terminal import Terminal
-from bpfrec_host.live.status.view import Counts
 
 __all__ = [
     "BadEndpoint",

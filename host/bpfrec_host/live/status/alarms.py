@@ -9,7 +9,7 @@ from __future__ import annotations
 from collections.abc import Iterator
 from typing import NamedTuple, Optional
 
-from bpfrec_host.live.status.view import ChannelView, View
+from bpfrec_host.live.status.view import ChannelView, View, lost
 
 ALARM, WARNING = "alarm", "warning"
 # Frames that were lost in so many seconds are an alarm; those of before are a warning.
@@ -122,7 +122,7 @@ def of_channel(channel: ChannelView, state: str, limit: int) -> Iterator[Alarm]:
 def of_losses(channel: ChannelView) -> Iterator[Alarm]:
     """Whether frames were lost: now, or before."""
     counts, age = channel.counts, channel.lost_age
-    if not counts or not counts.lost():
+    if not counts or not lost(counts):
         return
     ways = ((counts.dropped, "dropped by the kernel"), (counts.missed, "missed"), (counts.skipped, "skipped"))
     told = ", ".join(f"{count:,} {way}" for count, way in ways if count)

@@ -5,7 +5,8 @@ from __future__ import annotations
 from collections import deque
 from typing import Optional
 
-from bpfrec_host.live.status.view import HISTORY_SECONDS, ChannelView, Counts, Second, Unkept
+from bpfrec_host.live.observer import Counts
+from bpfrec_host.live.status.view import HISTORY_SECONDS, ChannelView, Second, Unkept, lost
 
 # Counts that come closer together than this make no rate of their own, and those that are older tell none, in seconds.
 LEAST_BETWEEN, MOST_BETWEEN = 0.5, 2.5
@@ -45,7 +46,7 @@ class Channel:
         last = self.counts or NOTHING
         if counts.frames > last.frames:
             self.frame_at = now
-        if counts.lost() > last.lost():
+        if lost(counts) > lost(last):
             self.lost_at = now
         begin, base = self.base
         if self.counts is None or now - begin > MOST_BETWEEN:

@@ -5,7 +5,7 @@ from __future__ import annotations
 import re
 from typing import NamedTuple, Optional
 
-from bpfrec_host.live.status.view import Counts
+from bpfrec_host.live.observer import Counts
 
 # A name of an interface has no blanks. The longest number that the capture prints has 20 digits.
 LINE = re.compile(

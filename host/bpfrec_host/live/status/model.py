@@ -8,16 +8,16 @@ import re
 from collections import deque
 from collections.abc import Iterable, Sequence
 from math import floor
-from typing import NamedTuple, Optional
+from typing import Optional
 
 from bpfrec_host.formats.ch11 import End, Program
+from bpfrec_host.live.observer import Counts, Setup
 from bpfrec_host.live.status.channel import Channel, since
 from bpfrec_host.live.status.growth import Growth, Kept, Told
 from bpfrec_host.live.status.view import (
     HISTORY_SECONDS,
     Audits,
     ChannelView,
-    Counts,
     DiskView,
     EndedView,
     RecordingView,
@@ -29,15 +29,6 @@ from bpfrec_host.live.status.view import (
 MOST_ENDED = 32
 # The line of a report that has the recording's length.
 WROTE = re.compile(r"wrote [0-9]+ ([0-9]{1,20})")
-
-
-class Setup(NamedTuple):
-    """A channel of a recording, with the interface that it has and the version of its filter; None where its feed is a
-    file or a pipe."""
-
-    channel: int
-    interface: Optional[str]
-    version: int = 0
 
 
 class Going:

@@ -8,13 +8,13 @@ from collections.abc import Iterable, Sequence
 from typing import Optional
 
 from bpfrec_host.formats.limits import TOP_KEYS
+from bpfrec_host.live.observer import Counts, Observer, Setup
 from bpfrec_host.live.status.alarms import alarms_of
 from bpfrec_host.live.status.endpoint import Endpoint
 from bpfrec_host.live.status.growth import MOST_PACKETS, Growth
-from bpfrec_host.live.status.model import Model, Setup
+from bpfrec_host.live.status.model import Model
 from bpfrec_host.live.status.server import Server, Stock
 from bpfrec_host.live.status.terminal import Terminal
-from bpfrec_host.live.status.view import Counts
 
 # The longest packet where the settings say nothing.
 USUAL_LIMIT = TOP_KEYS["limit"].default or 0
@@ -22,8 +22,8 @@ USUAL_LIMIT = TOP_KEYS["limit"].default or 0
 MOST_PIECES = 16
 
 
-class Status:
-    """A run that is watched. Moments are those of `time.monotonic`; all calls come from one thread."""
+class Status(Observer):
+    """The observer of a run, by which it is watched. Moments are those of `time.monotonic`; all calls come from one thread."""
 
     def __init__(
         self,

@@ -8,7 +8,7 @@ from typing import NamedTuple, Optional
 
 from bpfrec_host.live.status.alarms import ALARM, Alarm, duration, level_of, plural, size
 from bpfrec_host.live.status.as_json import kept_rates
-from bpfrec_host.live.status.view import ChannelView, View, current
+from bpfrec_host.live.status.view import ChannelView, View, current, lost
 
 # The colours of a line, and what ends them: of alarms white on red, of warnings black on yellow.
 COLOURS = {"alarm": "\x1b[97;41m", "warning": "\x1b[30;43m", "ok": ""}
@@ -94,7 +94,7 @@ def row(it: ChannelView, alarms: tuple[Alarm, ...]) -> Line:
         f"{it.channel:>5} {padded(name, NAME_WIDTH)}",
         f"{rate(last.offered_frames if last else None):>9}",
         f"{rate(kept[0] if kept else None):>9}",
-        f"{'-' if it.counts is None else format(it.counts.lost(), ','):>9}",
+        f"{'-' if it.counts is None else format(lost(it.counts), ','):>9}",
         f"{it.same_since:>6}",
         f"{'-' if it.frame_age is None else duration(it.frame_age):>8}",
         f" {words.upper() or ('ended' if it.has_ended else bar(it))}",

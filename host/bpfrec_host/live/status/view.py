@@ -8,24 +8,10 @@ from __future__ import annotations
 
 from typing import NamedTuple, Optional
 
+from bpfrec_host.live.observer import Counts
+
 # How many seconds of its past a channel keeps.
 HISTORY_SECONDS = 60
-
-
-class Counts(NamedTuple):
-    """What the capture has counted of an interface since the run began. `skipped` frames were cut short, or of no length
-    that a feed takes; `waited` is for how many milliseconds the interface's pipe was full."""
-
-    frames: int
-    bytes: int
-    dropped: int
-    missed: int
-    skipped: int
-    waited: int
-
-    def lost(self) -> int:
-        """How many frames were lost, in whatever way."""
-        return self.dropped + self.missed + self.skipped
 
 
 class Second(NamedTuple):
@@ -42,10 +28,6 @@ class Second(NamedTuple):
     waited: int
     version: int
     age: Optional[float]
-
-    def lost(self) -> int:
-        """How many frames were lost in this second."""
-        return self.dropped + self.missed + self.skipped
 
 
 class Unkept(NamedTuple):
@@ -145,3 +127,8 @@ class View(NamedTuple):
 def current(channel: ChannelView) -> Optional[Second]:
     """The last second of a channel; None before there was one."""
     return channel.history[-1] if channel.history else None
+
+
+def lost(counts: Counts) -> int:
+    """How many frames of an interface were lost, in whatever way."""
+    return counts.dropped + counts.missed + counts.skipped
