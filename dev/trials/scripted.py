@@ -115,6 +115,7 @@ class Flight:
     def __init__(self, folder: Path, wires: dict[int, Wire], **more) -> None:
         self.folder, self.wires, self.second, self.number = folder, wires, 0, 0
         self.status = status.Status(now=BEGIN, **more)
+        self.status.start()
         self.counts = {it.interface: [0] * 6 for it in wires.values() if it.interface}
         self.open = dict.fromkeys(wires, 0.0)
         self.path = folder / "none"

@@ -175,6 +175,7 @@ import resource, socket, sys, time
 sys.path.insert(0, {str(ROOT / "host")!r})
 from bpfrec_host.live import status
 it = status.Status(endpoint=status.endpoint_in("0"))
+it.start()
 place = (str(it.server.endpoint.address), it.server.endpoint.port)
 one = socket.socket()
 taken = [open("/dev/null") for _ in range(5)]
@@ -200,6 +201,7 @@ import socket, struct, sys, time
 sys.path.insert(0, {str(ROOT / "host")!r})
 from bpfrec_host.live import status
 it = status.Status(endpoint=status.endpoint_in("0"))
+it.start()
 it.tick(time.monotonic())
 for request in (b"x\\r\\n\\r\\n", b"GET / HTTP/1.1\\r\\n\\r\\n", b"POST / HTTP/1.0\\r\\n\\r\\n", b"GET /status.json HTTP/1.0\\r\\n\\r\\n", b"half"):
     one = socket.create_connection((str(it.server.endpoint.address), it.server.endpoint.port))

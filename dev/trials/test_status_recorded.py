@@ -80,6 +80,7 @@ def asked(status: Status, name: str = "status.json") -> dict:
 @pytest.fixture
 def status(recording: Recording) -> Iterator[Status]:
     made = Status(endpoint_in("0"), sync=0, limit=LIMIT)
+    made.start()
     made.recording_begun(1, str(recording.out), [Setup(1, "rx0"), Setup(2, "rx1")], time.monotonic())
     yield made
     made.close()

@@ -31,11 +31,15 @@ class Screen:
     def __init__(self, columns: int, lines: int) -> None:
         self.columns, self.lines = columns, lines
         self.rows: list[str] = [""]
-        self.top, self.row, self.column = 0, 0, 0
+        self.top, self.row, self.column, self.kept = 0, 0, 0, (0, 0)
 
     def write(self, text: str) -> None:
-        for part in re.findall(r"\x1b\[[0-9;?]*[A-Za-z]|[\x00-\x1f]|[^\x00-\x1f]+", text):
-            if part.startswith("\x1b["):
+        for part in re.findall(r"\x1b\[[0-9;?]*[A-Za-z]|\x1b[78]|[\x00-\x1f]|[^\x00-\x1f]+", text):
+            if part == "\x1b7":
+                self.kept = self.row, self.column
+            elif part == "\x1b8":
+                self.row, self.column = self.kept
+            elif part.startswith("\x1b["):
                 self.control(int(part[2:-1].split(";")[0] or 1), part[-1])
             elif part == "\n":
                 self.feed()
@@ -48,6 +52,8 @@ class Screen:
     def control(self, number: int, what: str) -> None:
         if what == "F":
             self.row, self.column = max(self.row - number, self.top), 0
+        elif what == "K":
+            self.rows[self.row] = self.rows[self.row][: self.column]
         elif what == "J":
             self.rows = [*self.rows[: self.row], self.rows[self.row][: self.column]]
         else:
@@ -63,7 +69,8 @@ class Screen:
         for it in text:
             if self.column + columns_of(it) > self.columns:
                 self.feed()
-            self.rows[self.row] = self.rows[self.row][: self.column].ljust(self.column) + it
+            row = self.rows[self.row]
+            self.rows[self.row] = row[: self.column].ljust(self.column) + it + row[self.column + 1 :]
             self.column += columns_of(it)
 
     def text(self) -> str:
@@ -217,6 +224,38 @@ def test_no_jump_of_the_cursor_beyond_the_top(work: Path) -> None:
     judge("one table is there", text.count("RECORDING") == 1, text)
     judge("and it fits", len(text.rstrip("\n").split("\n")) <= 23, text)
     small.close()
+
+
+def test_what_is_typed(work: Path, shown: Shown) -> None:
+    """It stays below the table while it is typed, and the table stays in its place once it is entered."""
+    flight = flown(work, {1: Wire("eth0"), 2: Wire("eth1")}, 5)
+    shown.terminal.draw(*told_of(flight))
+    for typed in ("set ", "2 ", "file"):
+        shown.read()
+        shown.screen.write(typed)
+        flight.pass_second()
+        shown.terminal.draw(*told_of(flight))
+    rows = shown.read().split("\n")
+    wanted = plain(table.lines_of(*told_of(flight), 99, 29))
+    judge("what is typed stays", rows == [*wanted, "set 2 file"], rows)
+    shown.screen.write("\n")
+    shown.terminal.note_typed()
+    shown.terminal.say(["installed 2 1 407"])
+    flight.pass_second()
+    shown.terminal.draw(*told_of(flight))
+    rows = shown.read().rstrip("\n").split("\n")
+    wanted = plain(table.lines_of(*told_of(flight), 99, 29))
+    judge("and one table is there afterwards", rows == ["installed 2 1 407", *wanted], rows)
+
+
+def test_which_streams_it_is(shown: Shown) -> None:
+    read, write = os.pipe()
+    other = Shown()
+    found = [shown.terminal.is_of(it) for it in (shown.inner, other.inner, write, 999)]
+    judge("lines of that terminal go through it", found == [True, False, False, False], found)
+    other.close()
+    os.close(read)
+    os.close(write)
 
 
 def test_narrower(work: Path, shown: Shown) -> None:

@@ -4,6 +4,7 @@ How `live` joins it; all calls are made by one thread, and moments are seconds o
 
     status = Status(endpoint_in(word), Terminal(2, is_quiet), sync, limit)  # before anything is recorded; 1 ms. Raises
         # BadEndpoint (its status is 2) and NoServer (3), each with its one line; `status.address()` is what is told
+    status.start()  # begins to serve, once nothing is forked any more that isn't a program of its own; 1 ms
     status.recording_begun(number, path, [Setup(1, "eth0")], now)  # once the recorder has OUT open; 0.1 ms
     status.capture_counted(*counted_in(line), now)  # each line of counts, also with --quiet; 10 us
     status.filter_changed(channel, version, is_same)  # at `installed CHANNEL VERSION MARK`; 1 us
@@ -12,7 +13,8 @@ How `live` joins it; all calls are made by one thread, and moments are seconds o
     status.recording_ended(number, exit_status, now, report_lines, audit_lines)  # after its audit; as a tick
     status.ended(now), status.close()  # at the end; close takes a quarter of a second at most
 
-No call waits for a client, a terminal or a pipe. Lines for the terminal go through `Terminal.say` while `is_shown()`.
+No call waits for a client, a terminal or a pipe. While `Terminal.is_of(stream)`, lines for that stream go through
+`Terminal.say`, and `Terminal.note_typed` is told of each line that is read from it.
 """
 
 from bpfrec_host.live.observer import Counts, Setup

@@ -38,6 +38,9 @@ class Status(Observer):
         self.growths: dict[int, Growth] = {}
         # It takes its port at once, so that one that can't be had is refused before anything is recorded.
         self.server = Server(endpoint) if endpoint else None
+
+    def start(self) -> None:
+        """Begins to serve, by a thread; from then on no process may be copied by `fork` alone."""
         if self.server:
             self.server.start()
 

@@ -1,6 +1,7 @@
 """A terminal on which the table is written again and again in its place, with the lines that are said above it.
 
-Nothing waits for whoever reads the terminal: what it has no room for is left out.
+Nothing waits for whoever reads the terminal: what it has no room for is left out. What is being typed stands below the
+table and stays, as long as the table keeps its height.
 """
 
 from __future__ import annotations
@@ -14,7 +15,10 @@ from bpfrec_host.live.status.alarms import Alarm
 from bpfrec_host.live.status.table import columns_of, lines_of
 from bpfrec_host.live.status.view import View
 
-CLEAR_BELOW, UP, COLOUR = "\x1b[J", "\x1b[{}F", re.compile("\x1b\\[[0-9;]*m")
+# To the beginning of a line so many above; what clears all behind the cursor, and the rest of a line; what keeps the
+# cursor's place and goes back to it.
+UP, CLEAR_BELOW, CLEAR_LINE, KEEP, BACK = "\x1b[{}F", "\x1b[J", "\x1b[K", "\x1b7", "\x1b8"
+COLOUR = re.compile("\x1b\\[[0-9;]*m")
 # A terminal of which nothing is known.
 USUAL_SIZE = os.terminal_size((80, 24))
 
@@ -25,8 +29,10 @@ class Terminal:
 
     def __init__(self, stream: int = 2, is_quiet: bool = False) -> None:
         self.descriptor = -1
-        # The lines that stand there; and what is left of a write that was cut.
+        # The lines that stand there, on a terminal of so many columns, and how many were typed below them; and what is
+        # left of a write that was cut.
         self.drawn: list[str] = []
+        self.columns = self.typed = 0
         self.rest = b""
         try:
             if not is_quiet and os.isatty(stream) and os.environ.get("TERM", "dumb") != "dumb":
@@ -39,14 +45,28 @@ class Terminal:
         """Whether there is a table at all; where there is none, lines are said as ever."""
         return self.descriptor >= 0
 
+    def is_of(self, stream: int) -> bool:
+        """Whether a table is shown on the terminal that this stream is: then its lines are to go through `say`."""
+        try:
+            return (
+                self.is_shown() and os.isatty(stream) and os.fstat(stream).st_rdev == os.fstat(self.descriptor).st_rdev
+            )
+        except OSError:
+            return False
+
     def draw(self, view: View, alarms: tuple[Alarm, ...]) -> bool:
         """Writes the table in the place of the last one: whether there was room to begin with it."""
         if not self.is_shown() or not self.flush():
             return False
         size = self.size()
-        erased = self.erasing(size.columns)
-        self.drawn = lines_of(view, alarms, size.columns - 1, size.lines - 1)
-        self.write("".join([erased, *(f"{it}\n" for it in self.drawn)]))
+        lines = lines_of(view, alarms, size.columns - 1, size.lines - 1)
+        is_same = len(lines) == len(self.drawn) and size.columns == self.columns and not self.typed
+        if is_same:
+            inside = "".join(f"{it}{CLEAR_LINE}\n" for it in lines)
+            self.write(f"{KEEP}{UP.format(len(lines))}{inside}{BACK}")
+            self.drawn = lines
+        else:
+            self.replace([], lines, size.columns)
         return True
 
     def say(self, lines: Sequence[str]) -> bool:
@@ -54,9 +74,12 @@ class Terminal:
         them. What was begun is written to its end before anything else."""
         if not self.is_shown() or not self.flush():
             return False
-        erased, after = self.erasing(self.size().columns), "".join(f"{it}\n" for it in self.drawn)
-        self.write("".join([erased, *(f"{it}\n" for it in lines), after]))
+        self.replace(lines, self.drawn, self.size().columns)
         return True
+
+    def note_typed(self) -> None:
+        """A line was typed below the table."""
+        self.typed += 1 if self.is_shown() else 0
 
     def close(self) -> None:
         """Ends; the last table stays."""
@@ -73,10 +96,13 @@ class Terminal:
             return USUAL_SIZE
         return found if found.columns and found.lines else USUAL_SIZE
 
-    def erasing(self, columns: int) -> str:
-        """What takes the table away, also where the terminal has become narrower since and broke its lines."""
-        rows = sum(max(-(-width_of(it) // columns), 1) for it in self.drawn)
-        return (UP.format(rows) if rows else "") + CLEAR_BELOW
+    def replace(self, said: Sequence[str], lines: list[str], columns: int) -> None:
+        """Takes the table away, also where the terminal has become narrower since and broke its lines, and writes what
+        is said and another table."""
+        rows = sum(max(-(-width_of(it) // columns), 1) for it in self.drawn) + self.typed
+        erased = (UP.format(rows) if rows else "") + CLEAR_BELOW
+        self.drawn, self.columns, self.typed = lines, columns, 0
+        self.write(erased + "".join(f"{it}\n" for it in (*said, *lines)))
 
     def flush(self) -> bool:
         """Whether nothing is left of what was written before."""
