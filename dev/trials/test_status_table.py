@@ -328,5 +328,8 @@ def test_none(work: Path, case: str, shown: Shown, monkeypatch: pytest.MonkeyPat
 def test_the_run_draws_it(work: Path, shown: Shown) -> None:
     flight = flown(work, {1: Wire("eth0")}, 3, terminal=shown.terminal)
     judge("each tick draws", shown.read().startswith("RECORDING\nflight.ch11  3 s  "), shown.read())
+    shown.terminal.say(["said before the end"])
+    flight.status.ended(flight.now())
+    judge("at the end what was said stays alone", shown.read() == "said before the end\n", shown.read())
     flight.status.close()
-    judge("the last stays at the end", "RECORDING" in shown.read() and not shown.terminal.is_shown())
+    judge("and nothing is shown any more", not shown.terminal.is_shown())

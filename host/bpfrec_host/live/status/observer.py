@@ -90,9 +90,11 @@ class Status(Observer):
         self.publish(now)
 
     def ended(self, now: float) -> None:
-        """All has ended; the page says so until `close`."""
+        """All has ended; the page says so until `close`, and the table is taken away."""
         self.model.ended()
         self.publish(now)
+        if self.terminal:
+            self.terminal.clear()
 
     def close(self) -> None:
         """Ends the server and the table."""

@@ -77,12 +77,17 @@ class Terminal:
         self.replace(lines, self.drawn, self.size().columns)
         return True
 
+    def clear(self) -> None:
+        """Takes the table away; what was said stays."""
+        if self.is_shown() and self.flush():
+            self.replace([], [], self.size().columns)
+
     def note_typed(self) -> None:
         """A line was typed below the table."""
         self.typed += 1 if self.is_shown() else 0
 
     def close(self) -> None:
-        """Ends; the last table stays."""
+        """Ends; a table that is there stays."""
         if self.is_shown():
             self.flush()
             os.close(self.descriptor)
