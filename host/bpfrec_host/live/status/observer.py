@@ -133,5 +133,5 @@ class Status(Observer):
         alarms = alarms_of(view, self.limit)
         if self.server:
             self.server.answers.stock = Stock(view, alarms)
-        if self.terminal:
+        if self.terminal and not self.model.is_ended:
             self.terminal.draw(view, alarms)
