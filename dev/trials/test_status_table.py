@@ -157,6 +157,12 @@ def test_lines(work: Path) -> None:
         found[6],
     )
     judge("in red", lines[6].startswith("\x1b[97;41m") and lines[6].endswith("\x1b[0m") and "\x1b" not in lines[5])
+    narrow = plain(table.lines_of(*told_of(flight), 79, 30))
+    judge(
+        "its bar has the room that there is",
+        narrow[5].endswith("s  " + "█" * (79 - found[4].index("state"))),
+        narrow[5],
+    )
     flight.end_recording()
     flight.status.ended(flight.now())
     found = plain(table.lines_of(*told_of(flight), 120, 30))

@@ -35,7 +35,7 @@ def lines_of(view: View, alarms: tuple[Alarm, ...], width: int, height: int) -> 
     head += mine[: max((height - len(head)) // 3, 0)]
     room = max(height - len(head) - 2, 0)
     channels = shown(view.channels, alarms, room)
-    rows = [Line(TITLES, "ok"), *(row(it, alarms) for it in channels)] if channels else []
+    rows = [Line(TITLES, "ok"), *(row(it, alarms, width) for it in channels)] if channels else []
     left = len(view.channels) - len(channels)
     if left:
         rows.append(Line(f"and {plural(left, 'more channel')}", "ok"))
@@ -46,7 +46,7 @@ def heading(view: View, alarms: tuple[Alarm, ...]) -> str:
     """The first line: whether all is well."""
     count = sum(it.level == ALARM for it in alarms)
     state = {"recording": "RECORDING", "ended": "ENDED", "waiting": "NOT RECORDING"}[view.state]
-    words = [plural(count, "ALARM")] if count else []
+    words = [f"{count} ALARM{'' if count == 1 else 'S'}"] if count else []
     words += [plural(len(alarms) - count, "warning")] if len(alarms) > count else []
     return ", ".join([state, *words])
 
@@ -73,7 +73,10 @@ def ago(age: Optional[float]) -> str:
 
 # ---- channels
 
-TITLES = f"{'channel':<{NAME_WIDTH + 6}} {'came/s':>9} {'kept/s':>9} {'lost':>9} {'filter':>6} {'last':>8}  state"
+TITLES = f"{'channel':<{NAME_WIDTH + 6}} {'came/s':>8} {'kept/s':>8} {'lost':>8} {'filter':>6} {'last':>8}  state"
+
+# The column at which a channel's state begins.
+STATE_AT = TITLES.index("state")
 
 
 def shown(channels: tuple[ChannelView, ...], alarms: tuple[Alarm, ...], room: int) -> list[ChannelView]:
@@ -85,19 +88,19 @@ def shown(channels: tuple[ChannelView, ...], alarms: tuple[Alarm, ...], room: in
     return sorted(chosen, key=lambda it: it.channel)
 
 
-def row(it: ChannelView, alarms: tuple[Alarm, ...]) -> Line:
-    """A channel."""
+def row(it: ChannelView, alarms: tuple[Alarm, ...], width: int) -> Line:
+    """A channel, for a line of so many columns."""
     last, kept = current(it), kept_rates(it.history)
     name = cut(printable(it.interface or "(a feed)"), NAME_WIDTH)
     words = ", ".join(alarm.word for alarm in alarms if alarm.channel == it.channel)
     columns = [
         f"{it.channel:>5} {padded(name, NAME_WIDTH)}",
-        f"{rate(last.offered_frames if last else None):>9}",
-        f"{rate(kept[0] if kept else None):>9}",
-        f"{'-' if it.counts is None else format(lost(it.counts), ','):>9}",
+        f"{rate(last.offered_frames if last else None):>8}",
+        f"{rate(kept[0] if kept else None):>8}",
+        f"{'-' if it.counts is None else format(lost(it.counts), ','):>8}",
         f"{it.same_since:>6}",
         f"{'-' if it.frame_age is None else duration(it.frame_age):>8}",
-        f" {words.upper() or ('ended' if it.has_ended else bar(it))}",
+        f" {words.upper() or ('ended' if it.has_ended else bar(it, width - STATE_AT))}",
     ]
     return Line(" ".join(columns), level_of(alarms, it.channel))
 
@@ -109,9 +112,10 @@ def rate(value: Optional[float]) -> str:
     return f"{value:.1f}" if 0 < value < 10 else f"{value:,.0f}"
 
 
-def bar(it: ChannelView) -> str:
-    """The frames that came in the last seconds, each as high as its share of the most."""
-    values = [second.offered_frames or 0 for second in it.history[-BAR_SECONDS:]]
+def bar(it: ChannelView, width: int) -> str:
+    """The frames that came in the last seconds, each as high as its share of the most, in at most so many columns."""
+    count = min(BAR_SECONDS, width)
+    values = [second.offered_frames or 0 for second in it.history[-count:]] if count > 0 else []
     most = max(values, default=0) or 1
     return "".join(LEVELS[round(value / most * (len(LEVELS) - 1))] for value in values)
 
