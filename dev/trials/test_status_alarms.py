@@ -218,6 +218,8 @@ def test_texts() -> None:
     wanted = {
         "frames are lost": "channel 3 (eth2): frames are lost: 7 dropped by the kernel, 2 missed, 1 skipped so far",
         "silent": "channel 3 (eth2): no frame came for 10 s",
+        "a filter keeps nothing: time": "channel 3 (eth2): the filter keeps nothing, or too little to fill a packet of "
+        "65,536 bytes: none of the 1,000,000 frames that were offered in 1 min 0 s is in the recording",
         "the disk is full soon": "the disk is full in 9 min 59 s: 1.0 GB are free",
         "an audit said no": "the audit of 1 recording said no, last of a.ch11: no 5 NoEnd 2",
         "the sync is old": "nothing was forced to the disk for 11 s: lost power would cost as much",

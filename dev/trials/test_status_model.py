@@ -123,6 +123,14 @@ def test_the_rate_is_of_the_last_minute(work: Path) -> None:
     judge("for ever", found.disk.seconds_left is None)
 
 
+def test_a_ring_of_recordings(work: Path) -> None:
+    flight = Flight(work, {1: Wire("eth0", frames=400)}, has_ring=True)
+    flight.begin()
+    flight.pass_seconds(10)
+    found = view_of(flight)
+    judge("a disk on which room is made isn't full soon", found.disk.seconds_left is None and found.disk.free > 0)
+
+
 def test_lines_that_come_at_odd_times(work: Path) -> None:
     """The capture has a phase of its own: two lines in a second and none in the next make no jump of the rate."""
     watched = Status(now=BEGIN)

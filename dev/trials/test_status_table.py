@@ -143,8 +143,12 @@ def test_lines(work: Path) -> None:
     size = f"{flight.path.stat().st_size / 1e6:.1f} MB"
     judge("the first says whether all is well", found[0] == "RECORDING, 1 ALARM", found)
     judge("the recording", found[1].startswith(f"flight.ch11  1 min 10 s  {size}, "), found[1])
-    judge("the disk, and the sync", re.fullmatch(r"disk .* free, full in .*  forced 0 s ago", found[2]), found[2])
-    judge("the alarm's sentence", found[3].startswith("channel 22 (eth1): none of the 35,000 frames"), found[3])
+    judge("the disk, and the sync", re.fullmatch(r"disk .* free, full in .*  synced 0 s ago", found[2]), found[2])
+    judge(
+        "the alarm's sentence",
+        found[3].startswith("channel 22 (eth1): the filter keeps nothing, or too little"),
+        found[3],
+    )
     judge("a title", found[4].split() == ["channel", "came/s", "kept/s", "lost", "filter", "last", "state"], found[4])
     judge(
         "a channel that is well",

@@ -154,8 +154,8 @@ def of_filter(channel: ChannelView, limit: int) -> Iterator[Alarm]:
     ):
         return
     text = (
-        f"none of the {it.frames:,} frames that were offered in {duration(it.seconds)} is in the recording: the filter "
-        f"keeps nothing, or too little to fill a packet of {limit:,} bytes"
+        f"the filter keeps nothing, or too little to fill a packet of {limit:,} bytes: none of the {it.frames:,} frames "
+        f"that were offered in {duration(it.seconds)} is in the recording"
     )
     yield of(channel, "keeps_nothing", ALARM, "keeps nothing", text)
 

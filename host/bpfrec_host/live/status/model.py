@@ -45,10 +45,11 @@ class Going:
 
 
 class Model:
-    """A run. `sync` is how often OUT is forced to its disk, in seconds, and 0 for never."""
+    """A run. `sync` is how often OUT is forced to its disk, in seconds, and 0 for never; `has_ring` says that old
+    recordings are removed to make room, so that the disk doesn't fill."""
 
-    def __init__(self, now: float, sync: float) -> None:
-        self.begun, self.sync = now, sync
+    def __init__(self, now: float, sync: float, has_ring: bool = False) -> None:
+        self.begun, self.sync, self.has_ring = now, sync, has_ring
         self.synced_at: Optional[float] = None
         self.channels: dict[int, Channel] = {}
         self.going: dict[int, Going] = {}
@@ -165,7 +166,7 @@ class Model:
         """The run at this moment."""
         rate = self.rate()
         going = self.going[self.current] if self.current is not None else None
-        left = self.free / rate if self.free is not None and rate and going else None
+        left = self.free / rate if self.free is not None and rate and going and not self.has_ring else None
         return View(
             now=now,
             state=self.state(),

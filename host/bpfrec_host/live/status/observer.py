@@ -31,9 +31,10 @@ class Status(Observer):
         terminal: Optional[Terminal] = None,
         sync: float = 1,
         limit: int = USUAL_LIMIT,
+        has_ring: bool = False,
         now: Optional[float] = None,
     ) -> None:
-        self.model = Model(time.monotonic() if now is None else now, sync)
+        self.model = Model(time.monotonic() if now is None else now, sync, has_ring)
         self.limit, self.terminal = limit, terminal
         self.growths: dict[int, Growth] = {}
         # It takes its port at once, so that one that can't be had is refused before anything is recorded.

@@ -61,7 +61,7 @@ def whole(view: View) -> Iterator[str]:
     left = view.disk and view.disk.seconds_left
     disk = f"disk {size(view.disk.free)} free" if view.disk else "disk not known"
     full = f", full in {duration(left)}" if left is not None else ""
-    sync = "" if not view.sync.interval else f"  forced {ago(view.sync.age)}"
+    sync = "" if not view.sync.interval else f"  synced {ago(view.sync.age)}"
     audits = f"  audits {view.audits.yes} yes, {view.audits.no} no" if view.recordings else ""
     yield f"{disk}{full}{sync}{audits}"
 
