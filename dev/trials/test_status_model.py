@@ -200,6 +200,16 @@ def test_no_lines(work: Path) -> None:
     judge("and how old the counts are is told", found.counts_age == pytest.approx(5.3))
 
 
+def test_packets_without_frames(work: Path) -> None:
+    flight = Flight(work, {1: Wire("eth0", kept=0)})
+    flight.begin()
+    for _ in range(20):
+        flight.append(frames(1, 0))
+        flight.pass_second()
+    found = channel_of(flight, 1).unkept
+    judge("aren't kept frames", found == (20, 10_000, 10_000 * FRAME_LENGTH), found)
+
+
 def test_a_channel_without_an_interface(work: Path) -> None:
     flight = Flight(work, {1: Wire(None, frames=400)})
     flight.begin()

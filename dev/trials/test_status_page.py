@@ -108,6 +108,7 @@ def test_sizes(browser: Browser, flown: Callable, size: tuple[int, int], count: 
     page = opened(browser, flight, size, scheme == "dark")
     judge("all channels are there", page.ask(CHANNELS) == count)
     judge("nothing is wider than the page", page.ask(TOO_WIDE) <= 0, page.ask(TOO_WIDE))
+    judge("which is as wide as what it is looked at on", page.ask("window.innerWidth") == size[0])
     heights = page.ask("[...document.querySelectorAll('svg')].map(it => it.getBoundingClientRect().height)")
     judge("each has its drawing", len(heights) == count and min(heights) >= 20)
     drawn = page.ask("[...document.querySelectorAll('path.kept')].filter(it => it.getAttribute('d')).length")
@@ -147,6 +148,8 @@ def test_states(browser: Browser, flown: Callable) -> None:
     rows = page.ask("[...document.querySelectorAll('#alarms li')].map(it => it.textContent)")
     judge("and its sentence", len(rows) == 5 and rows[0] == "ALARM: channel 5 (eth4): no frame came for 35 s", rows)
     judge("and the last is a warning", rows[-1].startswith("Warning: channel 41 (eth40): frames were lost: 5"), rows)
+    links = page.ask("[...document.querySelectorAll('#alarms a')].map(it => document.querySelector(it.hash).className)")
+    judge("each leads to its channel", links == ["channel alarm"] * 4 + ["channel warning"], links)
     judge("the title says it too", page.ask("document.title") == "4 ALARMS, RECORDING - bpfrec")
     names = page.ask("[...document.querySelectorAll('.interface')].map(it => it.textContent)")
     judge("a long name stands whole in the text", names[49] == LONG_NAME)
@@ -157,6 +160,9 @@ def test_states(browser: Browser, flown: Callable) -> None:
     judge("and lies over nothing", over == 0, over)
     lines = page.ask("[...document.querySelectorAll('.head')].map(it => it.getBoundingClientRect().height)")
     judge("nor breaks its line", lines[49] == lines[0], lines)
+    page.resize(*WALL)
+    cut = page.ask("[...document.querySelectorAll('.interface')].filter(it => it.scrollWidth > it.clientWidth).length")
+    judge("usual names are never cut", cut == 1, cut)
 
 
 def test_what_is_drawn(browser: Browser, flown: Callable) -> None:

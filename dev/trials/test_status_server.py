@@ -15,7 +15,7 @@ from pathlib import Path
 
 import pytest
 from asking import asked, connection, parts_of, place_of, raw, served
-from scripted import Flight, Wire, status
+from scripted import Flight, Wire, as_json, status
 from support import ROOT, judge, judge_quietly, run, wait_for
 
 PATHS = ("/", "/status.json", "/metrics")
@@ -83,6 +83,25 @@ def test_age(flight: Flight) -> None:
     judge("in the metrics too", b"bpfrec_status_age_seconds 7.25\n" in asked(flight, "/metrics")[2])
     flight.status.server.answers.clock = lambda: flight.now() - 1
     judge("none is of tomorrow", json.loads(asked(flight)[2])["age"] == 0)
+
+
+def test_texts_are_made_once(flight: Flight, monkeypatch: pytest.MonkeyPatch) -> None:
+    """However many ask in a second."""
+    made: list[int] = []
+    make = as_json.text_of
+
+    def slowly(*told) -> str:
+        made.append(1)
+        time.sleep(0.3)
+        return make(*told)
+
+    monkeypatch.setattr(as_json, "text_of", slowly)
+    asking = [threading.Thread(target=asked, args=(flight,)) for _ in range(8)]
+    for it in asking:
+        it.start()
+    for it in asking:
+        it.join()
+    judge("one makes it for all", len(made) == 1, made)
 
 
 def test_nothing_is_known(work: Path) -> None:

@@ -97,6 +97,7 @@ class Shown:
             while part := os.read(self.outer, 1 << 16):
                 found += part
         self.screen.write(found.decode())
+        self.came = found
         return self.screen.text()
 
     def close(self) -> None:
@@ -248,11 +249,14 @@ def test_what_is_typed(work: Path, shown: Shown) -> None:
     rows = shown.read().split("\n")
     wanted = plain(table.lines_of(*told_of(flight), 99, 29))
     judge("what is typed stays", rows == [*wanted, "set 2 file"], rows)
-    shown.screen.write("\n")
-    shown.terminal.note_typed()
-    shown.terminal.say(["installed 2 1 407"])
-    flight.pass_second()
-    shown.terminal.draw(*told_of(flight))
+    for what in ("drawn", "said"):
+        shown.screen.write("\n")
+        shown.terminal.note_typed()
+        if what == "said":
+            shown.terminal.say(["installed 2 1 407"])
+        flight.pass_second()
+        shown.terminal.draw(*told_of(flight))
+        judge_quietly(f"one table stands there: {what}", shown.read().count("RECORDING") == 1, shown.read())
     rows = shown.read().rstrip("\n").split("\n")
     wanted = plain(table.lines_of(*told_of(flight), 99, 29))
     judge("and one table is there afterwards", rows == ["installed 2 1 407", *wanted], rows)
@@ -339,7 +343,9 @@ def test_the_run_draws_it(work: Path, shown: Shown) -> None:
     flight = flown(work, {1: Wire("eth0")}, 3, terminal=shown.terminal)
     judge("each tick draws", shown.read().startswith("RECORDING\nflight.ch11  3 s  "), shown.read())
     shown.terminal.say(["said before the end"])
+    shown.read()
     flight.status.ended(flight.now())
-    judge("at the end what was said stays alone", shown.read() == "said before the end\n", shown.read())
+    judge("at the end what was said stays alone", shown.read() == "said before the end\n", shown.screen.rows)
+    judge("and no other table came", b"ENDED" not in shown.came, shown.came)
     flight.status.close()
     judge("and nothing is shown any more", not shown.terminal.is_shown())

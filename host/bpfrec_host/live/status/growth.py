@@ -51,7 +51,7 @@ class Growth:
     last call, `fault` what was wrong with it last, and `faults` how often something was."""
 
     def __init__(self, path: str) -> None:
-        self.path, self.descriptor, self.is_refused = path, -1, False
+        self.path, self.descriptor = path, -1
         self.at = self.size = self.faults = 0
         self.fault: Optional[str] = None
         # The first header, by which a file is known that was emptied and written anew.
@@ -100,11 +100,10 @@ class Growth:
     def is_open(self) -> bool:
         """Whether the file could be opened, now or before. One that isn't there yet is waited for; what is no regular
         file isn't touched, since whoever opens a pipe takes part in it."""
-        if self.descriptor >= 0 or self.is_refused:
-            return self.descriptor >= 0
+        if self.descriptor >= 0:
+            return True
         try:
-            self.is_refused = not stat.S_ISREG(os.stat(self.path).st_mode)
-            if not self.is_refused:
+            if stat.S_ISREG(os.stat(self.path).st_mode):
                 self.descriptor = os.open(self.path, os.O_RDONLY | os.O_NONBLOCK | os.O_NOCTTY | os.O_CLOEXEC)
         except FileNotFoundError:
             return False
