@@ -24,13 +24,16 @@ from bpfrec_host.__main__ import main
 
 sys.exit(main())
 """
+# Of the package: its modules, and the page that they serve.
+SUFFIXES = (".py", ".html")
 # The earliest that an archive can have, and what may be done with its files.
 TIME, MODE = (1980, 1, 1, 0, 0, 0), 0o644 << 16
 
 
 def archive():
     """The archive of the package and of what calls it."""
-    files = {f"{PACKAGE.name}/{it.relative_to(PACKAGE)}": it.read_text() for it in PACKAGE.rglob("*.py")}
+    parts = [it for it in PACKAGE.rglob("*") if it.suffix in SUFFIXES]
+    files = {f"{PACKAGE.name}/{it.relative_to(PACKAGE)}": it.read_text(encoding="utf-8") for it in parts}
     made = io.BytesIO()
     # Not compressed, so that no version of a library is in its bytes.
     with zipfile.ZipFile(made, "w", zipfile.ZIP_STORED) as into:

@@ -1,0 +1,105 @@
+"""How a run goes, as the object of /status.json."""
+
+from __future__ import annotations
+
+import json
+from typing import Any, Optional
+
+from bpfrec_host.live.status.alarms import Alarm, level_of
+from bpfrec_host.live.status.view import ChannelView, Second, View
+
+# The form of the object.
+FORM = 1
+
+
+def text_of(view: View, alarms: tuple[Alarm, ...]) -> str:
+    """The object as a text in ASCII, but for its first brace and its age, which is that of the answer."""
+    return json.dumps(object_of(view, alarms), separators=(",", ":"), allow_nan=False)[1:]
+
+
+def with_age(text: str, age: float) -> str:
+    """The whole text, for an answer that is given so many seconds after what it tells."""
+    return f'{{"age":{rounded(max(age, 0))},{text}'
+
+
+def object_of(view: View, alarms: tuple[Alarm, ...]) -> dict[str, Any]:
+    """The object without its age."""
+    recording, disk = view.recording, view.disk
+    return {
+        "status": FORM,
+        "state": view.state,
+        "level": level_of(alarms),
+        "uptime": rounded(view.uptime),
+        "alarms": [it._asdict() for it in alarms],
+        "recording": recording
+        and {
+            **recording._asdict(),
+            "name": printable(recording.name),
+            "seconds": rounded(recording.seconds),
+            "bytes_per_second": rounded(recording.bytes_per_second),
+        },
+        "disk": disk and {"free": disk.free, "seconds_left": rounded(disk.seconds_left)},
+        "sync": {"interval": rounded(view.sync.interval), "age": rounded(view.sync.age)},
+        "channels": [channel_object(it, alarms) for it in view.channels],
+        "recordings": [{**it._asdict(), "name": printable(it.name)} for it in view.recordings],
+        "audits": view.audits._asdict(),
+    }
+
+
+def channel_object(it: ChannelView, alarms: tuple[Alarm, ...]) -> dict[str, Any]:
+    """What the object has of a channel."""
+    mine = [alarm for alarm in alarms if alarm.channel == it.channel]
+    last = it.history[-1] if it.history else None
+    return {
+        "channel": it.channel,
+        "interface": None if it.interface is None else printable(it.interface),
+        "level": level_of(alarms, it.channel),
+        "words": [alarm.word for alarm in mine],
+        "version": it.version,
+        "same_since": it.same_since,
+        "offered": it.counts and amounts(it.counts.frames, it.counts.bytes, last and last[:2]),
+        "kept": amounts(it.kept_frames, it.kept_bytes, kept_rates(it.history)),
+        "dropped": it.counts and it.counts.dropped,
+        "missed": it.counts and it.counts.missed,
+        "skipped": it.counts and it.counts.skipped,
+        "waited": it.counts and it.counts.waited,
+        "frame_age": rounded(it.frame_age),
+        "has_ended": it.has_ended,
+        "history": {name: column(it.history, at) for at, name in enumerate(Second._fields)},
+    }
+
+
+def amounts(frames: int, size: int, rates: Optional[tuple[Optional[float], ...]]) -> dict[str, Any]:
+    """Frames and bytes in all and a second."""
+    frame_rate, byte_rate = rates or (None, None)
+    return {
+        "frames": frames,
+        "bytes": size,
+        "frames_per_second": rounded(frame_rate),
+        "bytes_per_second": rounded(byte_rate),
+    }
+
+
+def kept_rates(history: tuple[Second, ...]) -> Optional[tuple[float, float]]:
+    """Kept frames and bytes a second, as the mean of the last minute: they come packet by packet."""
+    if not history:
+        return None
+    frames, size = sum(it.kept_frames for it in history), sum(it.kept_bytes for it in history)
+    return frames / len(history), size / len(history)
+
+
+def column(history: tuple[Second, ...], at: int) -> list[Any]:
+    """One number of each second."""
+    return [rounded(it[at]) for it in history]
+
+
+def rounded(value: Optional[float]) -> Optional[float]:
+    """A number as it is told: to a tenth, and whole from a hundred on."""
+    if value is None or isinstance(value, int):
+        return value
+    return round(value) if value >= 100 else round(value, 1)
+
+
+def printable(name: str) -> str:
+    """A name without what no text can have."""
+    return name.encode("utf-8", "replace").decode()

@@ -1,0 +1,135 @@
+"""How a run goes, as Prometheus reads it: the text format 0.0.4 of /metrics."""
+
+from __future__ import annotations
+
+from collections.abc import Callable, Iterable, Iterator
+from typing import NamedTuple, Optional
+
+from bpfrec_host.live.status.alarms import Alarm
+from bpfrec_host.live.status.view import ChannelView, View
+
+CONTENT_TYPE = "text/plain; version=0.0.4; charset=utf-8"
+COUNTER, GAUGE = "counter", "gauge"
+# The names that an alarm may have, so that each has a sample while it isn't one.
+ALARMS = (
+    "audit",
+    "damaged",
+    "disk",
+    "keeps_nothing",
+    "lost",
+    "no_counts",
+    "silent",
+    "sync",
+    "unread",
+    "waiting",
+    "waits",
+    "was_lost",
+)
+# A sample: its labels and its value; None where that isn't known.
+Sample = tuple[tuple[tuple[str, str], ...], Optional[float]]
+
+
+class Metric(NamedTuple):
+    """A metric of each channel."""
+
+    name: str
+    kind: str
+    help: str
+    value: Callable[[ChannelView], Optional[float]]
+
+
+CHANNEL_METRICS = (
+    Metric("offered_frames_total", COUNTER, "Frames that came.", lambda it: it.counts and it.counts.frames),
+    Metric("offered_bytes_total", COUNTER, "Bytes of frames that came.", lambda it: it.counts and it.counts.bytes),
+    Metric("kept_frames_total", COUNTER, "Frames in recordings.", lambda it: it.kept_frames),
+    Metric("kept_bytes_total", COUNTER, "Bytes of frames in recordings.", lambda it: it.kept_bytes),
+    Metric(
+        "dropped_frames_total", COUNTER, "Frames that the kernel dropped.", lambda it: it.counts and it.counts.dropped
+    ),
+    Metric(
+        "missed_frames_total", COUNTER, "Frames that the interface missed.", lambda it: it.counts and it.counts.missed
+    ),
+    Metric(
+        "skipped_frames_total", COUNTER, "Frames cut short or too long.", lambda it: it.counts and it.counts.skipped
+    ),
+    Metric(
+        "waited_seconds_total",
+        COUNTER,
+        "For how long the pipe was full.",
+        lambda it: it.counts and it.counts.waited / 1_000,
+    ),
+    Metric("filter_version", GAUGE, "The version of the filter, in this recording.", lambda it: it.version),
+    Metric("last_frame_age_seconds", GAUGE, "How long ago the last frame came.", lambda it: it.frame_age),
+)
+
+
+def text_of(view: View, alarms: tuple[Alarm, ...]) -> str:
+    """All metrics but the age, which is that of the answer."""
+    return "".join([*of_run(view), *of_alarms(alarms), *of_channels(view)])
+
+
+def with_age(text: str, age: float) -> str:
+    """The whole text, for an answer that is given so many seconds after what it tells."""
+    head = family("status_age_seconds", GAUGE, "How old these values are.", [((), round(max(age, 0), 3))])
+    return head + text
+
+
+def of_run(view: View) -> Iterator[str]:
+    """The metrics of the run, its recording and its disk."""
+    recording, disk, audits = view.recording, view.disk, view.audits._asdict()
+    going = 1 if view.state == "recording" else 0
+    yield family("uptime_seconds", GAUGE, "How long the run has gone on.", [((), view.uptime)])
+    yield family("recording", GAUGE, "1 while a recording goes on, else 0.", [((), going)])
+    yield family("recording_number", GAUGE, "Its number.", [((), recording and recording.number)])
+    yield family("recording_seconds", GAUGE, "How long it has gone on.", [((), recording and recording.seconds)])
+    yield family("recording_bytes", GAUGE, "Its length.", [((), recording and recording.bytes)])
+    yield family("disk_free_bytes", GAUGE, "Bytes that are free on its disk.", [((), disk and disk.free)])
+    text = "In how many seconds the disk is full at the rate of the last minute."
+    yield family("disk_seconds_left", GAUGE, text, [((), disk and disk.seconds_left)])
+    yield family("sync_age_seconds", GAUGE, "How long ago it was forced to its disk.", [((), view.sync.age)])
+    samples: list[Sample] = [((("answer", name),), count) for name, count in audits.items()]
+    yield family("audits_total", COUNTER, "Recordings that have ended, by what the audit said.", samples)
+
+
+def of_alarms(alarms: tuple[Alarm, ...]) -> Iterator[str]:
+    """How many alarms and warnings there are of each name."""
+    counts = dict.fromkeys(ALARMS, 0)
+    for it in alarms:
+        counts[it.name] = counts.get(it.name, 0) + 1
+    samples: list[Sample] = [((("name", name),), count) for name, count in counts.items()]
+    yield family("alarms", GAUGE, "Alarms and warnings that hold now.", samples)
+
+
+def of_channels(view: View) -> Iterator[str]:
+    """The metrics of the channels."""
+    for metric in CHANNEL_METRICS:
+        samples: list[Sample] = [(labels_of(it), metric.value(it)) for it in view.channels]
+        yield family(f"channel_{metric.name}", metric.kind, metric.help, samples)
+
+
+def labels_of(it: ChannelView) -> tuple[tuple[str, str], ...]:
+    """The labels of a channel's samples."""
+    return ("channel", str(it.channel)), ("interface", it.interface or "")
+
+
+def family(name: str, kind: str, text: str, samples: Iterable[Sample]) -> str:
+    """A metric with its samples; one without any isn't there."""
+    lines = [f"bpfrec_{name}{labels(pairs)} {number(value)}\n" for pairs, value in samples if value is not None]
+    head = f"# HELP bpfrec_{name} {text}\n# TYPE bpfrec_{name} {kind}\n"
+    return head + "".join(lines) if lines else ""
+
+
+def labels(pairs: tuple[tuple[str, str], ...]) -> str:
+    """Labels in their braces, with what would end a value escaped."""
+    return "{%s}" % ",".join(f'{name}="{escaped(value)}"' for name, value in pairs) if pairs else ""
+
+
+def escaped(value: str) -> str:
+    """A label's value between its quotes."""
+    plain = value.encode("utf-8", "replace").decode()
+    return plain.replace("\\", "\\\\").replace('"', '\\"').replace("\n", "\\n")
+
+
+def number(value: float) -> str:
+    """A number as it is told."""
+    return str(value) if isinstance(value, int) else repr(round(value, 3))

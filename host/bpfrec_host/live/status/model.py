@@ -1,0 +1,184 @@
+"""What is known of a run while it goes on. It has no clock: each call gets the moment, in seconds of a clock that nobody
+sets. What is kept doesn't grow with the run."""
+
+from __future__ import annotations
+
+import hashlib
+import re
+from collections import deque
+from collections.abc import Iterable, Sequence
+from math import floor
+from typing import Optional
+
+from bpfrec_host.formats.ch11 import End, Program
+from bpfrec_host.live.observer import Counts, Setup
+from bpfrec_host.live.status.channel import Channel, since
+from bpfrec_host.live.status.growth import Growth, Kept, Told
+from bpfrec_host.live.status.view import (
+    HISTORY_SECONDS,
+    Audits,
+    ChannelView,
+    DiskView,
+    EndedView,
+    RecordingView,
+    SyncView,
+    View,
+)
+
+# So many recordings that have ended are kept; the others are counted.
+MOST_ENDED = 32
+# The line of a report that has the recording's length.
+WROTE = re.compile(r"wrote [0-9]+ ([0-9]{1,20})")
+
+
+class Going:
+    """A recording whose file may still grow."""
+
+    def __init__(self, number: int, name: str, now: float) -> None:
+        self.number, self.name, self.begun = number, name, now
+        self.bytes = self.unread = 0
+        self.fault: Optional[str] = None
+
+    def view(self, now: float, rate: Optional[float]) -> RecordingView:
+        """The recording at this moment."""
+        return RecordingView(self.number, self.name, now - self.begun, self.bytes, rate, self.unread, self.fault)
+
+
+class Model:
+    """A run. `sync` is how often OUT is forced to its disk, in seconds, and 0 for never; `has_ring` says that old
+    recordings are removed to make room, so that the disk doesn't fill."""
+
+    def __init__(self, now: float, sync: float, has_ring: bool = False) -> None:
+        self.begun, self.sync, self.has_ring = now, sync, has_ring
+        self.synced_at: Optional[float] = None
+        self.channels: dict[int, Channel] = {}
+        self.going: dict[int, Going] = {}
+        self.current: Optional[int] = None
+        self.is_ended = False
+        self.free: Optional[int] = None
+        # What was written in all, second by second, by which it is known how fast.
+        self.written, self.sizes = 0, deque([(now, 0)], HISTORY_SECONDS + 1)
+        self.second = 0
+        self.recordings: deque[EndedView] = deque(maxlen=MOST_ENDED)
+        self.audits = Audits(0, 0, 0)
+
+    # ---- what happens
+
+    def recording_begun(self, number: int, name: str, channels: Iterable[Setup], now: float) -> None:
+        """A recording begins, of these channels."""
+        self.going[number] = Going(number, name, now)
+        self.current = number
+        self.synced_at = None
+        kept = {}
+        for it in channels:
+            kept[it.channel] = self.channels.get(it.channel) or Channel(it.channel, it.interface, now)
+            kept[it.channel].begin(it.interface, it.version)
+        self.channels = dict(sorted(kept.items()))
+
+    def capture_counted(self, interface: str, counts: Counts, now: float) -> None:
+        """The capture has counted so much of an interface since the run began."""
+        for it in self.channels.values():
+            if it.interface == interface:
+                it.count(counts, now)
+
+    def filter_changed(self, channel: int, version: int, is_same: bool) -> None:
+        """A channel's filter is this version in the recording that goes on; `is_same` says that it is the program of
+        the version before."""
+        if channel in self.channels:
+            self.channels[channel].install(version, is_same)
+
+    def grown(self, number: int, growth: Growth, told: Sequence[Told], now: float) -> None:
+        """A recording's file has grown by packets that tell this."""
+        going = self.going.get(number)
+        if not going:
+            return
+        self.written += max(growth.size - going.bytes, 0)
+        going.bytes, going.unread, going.fault = growth.size, growth.unread(), growth.fault
+        for it in told:
+            self.take(it, number == self.current, now)
+
+    def take(self, told: Told, is_current: bool, now: float) -> None:
+        """Takes what a packet tells: of a recording that others follow its programs are the past."""
+        found = self.channels.get(told.channel) if told else None
+        if not told or not found:
+            return
+        if isinstance(told, Kept):
+            found.keep(told.frames, told.bytes, now)
+        elif isinstance(told, Program) and is_current:
+            found.meet(told.version, hashlib.sha256(told.insns).digest())
+        elif isinstance(told, End) and is_current:
+            found.has_ended = True
+
+    def synced(self, now: float) -> None:
+        """The recording that goes on was forced to its disk."""
+        self.synced_at = now
+
+    def has_room(self, free: Optional[int]) -> None:
+        """So many bytes are free on the recording's disk."""
+        self.free = free
+
+    def recording_ended(self, number: int, status: int, report: Sequence[str], audit: Sequence[str]) -> None:
+        """A recording has ended, with the status of its recorder, or where that is 0 of its audit; with the lines of
+        its report and of its audit, which are none where there was none."""
+        going = self.going.pop(number, None)
+        if not going:
+            return
+        if number == self.current:
+            self.current = None
+        wrote = [int(it[1]) for it in map(WROTE.fullmatch, report) if it]
+        ended = EndedView(number, going.name, wrote[-1] if wrote else going.bytes, status, audit[-1] if audit else None)
+        self.recordings.append(ended)
+        yes, no, none = self.audits
+        if ended.audit is None:
+            self.audits = Audits(yes, no, none + 1)
+        else:
+            self.audits = Audits(yes, no + 1, none) if ended.is_refused() else Audits(yes + 1, no, none)
+
+    def ended(self) -> None:
+        """The run has ended."""
+        self.is_ended, self.current = True, None
+
+    def pass_time(self, now: float) -> None:
+        """Closes the seconds that are over by now, of which the run had one when it had gone on for half a second, and
+        so on, so that a timer of a second meets each once. What came in a time of several is spread over them."""
+        passed = floor(now - self.begun + 0.5) - self.second
+        if passed <= 0:
+            return
+        self.second += passed
+        self.sizes.append((now, self.written))
+        for it in self.channels.values():
+            it.pass_time(passed, now)
+
+    # ---- what is shown
+
+    def rate(self) -> Optional[float]:
+        """How many bytes a second were written in the last minute; None where that isn't known yet."""
+        (begin, before), (end, after) = self.sizes[0], self.sizes[-1]
+        return (after - before) / (end - begin) if end > begin else None
+
+    def state(self) -> str:
+        """Whether a recording goes on."""
+        if self.is_ended:
+            return "ended"
+        return "waiting" if self.current is None else "recording"
+
+    def view(self, now: float) -> View:
+        """The run at this moment."""
+        rate = self.rate()
+        going = self.going[self.current] if self.current is not None else None
+        left = self.free / rate if self.free is not None and rate and going and not self.has_ring else None
+        return View(
+            now=now,
+            state=self.state(),
+            uptime=now - self.begun,
+            recording=going.view(now, rate) if going else None,
+            disk=None if self.free is None else DiskView(self.free, left),
+            sync=SyncView(self.sync, since(self.synced_at, now)),
+            channels=self.channel_views(now),
+            recordings=tuple(self.recordings),
+            audits=self.audits,
+        )
+
+    def channel_views(self, now: float) -> tuple[ChannelView, ...]:
+        """The channels, by their IDs."""
+        return tuple(it.view(now) for it in self.channels.values())

@@ -1,0 +1,138 @@
+"""What `live` tells of a run, brought to the page, the metrics and the terminal."""
+
+from __future__ import annotations
+
+import os
+import time
+from collections.abc import Iterable, Sequence
+from typing import Optional
+
+from bpfrec_host.formats.limits import TOP_KEYS
+from bpfrec_host.live.observer import Counts, Observer, Setup
+from bpfrec_host.live.status.alarms import alarms_of
+from bpfrec_host.live.status.endpoint import Endpoint
+from bpfrec_host.live.status.growth import MOST_PACKETS, Growth
+from bpfrec_host.live.status.model import Model
+from bpfrec_host.live.status.server import Server, Stock
+from bpfrec_host.live.status.terminal import Terminal
+
+# The longest packet where the settings say nothing.
+USUAL_LIMIT = TOP_KEYS["limit"].default or 0
+# So many pieces of a recording that has ended are read at once, at most.
+MOST_PIECES = 16
+
+
+class Status(Observer):
+    """The observer of a run, by which it is watched. Moments are those of `time.monotonic`; all calls come from one thread."""
+
+    def __init__(
+        self,
+        endpoint: Optional[Endpoint] = None,
+        terminal: Optional[Terminal] = None,
+        sync: float = 1,
+        limit: int = USUAL_LIMIT,
+        has_ring: bool = False,
+        now: Optional[float] = None,
+    ) -> None:
+        self.model = Model(time.monotonic() if now is None else now, sync, has_ring)
+        self.limit, self.terminal = limit, terminal
+        self.growths: dict[int, Growth] = {}
+        # It takes its port at once, so that one that can't be had is refused before anything is recorded.
+        self.server = Server(endpoint) if endpoint else None
+
+    def start(self) -> None:
+        """Begins to serve, by a thread; from then on no process may be copied by `fork` alone."""
+        if self.server:
+            self.server.start()
+
+    def address(self) -> Optional[str]:
+        """Where the page is, as a browser takes it."""
+        return f"http://{self.server.endpoint}/" if self.server else None
+
+    # ---- what happens
+
+    def recording_begun(self, number: int, path: str, channels: Iterable[Setup], now: float) -> None:
+        """A recorder has opened OUT, which is empty: from now on its file is followed, also where it is moved."""
+        self.growths[number] = Growth(path)
+        self.growths[number].read_on(0)
+        self.model.recording_begun(number, os.path.basename(path), channels, now)
+
+    def capture_counted(self, interface: str, counts: Counts, now: float) -> None:
+        """The capture has counted so much of an interface since the run began."""
+        self.model.capture_counted(interface, counts, now)
+
+    def filter_changed(self, channel: int, version: int, is_same: bool = False) -> None:
+        """A line changed a filter of the recording that goes on; `is_same` says that it was given the program that it
+        had, as to close a packet."""
+        self.model.filter_changed(channel, version, is_same)
+
+    def synced(self, now: float) -> None:
+        """The recording that goes on was forced to its disk."""
+        self.model.synced(now)
+
+    def recording_ended(
+        self, number: int, status: int, now: float, report: Sequence[str] = (), audit: Sequence[str] = ()
+    ) -> None:
+        """A recorder has ended, with this status and these lines, and so has the audit of what it recorded."""
+        growth = self.growths.pop(number, None)
+        if growth:
+            for _ in range(MOST_PIECES):
+                if not self.follow(number, growth, now):
+                    break
+            growth.close()
+        self.model.recording_ended(number, status, report, audit)
+
+    def tick(self, now: float) -> None:
+        """Once a second: reads on in what grows, looks at the disk, and tells how it goes."""
+        for number, growth in self.growths.items():
+            self.follow(number, growth, now)
+        self.look_at_disk()
+        self.model.pass_time(now)
+        self.publish(now)
+
+    def ended(self, now: float) -> None:
+        """All has ended; the page says so until `close`, and the table is taken away."""
+        self.model.ended()
+        self.publish(now)
+        if self.terminal:
+            self.terminal.clear()
+
+    def close(self) -> None:
+        """Ends the server and the table."""
+        for growth in self.growths.values():
+            growth.close()
+        self.growths.clear()
+        if self.server:
+            self.server.stop()
+        if self.terminal:
+            self.terminal.close()
+
+    # ---- how
+
+    def follow(self, number: int, growth: Growth, now: float) -> bool:
+        """Reads on in a recording: whether there may be more at once."""
+        told = growth.read_on()
+        self.model.grown(number, growth, told, now)
+        return len(told) == MOST_PACKETS
+
+    def look_at_disk(self) -> None:
+        """Asks how much is free where the recording is, also where its file was moved to."""
+        current = self.growths.get(self.model.current) if self.model.current is not None else None
+        if not current or current.descriptor < 0:
+            return
+        try:
+            found = os.fstatvfs(current.descriptor)
+            self.model.has_room(found.f_bavail * found.f_frsize)
+        except OSError:
+            self.model.has_room(None)
+
+    def publish(self, now: float) -> None:
+        """Tells how it goes, from now on."""
+        if not self.server and not self.terminal:
+            return
+        view = self.model.view(now)
+        alarms = alarms_of(view, self.limit)
+        if self.server:
+            self.server.answers.stock = Stock(view, alarms)
+        if self.terminal and not self.model.is_ended:
+            self.terminal.draw(view, alarms)

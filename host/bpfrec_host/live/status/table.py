@@ -1,0 +1,160 @@
+"""How a run goes, as lines of a terminal."""
+
+from __future__ import annotations
+
+import unicodedata
+from collections.abc import Iterator
+from typing import NamedTuple, Optional
+
+from bpfrec_host.live.status.alarms import ALARM, Alarm, duration, level_of, plural, size
+from bpfrec_host.live.status.as_json import kept_rates
+from bpfrec_host.live.status.view import ChannelView, View, current, lost
+
+# The colours of a line, and what ends them: of alarms white on red, of warnings black on yellow.
+COLOURS = {"alarm": "\x1b[97;41m", "warning": "\x1b[30;43m", "ok": ""}
+PLAIN = "\x1b[0m"
+# A bar of the last seconds, from nothing to the most.
+LEVELS = " ▁▂▃▄▅▆▇█"
+# The least that is drawn, and the widths of names that may be cut.
+LEAST_WIDTH, LEAST_HEIGHT, NAME_WIDTH = 20, 4, 15
+BAR_SECONDS = 20
+
+
+class Line(NamedTuple):
+    """A line, without its end, and how bad what it tells is."""
+
+    text: str
+    level: str
+
+
+def lines_of(view: View, alarms: tuple[Alarm, ...], width: int, height: int) -> list[str]:
+    """The table, of at most so many lines, each of at most so many columns, with their colours. Where there are more
+    channels, those with an alarm come first, and the rest is counted."""
+    head = [Line(heading(view, alarms), level_of(alarms)), *(Line(it, "ok") for it in whole(view))]
+    mine = [Line(it.text, it.level) for it in alarms]
+    head += mine[: max((height - len(head)) // 3, 0)]
+    room = max(height - len(head) - 2, 0)
+    channels = shown(view.channels, alarms, room)
+    rows = [Line(TITLES, "ok"), *(row(it, alarms, width) for it in channels)] if channels else []
+    left = len(view.channels) - len(channels)
+    if left:
+        rows.append(Line(f"and {plural(left, 'more channel')}", "ok"))
+    return [coloured(it, max(width, LEAST_WIDTH)) for it in (head + rows)[:height]]
+
+
+def heading(view: View, alarms: tuple[Alarm, ...]) -> str:
+    """The first line: whether all is well."""
+    count = sum(it.level == ALARM for it in alarms)
+    state = {"recording": "RECORDING", "ended": "ENDED", "waiting": "NOT RECORDING"}[view.state]
+    words = [f"{count} ALARM{'' if count == 1 else 'S'}"] if count else []
+    words += [plural(len(alarms) - count, "warning")] if len(alarms) > count else []
+    return ", ".join([state, *words])
+
+
+def whole(view: View) -> Iterator[str]:
+    """The recording and its disk."""
+    if not view.recording:
+        return
+    it = view.recording
+    rate = "" if it.bytes_per_second is None else f", {size(it.bytes_per_second)}/s"
+    yield f"{it.name}  {duration(it.seconds)}  {size(it.bytes)}{rate}"
+    left = view.disk and view.disk.seconds_left
+    disk = f"disk {size(view.disk.free)} free" if view.disk else "disk not known"
+    full = f", full in {duration(left)}" if left is not None else ""
+    sync = "" if not view.sync.interval else f"  synced {ago(view.sync.age)}"
+    audits = f"  audits {view.audits.yes} yes, {view.audits.no} no" if view.recordings else ""
+    yield f"{disk}{full}{sync}{audits}"
+
+
+def ago(age: Optional[float]) -> str:
+    """How long ago."""
+    return "not yet" if age is None else f"{duration(age)} ago"
+
+
+# ---- channels
+
+TITLES = f"{'channel':<{NAME_WIDTH + 6}} {'came/s':>8} {'kept/s':>8} {'lost':>8} {'filter':>6} {'last':>8}  state"
+
+# The column at which a channel's state begins.
+STATE_AT = TITLES.index("state")
+
+
+def shown(channels: tuple[ChannelView, ...], alarms: tuple[Alarm, ...], room: int) -> list[ChannelView]:
+    """The channels for which there is room, by their IDs; those that have an alarm before others."""
+    if len(channels) <= room:
+        return list(channels)
+    told = {it.channel for it in alarms}
+    chosen = sorted(channels, key=lambda it: it.channel not in told)[: max(room - 1, 0)]
+    return sorted(chosen, key=lambda it: it.channel)
+
+
+def row(it: ChannelView, alarms: tuple[Alarm, ...], width: int) -> Line:
+    """A channel, for a line of so many columns."""
+    last, kept = current(it), kept_rates(it.history)
+    name = cut(printable(it.interface or "(a feed)"), NAME_WIDTH)
+    words = ", ".join(alarm.word for alarm in alarms if alarm.channel == it.channel)
+    columns = [
+        f"{it.channel:>5} {padded(name, NAME_WIDTH)}",
+        f"{rate(last.offered_frames if last else None):>8}",
+        f"{rate(kept[0] if kept else None):>8}",
+        f"{'-' if it.counts is None else format(lost(it.counts), ','):>8}",
+        f"{it.same_since:>6}",
+        f"{'-' if it.frame_age is None else duration(it.frame_age):>8}",
+        f" {words.upper() or ('ended' if it.has_ended else bar(it, width - STATE_AT))}",
+    ]
+    return Line(" ".join(columns), level_of(alarms, it.channel))
+
+
+def rate(value: Optional[float]) -> str:
+    """Frames a second."""
+    if value is None:
+        return "-"
+    return f"{value:.1f}" if 0 < value < 10 else f"{value:,.0f}"
+
+
+def bar(it: ChannelView, width: int) -> str:
+    """The frames that came in the last seconds, each as high as its share of the most, in at most so many columns."""
+    count = min(BAR_SECONDS, width)
+    values = [second.offered_frames or 0 for second in it.history[-count:]] if count > 0 else []
+    most = max(values, default=0) or 1
+    return "".join(LEVELS[round(value / most * (len(LEVELS) - 1))] for value in values)
+
+
+# ---- widths
+
+
+def printable(text: str) -> str:
+    """A text without what would move a terminal's cursor."""
+    plain = text.encode("utf-8", "replace").decode()
+    return "".join(it if it.isprintable() else "?" for it in plain)
+
+
+def columns_of(letter: str) -> int:
+    """How many columns a letter takes."""
+    if unicodedata.combining(letter):
+        return 0
+    return 2 if unicodedata.east_asian_width(letter) in "WF" else 1
+
+
+def cut(text: str, width: int) -> str:
+    """The beginning of a text, of at most so many columns; where it is cut it ends in a dot."""
+    if sum(map(columns_of, text)) <= width:
+        return text
+    kept, taken = "", 0
+    for it in text:
+        taken += columns_of(it)
+        if taken >= width:
+            break
+        kept += it
+    return f"{kept}…"
+
+
+def padded(text: str, width: int) -> str:
+    """A text with blanks behind it."""
+    return text + " " * (width - sum(map(columns_of, text)))
+
+
+def coloured(line: Line, width: int) -> str:
+    """A line of at most so many columns, in its colours."""
+    text = cut(printable(line.text), width)
+    return f"{COLOURS[line.level]}{text}{PLAIN}" if COLOURS[line.level] else text

@@ -1,0 +1,134 @@
+"""How a run goes at one moment, as data that don't change: what the page, the metrics, the table and the alarms show.
+
+Moments are seconds of a clock that nobody sets (`time.monotonic`); ages and lengths of time are seconds. None is what
+isn't known.
+"""
+
+from __future__ import annotations
+
+from typing import NamedTuple, Optional
+
+from bpfrec_host.live.observer import Counts
+
+# How many seconds of its past a channel keeps.
+HISTORY_SECONDS = 60
+
+
+class Second(NamedTuple):
+    """A second of a channel. Frames and bytes are those a second; what was dropped, missed and skipped are frames of
+    this second, and `waited` its milliseconds; the filter's version and the last frame's age are those at its end."""
+
+    offered_frames: Optional[float]
+    offered_bytes: Optional[float]
+    kept_frames: float
+    kept_bytes: float
+    dropped: int
+    missed: int
+    skipped: int
+    waited: int
+    version: int
+    age: Optional[float]
+
+
+class Unkept(NamedTuple):
+    """What a channel was offered since a kept frame of it was last seen in the recording, and for how long."""
+
+    seconds: float
+    frames: int
+    bytes: int
+
+
+class ChannelView(NamedTuple):
+    """A channel. `interface` is None where its feed is a file or a pipe, of which nobody counts what is offered.
+    `version` is the last version of its filter in this recording, and `same_since` the first of the versions that ended
+    with it and are the same program. `kept` frames and bytes are those of the run that are in recordings; `seconds` is
+    for how long the channel has been recorded, and `has_ended` whether the recording has the record of its end."""
+
+    channel: int
+    interface: Optional[str]
+    version: int
+    same_since: int
+    counts: Optional[Counts]
+    counts_age: Optional[float]
+    frame_age: Optional[float]
+    lost_age: Optional[float]
+    kept_frames: int
+    kept_bytes: int
+    seconds: float
+    has_ended: bool
+    unkept: Optional[Unkept]
+    history: tuple[Second, ...]
+
+
+class RecordingView(NamedTuple):
+    """The recording that goes on. `bytes_per_second` is the mean of the last minute; `unread` are bytes of the file
+    that weren't looked at yet, and `fault` says what was wrong with it last."""
+
+    number: int
+    name: str
+    seconds: float
+    bytes: int
+    bytes_per_second: Optional[float]
+    unread: int
+    fault: Optional[str]
+
+
+class DiskView(NamedTuple):
+    """The disk of the recording: the bytes that are free, and in how many seconds it is full at this rate."""
+
+    free: int
+    seconds_left: Optional[float]
+
+
+class SyncView(NamedTuple):
+    """How often the recording is forced to its disk, and how long ago it was; `interval` is 0 for never."""
+
+    interval: float
+    age: Optional[float]
+
+
+class EndedView(NamedTuple):
+    """A recording that has ended: its size, the status of its recorder or its audit, and the audit's last line."""
+
+    number: int
+    name: str
+    bytes: int
+    status: int
+    audit: Optional[str]
+
+    def is_refused(self) -> bool:
+        """Whether the audit said no."""
+        return self.audit is not None and not self.audit.startswith("yes")
+
+
+class Audits(NamedTuple):
+    """How many recordings of the run an audit approved, how many it didn't, and how many weren't audited."""
+
+    yes: int
+    no: int
+    none: int
+
+
+class View(NamedTuple):
+    """A run at the moment `now`. `state` is `waiting` where no recording goes on, `recording`, or `ended`; `uptime` is
+    how long it has gone on, and `recordings` are the last that ended."""
+
+    now: float
+    state: str
+    uptime: float
+    recording: Optional[RecordingView]
+    disk: Optional[DiskView]
+    sync: SyncView
+    channels: tuple[ChannelView, ...]
+    recordings: tuple[EndedView, ...]
+    audits: Audits
+
+
+def current(channel: ChannelView) -> Optional[Second]:
+    """The last second of a channel; None before there was one."""
+    return channel.history[-1] if channel.history else None
+
+
+def lost(counts: Counts) -> int:
+    """How many frames of an interface were lost, in whatever way."""
+    return counts.dropped + counts.missed + counts.skipped
