@@ -7,6 +7,11 @@
 --
 -- Places are counted in bytes from 0, as `bpfrec list` prints them; counters are ticks of 100 ns.
 
+-- Where it stands in several folders of plugins, the first that is loaded serves.
+if select(2, pcall(Dissector.get, "ch11")) then
+  return
+end
+
 local byte, find, format, rep, sub = string.byte, string.find, string.format, string.rep, string.sub
 local floor, max, min = math.floor, math.max, math.min
 
@@ -29,6 +34,8 @@ local WRONG_LENGTH, WRONG_BODY, WRONG_SUM = { 4, "Length" }, { 5, "Body" }, { 8,
 -- How many bytes are read at once where fewer are needed; how long a packet may be in a search, and the part of a longer
 -- one that is held; how many bytes of a packet a row has.
 local PIECE, MOST_HELD, MOST_IN_ROW = 65536, 1048576, 65536
+-- Wireshark has no greater length of a row.
+local MOST_LENGTH = 2147483647
 -- So many sequence numbers may be missing before a packet that is found by itself.
 local MOST_MISSING = 16
 -- So many bytes are judged in a search before its damaged place gets a row; what follows is another row.
@@ -778,6 +785,10 @@ local function give(frame, data, length, times, counter)
     seconds, nanoseconds = time_of(times, counter)
   end
   if seconds then
+    -- Before 1970 Wireshark has both parts negative.
+    if seconds < 0 and nanoseconds > 0 then
+      seconds, nanoseconds = seconds + 1, nanoseconds - NANOSECONDS_A_SECOND
+    end
     frame.time = NSTime(seconds, nanoseconds)
     frame.flags = wtap_presence_flags.TS + wtap_presence_flags.CAP_LEN
   else
@@ -805,7 +816,7 @@ end
 function Recording:give_packet(frame, packet)
   last.what, last.place = "packet", packet.at
   last.of, last.channel, last.version = packet.what, packet.of, packet.force
-  give(frame, sub(packet.data, 1, MOST_IN_ROW), packet.packet_len, self.times, packet.counter)
+  give(frame, sub(packet.data, 1, MOST_IN_ROW), min(packet.packet_len, MOST_LENGTH), self.times, packet.counter)
 end
 
 -- Gives the row of a damaged place, of which `data` are the first bytes.
@@ -1019,7 +1030,8 @@ local told_error = ProtoExpert.new("ch11.other_error.expert", "Faulty frame", ex
 ch11.experts = { told_damage, told_wrong, told_error }
 
 local ethernet, plain_data = Dissector.get("eth_withfcs"), Dissector.get("data")
-local MIN_ETHERNET_LEN = 14
+-- Which says whether anything of ch11 is looked at: a listing does without.
+local ch11_dissector
 
 -- A number up to 2^53 as a field has it.
 local function long(number)
@@ -1068,9 +1080,7 @@ local function add_check_sequence(item, data)
 end
 
 -- Adds what the recording says of a frame.
-local function add_frame(tree, row)
-  local marks, content = floor(row.top / 64), floor(row.top / 16) % 4
-  local wrong, other = marks >= 2, marks % 2 == 1
+local function add_frame(tree, row, wrong, other, content)
   local item = tree:add(ch11)
   item:set_text(format("Channel %d, frame %.0f, counter %.0f%s%s", row.channel, row.number, row.counter,
     wrong and ", wrong check sequence" or "", other and ", another fault" or ""))
@@ -1097,24 +1107,24 @@ local function add_frame(tree, row)
   if content == 0 then
     add_check_sequence(item, row.data)
   end
-  return content == 0, wrong and " [wrong check sequence]" or other and " [faulty]" or nil
 end
 
 -- Dissects a frame: as Ethernet, where it is a frame with its check sequence.
 local function dissect_frame(tvb, pinfo, tree, row)
-  local is_ethernet, mark = true, nil
-  if row then
-    is_ethernet, mark = add_frame(tree, row)
+  local top = row and row.top or 0
+  local wrong, other, content = top >= 128, top % 128 >= 64, floor(top / 16) % 4
+  if row and tree:referenced(ch11_dissector) then
+    add_frame(tree, row, wrong, other, content)
   end
-  if is_ethernet and tvb:len() >= MIN_FRAME_LEN then
+  if content == 0 and tvb:len() >= MIN_FRAME_LEN then
     ethernet:call(tvb, pinfo, tree)
   else
     pinfo.cols.protocol = "CH11"
-    pinfo.cols.info = row and format("channel %d, content %d, %d bytes", row.channel, floor(row.top / 16) % 4, row.length) or ""
+    pinfo.cols.info = format("content %d, %d bytes", content, tvb:len())
     plain_data:call(tvb, pinfo, tree)
   end
-  if mark then
-    pinfo.cols.info:append(mark)
+  if wrong or other then
+    pinfo.cols.info:append(wrong and " [wrong check sequence]" or " [faulty]")
   end
 end
 
@@ -1215,6 +1225,7 @@ function ch11.dissector(tvb, pinfo, tree)
   end
 end
 
+ch11_dissector = Dissector.get("ch11")
 DissectorTable.get("wtap_encap"):add(ENCAPSULATION, ch11)
 
 -- ---- the file readers
@@ -1231,23 +1242,28 @@ local function open_recording(file, capture)
   return true
 end
 
--- Whether a file begins with a packet's header.
+-- Whether a file begins with a packet's header, whose checksum is right.
 local function begins_recording(file)
   local window = Window.new()
   window.file = file
   local head = window:bytes(0, HEADER_LEN)
   file:seek("set", 0)
-  return #head == HEADER_LEN and not header_fault(head)
+  local fault = #head < HEADER_LEN and TRUNCATED or header_fault(head)
+  return not fault or fault == WRONG_LENGTH
 end
 
--- Whether a packet of this project's stands near the beginning of a file.
+-- Whether a file begins with the sync pattern, or a packet of this project's stands near its beginning.
 local function has_recording(file)
-  local reader, found = Reader.new(), nil
+  local reader = Reader.new()
   reader.window.file = file
-  repeat
+  local found = reader.window:bytes(0, #SYNC) == SYNC
+  while not found and reader.at <= MOST_BEGINNING do
     local piece = reader:next()
-    found = piece and piece.what ~= "damage" and piece.what ~= "other"
-  until not piece or found or reader.at > MOST_BEGINNING
+    if not piece then
+      break
+    end
+    found = piece.what ~= "damage" and piece.what ~= "other"
+  end
   file:seek("set", 0)
   return found
 end
