@@ -25,7 +25,7 @@ from frames import (
 from pcapng import frames_in, times_of
 from reading import SEED, recording_of_three
 from recorder import RECORDINGS, extracted
-from rows import FIELDS, PLUGIN, TICKS_A_SECOND, expected_rows, printed, rows_of, tshark
+from rows import FIELDS, PLUGIN, expected_rows, printed, rows_of, tshark
 from support import BPFREC, CONVERT, ROOT, judge, judge_quietly, outcome, run
 
 WANTED = {"bin/bpfrec": "make build", "tshark": "tshark", "editcap": "wireshark-common"}
