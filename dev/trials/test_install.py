@@ -102,7 +102,9 @@ def judge_plugin(root: Path) -> None:
     told = ran("tshark", "-G", "folders")[1]
     judge("in the folder that it names", f"\t{found[0].parent}\n".replace(str(root), "") in told, told)
     is_same = found[0].read_bytes() == (ROOT / "host/wireshark/bpfrec.lua").read_bytes()
-    judge("it is the plugin of this checkout, and a link that holds when it is moved", is_same and found[0].is_symlink())
+    judge(
+        "it is the plugin of this checkout, and a link that holds when it is moved", is_same and found[0].is_symlink()
+    )
 
 
 def judge_names(programs: Path) -> None:

@@ -21,7 +21,11 @@ from namespace import make_quiet, run_batch, set_link, socket_into, turn_offload
 from support import ROOT, judge_quietly
 
 WANTED = {"bin/bpfrec": "make build"}
-WANTED_BY = {"live": {"bin/capture": "make build", "ip": "iproute2"}, "tcpdump": {"tcpdump": "tcpdump"}, "tshark": {"tshark": "tshark"}}
+WANTED_BY = {
+    "live": {"bin/capture": "make build", "ip": "iproute2"},
+    "tcpdump": {"tcpdump": "tcpdump"},
+    "tshark": {"tshark": "tshark"},
+}
 MARK = "== end of a command =="
 FRAMES_A_SECOND = 200
 PATIENCE = 180

@@ -2,13 +2,13 @@
 
 from __future__ import annotations
 
-import errno
 import os
 from typing import BinaryIO, NoReturn, Optional
 
 from bpfrec_host.ending import full_name, say, short_name, tell
 from bpfrec_host.formats import ch11
 from bpfrec_host.program import audit_of
+from bpfrec_host.streams import force
 from bpfrec_host.words import Parser
 
 ABOUT = """\
@@ -100,16 +100,6 @@ def salvage(damaged: BinaryIO, out: BinaryIO) -> bool:
     told.append(f"kept {left.packets} packets {left.bytes} bytes, lost {lost} bytes at {places} places")
     say("".join(f"{line}\n" for line in told))
     return is_whole
-
-
-def force(out: BinaryIO) -> None:
-    """Forces a file to its disk; a pipe or a device that says that it can't be is passed over."""
-    out.flush()
-    try:
-        os.fsync(out.fileno())
-    except OSError as error:
-        if error.errno != errno.EINVAL:
-            raise
 
 
 def parser() -> Parser:

@@ -2,15 +2,26 @@
 
 from __future__ import annotations
 
+import errno
 import os
 import stat
-from typing import Callable, Optional
+from typing import BinaryIO, Callable, Optional
 
 from bpfrec_host.ending import say, tell
 
 READ_LEN = 1 << 18
 # So many parts at most wait for a write.
 PARTS_A_WRITE = 256
+
+
+def force(out: BinaryIO) -> None:
+    """Forces a file to its disk; a pipe or a device that says that it can't be is skipped."""
+    out.flush()
+    try:
+        os.fsync(out.fileno())
+    except OSError as error:
+        if error.errno != errno.EINVAL:
+            raise
 
 
 class Refused(Exception):
