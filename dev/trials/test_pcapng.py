@@ -146,7 +146,11 @@ def test_clients(work: Path, three: Path) -> None:
         {len(fields_of(work / f"{it}.pcapng")) for it in ("ordered", "edited")} == {count},
     )
     lines = outcome("tcpdump", "-nr", capture)
-    judge("tcpdump reads it", lines.returncode == 0 and len(re.findall(r"^\d\d:", lines.stdout, re.MULTILINE)) == count, lines)
+    judge(
+        "tcpdump reads it",
+        lines.returncode == 0 and len(re.findall(r"^\d\d:", lines.stdout, re.MULTILINE)) == count,
+        lines,
+    )
     done = outcome(
         "tshark",
         "-r",
@@ -289,7 +293,9 @@ def test_little_is_read(work: Path) -> None:
     damaged = [it if at in (199, 200) else it[:100] + bytes(4) + it[104:] for at, it in enumerate(parts)]
     path.write_bytes(program_packet(1, 0) + b"".join(damaged) + end_packet(1, 30_000))
     done = outcome(PCAPNG, "--from", "0.02", "--to", "0.0201", work / "slice.pcapng", path)
-    judge("a slice of one packet", (done.returncode, done.stdout, done.stderr) == (0, "frames 60 skipped 0\n", ""), done)
+    judge(
+        "a slice of one packet", (done.returncode, done.stdout, done.stderr) == (0, "frames 60 skipped 0\n", ""), done
+    )
 
 
 def test_several(work: Path) -> None:

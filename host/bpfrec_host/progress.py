@@ -3,8 +3,10 @@
 from __future__ import annotations
 
 import os
+import stat
 import sys
 import time
+from typing import Union
 
 from bpfrec_host import ending
 
@@ -111,9 +113,10 @@ def width() -> int:
         return 80
 
 
-def size_of(path: str) -> int:
-    """The bytes of a regular file; 0 where they aren't known."""
+def size_of(file: Union[str, int]) -> int:
+    """The bytes of a regular file, by its path or its descriptor; 0 where they aren't known."""
     try:
-        return os.stat(path).st_size
+        found = os.stat(file)
     except OSError:
         return 0
+    return found.st_size if stat.S_ISREG(found.st_mode) else 0

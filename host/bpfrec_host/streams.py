@@ -45,6 +45,8 @@ class Input:
         self.at = 0
         self.place = 0
         self.before_waiting: Callable[[], None] = lambda: None
+        # Is told the place up to which bytes came.
+        self.after_read: Callable[[int], None] = lambda _: None
         try:
             self.descriptor = 0 if path == "-" else os.open(path, os.O_RDONLY)
             self.waits = not stat.S_ISREG(os.fstat(self.descriptor).st_mode)
@@ -62,6 +64,7 @@ class Input:
         self.place += self.at
         self.data = self.data[self.at :] + read
         self.at = 0
+        self.after_read(self.place + len(self.data))
         return bool(read)
 
     def has(self, length: int) -> bool:

@@ -44,6 +44,10 @@ written, or OUT is there, 4 out of memory.
 """
 
 
+# After so many frames it is looked whether a line of progress is due.
+FRAMES_A_LOOK = 256
+
+
 def parser() -> Parser:
     """The arguments of bpfrec-pcapng."""
     made = Parser(prog=full_name("pcapng"), description=ABOUT, epilog=MORE)
@@ -114,14 +118,15 @@ def interfaces_of(recordings: list[Recording], chosen: Optional[list[int]]) -> l
 
 def write(path: str, recordings: list[Recording], interfaces: list[Interface], is_quiet: bool) -> int:
     """Writes the capture: how many frames it has."""
-    total, done, count = sum(each.size() for it in interfaces for each in it.slices), 0, -1 - len(interfaces)
+    slices = [each for it in interfaces for each in it.slices]
+    count = -1 - len(interfaces)
     try:
-        with output.create(path) as out, Progress("pcapng", total, is_quiet) as progress:
+        with output.create(path) as out, Progress("pcapng", sum(it.size() for it in slices), is_quiet) as progress:
             for block in blocks(recordings, interfaces):
                 out.write(block)
                 count += 1
-                done += len(block)
-                progress.at(done)
+                if count % FRAMES_A_LOOK == 0:
+                    progress.at(sum(it.done for it in slices))
             force(out)
     except OSError as error:
         error.filename = error.filename or path

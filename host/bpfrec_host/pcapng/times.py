@@ -69,7 +69,9 @@ class Times:
         if moment is None:
             raise Refused(f"{self.path}: counter {counter} is before the first origin of the facts")
         if not 0 <= moment <= MOST_UNITS:
-            raise Refused(f"{self.path}: counter {counter} is {'before' if moment < 0 else 'past'} the times of a capture")
+            raise Refused(
+                f"{self.path}: counter {counter} is {'before' if moment < 0 else 'past'} the times of a capture"
+            )
         return moment
 
     def steady_moment(self, counter: int) -> int:
