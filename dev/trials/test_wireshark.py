@@ -236,6 +236,10 @@ def test_wrong_check_sequences(work: Path) -> None:
     found = [it.split("\t") for it in printed(work, "-r", recording, "-Y", "ch11.number", *asked)]
     judge("Wireshark's own judgement", [it[1] == "0" for it in found] == are_wrong and any(are_wrong), found[:5])
     judge("and that of the plugin", [it[0] == "1" for it in found] == are_wrong)
+    marked = sum(it.get("wrong_fcs") == "1" for it in expected_rows(recording))
+    told = printed(work, "-r", recording, "-q", "-z", "expert")
+    wanted = f"{marked} Checksum CH11 Recorded with a wrong check sequence"
+    judge("what the recorder marked is expert information", wanted in [" ".join(it.split()) for it in told], told)
     chosen = printed(work, "-r", recording, "-Y", "ch11.bad_fcs == 1", "-T", "fields", "-e", "ch11.number")
     judge("a filter on it", chosen == [str(at) for at, it in enumerate(are_wrong) if it])
     rows = [it for it in expected_rows(recording) if "number" in it]

@@ -507,7 +507,7 @@ function Json.members(text, at, depth, close)
     return found, at + 1
   end
   while true do
-    local name, value = #found + 1, nil
+    local name, value = #found + 1
     if close == "}" then
       if sub(text, at, at) ~= '"' then
         refuse_json()
@@ -1079,31 +1079,51 @@ local function add_check_sequence(item, data)
   end
 end
 
+-- Adds a field to a frame's item, where somebody asks for it: what there is of the item then.
+local function add_asked(item, which, value)
+  if item:referenced(which) then
+    return item:add(which, value)
+  end
+end
+
+-- Adds whether a frame has a fault; one that it has is said as expert information, whoever asks.
+local function add_fault(item, which, is_so, expert_info, text)
+  if is_so then
+    item:add(which, true):add_proto_expert_info(expert_info, text)
+  else
+    add_asked(item, which, false)
+  end
+end
+
+-- Adds a place or another number of up to 2^53.
+local function add_long(item, which, number)
+  if item:referenced(which) then
+    item:add(which, long(number))
+  end
+end
+
 -- Adds what the recording says of a frame.
 local function add_frame(tree, row, wrong, other, content)
   local item = tree:add(ch11)
-  item:set_text(format("Channel %d, frame %.0f, counter %.0f%s%s", row.channel, row.number, row.counter,
-    wrong and ", wrong check sequence" or "", other and ", another fault" or ""))
-  item:add(field.channel, row.channel)
+  if item.visible then
+    item:set_text(format("Channel %d, frame %.0f, counter %.0f%s%s", row.channel, row.number, row.counter,
+      wrong and ", wrong check sequence" or "", other and ", another fault" or ""))
+  end
+  add_asked(item, field.channel, row.channel)
   if row.version then
-    item:add(field.version, row.version)
+    add_asked(item, field.version, row.version)
   end
-  item:add(field.number, long(row.number))
-  item:add(field.counter, long(row.counter))
-  item:add(field.time, row.times.note)
-  item:add(field.net, row.net)
-  item:add(field.speed, row.top % 16)
-  item:add(field.content, content)
-  local wrong_item, other_item = item:add(field.wrong_fcs, wrong), item:add(field.other_error, other)
-  if wrong then
-    wrong_item:add_proto_expert_info(told_wrong, "Recorded with a wrong check sequence")
-  end
-  if other then
-    other_item:add_proto_expert_info(told_error, "Recorded with another fault than its check sequence")
-  end
-  item:add(field.length, row.length)
-  item:add(field.place, long(row.place))
-  item:add(field.packet, long(row.packet))
+  add_long(item, field.number, row.number)
+  add_long(item, field.counter, row.counter)
+  add_asked(item, field.time, row.times.note)
+  add_asked(item, field.net, row.net)
+  add_asked(item, field.speed, row.top % 16)
+  add_asked(item, field.content, content)
+  add_fault(item, field.wrong_fcs, wrong, told_wrong, "Recorded with a wrong check sequence")
+  add_fault(item, field.other_error, other, told_error, "Recorded with another fault than its check sequence")
+  add_asked(item, field.length, row.length)
+  add_long(item, field.place, row.place)
+  add_long(item, field.packet, row.packet)
   if content == 0 then
     add_check_sequence(item, row.data)
   end
@@ -1113,7 +1133,7 @@ end
 local function dissect_frame(tvb, pinfo, tree, row)
   local top = row and row.top or 0
   local wrong, other, content = top >= 128, top % 128 >= 64, floor(top / 16) % 4
-  if row and tree:referenced(ch11_dissector) then
+  if row and (wrong or other or tree:referenced(ch11_dissector)) then
     add_frame(tree, row, wrong, other, content)
   end
   if content == 0 and tvb:len() >= MIN_FRAME_LEN then
