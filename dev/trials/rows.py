@@ -13,6 +13,7 @@ PLUGIN = ROOT / "host/wireshark/bpfrec.lua"
 FIELDS = {
     "time": "frame.time_epoch",
     "sum": "frame.md5_hash",
+    "row_length": "frame.len",
     "channel": "ch11.channel",
     "version": "ch11.version",
     "number": "ch11.number",
@@ -111,7 +112,14 @@ class Expected:
         """Takes a packet or a damaged place of a recording of these bytes."""
         if isinstance(piece, ch11.Damage):
             begins = data[piece.fault.at : piece.fault.at + min(piece.length, MOST_IN_ROW)]
-            self.add(sum=sum_of(begins), damage=piece.fault, damaged_length=piece.length, place=piece.fault.at)
+            length = len(begins)
+            self.add(
+                sum=sum_of(begins),
+                row_length=length,
+                damage=piece.fault,
+                damaged_length=piece.length,
+                place=piece.fault.at,
+            )
         elif isinstance(piece.what, ch11.Frames) and piece.what.counters:
             for frame in frames_in(piece):
                 self.take_frame(piece, frame)
@@ -125,6 +133,7 @@ class Expected:
         self.add(
             time=self.time_of(frame.counter),
             sum=sum_of(frame.bytes),
+            row_length=len(frame.bytes),
             channel=channel,
             version=self.versions.get(channel),
             number=number,
@@ -144,6 +153,7 @@ class Expected:
         shared = {
             "time": self.time_of(header.counter),
             "sum": sum_of(packet.bytes[:MOST_IN_ROW]),
+            "row_length": len(packet.bytes),
             "counter": header.counter,
             "place": packet.at,
             "type": f"0x{header.kind:02x}",

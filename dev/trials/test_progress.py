@@ -130,12 +130,10 @@ def test_lost_lines(work: Path, recording: Path) -> None:
     (work / "damaged.ch11").write_bytes(data)
     words = ["pcapng", work / "out.pcapng", work / "damaged.ch11"]
     status, told, _ = at_terminal(sys.executable, "-c", AT_ONCE, *words)
-    lines = [it.split(EMPTIED)[-1] for it in told.split("\n") if "are left out" in it]
-    judge(
-        "faults on lines of their own",
-        status == 1 and len(lines) == 4 and all(it.startswith("pcapng: ") for it in lines),
-        told,
-    )
+    lines = [it.split(EMPTIED)[-1] for it in told.split("\r\n") if "are left out" in it]
+    wanted = rf"pcapng: {work}/damaged\.ch11: read 8 DataChecksum \d+: \d+ bytes are left out"
+    judge("faults on lines of their own", status == 1 and len(lines) == 4, told)
+    judge("with nothing ahead", all(re.fullmatch(wanted, it) for it in lines), lines)
 
 
 def test_dumb_terminal(work: Path, recording: Path) -> None:

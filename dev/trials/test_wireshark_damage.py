@@ -8,9 +8,9 @@ from concurrent.futures import ThreadPoolExecutor
 from pathlib import Path
 
 import pytest
-from frames import FRAMES, body_of, end_packet, header_of, packet_of, program_packet, sum_of
+from frames import FRAMES, body_of, end_packet, frames_packet, header_of, packet_of, program_packet, sum_of
 from reading import SAMPLES, SEED, recording_of_three
-from rows import PLUGIN, expected_rows, printed, rows_of
+from rows import PLUGIN, expected_rows, printed, rows_of, tshark
 from support import BPFREC, MEBIBYTE, ROOT, judge, judge_quietly, outcome, run
 from test_info_damage import damaged_sample, nested
 
@@ -75,12 +75,31 @@ def test_drawn_damage(work: Path) -> None:
     judge_all(work, {name: it for name, it in drawn.items() if it[:2] == b"\x25\xeb"})
 
 
-def test_nested(work: Path) -> None:
-    """Damage of a packet whose frames hold packets of another recording."""
-    whole = nested(True)
+def aligned(sequence: int) -> list[bytes]:
+    """Packets whose frames hold a whole packet of the same channel at a multiple of 4 bytes, with this sequence
+    number."""
+    inner = frames_packet([(7, 0, bytes(60))], sequence, 7, True)
+    bodies = [body_of([(at, 0, bytes(16) + inner + bytes(4))]) for at in range(5)]
+    return [packet_of(1, it, at, FRAMES, at, True) for at, it in enumerate(bodies)]
+
+
+@pytest.mark.parametrize("is_summed", [False, True], ids=["without_sums", "with_sums"])
+def test_nested(work: Path, is_summed: bool) -> None:
+    """Damage of a packet whose frames hold packets of another recording: bytes changed, bytes taken out, and headers
+    that are zero."""
+    whole = nested(is_summed)
     begin, data = len(b"".join(whole[:3])), b"".join(whole)
-    places = range(begin, begin + len(whole[3]), 23)
-    judge_all(work, {f"nested_{at}": data[:at] + bytes([data[at] ^ 0x55]) + data[at + 1 :] for at in places})
+    end = begin + len(whole[3])
+    cases = {f"byte_{at}": data[:at] + bytes([data[at] ^ 0x55]) + data[at + 1 :] for at in range(begin, end, 97)}
+    cases |= {f"without_{at}": data[:at] + data[at + 5 :] for at in range(begin + 30, end - 5, 97)}
+    cases["no_header"] = data[:begin] + bytes(HEADER_LEN) + data[begin + HEADER_LEN :]
+    first = len(whole[0])
+    cases["no_headers"] = data[:first] + bytes(HEADER_LEN) + cases["no_header"][first + HEADER_LEN :]
+    parts = aligned(100)
+    cases["later_number"] = b"".join([parts[0], bytes(HEADER_LEN) + parts[1][HEADER_LEN:], *parts[2:]])
+    parts = aligned(2)
+    cases["next_number"] = b"".join([parts[0], parts[1][:40] + parts[1][44:], *parts[2:]])
+    judge_all(work, cases)
 
 
 # ---- what is hostile
@@ -113,13 +132,14 @@ def test_hostile(work: Path) -> None:
 def test_many_claims(work: Path) -> None:
     """Headers that all claim a mebibyte with a checksum end in seconds, and nothing is left out."""
     head = header_that_claims(MEBIBYTE, 100, 0x19, 1)
-    data = program_packet(1, 0) + b"\0" + head * 600 + bytes(MEBIBYTE)
+    data = program_packet(1, 0) + b"\0" + head * 600 + b"\1" * MEBIBYTE
     (work / "many.ch11").write_bytes(data)
     rows = rows_of(work, work / "many.ch11", seconds=120)
     damaged = [it for it in rows if "damage" in it]
     lengths = sum(int(it["damaged_length"]) for it in damaged) + len(program_packet(1, 0))
     others = sum(MEBIBYTE for it in rows if it.get("type") == "0x19")
     judge(f"{len(rows)} rows have all bytes", lengths + others == len(data), (lengths, others, len(data)))
+    judge("a damaged place that takes long is several rows", len(damaged) > 1, damaged)
 
 
 def test_sparse(work: Path) -> None:
@@ -131,6 +151,15 @@ def test_sparse(work: Path) -> None:
         file.seek(length)
         file.write(program_packet(1, 0))
     judge_memory(work, path, 2)
+
+
+def test_no_recording(work: Path) -> None:
+    """A file of gigabytes that is no recording is left to other readers at once."""
+    path = work / "zeros.ch11"
+    path.touch()
+    os.truncate(path, 1 << 34)
+    done = tshark(work, "-r", path, seconds=10)
+    judge("no recording", done.returncode == 2 and "Lua" not in done.stderr, done)
 
 
 def judge_memory(work: Path, path: Path, count: int) -> None:

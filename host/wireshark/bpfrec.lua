@@ -364,11 +364,12 @@ local function search_from(window, begin)
   return { window = window, begin = begin, inside = inside, at = begin + 1, broken = {}, judged = 0 }
 end
 
--- Goes on with a search up to the next packet, to the file's end, or until many bytes were judged: whether it is over.
-local function go_on(search, sequences)
+-- Goes on with a search up to the next packet, to the file's end, to a place, or until many bytes were judged: whether it
+-- is over.
+local function go_on(search, sequences, stop)
   local window = search.window
   search.judged = 0
-  while search.judged < MOST_JUDGED do
+  while search.judged < MOST_JUDGED and search.at <= stop do
     -- Frames hold packets, so what is before the search is needed no more.
     if search.at - window.begin >= PIECE then
       window:drop(search.at)
@@ -397,8 +398,9 @@ end
 local Reader = {}
 Reader.__index = Reader
 
-function Reader.new()
-  return setmetatable({ window = Window.new(), at = 0, sequences = {} }, Reader)
+-- A reader of a file, which searches for packets up to a place.
+function Reader.new(stop)
+  return setmetatable({ window = Window.new(), at = 0, sequences = {}, stop = stop }, Reader)
 end
 
 -- The damaged place that ends where the reader goes on.
@@ -424,7 +426,7 @@ end
 function Reader:searched()
   local begin, search = self.at, self.search
   self.first = self.window:bytes(begin, MOST_IN_ROW)
-  if go_on(search, self.sequences) then
+  if go_on(search, self.sequences, self.stop) then
     self.search = nil
   end
   return damage_to(self, begin, self.fault, search.at)
@@ -762,7 +764,7 @@ Recording.__index = Recording
 
 function Recording.new()
   return setmetatable({
-    reader = Reader.new(),
+    reader = Reader.new(math.huge),
     -- By channel ID: how many frames came, and the version of the filter that is in force.
     counts = {},
     forces = {},
@@ -794,9 +796,11 @@ local function give(frame, data, length, times, counter)
   else
     frame.flags = wtap_presence_flags.CAP_LEN
   end
-  frame.captured_length = #data
-  frame.original_length = length
+  -- This sets both lengths too.
   frame.data = data
+  if length ~= #data then
+    frame.original_length = length
+  end
   last.data, last.times = data, times
 end
 
@@ -1274,7 +1278,7 @@ end
 
 -- Whether a file begins with the sync pattern, or a packet of this project's stands near its beginning.
 local function has_recording(file)
-  local reader = Reader.new()
+  local reader = Reader.new(MOST_BEGINNING)
   reader.window.file = file
   local found = reader.window:bytes(0, #SYNC) == SYNC
   while not found and reader.at <= MOST_BEGINNING do
