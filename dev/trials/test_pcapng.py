@@ -395,6 +395,7 @@ def test_refusals(work: Path, three: Path) -> None:
         (["--from", "noon", out, plain], 2, "noon is no time, as 12.5 or 2025-12-01T12:00:00.25Z"),
         (["--channel", "7", out, plain], 1, f"pcapng: {plain}: no channel 7"),
         (["--channel", "70000", out, plain], 2, "70000 is no channel ID"),
+        ([out, work / "fifo"], 1, f"pcapng: {work}/fifo: it is no regular file, of which parts could be read"),
         ([out], 2, "the following arguments are required"),
         (["/dev/full", plain], 3, "file /dev/full: No space left on device"),
         ([work / "no/where", plain], 3, "No such file or directory"),

@@ -49,11 +49,11 @@ class Index:
         self.path, self.tell = path, tell
         self.channels: dict[int, Channel] = {}
         self.is_damaged = False
-        self.file: BinaryIO = open(path, "rb")
-        found = os.fstat(self.file.fileno())
-        if not stat.S_ISREG(found.st_mode):
+        # Before it is opened, since a pipe would be waited for.
+        if not stat.S_ISREG(os.stat(path).st_mode):
             raise Refused(f"{path}: it is no regular file, of which parts could be read")
-        self.size = found.st_size
+        self.file: BinaryIO = open(path, "rb")
+        self.size = os.fstat(self.file.fileno()).st_size
 
     def read(self) -> None:
         """Goes from header to header; a damaged place is told, and the reading goes on behind it."""
