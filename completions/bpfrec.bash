@@ -45,9 +45,10 @@ _bpfrec_tool() {
     case ${1##*/} in
         bpfrec-capture) options='-r --origin --buffer --direction --prefilter --no-promiscuous --clock --check-sequence --interface --quiet --strict --hold --events --parent --help' kind='*' ;;
         bpfrec-live) options='--force --every --size --sync --flush --keep --keep-free --mode --prefilter --no-audit --strict --origin --buffer --direction --clock --check-sequence --quiet --no-promiscuous --help' kind=toml ;;
-        bpfrec-convert) options='from-pcap to-pcap show make --origin --interface --facts --drop-check-sequence --help' kind='*' ;;
-        bpfrec-info) options='--json --html --help' kind=ch11 ;;
-        bpfrec-salvage) options='--help' kind=ch11 ;;
+        bpfrec-convert) options='from-pcap to-pcap show make --origin --interface --quiet --facts --drop-check-sequence --help' kind='*' ;;
+        bpfrec-info) options='--json --quiet --html --help' kind=ch11 ;;
+        bpfrec-pcapng) options='--from --to --channel --force --quiet --help' kind=ch11 ;;
+        bpfrec-salvage) options='--quiet --help' kind=ch11 ;;
         bpfrec-preflight) options='--out --capture --live --help' kind=toml ;;
     esac
     if [[ ${COMP_WORDS[COMP_CWORD]} == -* || ${1##*/} == bpfrec-convert && $COMP_CWORD == 1 ]]; then
@@ -58,4 +59,4 @@ _bpfrec_tool() {
 }
 
 complete -F _bpfrec bpfrec
-complete -F _bpfrec_tool bpfrec-capture bpfrec-live bpfrec-convert bpfrec-info bpfrec-salvage bpfrec-preflight
+complete -F _bpfrec_tool bpfrec-capture bpfrec-live bpfrec-convert bpfrec-info bpfrec-pcapng bpfrec-salvage bpfrec-preflight

@@ -172,6 +172,7 @@ def feed_texts():
     yield "Lines that change a filter", "`refused <channel> VersionsFull`", f"{it.MAX_VERSIONS:,} programs"
     yield "What `record` refuses", "SETTINGS, `filter`", f"more than {it.MAX_LISTING_LEN:,} bytes"
     yield "Facts beside a recording", "`host`", f"at most {it.MAX_HOST_LEN} characters"
+    yield "Facts beside a recording", "`interfaces`", f"`channel`, 1 to {it.MAX_CHANNEL_ID:,}"
     yield "Facts beside a recording", "`counter`", f"0 to 2^{it.COUNTER_BITS} - 1"
     yield "Facts beside a recording", "`dropped`, `missed`, `skipped`", f"0 to 2^{it.MAX_COUNT.bit_length()} - 1"
 

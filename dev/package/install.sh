@@ -7,9 +7,10 @@ usage='usage: PREFIX=.. DESTDIR=.. dev/package/install.sh [--uninstall]
 Installs bin/bpfrec, which make build makes, and bin/capture, where it is built, below PREFIX (/usr/local by
 default): programs in bin/, the tools in libexec/bpfrec/ with links in bin/ (bpfrec-convert, bpfrec-info and so on;
 those in Python are one file, bpfrec-host.pyz), the page bpfrec(1), completions for bash, zsh and fish, examples
-and documents in share/doc/bpfrec/, and a unit for systemd in lib/systemd/system/. What stands in DESTDIR, if it is
-set, is put ahead of PREFIX. With --uninstall all of it is removed, and the folders that only it has. ZSH names
-another folder than share/zsh/site-functions.
+and documents in share/doc/bpfrec/, a unit for systemd in lib/systemd/system/, and the plugin for Wireshark in
+share/bpfrec/, with a link in the folder of plugins that tshark names, or else in Debian'"'"'s. What stands in DESTDIR,
+if it is set, is put ahead of PREFIX. With --uninstall all of it is removed, and the folders that only it has. ZSH
+names another folder than share/zsh/site-functions, and WIRESHARK another folder of plugins.
 
 Status: 0 done, 2 wrong words, 3 something to install is missing or not proved, else that of the command that
 failed.'
@@ -18,7 +19,7 @@ cd "$(dirname "$0")/../.." || exit 3
 PREFIX=${PREFIX:-/usr/local} DESTDIR=${DESTDIR:-} ZSH=${ZSH:-share/zsh/site-functions}
 to=$DESTDIR$PREFIX
 # The tools in Python, and all.
-tools=(live convert info preflight salvage)
+tools=(live convert info pcapng preflight salvage)
 names=(capture "${tools[@]}")
 
 # Each file, as its mode, where it stands here or what it is made of, and where it goes.
@@ -31,7 +32,8 @@ files() {
     echo "644 completions/bpfrec.bash share/bash-completion/completions/bpfrec"
     echo "644 completions/_bpfrec $ZSH/_bpfrec"
     echo "644 completions/bpfrec.fish share/fish/vendor_completions.d/bpfrec.fish"
-    for file in README.md docs/user/FORMATS.md docs/user/USING.md docs/user/info.png; do
+    echo "644 host/wireshark/bpfrec.lua share/bpfrec/bpfrec.lua"
+    for file in README.md docs/user/FORMATS.md docs/user/USING.md docs/user/info.png docs/user/wireshark.png; do
         echo "644 $file share/doc/bpfrec/${file##*/}"
     done
     find examples -type f ! -name bpfrec.service | sort | while read -r file; do
@@ -54,6 +56,22 @@ links() {
         echo "bpfrec share/bash-completion/completions/bpfrec-$name"
         echo "bpfrec.fish share/fish/vendor_completions.d/bpfrec-$name.fish"
     done
+}
+
+# The folder in which Wireshark looks for plugins of all users.
+plugins() {
+    local found=${WIRESHARK:-}
+    [[ -n $found ]] || found=$(tshark -G folders 2> /dev/null | sed -n 's/^Global Lua Plugins:[[:space:]]*//p') || true
+    echo "${found:-/usr/lib/$(uname -m)-linux-gnu/wireshark/plugins}"
+}
+
+# Links the plugin for Wireshark into that folder, where it may be written.
+install_plugin() {
+    local folder plugin=$to/share/bpfrec/bpfrec.lua
+    folder=$DESTDIR$(plugins)
+    if ! { mkdir -p "$folder" && ln -sfn "$(realpath -m --relative-to="$folder" "$plugin")" "$folder/bpfrec.lua"; } 2> /dev/null; then
+        echo "$folder can't be written, so Wireshark finds no recordings: link $plugin into ~/.local/lib/wireshark/plugins"
+    fi
 }
 
 # What an installation from before had, and none has any more.
@@ -108,6 +126,7 @@ install_all() {
     while read -r from at; do
         [[ $from == */libexec/* && ! -e $to/bin/$from ]] || ln -sfn "$from" "$to/$at"
     done < <(links)
+    install_plugin
 }
 
 uninstall_all() {
@@ -119,7 +138,9 @@ uninstall_all() {
     while read -r from at; do
         rm -f "$to/$at"
     done < <(links)
-    for at in share/doc/bpfrec/examples/{filters,feeds} share/doc/bpfrec/examples share/doc/bpfrec libexec/bpfrec; do
+    at=$DESTDIR$(plugins)/bpfrec.lua
+    [[ ! -L $at ]] || rm -f "$at"
+    for at in share/doc/bpfrec/examples/{filters,feeds} share/doc/bpfrec/examples share/doc/bpfrec share/bpfrec libexec/bpfrec; do
         [[ ! -d $to/$at ]] || rmdir --ignore-fail-on-non-empty "$to/$at"
     done
 }

@@ -27,7 +27,7 @@ FILES = sorted((ROOT / "dev" / "trials").glob("test_*.py"))
 # The longest that a file may take, and that it may take to end once it was told to, in seconds.
 PATIENCE, ENDING = 900, 10
 # Those that take longest begin first.
-LONGEST = ("test_soak", "test_fuzz")
+LONGEST = ("test_soak", "test_fuzz", "test_wireshark_damage")
 # The statuses of pytest that say that all trials were run.
 WERE_RUN = (0, 1)
 MOST_SHOWN = 8_000

@@ -19,7 +19,9 @@ ROOT = Path(__file__).resolve().parents[2]
 # Another build of either is tried by the variables BPFREC and CAPTURE, by which the tools find it too.
 BPFREC = Path(os.environ.get("BPFREC") or ROOT / "bin/bpfrec")
 CAPTURE = Path(os.environ.get("CAPTURE") or ROOT / "bin/capture")
-LIVE, CONVERT, INFO, SALVAGE = (ROOT / "host/bin" / name for name in ("live", "convert", "info", "salvage"))
+LIVE, CONVERT, INFO, PCAPNG, SALVAGE = (
+    ROOT / "host/bin" / name for name in ("live", "convert", "info", "pcapng", "salvage")
+)
 # What a trial may want that a build makes.
 BUILT = {"bin/bpfrec": BPFREC, "bin/capture": CAPTURE}
 TRIALS = ROOT / "dev/trials"

@@ -17,7 +17,7 @@ from support import BPFREC, ROOT, judge, outcome
 sys.path.insert(0, str(ROOT / "dev/package"))
 import manual
 
-WANTED = {"bin/bpfrec": "make build", "man": "man-db", "mandoc": "mandoc", "dpkg-deb": "dpkg"}
+WANTED = {"bin/bpfrec": "make build", "man": "man-db", "mandoc": "mandoc", "dpkg-deb": "dpkg", "tshark": "tshark"}
 PAGE = ROOT / "man/bpfrec.1"
 SETTINGS = '[[channel]]\nid = 1\nfeed = "one.feed"\nfilter = "all"\n'
 FACTS = '{"facts": 1, "host": "fc1", "origins": [{"origin": "1764590400.250000000", "counter": 0}], "losses": []}'
@@ -95,6 +95,18 @@ def judge_tools(folder: Path, programs: Path) -> None:
     judge("live finds the program", by("live", wanted, "out") == (3, f"file {wanted}\n"))
 
 
+def judge_plugin(root: Path) -> None:
+    """Wireshark's folder of plugins has the one for recordings, and tshark that is given it opens one."""
+    found = list(root.rglob("wireshark/plugins/bpfrec.lua"))
+    judge("the plugin stands where Wireshark looks", len(found) == 1, found)
+    told = ran("tshark", "-G", "folders")[1]
+    judge("in the folder that it names", f"\t{found[0].parent}\n".replace(str(root), "") in told, told)
+    is_same = found[0].read_bytes() == (ROOT / "host/wireshark/bpfrec.lua").read_bytes()
+    judge(
+        "it is the plugin of this checkout, and a link that holds when it is moved", is_same and found[0].is_symlink()
+    )
+
+
 def judge_names(programs: Path) -> None:
     """Each tool that is installed names itself in its help."""
     for name in [it for it in manual.TOOLS if (programs / f"bpfrec-{it}").exists()]:
@@ -122,6 +134,7 @@ def test_install(work: Path) -> None:
     judge("the audit says yes", answer == (0, YES), answer)
     judge_tools(field, programs)
     judge_names(programs)
+    judge_plugin(dest)
     for name in ("bpfrec", "bpfrec-info"):
         status, found = ran("man", "-M", f"{dest}{PREFIX}/share/man", "-w", name)
         judge(f"man finds {name}", status == 0 and f"{dest}{PREFIX}/share/man/man1/bpfrec" in found, found)
@@ -194,6 +207,7 @@ def test_package(work: Path, package: Path) -> None:
     judge("and what is unpacked records", record_in(field, unpacked / "usr/bin")[1].endswith("yes other 0\n"))
     judge_tools(field, unpacked / "usr/bin")
     judge_names(unpacked / "usr/bin")
+    judge_plugin(unpacked)
 
 
 def test_dpkg(request: pytest.FixtureRequest) -> None:

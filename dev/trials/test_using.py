@@ -2,7 +2,7 @@
 
 Blocks that begin with ```sh live want root and bin/capture: then all runs in a network namespace, with interfaces eth0
 and eth1 at which the frames of examples/feeds/one.feed arrive, and the numbers that such a block prints are not
-compared. Those that begin with ```sh tcpdump want tcpdump. Where something is missing these blocks are left out.
+compared. Those that begin with ```sh tcpdump or ```sh tshark want these. Where something is missing these blocks are left out.
 """
 
 import contextlib
@@ -21,7 +21,11 @@ from namespace import make_quiet, run_batch, set_link, socket_into, turn_offload
 from support import ROOT, judge_quietly
 
 WANTED = {"bin/bpfrec": "make build"}
-WANTED_BY = {"live": {"bin/capture": "make build", "ip": "iproute2"}, "tcpdump": {"tcpdump": "tcpdump"}}
+WANTED_BY = {
+    "live": {"bin/capture": "make build", "ip": "iproute2"},
+    "tcpdump": {"tcpdump": "tcpdump"},
+    "tshark": {"tshark": "tshark"},
+}
 MARK = "== end of a command =="
 FRAMES_A_SECOND = 200
 PATIENCE = 180
@@ -44,7 +48,7 @@ class Command(NamedTuple):
 def commands(text: str) -> list[Command]:
     """Each command of the document, in order."""
     found: list[Command] = []
-    for kind, block in re.findall(r"^```sh ?(live|tcpdump|)\n(.*?)^```$", text, re.MULTILINE | re.DOTALL):
+    for kind, block in re.findall(r"^```sh ?(live|tcpdump|tshark|)\n(.*?)^```$", text, re.MULTILINE | re.DOTALL):
         for line in block.splitlines(keepends=True):
             if line.startswith("$ "):
                 found.append(Command(line[2:].rstrip("\n"), kind, ""))

@@ -28,8 +28,13 @@ def full_name(tool: str) -> str:
     return f"python3 -m bpfrec_host {tool}" if called == "__main__.py" else f"host/bin/{tool}"
 
 
+# What is done before a text is printed: a line of progress is emptied.
+before_text: Callable[[], None] = lambda: None
+
+
 def say(text: str) -> None:
     """Prints a text on standard output, at once."""
+    before_text()
     try:
         if sys.stdout is None:
             raise OSError(errno.EBADF, os.strerror(errno.EBADF))
@@ -42,6 +47,7 @@ def say(text: str) -> None:
 
 def tell(line: str) -> None:
     """Prints a line on standard error; one that it can't take is left out, since there is nowhere to say so."""
+    before_text()
     try:
         print(line, file=sys.stderr, flush=True)
     except OSError:

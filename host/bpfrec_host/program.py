@@ -7,7 +7,12 @@ import shutil
 import stat
 import subprocess
 from pathlib import Path
-from typing import IO, NamedTuple, Optional, Union
+from typing import IO, Callable, NamedTuple, Optional, Union
+
+from bpfrec_host.progress import Progress, size_of
+
+# Seconds between two looks at how far the program has come.
+LOOK_EVERY = 0.2
 
 
 class Missing(Exception):
@@ -70,14 +75,38 @@ def answer_of(done: subprocess.CompletedProcess[str]) -> str:
     return (done.stdout + done.stderr).strip() or f"status {done.returncode}"
 
 
-def audit_of(path: str) -> Audit:
+def run_over(file: IO[bytes], progress: Progress, *words: str) -> subprocess.CompletedProcess[str]:
+    """The same with a file as standard input. How far it was read is known from the place in the file, which both
+    processes share."""
+    pipe = subprocess.PIPE
+    with subprocess.Popen(
+        [find(), *words], stdin=file, stdout=pipe, stderr=pipe, encoding="utf-8", errors="replace"
+    ) as process:
+        try:
+            printed, told = watched(process, lambda: progress.at(os.lseek(file.fileno(), 0, os.SEEK_CUR)))
+        except BaseException:
+            process.kill()
+            raise
+    return subprocess.CompletedProcess(words, process.returncode, printed, told)
+
+
+def watched(process: subprocess.Popen[str], look: Callable[[], None]) -> tuple[str, str]:
+    """What a process prints to its end, with a look at it now and then."""
+    while True:
+        try:
+            return process.communicate(timeout=LOOK_EVERY)
+        except subprocess.TimeoutExpired:
+            look()
+
+
+def audit_of(path: str, is_quiet: bool = True) -> Audit:
     """What the program's audit says of a recording, which must be a regular file: it is read twice."""
     try:
         if not stat.S_ISREG(os.stat(path).st_mode):
             return Audit(None, "not asked: no regular file, which could be read twice")
         # By standard input, so that the file may have any name.
-        with open(path, "rb") as recording:
-            done = run("audit", "-", stdin=recording)
+        with open(path, "rb") as recording, Progress("audit", size_of(path), is_quiet) as progress:
+            done = run_over(recording, progress, "audit", "-")
     except Missing:
         return Audit(None, "not asked: bpfrec is missing")
     except OSError as error:

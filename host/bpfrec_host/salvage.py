@@ -2,13 +2,14 @@
 
 from __future__ import annotations
 
-import errno
 import os
-from typing import BinaryIO, NoReturn, Optional
+from typing import BinaryIO, Iterator, NoReturn, Optional, Union
 
 from bpfrec_host.ending import full_name, say, short_name, tell
 from bpfrec_host.formats import ch11
 from bpfrec_host.program import audit_of
+from bpfrec_host.progress import Progress, size_of
+from bpfrec_host.streams import force
 from bpfrec_host.words import Parser
 
 ABOUT = """\
@@ -79,10 +80,10 @@ class Left:
         return [f"no end of {channel}" for channel, has_end in sorted(self.has_end.items()) if not has_end]
 
 
-def salvage(damaged: BinaryIO, out: BinaryIO) -> bool:
+def salvage(damaged: BinaryIO, out: BinaryIO, is_quiet: bool = True) -> bool:
     """Copies what is whole, and prints what was lost: whether nothing was."""
     left, places, lost, is_missing = Left(), 0, 0, False
-    for it in ch11.Reader(damaged).pieces():
+    for it in watched(damaged, is_quiet):
         if isinstance(it, ch11.Damage):
             say(f"lost {it.length} at {it.fault.at} after read {it.fault.number} {it.fault.name}\n")
             places, lost = places + 1, lost + it.length
@@ -102,19 +103,19 @@ def salvage(damaged: BinaryIO, out: BinaryIO) -> bool:
     return is_whole
 
 
-def force(out: BinaryIO) -> None:
-    """Forces a file to its disk; a pipe or a device that says that it can't be is passed over."""
-    out.flush()
-    try:
-        os.fsync(out.fileno())
-    except OSError as error:
-        if error.errno != errno.EINVAL:
-            raise
+def watched(damaged: BinaryIO, is_quiet: bool) -> Iterator[Union[ch11.Packet, ch11.Damage]]:
+    """What is read of a recording, with its progress."""
+    reader = ch11.Reader(damaged)
+    with Progress("salvage", size_of(damaged.fileno()), is_quiet) as progress:
+        for it in reader.pieces():
+            yield it
+            progress.at(reader.at)
 
 
 def parser() -> Parser:
     """The arguments of bpfrec-salvage."""
     made = SalvageParser(prog=full_name("salvage"), description=ABOUT, epilog=MORE)
+    made.add_argument("--quiet", action="store_true", help="shows no progress on a terminal")
     made.add_argument("damaged", metavar="DAMAGED")
     made.add_argument("out", metavar="OUT")
     return made
@@ -126,14 +127,14 @@ def run(words: list[str]) -> int:
     with open(given.damaged, "rb") as damaged:
         if os.path.exists(given.out) and os.path.samefile(given.out, given.damaged):
             raise OSError(0, "it is DAMAGED itself", given.out)
-        return 0 if salvage_into(given.out, damaged) else 1
+        return 0 if salvage_into(given.out, damaged, given.quiet) else 1
 
 
-def salvage_into(path: str, damaged: BinaryIO) -> bool:
+def salvage_into(path: str, damaged: BinaryIO, is_quiet: bool) -> bool:
     """Copies what is whole into a file; whose fault has its name, where it has no other."""
     try:
         with open(path, "wb") as out:
-            return salvage(damaged, out)
+            return salvage(damaged, out, is_quiet)
     except OSError as error:
         error.filename = error.filename or path
         raise

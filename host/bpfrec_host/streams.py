@@ -2,15 +2,26 @@
 
 from __future__ import annotations
 
+import errno
 import os
 import stat
-from typing import Callable, Optional
+from typing import BinaryIO, Callable, Optional
 
 from bpfrec_host.ending import say, tell
 
 READ_LEN = 1 << 18
 # So many parts at most wait for a write.
 PARTS_A_WRITE = 256
+
+
+def force(out: BinaryIO) -> None:
+    """Forces a file to its disk; a pipe or a device that says that it can't be is skipped."""
+    out.flush()
+    try:
+        os.fsync(out.fileno())
+    except OSError as error:
+        if error.errno != errno.EINVAL:
+            raise
 
 
 class Refused(Exception):
@@ -34,6 +45,8 @@ class Input:
         self.at = 0
         self.place = 0
         self.before_waiting: Callable[[], None] = lambda: None
+        # Is told the place up to which bytes came.
+        self.after_read: Callable[[int], None] = lambda _: None
         try:
             self.descriptor = 0 if path == "-" else os.open(path, os.O_RDONLY)
             self.waits = not stat.S_ISREG(os.fstat(self.descriptor).st_mode)
@@ -51,6 +64,7 @@ class Input:
         self.place += self.at
         self.data = self.data[self.at :] + read
         self.at = 0
+        self.after_read(self.place + len(self.data))
         return bool(read)
 
     def has(self, length: int) -> bool:

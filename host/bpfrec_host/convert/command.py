@@ -46,6 +46,11 @@ def add(commands: "Commands[Parser]", name: str, about: str, description: str) -
     return commands.add_parser(name, help=about, description=description, formatter_class=argparse.HelpFormatter)
 
 
+def add_quiet(made: Parser) -> None:
+    """The option that keeps progress away."""
+    made.add_argument("--quiet", action="store_true", help="show no progress on a terminal")
+
+
 def add_from_pcap(commands: "Commands[Parser]") -> None:
     """The arguments of from-pcap."""
     made = add(commands, "from-pcap", "makes a feed from a capture of Ethernet, a pcap or a pcapng file", FROM_PCAP)
@@ -62,7 +67,10 @@ def add_from_pcap(commands: "Commands[Parser]") -> None:
     made.add_argument(
         "--interface", metavar="N", type=natural, help="only the frames of each section's interface N, from 0 on"
     )
-    made.set_defaults(run=lambda given: from_pcap(given.capture, given.output, given.origin, given.interface))
+    add_quiet(made)
+    made.set_defaults(
+        run=lambda given: from_pcap(given.capture, given.output, given.origin, given.interface, given.quiet)
+    )
 
 
 def add_to_pcap(commands: "Commands[Parser]") -> None:
@@ -85,8 +93,11 @@ def add_to_pcap(commands: "Commands[Parser]") -> None:
         "has its time, also where the clock was set during the recording",
     )
     made.add_argument("--drop-check-sequence", action="store_true", help="leave the check sequences out")
+    add_quiet(made)
     made.set_defaults(
-        run=lambda given: to_pcap(given.feed, given.output, given.origin, given.facts, given.drop_check_sequence)
+        run=lambda given: to_pcap(
+            given.feed, given.output, given.origin, given.facts, given.drop_check_sequence, given.quiet
+        )
     )
 
 

@@ -18,6 +18,7 @@ from bpfrec_host.formats.limits import (
     NANOSECONDS_A_TICK,
 )
 from bpfrec_host.formats.pcap import Captured
+from bpfrec_host.progress import Progress, size_of
 from bpfrec_host.streams import PARTS_A_WRITE, Input, Output, Refused
 
 # A frame's addresses and type.
@@ -71,19 +72,29 @@ def write_captured(captures: Iterator[Captured], origin: Optional[int], feed: Ou
     return frames, passed
 
 
-def from_pcap(path: str, output: str, origin: Optional[int], interface: Optional[int]) -> None:
+def progress_of(source: Input, is_quiet: bool) -> Progress:
+    """The progress of a conversion, which follows what is read."""
+    progress = Progress("convert", size_of(source.descriptor), is_quiet)
+    source.after_read = progress.at
+    return progress
+
+
+def from_pcap(path: str, output: str, origin: Optional[int], interface: Optional[int], is_quiet: bool) -> None:
     """Writes the feed of a capture, and prints how many frames it has and how many were passed."""
     capture = Input(path)
     captures = captured_frames(capture, interface)
     feed = Output(output, capture)
     try:
-        frames, passed = write_captured(captures, origin, feed)
+        with progress_of(capture, is_quiet):
+            frames, passed = write_captured(captures, origin, feed)
     finally:
         feed.close()
     feed.tell(f"frames {frames} passed {passed}")
 
 
-def to_pcap(path: str, output: str, origin: int, facts: Optional[str], drops_check_sequences: bool) -> None:
+def to_pcap(
+    path: str, output: str, origin: int, facts: Optional[str], drops_check_sequences: bool, is_quiet: bool
+) -> None:
     """Writes the capture of a feed, in nanoseconds, and prints its number of frames."""
     moment_at = moments_by_origin(origin) if facts is None else moments_by_facts(facts, path)
     feed = Input(path)
@@ -91,11 +102,12 @@ def to_pcap(path: str, output: str, origin: int, facts: Optional[str], drops_che
     pack, frames = pcap.CAPTURED_HEAD.pack, 0
     try:
         capture.write(pcap.head(not drops_check_sequences))
-        for counter, _, whole in read_records(feed):
-            frame = whole[:-CHECK_SEQUENCE_LEN] if drops_check_sequences else whole
-            seconds, nanoseconds = captured_time(feed, counter, moment_at(counter))
-            capture.write(pack(seconds, nanoseconds, len(frame), len(frame)) + frame)
-            frames += 1
+        with progress_of(feed, is_quiet):
+            for counter, _, whole in read_records(feed):
+                frame = whole[:-CHECK_SEQUENCE_LEN] if drops_check_sequences else whole
+                seconds, nanoseconds = captured_time(feed, counter, moment_at(counter))
+                capture.write(pack(seconds, nanoseconds, len(frame), len(frame)) + frame)
+                frames += 1
     finally:
         capture.close()
     capture.tell(f"frames {frames}")

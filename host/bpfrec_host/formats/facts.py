@@ -12,6 +12,7 @@ from datetime import datetime, timedelta
 from typing import Any, NamedTuple, Optional, Union
 
 from bpfrec_host.formats.limits import (
+    MAX_CHANNEL_ID,
     MAX_COUNT,
     MAX_COUNTER,
     MAX_FACTS_LEN,
@@ -57,6 +58,7 @@ class Facts:
         self.host = host
         self.origins = origins_in(told.get("origins"))
         self.losses = losses_in(told.get("losses"))
+        self.interfaces = interfaces_in(told.get("interfaces"))
         self.holding = holding(self.origins)
         self.counters = [it.counter for it in self.holding]
 
@@ -114,6 +116,16 @@ def holding(origins: list[Origin]) -> list[Origin]:
         while found and found[-1].counter >= it.counter:
             found.pop()
         found.append(it)
+    return found
+
+
+def interfaces_in(told: Any) -> dict[int, str]:
+    """The names of interfaces by their channels. Nothing stands on them, so what has another form is left out."""
+    found: dict[int, str] = {}
+    for it in told if isinstance(told, list) else []:
+        name, channel = (it.get("interface"), it.get("channel")) if isinstance(it, dict) else (None, None)
+        if isinstance(name, str) and is_number(channel, 1, MAX_CHANNEL_ID):
+            found[int(channel or 0)] = name
     return found
 
 

@@ -64,13 +64,14 @@ class Range(NamedTuple):
 MAX_NUMBER = (1 << 63) - 1
 MIN_NUMBER = -1 - MAX_NUMBER
 MIN_CHANNELS, MAX_CHANNELS = 1, 64
+MAX_CHANNEL_ID = 65_535
 # A channel has these buffers beside one for each piece that may wait.
 BUFFERS_BESIDE_RING = 3
 # The keys of the document, but for the channels.
 TOP_KEYS = {"limit": Range(16_424, 524_284, 65_536), "ring": Range(1, 4_096, 64), "version": Range(0, 255, 8)}
 # The keys of a channel, in the order of docs/user/FORMATS.md; those without a range are paths.
 CHANNEL_KEYS = {
-    "id": Range(1, 65_535, None),
+    "id": Range(1, MAX_CHANNEL_ID, None),
     "feed": None,
     "filter": None,
     "net": Range(0, 255, 0),

@@ -51,6 +51,7 @@ def parser() -> Parser:
     made = Parser(prog=full_name("info"), description=ABOUT, epilog=MORE)
     made.add_argument("recording", metavar="RECORDING")
     made.add_argument("--json", action="store_true", help="prints the same as one object")
+    made.add_argument("--quiet", action="store_true", help="shows no progress on a terminal")
     made.add_argument("--html", metavar="FILE", help="writes a page: timelines, filters and the numbers")
     return made
 
@@ -71,9 +72,9 @@ def write_page(path: str, name: str, recording: Recording, audit: Audit, beside:
 def run(words: list[str]) -> int:
     """Tells what is in a recording: the status."""
     given = parser().parse_args(words)
-    audit = audit_of(given.recording)
+    audit = audit_of(given.recording, given.quiet)
     # An audit that says yes has summed all data.
-    recording = read(given.recording, not audit.is_yes())
+    recording = read(given.recording, not audit.is_yes(), given.quiet)
     beside = facts_beside(given.recording)
     if given.json:
         say(json.dumps(object_of(recording, audit.answer, beside), indent=2) + "\n")

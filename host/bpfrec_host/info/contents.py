@@ -13,6 +13,7 @@ from typing import NamedTuple, Optional, Union
 
 from bpfrec_host.formats import ch11
 from bpfrec_host.formats.limits import MAX_VERSIONS, TICKS_A_SECOND
+from bpfrec_host.progress import Progress, size_of
 
 # How many damaged places, gaps in sequence numbers and origins are told one by one; and how many gaps in time.
 MOST_PLACES, MOST_GAPS = 1_000, 100
@@ -222,10 +223,12 @@ class Recording:
             self.damages.append(damage)
 
 
-def read(path: str, is_summed: bool = True) -> Recording:
+def read(path: str, is_summed: bool = True, is_quiet: bool = True) -> Recording:
     """What a recording has; its data checksums are summed where `is_summed` says so."""
     recording = Recording()
-    with open(path, "rb") as file:
-        for it in ch11.Reader(file, is_summed).pieces():
+    with open(path, "rb") as file, Progress("reading", size_of(path), is_quiet) as progress:
+        reader = ch11.Reader(file, is_summed)
+        for it in reader.pieces():
             recording.take(it)
+            progress.at(reader.at)
     return recording

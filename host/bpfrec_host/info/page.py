@@ -3,11 +3,10 @@
 from __future__ import annotations
 
 import os
-import tempfile
 from typing import Collection, Iterable, Iterator, Optional
 
 from bpfrec_host import program
-from bpfrec_host.formats.listing import listing_of
+from bpfrec_host.filter_texts import Texts
 from bpfrec_host.info.beside import Beside
 from bpfrec_host.info.contents import Channel, Recording
 from bpfrec_host.info.text import Row, number, on_a_line, rows_of, rows_of_whole, seconds
@@ -48,31 +47,6 @@ LEGEND = (
     "Bars are kept frames a second, red lines times of over a second without one, the dashed line is the end; below "
     "them the versions of the filter."
 )
-
-
-class Texts:
-    """The texts of filters, each asked for once."""
-
-    def __init__(self) -> None:
-        self.known: dict[bytes, str] = {}
-
-    def text_of(self, insns: bytes) -> str:
-        """A filter's text, or its listing where it has none or the program isn't there."""
-        if insns not in self.known:
-            self.known[insns] = disassembled(listing_of(insns))
-        return self.known[insns]
-
-
-def disassembled(listing: str) -> str:
-    """The text of a listing, by `bpfrec dis`; or the listing itself."""
-    with tempfile.TemporaryFile() as file:
-        file.write(listing.encode())
-        file.seek(0)
-        try:
-            done = program.run("dis", "-", stdin=file)
-        except program.Missing:
-            return listing
-    return done.stdout.strip() if done.returncode == 0 and done.stdout else listing
 
 
 def table(rows: Iterable[Row], bad: Collection[str] = ()) -> str:

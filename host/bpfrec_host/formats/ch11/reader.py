@@ -31,16 +31,18 @@ ANY_LENGTH = 1 << 32
 class Reader:
     """The packets of an input, one after the other. Of a regular file it reads the bytes that it has at the
     beginning, so a recording that goes on may be read too. Where data checksums are known to be right, they needn't
-    be summed."""
+    be summed. It may begin at another place than the first, of a regular file."""
 
-    def __init__(self, file: BinaryIO, is_summed: bool = True) -> None:
+    def __init__(self, file: BinaryIO, is_summed: bool = True, begin: int = 0) -> None:
         self.file, self.is_summed = file, is_summed
-        self.at, self.held, self.is_over = 0, bytearray(), False
+        self.at, self.held, self.is_over = begin, bytearray(), False
         # The sequence number that comes next, by channel ID.
         self.sequences: dict[int, int] = {}
         found = os.fstat(file.fileno())
         # How many bytes are still to be read, where that is known.
-        self.left = found.st_size if stat.S_ISREG(found.st_mode) and found.st_size else None
+        self.left = found.st_size - begin if stat.S_ISREG(found.st_mode) and found.st_size else None
+        if begin:
+            file.seek(begin)
 
     def rest(self) -> Optional[int]:
         """How many bytes are left; None where that isn't known."""

@@ -1,0 +1,177 @@
+"""The rows that tshark makes of a recording by host/wireshark/bpfrec.lua, and those that it should make."""
+
+import hashlib
+import os
+import struct
+from pathlib import Path
+from typing import NamedTuple
+
+from reading import ch11
+from support import ROOT, SECONDS, judge_quietly, outcome
+
+PLUGIN = ROOT / "host/wireshark/bpfrec.lua"
+FIELDS = {
+    "time": "frame.time_epoch",
+    "sum": "frame.md5_hash",
+    "row_length": "frame.len",
+    "channel": "ch11.channel",
+    "version": "ch11.version",
+    "number": "ch11.number",
+    "counter": "ch11.counter",
+    "net": "ch11.net",
+    "speed": "ch11.speed",
+    "content": "ch11.content",
+    "wrong_fcs": "ch11.wrong_fcs",
+    "other_error": "ch11.other_error",
+    "length": "ch11.length",
+    "packet": "ch11.packet",
+    "place": "ch11.place",
+    "first": "ch11.first",
+    "instructions": "ch11.instructions",
+    "offered": "ch11.offered",
+    "kept": "ch11.kept",
+    "type": "ch11.header.type",
+    "damage": "ch11.damage",
+    "damaged_length": "ch11.damaged_length",
+}
+# What tshark says on standard error where root runs it.
+AS_ROOT = "Running as user"
+# Rows have so many bytes of a packet that is none of frames.
+MOST_IN_ROW = 65_536
+TICKS_A_SECOND = 10_000_000
+
+
+class Held(NamedTuple):
+    """A frame of a packet: its place in it, its counter, its word and its bytes."""
+
+    at: int
+    counter: int
+    word: int
+    bytes: bytes
+
+
+def tshark(work: Path, *words: object, seconds: float = SECONDS, **more):
+    """How tshark with the plugin of this checkout alone ends, and what it prints; its warning of root is left out."""
+    (work / "private").mkdir(exist_ok=True)
+    env = {**os.environ, "HOME": str(work / "private"), "WIRESHARK_PLUGIN_DIR": str(work / "private"), "TZ": "UTC"}
+    done = outcome("tshark", "-X", f"lua_script:{PLUGIN}", "-n", *words, env=env, seconds=seconds, **more)
+    done.stderr = "".join(it for it in done.stderr.splitlines(True) if AS_ROOT not in it)
+    return done
+
+
+def printed(work: Path, *words: object, **more) -> list[str]:
+    """The lines that tshark prints, which ends well and warns of nothing."""
+    done = tshark(work, *words, **more)
+    judge_quietly(f"tshark {words}", (done.returncode, done.stderr) == (0, ""), done)
+    return done.stdout.splitlines()
+
+
+def rows_of(work: Path, recording: Path, *words: object, **more) -> list[dict[str, str]]:
+    """The rows of a recording; a field that a row hasn't is left out."""
+    asked = [word for field in FIELDS.values() for word in ("-e", field)]
+    asked += ["-o", "frame.generate_md5_hash:TRUE", "-T", "fields"]
+    lines = printed(work, "-r", recording, *words, *asked, **more)
+    return [{name: it for name, it in zip(FIELDS, line.split("\t")) if it} for line in lines]
+
+
+# ---- what rows there should be
+
+
+def frames_in(packet) -> list[Held]:
+    """The frames of a packet, by docs/user/FORMATS.md."""
+    found, at = [], 28
+    for _ in range(struct.unpack_from("<H", packet.bytes, 24)[0]):
+        counter, word = struct.unpack_from("<QI", packet.bytes, at)
+        length = word & 0x3FFF
+        found.append(Held(at, counter & (1 << 48) - 1, word, packet.bytes[at + 12 : at + 12 + length]))
+        at += 12 + length + length % 2
+    return found
+
+
+def seconds_of(counter: int) -> str:
+    return f"{counter // TICKS_A_SECOND}.{counter % TICKS_A_SECOND:07d}00"
+
+
+def sum_of(data: bytes) -> str:
+    return hashlib.md5(data).hexdigest()
+
+
+class Expected:
+    """The rows of pieces of a recording, in order."""
+
+    def __init__(self, time_of=seconds_of) -> None:
+        self.rows: list[dict[str, str]] = []
+        self.counts: dict[int, int] = {}
+        self.versions: dict[int, int] = {}
+        self.time_of = time_of
+
+    def add(self, **told) -> None:
+        self.rows.append({name: str(value) for name, value in told.items() if value is not None})
+
+    def take(self, piece, data: bytes) -> None:
+        """Takes a packet or a damaged place of a recording of these bytes."""
+        if isinstance(piece, ch11.Damage):
+            begins = data[piece.fault.at : piece.fault.at + min(piece.length, MOST_IN_ROW)]
+            length = len(begins)
+            self.add(
+                sum=sum_of(begins),
+                row_length=length,
+                damage=piece.fault,
+                damaged_length=piece.length,
+                place=piece.fault.at,
+            )
+        elif isinstance(piece.what, ch11.Frames) and piece.what.counters:
+            for frame in frames_in(piece):
+                self.take_frame(piece, frame)
+        else:
+            self.take_packet(piece)
+
+    def take_frame(self, packet, frame: Held) -> None:
+        channel, word = packet.header.channel, frame.word
+        number = self.counts.get(channel, 0)
+        self.counts[channel] = number + 1
+        self.add(
+            time=self.time_of(frame.counter),
+            sum=sum_of(frame.bytes),
+            row_length=len(frame.bytes),
+            channel=channel,
+            version=self.versions.get(channel),
+            number=number,
+            counter=frame.counter,
+            net=word >> 16 & 0xFF,
+            speed=word >> 24 & 0xF,
+            content=word >> 28 & 3,
+            wrong_fcs=word >> 31,
+            other_error=word >> 30 & 1,
+            length=len(frame.bytes),
+            packet=packet.at,
+            place=packet.at + frame.at,
+        )
+
+    def take_packet(self, packet) -> None:
+        header, what = packet.header, packet.what
+        shared = {
+            "time": self.time_of(header.counter),
+            "sum": sum_of(packet.bytes[:MOST_IN_ROW]),
+            "row_length": len(packet.bytes),
+            "counter": header.counter,
+            "place": packet.at,
+            "type": f"0x{header.kind:02x}",
+        }
+        if isinstance(what, ch11.Program):
+            self.versions[what.channel] = what.version
+            count = len(what.insns) // 8
+            self.add(**shared, channel=what.channel, version=what.version, first=what.first, instructions=count)
+        elif isinstance(what, ch11.End):
+            self.add(**shared, channel=what.channel, offered=what.offered, kept=what.kept)
+        else:
+            self.add(**shared, channel=header.channel)
+
+
+def expected_rows(recording: Path, time_of=seconds_of) -> list[dict[str, str]]:
+    """The rows of a recording, as the reader in Python finds its packets and its damaged places."""
+    data, expected = recording.read_bytes(), Expected(time_of)
+    with open(recording, "rb") as file:
+        for piece in ch11.Reader(file).pieces():
+            expected.take(piece, data)
+    return expected.rows

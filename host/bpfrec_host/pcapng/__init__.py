@@ -1,0 +1,1 @@
+"""bpfrec-pcapng: frames of recordings as one capture in pcapng."""

@@ -1,0 +1,160 @@
+"""The command line of bpfrec-pcapng."""
+
+from __future__ import annotations
+
+import argparse
+import os
+from typing import Optional
+
+from bpfrec_host.ending import full_name, say, short_name, tell
+from bpfrec_host.formats import facts
+from bpfrec_host.formats.limits import MAX_CHANNEL_ID
+from bpfrec_host.pcapng import output
+from bpfrec_host.pcapng.index import Index
+from bpfrec_host.pcapng.merging import Interface, Recording, blocks
+from bpfrec_host.pcapng.times import Times, time_of
+from bpfrec_host.progress import Progress
+from bpfrec_host.streams import Refused, Unreadable, force
+from bpfrec_host.words import Parser, natural
+
+ABOUT = """\
+Makes one capture in pcapng of recordings: of all their time or a slice of it, of all channels or some, merged by time.
+
+Each channel is an interface, with the name that the facts beside the recording have for it. Frames have their check
+sequences, and the marks of wrong ones. Comments have the counts of each channel, the filter in force at its first
+frame and, at the first frame behind a change, the filter from there on.
+
+The packets of the slice are found by the headers of all packets, and no others are read. Of a channel whose packets
+rise by their counters, frames are looked for in the packets of the slice alone; else in all.
+
+Where the facts stand beside a recording, as RECORDING.json, times are those of the facts; without facts they are the
+time since counter 0, from 1970 on. All recordings must have facts, or none.
+"""
+MORE = """\
+TIME is seconds since counter 0, as 12.5, or UTC as 2025-12-01T12:00:00.25Z, which needs facts.
+
+As OUT, `-` is standard output. It prints `frames <n> skipped <m>`, on standard error where OUT is standard output: m
+frames have another content, or fewer than 18 bytes, and no capture has them. When that is printed, OUT is on its disk.
+A damaged place is told on standard error, and what is behind it is read.
+
+It runs bpfrec for the text of filters: what BPFREC names, or the one beside it; without it they are listings.
+
+Status: 0 done, 1 a recording is damaged or can't be used, 2 the arguments are wrong, 3 a file can't be read or
+written, or OUT is there, 4 out of memory.
+"""
+
+
+# After so many frames it is looked whether a line of progress is due.
+FRAMES_A_LOOK = 256
+
+
+def parser() -> Parser:
+    """The arguments of bpfrec-pcapng."""
+    made = Parser(prog=full_name("pcapng"), description=ABOUT, epilog=MORE)
+    made.add_argument("--from", dest="since", metavar="TIME", type=time_of, help="frames from this time on")
+    made.add_argument("--to", dest="until", metavar="TIME", type=time_of, help="frames before this time")
+    made.add_argument(
+        "--channel", metavar="N", type=channel_id, action="append", help="this channel; it may be given several times"
+    )
+    made.add_argument("--force", action="store_true", help="overwrites an OUT that is there")
+    made.add_argument("--quiet", action="store_true", help="shows no progress on a terminal")
+    made.add_argument("out", metavar="OUT")
+    made.add_argument("recordings", metavar="RECORDING", nargs="+")
+    return made
+
+
+def channel_id(word: str) -> int:
+    """The channel ID that a word is."""
+    number = natural(word)
+    if number > MAX_CHANNEL_ID:
+        raise argparse.ArgumentTypeError(f"{word} is no channel ID, 0 to {MAX_CHANNEL_ID}")
+    return number
+
+
+def tell_fault(line: str) -> None:
+    """Tells a fault of a recording."""
+    tell(f"{short_name('pcapng')}: {line}")
+
+
+def facts_beside(path: str) -> Optional[facts.Facts]:
+    """The facts beside a recording; None where there are none. Others would make wrong times."""
+    beside = f"{path}.json"
+    if not os.path.exists(beside):
+        return None
+    try:
+        return facts.read(beside)
+    except OSError as error:
+        raise Unreadable(f"{beside}: {error.strerror}") from None
+    except facts.NoFacts as fault:
+        raise Refused(f"{beside}: no facts of a recording: {fault}") from None
+
+
+def recording_at(path: str, given: argparse.Namespace) -> Recording:
+    """A recording with its times, of which nothing but the headers is read."""
+    index = Index(path, tell_fault)
+    times = Times(path, facts_beside(path))
+    ranges = times.ranges(given.since, given.until)
+    index.read()
+    return Recording(index, times, ranges)
+
+
+def judge_times(recordings: list[Recording]) -> None:
+    """Refuses recordings with facts beside such without, whose times can't be compared."""
+    known = [it for it in recordings if it.times.facts]
+    unknown = [it for it in recordings if not it.times.facts]
+    if known and unknown:
+        raise Refused(f"{known[0].headers.path} has facts beside it and {unknown[0].headers.path} has none")
+
+
+def interfaces_of(recordings: list[Recording], chosen: Optional[list[int]]) -> list[Interface]:
+    """The channels that are chosen, or else all, as interfaces."""
+    known = {number for it in recordings for number in it.headers.channels}
+    missing = sorted(set(chosen or []) - known)
+    if missing:
+        raise Refused(f"{' '.join(it.headers.path for it in recordings)}: no channel {missing[0]}")
+    channels = sorted(set(chosen) if chosen else known)
+    return [Interface(number, channel, recordings) for number, channel in enumerate(channels)]
+
+
+def write(path: str, recordings: list[Recording], interfaces: list[Interface], is_quiet: bool) -> int:
+    """Writes the capture: how many frames it has."""
+    slices = [each for it in interfaces for each in it.slices]
+    count = -1 - len(interfaces)
+    try:
+        with output.create(path) as out, Progress("pcapng", sum(it.size() for it in slices), is_quiet) as progress:
+            for block in blocks(recordings, interfaces):
+                out.write(block)
+                count += 1
+                if count % FRAMES_A_LOOK == 0:
+                    progress.at(sum(it.done for it in slices))
+            force(out)
+    except OSError as error:
+        error.filename = error.filename or path
+        raise
+    return count
+
+
+def make(given: argparse.Namespace) -> int:
+    """Makes the capture: the status."""
+    inputs = [name for it in given.recordings for name in (it, f"{it}.json")]
+    output.judge(given.out, inputs, given.force)
+    recordings = [recording_at(it, given) for it in given.recordings]
+    judge_times(recordings)
+    interfaces = interfaces_of(recordings, given.channel)
+    count = write(given.out, recordings, interfaces, given.quiet)
+    line = f"frames {count} skipped {sum(it.skipped() for it in interfaces)}"
+    if given.out == output.STREAM:
+        tell(line)
+    else:
+        say(f"{line}\n")
+    return 1 if any(it.headers.is_damaged for it in recordings) else 0
+
+
+def run(words: list[str]) -> int:
+    """Makes a capture of recordings: the status."""
+    given = parser().parse_args(words)
+    try:
+        return make(given)
+    except Refused as refused:
+        tell_fault(str(refused))
+        return refused.status
