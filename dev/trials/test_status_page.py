@@ -163,6 +163,8 @@ def test_states(browser: Browser, flown: Callable) -> None:
     page.resize(*WALL)
     cut = page.ask("[...document.querySelectorAll('.interface')].filter(it => it.scrollWidth > it.clientWidth).length")
     judge("usual names are never cut", cut == 1, cut)
+    heights = page.ask("[...document.querySelectorAll('.rates')].map(it => it.getBoundingClientRect().height)")
+    judge("and a channel's numbers have one line", len(set(heights)) == 1, set(heights))
 
 
 def test_what_is_drawn(browser: Browser, flown: Callable) -> None:
