@@ -33,6 +33,8 @@ class Arguments(NamedTuple):
     is_forced: bool
     is_audited: bool
     is_strict: bool
+    # Where the status is served.
+    status: Optional[str]
     # After how many seconds a channel's open packet is closed; None for never.
     flush: Optional[int]
     # How many recordings are kept at most, and how many bytes are to be free on their disk.
@@ -115,6 +117,7 @@ def parser() -> Parser:
     free = number(1, MAX_BYTES, 15, "from 1 on")
     made.add_argument("--keep-free", metavar="BYTES", type=free, help="keeps so much free, by removing the oldest")
     made.add_argument("--mode", metavar="MODE", type=file_mode, help="who may read OUT and its facts")
+    made.add_argument("--status", metavar="[ADDRESS:]PORT", help="serves a page that shows how it goes")
     made.add_argument("--prefilter", action="store_true", help="has the kernel run the filters too")
     made.add_argument("--no-audit", action="store_true", help="audits nothing")
     made.add_argument("--strict", action="store_true", help="status 5 where an interface lost frames")
@@ -156,6 +159,7 @@ def read(words: list[str]) -> Arguments:
         is_forced=given.force,
         is_audited=not given.no_audit,
         is_strict=given.strict,
+        status=given.status,
         flush=given.flush,
         keep=given.keep,
         keep_free=given.keep_free,

@@ -26,9 +26,9 @@ class Capture:
         self.child: Optional[children.Child] = None
         self.lines: Optional[CaptureLines] = None
 
-    def read_lines(self, say: Callable[[str], None], counted: Callable[[str, Counts], None]) -> None:
-        """Has what it tells come here, and its counts taken out, also with --quiet."""
-        self.lines = CaptureLines(self.loop, "--quiet" in self.given.options, say, counted)
+    def read_lines(self, say: Callable[[str], None], counted: Callable[[str, Counts], None], is_quiet: bool) -> None:
+        """Has what it tells come here, and its counts taken out, also where nobody is told of them each second."""
+        self.lines = CaptureLines(self.loop, is_quiet, say, counted)
 
     def words(self) -> list[str]:
         """Its command line."""

@@ -14,6 +14,8 @@ from bpfrec_host.live.loop import Signals
 from bpfrec_host.live.names import Files, Names, Refusal, is_special, refuse_folder
 from bpfrec_host.live.observer import Observer
 from bpfrec_host.live.run import Programs, Run
+from bpfrec_host.live.status import BadEndpoint, NoServer, Status, Terminal, endpoint_in
+from bpfrec_host.live.status.observer import USUAL_LIMIT
 
 __all__ = ["parser", "run"]
 
@@ -28,6 +30,8 @@ def run(words: list[str], observer: Optional[Observer] = None) -> int:
         look_ahead(given)
         text, settings = read_settings(given.settings) if given.settings else made_settings(given.ways)
         judge_settings(settings, given)
+        terminal = Terminal(2, "--quiet" in given.options)
+        status = made_status(given, settings.document.get("limit"), terminal)
         folder = Folder(text, settings, given)
     except Refusal as refusal:
         tell(refusal.line)
@@ -36,7 +40,29 @@ def run(words: list[str], observer: Optional[Observer] = None) -> int:
         folder.remove_all()
         tell("live: it was ended before anything was begun")
         return 3
-    return Run(given, programs, folder, signals, observer).run()
+    made = Run(given, programs, folder, signals, observer or status, terminal)
+    if status:
+        # The guard was copied by now, and has no thread of the server's.
+        status.start()
+        if status.address():
+            made.say(f"status: {status.address()}")
+    try:
+        return made.run()
+    finally:
+        if status:
+            status.close()
+
+
+def made_status(given: Arguments, limit: object, terminal: Terminal) -> Optional[Status]:
+    """What shows how it goes, where somebody looks; a port that can't be had is refused."""
+    try:
+        endpoint = endpoint_in(given.status) if given.status is not None else None
+        is_watched = endpoint or terminal.is_shown()
+        longest = limit if isinstance(limit, int) else USUAL_LIMIT
+        has_ring = given.keep is not None or given.keep_free is not None
+        return Status(endpoint, terminal, given.sync, longest, has_ring) if is_watched else None
+    except (BadEndpoint, NoServer) as why:
+        raise Refusal(why.status, f"live: {why}") from None
 
 
 def find_programs(given: Arguments) -> Programs:

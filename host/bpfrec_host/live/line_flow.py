@@ -9,13 +9,16 @@ from bpfrec_host.live.changes import ANSWER, MAX_WAITING, Change, Changes, Input
 from bpfrec_host.live.folder import Folder
 from bpfrec_host.live.loop import Loop
 from bpfrec_host.live.recorder import Recorded
+from bpfrec_host.live.status import Terminal
 
 
 class LineFlow:
     """The lines of a run; `now` gives the recording that goes on."""
 
-    def __init__(self, loop: Loop, folder: Folder, given: Arguments, now: Callable[[], Recorded]) -> None:
-        self.loop, self.given, self.now = loop, given, now
+    def __init__(
+        self, loop: Loop, folder: Folder, given: Arguments, now: Callable[[], Recorded], terminal: Terminal
+    ) -> None:
+        self.loop, self.given, self.now, self.terminal = loop, given, now, terminal
         self.input, self.changes = Input(), Changes(folder, given.keeps_filters())
 
     def is_open(self) -> bool:
@@ -34,6 +37,8 @@ class LineFlow:
         """Hands lines on to the recorder."""
         descriptor, it = self.input.descriptor, self.now()
         for line in self.input.lines() or []:
+            if descriptor is not None and self.terminal.is_of(descriptor):
+                self.terminal.note_typed()
             it.lines.put(*self.changes.copied(line))
         if self.input.descriptor is None and descriptor is not None:
             self.loop.on_read(descriptor, None)

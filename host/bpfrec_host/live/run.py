@@ -26,6 +26,7 @@ from bpfrec_host.live.notify import Notifier
 from bpfrec_host.live.observer import Observer
 from bpfrec_host.live.recorder import Recorded
 from bpfrec_host.live.ring import Ring
+from bpfrec_host.live.status import Terminal
 from bpfrec_host.live.telling import Telling
 from bpfrec_host.live.watches import Watches
 from bpfrec_host.live.watching import Watching
@@ -45,7 +46,13 @@ class Run:
     """All of a run. It is the machine's hands."""
 
     def __init__(
-        self, given: Arguments, programs: Programs, folder: Folder, signals: Signals, observer: Optional[Observer]
+        self,
+        given: Arguments,
+        programs: Programs,
+        folder: Folder,
+        signals: Signals,
+        observer: Optional[Observer],
+        terminal: Terminal,
     ) -> None:
         self.given, self.programs, self.folder = given, programs, folder
         self.files = Files(given.mode, given.is_forced)
@@ -53,11 +60,11 @@ class Run:
         # Before anything runs that it may have to end.
         self.guard = Guard(self.writer)
         self.loop, self.watches, self.events = Loop(signals, self.end_by_signal), Watches(), Events(folder.events)
-        self.telling = Telling(self.loop, self.printing_failed)
+        self.telling = Telling(self.loop, self.printing_failed, terminal)
         self.say = self.telling.say
         self.watching = Watching(observer, folder)
         self.capture = Capture(programs.capture, given, folder, self.loop)
-        self.line_flow = LineFlow(self.loop, folder, given, self.now)
+        self.line_flow = LineFlow(self.loop, folder, given, self.now, terminal)
         self.flush = Flush(given.flush, folder, self.line_flow.push, self.say) if given.flush is not None else None
         self.notifier = Notifier()
         self.ring = Ring(given.keep, given.keep_free, self.room, self.say)
@@ -234,7 +241,8 @@ class Run:
     def start_capture(self) -> None:
         """Starts the capture of all interfaces."""
         if self.watching.is_on():
-            self.capture.read_lines(self.say, self.watching.counted)
+            is_quiet = "--quiet" in self.given.options or self.telling.terminal.is_shown()
+            self.capture.read_lines(self.say, self.watching.counted, is_quiet)
         self.capture.start(self.guard.all, self.end_capture)
 
     def point_to(self, recording: Recording) -> None:

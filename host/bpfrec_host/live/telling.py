@@ -6,14 +6,27 @@ from typing import Callable
 
 from bpfrec_host.live.loop import Loop
 from bpfrec_host.live.output import Lines, Printed
+from bpfrec_host.live.status import Terminal
+
+
+class AboveTable(Lines):
+    """Lines that stand above the table on a terminal."""
+
+    def __init__(self, terminal: Terminal) -> None:
+        super().__init__()
+        self.terminal = terminal
+
+    def write(self, line: str) -> bool:
+        """Writes a line: whether there was room."""
+        return self.terminal.say([line])
 
 
 class Telling:
     """The standard streams of a run. `failed` is called once, where standard output can't be written."""
 
-    def __init__(self, loop: Loop, failed: Callable[[], None]) -> None:
-        self.loop, self.failed = loop, failed
-        self.lines, self.printed = Lines(), Printed()
+    def __init__(self, loop: Loop, failed: Callable[[], None], terminal: Terminal) -> None:
+        self.loop, self.failed, self.terminal = loop, failed, terminal
+        self.lines, self.printed = AboveTable(terminal) if terminal.is_shown() else Lines(), Printed()
         self.has_told = False
 
     def say(self, line: str) -> None:
@@ -22,6 +35,9 @@ class Telling:
 
     def print(self, text: str) -> bool:
         """Prints a text on standard output, now or as there is room: whether that can be done."""
+        if self.terminal.is_of(1):
+            self.lines.say(*text.splitlines())
+            return True
         self.printed.put(text)
         return self.check()
 
