@@ -68,6 +68,7 @@ complete -c bpfrec-live -l flush
 complete -c bpfrec-live -l keep
 complete -c bpfrec-live -l keep-free
 complete -c bpfrec-live -l mode
+complete -c bpfrec-live -l status
 complete -c bpfrec-live -l prefilter
 complete -c bpfrec-live -l no-audit
 complete -c bpfrec-live -l strict

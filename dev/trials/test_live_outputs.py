@@ -75,8 +75,9 @@ def test_full_error(work: Path) -> None:
     os.close(writes)
 
 
-def test_stopped_terminal(work: Path) -> None:
-    """Ctrl-S stops the terminal, and Ctrl-Q lets it go on."""
+def test_stopped_terminal(work: Path, monkeypatch: pytest.MonkeyPatch) -> None:
+    """Ctrl-S stops a terminal that shows lines, and Ctrl-Q lets it go on."""
+    monkeypatch.setenv("TERM", "dumb")
     master, slave = pty.openpty()
     out = work / "stopped.ch11"
     running = Running(work, LIVE, settings_of(work), out, "rx0=1", "rx1=2", stderr=slave)
@@ -101,6 +102,30 @@ def test_stopped_terminal(work: Path) -> None:
     os.write(master, CTRL_S)
     os.kill(running.process.pid, signal.SIGTERM)
     judge_all_recorded("a stopped terminal", work, running, out)
+    os.close(master)
+    os.close(slave)
+
+
+def test_stopped_table(work: Path, monkeypatch: pytest.MonkeyPatch) -> None:
+    """Ctrl-S stops a terminal that shows a table, and nobody lets it go on."""
+    monkeypatch.setenv("TERM", "xterm")
+    master, slave = pty.openpty()
+    out = work / "table.ch11"
+    running = Running(work, LIVE, settings_of(work), out, "rx0=1", "rx1=2", stderr=slave)
+    shown: list[bytes] = []
+
+    def read() -> bool:
+        with contextlib.suppress(BlockingIOError):
+            shown.append(os.read(master, 4096))
+        return b"RECORDING" in b"".join(shown)
+
+    os.set_blocking(master, False)
+    wait_for(lambda: f"the table is there: {b''.join(shown)!r}", read, 10)
+    os.write(master, CTRL_S)
+    send_together(0, MANY)
+    time.sleep(2.2)
+    os.kill(running.process.pid, signal.SIGTERM)
+    judge_all_recorded("a stopped table", work, running, out)
     os.close(master)
     os.close(slave)
 

@@ -34,12 +34,16 @@ dropped. These frames are not offered to the recorder, so its report leaves them
 change a filter. Frames with a VLAN tag and those of fewer than 60 bytes always go to the recorder, since the kernel
 sees them otherwise than the recorder does.
 
+On a terminal a table shows each second how it goes, but with --quiet. With --status PORT a page shows the same to a
+browser, on this machine alone; with --status ADDRESS:PORT to whoever reaches the address. The port serves the data
+too: /status.json as JSON and /metrics for Prometheus.
+
 With --no-audit nothing is audited. With --strict the status is 5 where an interface lost frames; either way the
 last lines say how many.
 """
 MORE = """\
 The options with `as of capture` are those of bin/capture, whose help has them. What it tells, with a line a second
-for each interface, is on standard error; a line that standard error has no room for is left out and counted.
+for each interface where there is no table, is on standard error; a line that standard error has no room for is left out and counted.
 `preflight --live` judges the same arguments and begins nothing.
 
 It needs bin/bpfrec (make build) and, for interfaces, bin/capture (make build where libpcap-dev is) with
