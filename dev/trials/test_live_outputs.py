@@ -117,7 +117,7 @@ def test_stopped_table(work: Path, monkeypatch: pytest.MonkeyPatch) -> None:
     def read() -> bool:
         with contextlib.suppress(BlockingIOError):
             shown.append(os.read(master, 4096))
-        return b"RECORDING" in b"".join(shown)
+        return re.search(rb"(?<!NOT )RECORDING", b"".join(shown))
 
     os.set_blocking(master, False)
     wait_for(lambda: f"the table is there: {b''.join(shown)!r}", read, 10)
