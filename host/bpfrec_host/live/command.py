@@ -36,7 +36,12 @@ def run(words: list[str], observer: Optional[Observer] = None) -> int:
         folder.remove_all()
         tell("live: it was ended before anything was begun")
         return 3
-    return Run(given, programs, folder, signals, observer).run()
+    try:
+        recording = Run(given, programs, folder, signals, observer)
+    except BaseException:
+        folder.remove_all()
+        raise
+    return recording.run()
 
 
 def find_programs(given: Arguments) -> Programs:
