@@ -30,7 +30,7 @@ class Played:
         self.feeds_ended = self.is_created = self.is_pointed_to = False
         self.told, self.audits, self.concluded = 0, 0, []
         self.is_discarded = False
-        self.bytes = 0
+        self.bytes, self.pipes_left = 0, 3
 
 
 class World:
@@ -42,17 +42,21 @@ class World:
         self.consequences: list[Callable[[], None]] = []
         self.is_capturing = self.is_capture_ready = False
         self.asked_to_end = 0
-        self.has_space = True
+        self.has_space = self.can_start = True
         self.played: dict[int, Played] = {}
         self.machine = Machine(plan, self, self.made(1), NAMES)
 
     # ---- hands
 
-    def start_recorder(self, recording: Recording) -> None:
+    def start_recorder(self, recording: Recording) -> bool:
         it = self.played[recording.number]
+        if not self.can_start:
+            del self.played[recording.number]
+            return False
         it.is_running = it.has_lines = True
         if not self.plan.has_interfaces:
             self.consequences.append(lambda: self.open(it))
+        return True
 
     def start_capture(self) -> None:
         self.is_capturing = True
@@ -67,6 +71,7 @@ class World:
         self.consequences.append(lambda: self.open(it))
 
     def next_recording(self) -> Recording | None:
+        assert self.machine.old is None, "two recordings are before this one"
         if not self.can_follow:
             self.say("it can't be begun")
             return None
@@ -90,9 +95,12 @@ class World:
         self.consequences.append(lambda: self.end_recorder(it, KILLED))
 
     def let_go(self, recording: Recording) -> None:
+        """It opens one pipe each time."""
         it = self.played[recording.number]
         it.feeds_ended = True
-        self.consequences.append(lambda: self.open(it, is_let_go=True))
+        it.pipes_left -= 1
+        if it.pipes_left == 0:
+            self.consequences.append(lambda: self.open(it, is_let_go=True))
 
     def end_lines(self, recording: Recording) -> None:
         it = self.played[recording.number]
@@ -149,6 +157,9 @@ class World:
         """A recorder opens OUT, where all its pipes have writers."""
         may = is_let_go or not self.plan.has_interfaces or (it.is_pointed_to and self.is_capturing)
         if it.is_running and not it.has_opened and may:
+            if not it.is_created:
+                self.end_recorder(it, 3)
+                return
             it.has_opened = True
             it.bytes = 1
             self.machine.opened(it.recording)

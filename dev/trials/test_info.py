@@ -2,6 +2,7 @@
 
 import contextlib
 import html.parser
+import json
 import os
 import random
 import shutil
@@ -228,3 +229,20 @@ def test_without_program() -> None:
 
 def test_syntax() -> None:
     judge_syntax(INFO, SALVAGE, *(ROOT / "host/bpfrec_host").rglob("*.py"))
+
+
+def test_equal_versions(work: Path) -> None:
+    """Equal programs that follow one another, as `live --flush` gives them, are shown as one."""
+    path = work / "same.ch11"
+    path.write_bytes(b"".join(program_packet(1, at, (6, 0, 0, keeps)) for at, keeps in enumerate([1, 1, 1, 0, 0, 1])))
+    told = run(INFO, path)
+    names = [line.split("  ")[1] for line in told.splitlines() if line.startswith("  version ")]
+    judge("equal versions are one", names == ["version 0 to 2", "version 3 to 4", "version 5"], told)
+    judge(
+        "and all are counted", any(it.split() == ["versions", "of", "the", "filter", "6"] for it in told.splitlines())
+    )
+    said = json.loads(run(INFO, "--json", path))["channels"]["1"]
+    judge("in JSON too", [(it["version"], it["until"]) for it in said["versions"]] == [(0, 2), (3, 4), (5, 5)], said)
+    run(INFO, "--html", work / "same.html", path)
+    page = (work / "same.html").read_text()
+    judge("and on the page", "Version 0 to 2" in page and "Version 3 to 4" in page and "Version 4<" not in page)

@@ -47,6 +47,12 @@ def due_but_cannot_follow(world: World) -> None:
     world.wait(11)
 
 
+def due_but_cannot_start(world: World) -> None:
+    world.can_follow, world.can_start = True, False
+    world.wait(11)
+    world.can_start = True
+
+
 def due(world: World) -> None:
     world.can_follow = True
     world.wait(11)
@@ -60,9 +66,10 @@ EVENTS: dict[str, Callable[[World], None]] = {
     "a second signal": signal_comes,
     "a full disk": disk_is_full,
     "a hand-over that can't begin": due_but_cannot_follow,
+    "a hand-over whose recorder can't be started": due_but_cannot_start,
     "a hand-over": due,
 }
-HARMLESS = {"the channels end", "a signal", "a second signal", "a hand-over that can't begin", "a hand-over"}
+HARMFUL = {"the capture dies", "the recorder dies", "a full disk"}
 
 
 # ---- when it happens
@@ -117,8 +124,9 @@ def judge_run(what: str, world: World, order: tuple[str, ...]) -> None:
             judge_quietly(f"{what}: recording {number} was opened and isn't told", it.told == 1)
         if it.concluded == [0]:
             judge_quietly(f"{what}: recording {number} is well and isn't audited", it.audits == 1)
-    harm = [name for name in order if name not in HARMLESS]
+    harm = [name for name in order if name in HARMFUL]
     died = [line for line in world.said if "was ended by signal" in line or "can't be written any more" in line]
+    judge_quietly(f"{what}: it was told twice: {died}", len(died) == len(set(died)))
     judge_quietly(f"{what}: status 0 after {harm}: {world.said}", status != 0 or not died)
     judge_quietly(f"{what}: status {status} without harm: {world.said}", status == 0 or harm or is_refused)
 

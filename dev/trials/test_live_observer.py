@@ -77,7 +77,7 @@ def test_observed(work: Path, quiet: list[str]) -> None:
         len(begun) == 1 and begun[0][:3] == [1, f"{work}/seen.ch11", [[1, "rx0", 0], [2, "rx1", 0]]],
         begun,
     )
-    judge("the filter that was changed", of(told, "filter_changed") == [[2, 1]])
+    judge("the filter that was changed", of(told, "filter_changed") == [[2, 1, False]])
     judge("each second is told", 2 <= len(of(told, "tick")) <= 6)
     synced = [it[0] for it in of(told, "synced")]
     judge("so is each time when OUT went to its disk", len(synced) >= 2 and synced == sorted(synced), synced)

@@ -56,7 +56,13 @@ def tell(line: str) -> None:
 
 def silence(stream: int) -> None:
     """Puts the null device in the place of a stream, so that what it couldn't take isn't tried again at the end."""
-    os.dup2(os.open(os.devnull, os.O_WRONLY), stream)
+    try:
+        null = os.open(os.devnull, os.O_WRONLY)
+    except OSError:
+        # Descriptors are short.
+        return
+    os.dup2(null, stream)
+    os.close(null)
 
 
 def hold_streams() -> None:

@@ -61,6 +61,9 @@ def channel_object(channel: Channel, beside: Optional[Beside]) -> dict[str, Any]
         "steps_back": channel.steps_back,
         "marked": channel.marked,
         "version_count": channel.version_count,
-        "versions": [{"version": it.number, "first_frame": it.first, "counter": it.counter} for it in channel.versions],
+        "versions": [
+            {"version": it.number, "until": it.until, "first_frame": it.first, "counter": it.counter}
+            for it in channel.versions
+        ],
         "has_end": channel.end is not None,
     }

@@ -84,13 +84,19 @@ class Gaps:
 
 
 class Version(NamedTuple):
-    """A version of a channel's filter: its number, the first frame that met it, with its counter, and its
-    instructions."""
+    """A version of a channel's filter: its number, the first frame that met it, with its counter, and its instructions.
+    Versions with the same instructions that follow one another are one, up to the number `until`: they close packets
+    and change nothing."""
 
     number: int
     first: int
     counter: int
     insns: bytes
+    until: int
+
+    def name(self) -> str:
+        """The number, or the first and the last one."""
+        return str(self.number) if self.until == self.number else f"{self.number} to {self.until}"
 
 
 class Channel:
@@ -102,7 +108,8 @@ class Channel:
         self.last = self.least = self.greatest = 0
         self.rates, self.times, self.gaps = Rates(TICKS_A_SECOND, MOST_SECONDS), Rates(FINEST, MOST_TIMES), Gaps()
         self.versions: list[Version] = []
-        self.version_count = 0
+        # All versions, and those of them that aren't told one by one.
+        self.version_count = self.hidden_versions = 0
         self.end: Optional[ch11.End] = None
         self.end_counter = 0
 
@@ -129,8 +136,12 @@ class Channel:
     def take_version(self, program: ch11.Program, counter: int) -> None:
         """Takes the record of a version, with the counter of the first frame that met it."""
         self.version_count += 1
-        if len(self.versions) < MAX_VERSIONS:
-            self.versions.append(Version(program.version, program.first, counter, program.insns))
+        if self.versions and self.versions[-1].insns == program.insns and not self.hidden_versions:
+            self.versions[-1] = self.versions[-1]._replace(until=program.version)
+        elif len(self.versions) < MAX_VERSIONS:
+            self.versions.append(Version(program.version, program.first, counter, program.insns, program.version))
+        else:
+            self.hidden_versions += 1
 
     def counters(self) -> Optional[tuple[int, int, int, int]]:
         """The first, the last, the least and the greatest counter; None where there are no frames."""

@@ -66,12 +66,12 @@ def filters(channel: Channel, axis: Axis, texts: Texts) -> Iterator[str]:
         ends = (version.counter, after.counter if after else last_of(channel))
         begin, until = (seconds(it - axis.first) for it in ends)
         yield (
-            f"<div class=filter><div class={('even', 'odd')[at % 2]}><h3>Version {version.number}</h3>"
+            f"<div class=filter><div class={('even', 'odd')[at % 2]}><h3>Version {version.name()}</h3>"
             f"<div>from frame {number(version.first)} {to}</div><div class=soft>{begin} to {until}</div></div>"
             f"<pre>{escaped(texts.text_of(version.insns))}</pre></div>"
         )
-    if channel.version_count > len(channel.versions):
-        yield f"<p>and {number(channel.version_count - len(channel.versions))} more versions</p>"
+    if channel.hidden_versions:
+        yield f"<p>and {number(channel.hidden_versions)} more versions</p>"
 
 
 def section(channel_id: int, channel: Channel, axis: Axis, texts: Texts, beside: Optional[Beside]) -> str:

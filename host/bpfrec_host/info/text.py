@@ -118,7 +118,7 @@ def text_page(recording: Recording, audit: Audit, beside: Optional[Beside] = Non
     parts = [("", rows_of_whole(recording, audit, beside))]
     for channel, it in sorted(recording.channels.items()):
         versions = [
-            (f"version {known.number}", f"from frame {number(known.first)}, counter {number(known.counter)}")
+            (f"version {known.name()}", f"from frame {number(known.first)}, counter {number(known.counter)}")
             for known in it.versions
         ]
         parts.append((f"channel {channel}", rows_of(it, beside) + versions))

@@ -90,10 +90,10 @@ def strip(channel: Channel, axis: Axis) -> Iterator[str]:
     begins = [axis.part(it.counter) for it in channel.versions]
     for at, (version, begin) in enumerate(zip(channel.versions, begins)):
         until = begins[at + 1] if at + 1 < len(begins) else axis.part(last_of(channel))
-        label = f"version {version.number} from frame {number(version.first)}"
+        label = f"version {version.name()} from frame {number(version.first)}"
         yield (
             f'<span class={("even", "odd")[at % 2]} style="left:{100 * begin:.3f}%;'
-            f'width:{100 * max(until - begin, 0):.3f}%" title="{escaped(label)}">{version.number}</span>'
+            f'width:{100 * max(until - begin, 0):.3f}%" title="{escaped(label)}">{version.name()}</span>'
         )
 
 

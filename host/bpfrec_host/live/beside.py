@@ -36,8 +36,13 @@ class Beside:
             # Those that are there are of what was overwritten.
             remove(facts_path(it.about.out))
         folder, pause = os.path.dirname(it.about.out), self.writer.given.sync
-        it.keeper = Keeper(it.descriptor, folder, pause, lambda moment: self.kept(it, moment))
-        it.keeper.start()
+        try:
+            it.keeper = Keeper(it.descriptor, folder, pause, lambda moment: self.kept(it, moment))
+            it.keeper.start()
+        except (OSError, RuntimeError) as error:
+            it.keeper = None
+            self.say(f"live: {it.about.out} isn't forced to its disk, and has no facts: {error}")
+            return
         self.threads.append(it.keeper)
         self.write(it)
 

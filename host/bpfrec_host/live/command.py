@@ -40,14 +40,23 @@ def run(words: list[str], observer: Optional[Observer] = None) -> int:
         folder.remove_all()
         tell("live: it was ended before anything was begun")
         return 3
-    made = Run(given, programs, folder, signals, observer or status, terminal)
+    try:
+        recording = Run(given, programs, folder, signals, observer or status, terminal)
+    except BaseException:
+        folder.remove_all()
+        raise
+    return run_shown(recording, status)
+
+
+def run_shown(recording: Run, status: Optional[Status]) -> int:
+    """Runs it, with what shows how it goes: the status."""
     if status:
         # The guard was copied by now, and has no thread of the server's.
         status.start()
         if status.address():
-            made.say(f"status: {status.address()}")
+            recording.say(f"status: {status.address()}")
     try:
-        return made.run()
+        return recording.run()
     finally:
         if status:
             status.close()

@@ -15,7 +15,9 @@ class Events:
     """The events that were noted so far. `feed` is the number of the recording whose feed an interface wrote, from 0."""
 
     def __init__(self, path: Path) -> None:
-        self.path, self.at, self.rest = path, 0, b""
+        # Open from now on, so that no shortage of descriptors hides what comes.
+        self.file = open(path, "rb", buffering=0)
+        self.at, self.rest = 0, b""
         self.origins: list[Entry] = []
         self.losses: dict[int, list[Entry]] = {}
         # By feed and interface: what was counted last.
@@ -37,14 +39,10 @@ class Events:
 
     def lines(self) -> Iterator[bytes]:
         """The lines that are new and whole."""
-        try:
-            with open(self.path, "rb", buffering=0) as file:
-                while part := os.pread(file.fileno(), READ_LEN, self.at):
-                    self.at += len(part)
-                    *lines, self.rest = (self.rest + part).split(b"\n")
-                    yield from lines
-        except OSError:
-            return
+        while part := os.pread(self.file.fileno(), READ_LEN, self.at):
+            self.at += len(part)
+            *lines, self.rest = (self.rest + part).split(b"\n")
+            yield from lines
 
     def take(self, event: Entry) -> None:
         """Takes an event."""

@@ -14,7 +14,6 @@ Its files, below `top`:
 from __future__ import annotations
 
 import os
-import shutil
 import stat
 import tempfile
 from pathlib import Path
@@ -90,12 +89,20 @@ class Folder:
             self.top = Path(tempfile.mkdtemp(prefix="bpfrec.", dir=holder))
         except OSError as error:
             raise Refusal(3, f"file {holder}: {error.strerror}") from None
-        (self.top / "settings").write_text(text, encoding="utf-8")
+        self.events = self.top / "events"
+        try:
+            self.fill(listings, given)
+        except OSError:
+            self.remove_all()
+            raise
+
+    def fill(self, listings: dict[int, str], given: Arguments) -> None:
+        """Makes what all recordings share."""
+        (self.top / "settings").write_text(self.text, encoding="utf-8")
         (self.top / "filters").mkdir()
         (self.top / "given").mkdir()
         for channel, listing in listings.items():
             self.given_filter(channel).write_text(listing, encoding="utf-8")
-        self.events = self.top / "events"
         self.events.touch()
         self.make_pipes("gate")
         self.point_to("gate")
@@ -125,11 +132,11 @@ class Folder:
 
     def remove(self, number: int) -> None:
         """Removes the folder of a recording."""
-        shutil.rmtree(self.of(number), ignore_errors=True)
+        remove_folder(self.of(number))
 
     def remove_all(self) -> None:
         """Removes all of it."""
-        shutil.rmtree(self.top, ignore_errors=True)
+        remove_folder(self.top)
 
     def point_to(self, name: str) -> None:
         """Has the capture find the pipes of this folder."""
@@ -207,6 +214,20 @@ class Folder:
             paths = [str(given)] if given.exists() else [it.path("filter") or "" for it in tables]
             found += ["--prefilter", f"{way.interface}={next(it for it in paths if it)}"]
         return found
+
+
+def remove_folder(path: Path) -> None:
+    """Removes a folder of our own, by one descriptor at a time, since they may be short."""
+    try:
+        for name in os.listdir(path):
+            held = path / name
+            if held.is_dir() and not held.is_symlink():
+                remove_folder(held)
+            else:
+                held.unlink()
+        path.rmdir()
+    except OSError:
+        pass
 
 
 def copy_listing(path: str, copy: Path) -> bool:

@@ -5,7 +5,6 @@ from __future__ import annotations
 import json
 import os
 import select
-import shutil
 import signal
 from pathlib import Path
 from typing import Optional
@@ -27,8 +26,13 @@ class Guard:
 
     def __init__(self, writer: Writer) -> None:
         own_reader, self.own = os.pipe()
-        all_reader, self.all = os.pipe()
-        self.pid = os.fork()
+        try:
+            all_reader, self.all = os.pipe()
+            self.pid = os.fork()
+        except OSError:
+            close(own_reader)
+            close(self.own)
+            raise
         if self.pid == 0:
             os.close(self.own)
             os.close(self.all)
@@ -70,15 +74,25 @@ def watch(writer: Writer, own: int, everybody: int) -> None:
     os.setpgid(0, 0)
     for it in (*ENDING, signal.SIGTTOU):
         signal.signal(it, signal.SIG_IGN)
-    null = os.open(os.devnull, os.O_RDWR)
-    for stream in range(3):
-        os.dup2(null, stream)
+    for descriptor in (int(it) for it in os.listdir("/proc/self/fd")):
+        if descriptor not in (own, everybody):
+            close(descriptor)
+    for _ in range(3):
+        os.open(os.devnull, os.O_RDWR)
     if os.read(own, 1):
         return
     end_rest(writer.folder.top, everybody)
     for made in sorted(it for it in writer.folder.top.iterdir() if (it / "about.json").exists()):
         write_facts(writer, made)
-    shutil.rmtree(writer.folder.top, ignore_errors=True)
+    writer.folder.remove_all()
+
+
+def close(descriptor: int) -> None:
+    """Closes a descriptor that may be closed."""
+    try:
+        os.close(descriptor)
+    except OSError:
+        pass
 
 
 def end_rest(top: Path, everybody: int) -> None:

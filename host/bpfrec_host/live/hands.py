@@ -11,8 +11,8 @@ from bpfrec_host.live.life import Recording
 class Hands(Protocol):
     """What is done for the machine. None of it waits."""
 
-    def start_recorder(self, recording: Recording) -> None:
-        """Starts the recorder, which waits for its pipes."""
+    def start_recorder(self, recording: Recording) -> bool:
+        """Starts the recorder, which waits for its pipes: False, which is told, where that can't be done."""
 
     def start_capture(self) -> None:
         """Starts the capture of all interfaces."""

@@ -133,5 +133,7 @@ class Loop:
     def turn(self, seconds: Optional[float]) -> None:
         """Waits until something happens, at most so long, and calls who wants to know."""
         for key, _ in self.selector.select(seconds):
-            if key.fd in self.selector.get_map():
+            # A call before may have closed it, and another one may have its number by now.
+            now = self.selector.get_map().get(key.fd)
+            if now is not None and now.data is key.data:
                 key.data()

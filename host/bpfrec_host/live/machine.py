@@ -49,8 +49,9 @@ class Machine:
         if not self.plan.has_interfaces and not self.open_output():
             self.now.status = FILE_FAULT
             return
-        self.hands.start_recorder(self.now)
-        if self.plan.has_interfaces:
+        if not self.hands.start_recorder(self.now):
+            self.recorded, self.is_refused, self.now.status, self.captured = FILE_FAULT, True, FILE_FAULT, 0
+        elif self.plan.has_interfaces:
             self.hands.start_capture()
 
     def capture_ready(self) -> None:
@@ -234,12 +235,11 @@ class Machine:
         """Begins the next recording, to which the capture goes over; where it can't be begun this one goes on."""
         self.begun = time
         following = self.hands.next_recording()
-        if following is None:
+        if following is None or not self.hands.start_recorder(following):
             return
         self.old, self.now = self.now, following
         self.old.phase = Phase.HANDING_OVER
         self.hands.end_lines(self.old)
-        self.hands.start_recorder(following)
         self.hands.point_to(following)
         self.hands.signal_capture(signal.SIGUSR1)
         if self.old.has_ended():

@@ -167,16 +167,31 @@ class Run:
         self.count = number
         return recording
 
-    def start_recorder(self, recording: Recording) -> None:
-        """Starts the recorder, which waits for its pipes."""
+    def start_recorder(self, recording: Recording) -> bool:
+        """Starts the recorder, which waits for its pipes: False, which is told, where that can't be done."""
         it = self.recorded(recording)
-        if it.descriptor is None and not is_special(it.about.out):
-            it.hold_place()
-        child = it.start(self.programs.bpfrec, self.guard.all)
+        try:
+            if it.descriptor is None and not is_special(it.about.out):
+                it.hold_place()
+            child = it.start(self.programs.bpfrec, self.guard.all)
+        except OSError as error:
+            self.say(f"live: {self.programs.bpfrec} record can't be started: {error.strerror}")
+            self.drop(it)
+            return False
         self.loop.follow(child, lambda status: self.end_recorder(it, status))
         self.loop.on_read(it.answers, lambda: self.take_answers(it))
         if not self.line_flow.is_open():
             self.line_flow.end(it)
+        return True
+
+    def drop(self, it: Recorded) -> None:
+        """Lets a recording go whose recorder can't be started."""
+        outputs.discard(it)
+        self.outputs.end(it)
+        self.folder.remove(it.recording.number)
+        if len(self.recordings) > 1:
+            del self.recordings[it.recording.number]
+            it.close()
 
     def begin_recording(self, it: Recorded) -> None:
         """A recorder has opened OUT."""
@@ -364,10 +379,15 @@ class Run:
         if not it.is_created or it.descriptor is None:
             return False
         words, manner = [self.programs.bpfrec, "audit", "-"], children.AUDIT._replace(kept=[self.guard.all])
-        # By standard input, so that the file may have any name, and another one by now.
-        with open(f"/proc/self/fd/{it.descriptor}", "rb") as read, open(it.made / "audit", "wb") as answer:
-            with open(it.made / "audit_errors", "wb") as errors:
-                auditor = children.start(words, (read, answer, errors), manner)
+        try:
+            # By standard input, so that the file may have any name, and another one by now.
+            with open(f"/proc/self/fd/{it.descriptor}", "rb") as read, open(it.made / "audit", "wb") as answer:
+                with open(it.made / "audit_errors", "wb") as errors:
+                    auditor = children.start(words, (read, answer, errors), manner)
+        except OSError as error:
+            self.say(f"live: {it.about.out} can't be audited: {error.strerror}")
+            self.loop.call_soon(lambda: self.end_audit(it, FILE_FAULT))
+            return True
         self.loop.follow(auditor, lambda status: self.end_audit(it, status))
         return True
 
