@@ -1,3 +1,5 @@
+-- Made by dev/package/make_plugin.py of host/wireshark/parts/, where it is changed.
+
 -- Opens recordings of bpfrec in Wireshark and tshark, from version 4.0 on: the formats of docs/user/FORMATS.md, of both
 -- profiles, and other recorders' packets as rows with their headers.
 --
