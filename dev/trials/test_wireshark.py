@@ -41,7 +41,7 @@ local function file_of(path)
   local opened = io.open(path, "rb")
   return {seek = function(_, ...) return opened:seek(...) end, read = function(_, count) return opened:read(count) end}
 end
-local function told(it) return it.data .. "|" .. tostring(it.time) .. "|" .. it.original_length .. "|" .. it.flags end
+local function told(it) return it.data .. "|" .. tostring(it.time) .. "|" .. tostring(it.original_length) .. "|" .. it.flags end
 local capture, first, second = {}, file_of(os.getenv("RECORDING")), file_of(os.getenv("RECORDING"))
 assert(handlers[1].read_open(first, capture))
 local places, rows = {}, {}
@@ -158,6 +158,41 @@ def test_random_access(work: Path, three: Path) -> None:
     env = {"PLUGIN": str(PLUGIN), "RECORDING": str(three), "HOME": str(work), "PATH": "/usr/bin:/bin"}
     done = outcome("tshark", "-X", f"lua_script:{work}/driver.lua", "-r", "/dev/null", env=env)
     judge("rows in a drawn order", f"rows {len(expected_rows(three))}\n" in done.stdout, done.stdout + done.stderr)
+
+
+FAILING = """
+local handler = handlers[1]
+local capture, file, frame = {}, file_of(os.getenv("RECORDING")), {}
+assert(handler.read_open(file, capture))
+assert(handler.read(file, capture, {}))
+capture.private_table.reader.next = function() error("no more", 0) end
+local count, place = 0, nil
+repeat
+  frame, place = {}, handler.read(file, capture, frame)
+  count = count + 1
+until not place
+print("ended " .. count)
+"""
+
+
+def test_failure(work: Path) -> None:
+    """Where the plugin itself fails, a row says so, and nothing is on the screen."""
+    (work / "driver.lua").write_text(DRIVER[: DRIVER.index("local function told")] + FAILING)
+    recording = str(RECORDINGS / "two_versions.ch11")
+    env = {"PLUGIN": str(PLUGIN), "RECORDING": recording, "HOME": str(work), "PATH": "/usr/bin:/bin"}
+    done = outcome("tshark", "-X", f"lua_script:{work}/driver.lua", "-r", "/dev/null", env=env)
+    judge("one row more, and the end", "ended 2\n" in done.stdout, done.stdout + done.stderr)
+    broken = PLUGIN.read_text().replace(
+        "function Reader:next()", "function Reader:next()\nif self.at > 0 then error('x', 0) end"
+    )
+    (work / "broken.lua").write_text(broken)
+    words = ["-X", f"lua_script:{work}/broken.lua", "-n", "-r", recording]
+    for mode in BOTH_MODES:
+        done = outcome("tshark", *words, *mode, env={**env, "HOME": str(work)})
+        told = done.stdout.splitlines()
+        judge(
+            f"its row {mode}", len(told) == 2 and "the plugin failed: x" in told[1] and "Error" not in done.stderr, done
+        )
 
 
 def test_pipe(work: Path, three: Path) -> None:

@@ -1,3 +1,5 @@
+-- Made by dev/package/make_plugin.py of host/wireshark/parts/, where it is changed.
+
 -- Opens recordings of bpfrec in Wireshark and tshark, from version 4.0 on: the formats of docs/user/FORMATS.md, of both
 -- profiles, and other recorders' packets as rows with their headers.
 --
@@ -753,6 +755,8 @@ end
 -- ---- rows
 
 local ENCAPSULATION = wtap_encaps.USER11
+-- Past all places of a file.
+local FAILURE_PLACE = 2 ^ 52
 
 -- What the recording says of the row that was read last. Wireshark dissects a row as soon as it has read it, also where it
 -- goes back to one, so the dissector finds it here: in the bytes it would be counted in the lengths of all statistics.
@@ -826,9 +830,20 @@ end
 -- Gives the row of a damaged place, of which `data` are the first bytes.
 function Recording:give_damage(frame, damage, data)
   last.what, last.place, last.length = "damage", damage.at, damage.length
-  last.fault = format("read %d %s %.0f", damage.number, damage.name, damage.at)
+  last.fault = damage.text or format("read %d %s %.0f", damage.number, damage.name, damage.at)
   data = sub(data, 1, damage.length)
   give(frame, data, #data, self.times, nil)
+end
+
+-- Gives a row that says that the reading failed, as where Lua is out of memory: its place, which no other row has;
+-- nothing where it was given.
+function Recording:give_failure(frame, text)
+  if not self.damages[FAILURE_PLACE] then
+    local failure = { what = "damage", at = FAILURE_PLACE, length = 0, text = "the plugin failed: " .. tostring(text) }
+    self.damages[FAILURE_PLACE] = failure
+    self:give_damage(frame, failure, "")
+    return FAILURE_PLACE
+  end
 end
 
 -- Notes where the packet or the damaged place is that comes next.
@@ -1307,7 +1322,7 @@ local function register(name, short_name, kind, is_recording)
     local recording = capture.private_table
     recording.reader.window.file = file
     local is_done, place = pcall(recording.next_row, recording, frame)
-    return is_done and place or false
+    return (is_done and place or not is_done and recording:give_failure(frame, place)) or false
   end
 
   function handler.seek_read(file, capture, frame, place)
