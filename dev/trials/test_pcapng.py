@@ -135,11 +135,6 @@ def test_back(work: Path, three: Path) -> None:
 # ---- what the blocks say
 
 
-def comments_in(capture: Path) -> list[str]:
-    told = run("capinfos", "-I", capture)
-    return re.findall(r"(?:Comment = |Name = )(.*)", told)
-
-
 def test_descriptions(work: Path) -> None:
     """Names, counts and filters."""
     recording = work / "changed.ch11"
