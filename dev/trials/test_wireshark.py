@@ -13,7 +13,18 @@ from frames import COMPUTER, FRAMES, body_of, numbered, packet_of, program_packe
 from pcapng import frames_in, times_of
 from reading import SEED, recording_of_three
 from recorder import RECORDINGS, extracted
-from rows import FIELDS, PLUGIN, drawn_recording, expected_rows, flight_of, printed, rows_of, saved, tshark
+from rows import (
+    FIELDS,
+    PLUGIN,
+    TICKS_A_SECOND,
+    drawn_recording,
+    expected_rows,
+    flight_of,
+    printed,
+    rows_of,
+    saved,
+    tshark,
+)
 from support import BPFREC, ROOT, judge, judge_quietly, outcome, run
 
 WANTED = {"bin/bpfrec": "make build", "tshark": "tshark", "editcap": "wireshark-common"}
@@ -185,6 +196,24 @@ def test_statistics(work: Path, three: Path) -> None:
     rows = expected_rows(three)
     told = bytes_and_frames(printed(work, "-r", three, "-q", "-z", "io,stat,0"))
     judge("io,stat of all rows", told[0] == len(rows), told)
+
+
+def test_intervals(work: Path) -> None:
+    """Statistics by time, a channel a column, count each frame in its own interval."""
+    recording, ticks = flight_of(work), 20_000
+    rows = [(int(it["channel"]), int(it["counter"])) for it in expected_rows(recording) if "number" in it]
+    begin = int(expected_rows(recording)[0]["counter"])
+    columns = ",".join(f"ch11.channel=={it} && ch11.number" for it in (1, 2))
+    lines = printed(work, "-r", recording, "-q", "-z", f"io,stat,{ticks / TICKS_A_SECOND},{columns}")
+    found = [
+        [int(it[2]), int(it[4])]
+        for it in (re.findall(r"[\d.]+", line) for line in lines if "<>" in line)
+        if len(it) > 5
+    ]
+    wanted = [[0, 0] for _ in found]
+    for channel, counter in rows:
+        wanted[(counter - begin) // ticks][channel - 1] += 1
+    judge(f"{len(found)} intervals of two channels", found == wanted and len(found) > 5, (found, wanted))
 
 
 def conversations(lines: list[str]) -> list[tuple[str, ...]]:
