@@ -16,7 +16,19 @@ sys.dont_write_bytecode = True
 ROOT = Path(__file__).resolve().parents[2]
 RT = shlex.split(os.environ.get("RT", "rt"))
 # What is checked beside the crates.
-CHECKED = ("links", "map", "architecture", "examples", "uses", "man", "packages", "unused", "limits", "python39", "plugin")
+CHECKED = (
+    "links",
+    "map",
+    "architecture",
+    "examples",
+    "uses",
+    "man",
+    "packages",
+    "unused",
+    "limits",
+    "python39",
+    "plugin",
+)
 CHECKS = tuple(f"dev/checks/{it}.py" for it in CHECKED)
 # What is checked of the program once it is built, and where it stands then.
 MEMORY, PROGRAM = "dev/trials/check_memory.py", Path("crates/bpfrec/out/bpfrec")
