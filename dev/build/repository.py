@@ -17,9 +17,19 @@ ROOT = Path(__file__).resolve().parents[2]
 RT = shlex.split(os.environ.get("RT", "rt"))
 # What is checked beside the crates.
 CHECKED = (
-    "links", "map", "architecture", "examples", "uses", "man", "packages", "unused", "lemmas", "limits", "python39",
+    "links",
+    "map",
+    "architecture",
+    "examples",
+    "uses",
+    "man",
+    "packages",
+    "unused",
+    "lemmas",
+    "limits",
+    "python39",
     "plugin",
-)  # fmt: skip
+)
 CHECKS = tuple(f"dev/checks/{it}.py" for it in CHECKED)
 # What is checked of the program once it is built, and where it stands then.
 MEMORY, PROGRAM = "dev/trials/check_memory.py", Path("crates/bpfrec/out/bpfrec")

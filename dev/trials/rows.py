@@ -2,12 +2,15 @@
 
 import hashlib
 import os
+import random
 import struct
+import subprocess
 from pathlib import Path
 from typing import NamedTuple
 
+from frames import COMPUTER, FRAMES, body_of, end_packet, packet_of, program_packet
 from reading import ch11
-from support import ROOT, SECONDS, judge_quietly, outcome
+from support import BPFREC, ROOT, SECONDS, judge_quietly, outcome, run
 
 PLUGIN = ROOT / "host/wireshark/bpfrec.lua"
 FIELDS = {
@@ -175,3 +178,50 @@ def expected_rows(recording: Path, time_of=seconds_of) -> list[dict[str, str]]:
         for piece in ch11.Reader(file).pieces():
             expected.take(piece, data)
     return expected.rows
+
+
+# ---- recordings and captures
+
+
+def drawn_recording(draw: random.Random, is_summed: bool) -> bytes:
+    """Packets of three channels with any words and lengths of frames, programs, ends, and packets of other kinds."""
+    parts, sequences, counter = [], [0] * 10, 0
+
+    def add(channel: int, data: bytes, kind: int) -> None:
+        parts.append(packet_of(channel, data, sequences[channel], kind, counter, is_summed))
+        sequences[channel] += 1
+
+    for _ in range(40):
+        channel, kind = draw.randint(1, 3), draw.randrange(10)
+        counter += draw.randrange(2**40) if draw.random() < 0.1 else draw.randrange(5_000)
+        if kind < 6:
+            words = [
+                draw.randrange(1 << 18) << 14 & ~(3 << 14) if kind else draw.randrange(1 << 8) << 16 for _ in range(9)
+            ]
+            frames = [
+                (counter + at, it, draw.randbytes(draw.choice([18, 60, 61, 0, 300]))) for at, it in enumerate(words)
+            ]
+            add(channel, body_of(frames[: draw.randrange(10)]), FRAMES)
+        elif kind == 6:
+            parts.append(program_packet(channel, draw.randrange(1_000), is_summed=is_summed))
+        elif kind == 7:
+            parts.append(end_packet(channel, draw.randrange(2**40), is_summed=is_summed))
+        else:
+            add(draw.randrange(10), draw.randbytes(draw.randrange(200)), draw.choice([COMPUTER, 0x01, 0x19, 0x40]))
+    return b"".join(parts)
+
+
+def flight_of(work: Path) -> Path:
+    """The recording of the examples' settings."""
+    for name in ("arp", "udp_port"):
+        (ROOT / "bin").mkdir(exist_ok=True)
+        (ROOT / f"bin/{name}.txt").write_text(run(BPFREC, "asm", ROOT / f"examples/filters/{name}.bpf"))
+    run(BPFREC, "record", "examples/flight.toml", work / "flight.ch11", cwd=ROOT, stdin=subprocess.DEVNULL)
+    return work / "flight.ch11"
+
+
+def saved(work: Path, recording: Path, channel: int) -> bytes:
+    """The frames of a channel, as tshark saves them."""
+    words = ["-r", recording, "-Y", f"ch11.channel == {channel} && eth", "-F", "nsecpcap", "-w", work / "saved.pcap"]
+    printed(work, *words)
+    return (work / "saved.pcap").read_bytes()

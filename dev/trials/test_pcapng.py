@@ -5,31 +5,19 @@ import os
 import random
 import re
 import shutil
-import struct
 import subprocess
-from collections.abc import Callable
 from pathlib import Path
-from typing import NamedTuple
 
 import pytest
 from captures import fields_of
-from expected_facts import BEFORE_1970, THREE_ORIGINS, facts_of_run, moments_by
-from frames import (
-    FRAMES,
-    Record,
-    body_of,
-    end_packet,
-    numbered,
-    packet_of,
-    program_packet,
-    records,
-    with_check_sequence,
-)
+from expected_facts import BEFORE_1970, THREE_ORIGINS, facts_of_run
+from frames import FRAMES, body_of, end_packet, numbered, packet_of, program_packet, records, with_check_sequence
 from reading import SAMPLES, SEED, recording_of_three
 from recorder import RECORDINGS, extracted
+from rows import drawn_recording, flight_of
+from seen import channels_of, feeds_of, judge_whole, made, seen_in
 from support import BPFREC, CONVERT, PCAPNG, judge, judge_quietly, outcome, pipe_at, run
 from test_info_damage import FSYNC
-from test_wireshark import drawn_recording, flight_of
 
 WANTED = {
     "bin/bpfrec": "make build",
@@ -38,57 +26,7 @@ WANTED = {
     "tcpdump": "tcpdump",
     "cc": "gcc",
 }
-SECOND = 10**9
-DRAWN, SLICES = 10, 12
-
-
-class Seen(NamedTuple):
-    """A frame that tshark reads in a capture: its interface, its moment in nanoseconds, and its bytes."""
-
-    interface: int
-    moment: int
-    bytes: bytes
-
-
-def seen_in(capture: Path) -> list[Seen]:
-    """The frames of a capture with their bytes, by tshark and by an old capture that editcap makes of it."""
-    fields = [(int(it[0]), it[1]) for it in fields_of(capture)]
-    plain = capture.with_suffix(".plain")
-    run("editcap", "-F", "nsecpcap", capture, plain)
-    data, at, found = plain.read_bytes(), 24, []
-    for number, moment in fields:
-        seconds, rest, length, _ = struct.unpack_from("<IIII", data, at)
-        judge_quietly(f"tshark's time {moment}", moment == f"{seconds}.{rest:09}")
-        found.append(Seen(number, seconds * SECOND + rest, data[at + 16 : at + 16 + length]))
-        at += 16 + length
-    return found
-
-
-def made(work: Path, *words: object, status: int = 0) -> Path:
-    """The capture that the tool makes."""
-    out = work / "made.pcapng"
-    done = outcome(PCAPNG, "--force", *words[:-1], out, words[-1])
-    judge_quietly(f"pcapng {words}", done.returncode == status, done)
-    return out
-
-
-def channels_of(recording: Path) -> list[int]:
-    """The channels of which `bpfrec list` has frames, programs or ends."""
-    lines = [it.split() for it in run(BPFREC, "list", recording).splitlines()[:-1]]
-    return sorted({int(it[8] if it[7] != "frames" else it[1]) for it in lines if it[7] != "other"})
-
-
-def feeds_of(work: Path, recording: Path) -> dict[int, list[Record]]:
-    return {it: records(extracted(recording, it, work / "one.feed")) for it in channels_of(recording)}
-
-
-def judge_whole(work: Path, recording: Path, moment_of: Callable[[int], int] = lambda it: it * 100) -> None:
-    """The frames of each interface are those that extract gives of its channel, with their times, merged by time."""
-    feeds, seen = feeds_of(work, recording), seen_in(made(work, recording))
-    for number, feed in enumerate(feeds.values()):
-        wanted = [Seen(number, moment_of(it.counter), it.frame) for it in feed]
-        judge_quietly(f"{recording.name}: channel {number}", [it for it in seen if it.interface == number] == wanted)
-    judge_quietly(f"{recording.name}: {len(seen)}", len(seen) == sum(map(len, feeds.values())))
+DRAWN = 10
 
 
 @pytest.fixture(scope="module")
@@ -151,6 +89,11 @@ def test_clients(work: Path, three: Path) -> None:
         lines.returncode == 0 and len(re.findall(r"^\d\d:", lines.stdout, re.MULTILINE)) == count,
         lines,
     )
+
+
+def test_wrong_check_sequences(work: Path, three: Path) -> None:
+    """tshark finds wrong those that are marked in the recording."""
+    capture = made(work, three)
     done = outcome(
         "tshark",
         "-r",
@@ -192,11 +135,6 @@ def test_back(work: Path, three: Path) -> None:
 # ---- what the blocks say
 
 
-def comments_in(capture: Path) -> list[str]:
-    told = run("capinfos", "-I", capture)
-    return re.findall(r"(?:Comment = |Name = )(.*)", told)
-
-
 def test_descriptions(work: Path) -> None:
     """Names, counts and filters."""
     recording = work / "changed.ch11"
@@ -223,95 +161,6 @@ def test_descriptions(work: Path) -> None:
     judge("the name by the facts, and the host", "Name = eth7" in told and "its facts, of host fc1" in told, told)
     done = outcome(PCAPNG, "--force", work / "made.pcapng", recording, env={**os.environ, "BPFREC": "/nowhere"})
     judge("without bpfrec filters are listings", b"\n1,6 0 0 1," in capture.read_bytes() and done.returncode == 0)
-
-
-# ---- times and slices
-
-
-@pytest.mark.parametrize(
-    "origins", [THREE_ORIGINS, [("1764590400.250000001", 0, None)]], ids=["clock_was_set", "one_origin"]
-)
-def test_facts(work: Path, three: Path, origins: list) -> None:
-    """Times are those of the facts beside the recording."""
-    recording = work / "x.ch11"
-    shutil.copy(three, recording)
-    Path(f"{recording}.json").write_text(json.dumps(facts_of_run(origins)))
-    judge_whole(work, recording, lambda it: moments_by(origins, [it])[0])
-    judge("as facts say", True)
-
-
-def utc(moment: int) -> str:
-    seconds, rest = divmod(moment, SECOND)
-    return f"{run('date', '-u', '-d', f'@{seconds}', '+%Y-%m-%dT%H:%M:%S').strip()}.{rest:09}Z"
-
-
-def test_slices(work: Path, three: Path) -> None:
-    """A slice has the frames whose times are in it, by seconds since counter 0 and by UTC, of some channels or all."""
-    draw, feeds = random.Random(SEED), feeds_of(work, three)
-    origins = [("1764590400.250000000", 0, None), ("1764586800.250000123", 40_000_000, "-3600.0")]
-    origins[1] = (*origins[1][:2], "-3599.999999877")
-    recording = work / "x.ch11"
-    shutil.copy(three, recording)
-    Path(f"{recording}.json").write_text(json.dumps(facts_of_run(origins)))
-    for turn in range(SLICES):
-        chosen = sorted(draw.sample([1, 2, 3], draw.randint(1, 3)))
-        picked = [draw.choice(feeds[draw.choice(chosen)]).counter for _ in range(2)]
-        is_utc = turn % 2 == 0
-        moment_of = (lambda it: moments_by(origins, [it])[0]) if is_utc else (lambda it: it * 100)
-        begin, end = sorted(map(moment_of, picked))
-        end += draw.choice([0, 1])
-        text = utc if is_utc else lambda it: f"{it // SECOND}.{it % SECOND:09}"
-        words = [word for it in chosen for word in ("--channel", it)]
-        seen = seen_in(made(work, "--from", text(begin), "--to", text(end), *words, recording))
-        wanted = [
-            Seen(number, moments_by(origins, [it.counter])[0], it.frame)
-            for number, channel in enumerate(chosen)
-            for it in feeds[channel]
-            if begin <= moment_of(it.counter) < end
-        ]
-        judge_quietly(
-            f"slice {turn}: {begin} to {end} of {chosen}", sorted(seen) == sorted(wanted), (len(seen), len(wanted))
-        )
-    judge(f"{SLICES} slices", True)
-
-
-def test_equal_counters(work: Path) -> None:
-    """A slice that begins with a counter that two packets share has the frames of both."""
-    frame = with_check_sequence(numbered(0))
-    bodies = [body_of([(5, 0, frame), (9, 0, frame)]), body_of([(9, 0, frame), (12, 0, frame)])]
-    parts = [packet_of(1, it, at, FRAMES, (5, 9)[at], True) for at, it in enumerate(bodies)]
-    (work / "equal.ch11").write_bytes(program_packet(1, 0) + b"".join(parts))
-    seen = seen_in(made(work, "--from", "0.0000009", "--to", "0.000001", work / "equal.ch11"))
-    judge("frames of both packets", [it.moment for it in seen] == [900, 900])
-
-
-def test_little_is_read(work: Path) -> None:
-    """Of the packets outside of a slice the headers alone are read: that their data are damaged isn't seen."""
-    path, frame = work / "long.ch11", with_check_sequence(numbered(0, 1_000))
-    bodies = [body_of([(at * 1_000 + it, 0, frame) for it in range(60)]) for at in range(500)]
-    parts = [packet_of(1, it, at, FRAMES, at * 1_000, True) for at, it in enumerate(bodies)]
-    damaged = [it if at in (199, 200) else it[:100] + bytes(4) + it[104:] for at, it in enumerate(parts)]
-    path.write_bytes(program_packet(1, 0) + b"".join(damaged) + end_packet(1, 30_000))
-    done = outcome(PCAPNG, "--from", "0.02", "--to", "0.0201", work / "slice.pcapng", path)
-    judge(
-        "a slice of one packet", (done.returncode, done.stdout, done.stderr) == (0, "frames 60 skipped 0\n", ""), done
-    )
-
-
-def test_several(work: Path) -> None:
-    """Recordings that follow one another, and those of two recorders, become one capture."""
-    frames = [(at * 1_000, with_check_sequence(numbered(at))) for at in range(90)]
-    parts = {"a": frames[:30], "b": frames[30:60], "c": frames[15:45]}
-    for name, chosen in parts.items():
-        body = body_of([(counter, 0, frame) for counter, frame in chosen])
-        packets = [program_packet(1, 0), packet_of(1, body, 0, FRAMES, chosen[0][0], True), end_packet(1, len(chosen))]
-        (work / f"{name}.ch11").write_bytes(b"".join(packets))
-    done = outcome(PCAPNG, work / "all.pcapng", work / "b.ch11", work / "a.ch11", work / "c.ch11")
-    judge("three recordings", (done.returncode, done.stdout) == (0, "frames 90 skipped 0\n"), done)
-    moments = [it.moment for it in seen_in(work / "all.pcapng")]
-    judge("by time", moments == sorted(counter * 100 for it in parts.values() for counter, _ in it))
-    told = run("capinfos", "-k", "-I", work / "all.pcapng")
-    judge("counts of all", "frames offered 90, kept 90" in told, told)
 
 
 # ---- damage

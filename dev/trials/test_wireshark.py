@@ -1,6 +1,5 @@
-"""Tries host/wireshark/bpfrec.lua in tshark: rows, frames, times, filters, statistics, and how it finds the facts."""
+"""Tries host/wireshark/bpfrec.lua in tshark: rows, frames, filters, statistics, and the texts of programs."""
 
-import json
 import random
 import re
 import shutil
@@ -10,26 +9,26 @@ import zlib
 from pathlib import Path
 
 import pytest
-from expected_facts import BEFORE_1970, THREE_ORIGINS, are_facts, damaged_facts, facts_of_run, moments_by, value_of
-from frames import (
-    COMPUTER,
-    FRAMES,
-    body_of,
-    end_packet,
-    numbered,
-    packet_of,
-    program_packet,
-    records,
-    with_check_sequence,
-)
+from frames import COMPUTER, FRAMES, body_of, numbered, packet_of, program_packet, records, with_check_sequence
 from pcapng import frames_in, times_of
 from reading import SEED, recording_of_three
 from recorder import RECORDINGS, extracted
-from rows import FIELDS, PLUGIN, expected_rows, printed, rows_of, tshark
-from support import BPFREC, CONVERT, ROOT, judge, judge_quietly, outcome, run
+from rows import (
+    FIELDS,
+    PLUGIN,
+    TICKS_A_SECOND,
+    drawn_recording,
+    expected_rows,
+    flight_of,
+    printed,
+    rows_of,
+    saved,
+    tshark,
+)
+from support import BPFREC, ROOT, judge, judge_quietly, outcome, run
 
 WANTED = {"bin/bpfrec": "make build", "tshark": "tshark", "editcap": "wireshark-common"}
-DRAWN, DRAWN_FACTS = 8, 40
+DRAWN = 8
 BOTH_MODES = ((), ("-2",))
 # Replaces what Wireshark gives to a reader of files, and reads the rows of RECORDING again in a drawn order.
 DRIVER = """
@@ -61,52 +60,12 @@ print("rows " .. #places)
 """
 
 
-# ---- recordings
-
-
-def drawn_recording(draw: random.Random, is_summed: bool) -> bytes:
-    """Packets of three channels with any words and lengths of frames, programs, ends, and packets of other kinds."""
-    parts, sequences, counter = [], [0] * 10, 0
-
-    def add(channel: int, data: bytes, kind: int) -> None:
-        parts.append(packet_of(channel, data, sequences[channel], kind, counter, is_summed))
-        sequences[channel] += 1
-
-    for _ in range(40):
-        channel, kind = draw.randint(1, 3), draw.randrange(10)
-        counter += draw.randrange(2**40) if draw.random() < 0.1 else draw.randrange(5_000)
-        if kind < 6:
-            words = [
-                draw.randrange(1 << 18) << 14 & ~(3 << 14) if kind else draw.randrange(1 << 8) << 16 for _ in range(9)
-            ]
-            frames = [
-                (counter + at, it, draw.randbytes(draw.choice([18, 60, 61, 0, 300]))) for at, it in enumerate(words)
-            ]
-            add(channel, body_of(frames[: draw.randrange(10)]), FRAMES)
-        elif kind == 6:
-            parts.append(program_packet(channel, draw.randrange(1_000), is_summed=is_summed))
-        elif kind == 7:
-            parts.append(end_packet(channel, draw.randrange(2**40), is_summed=is_summed))
-        else:
-            add(draw.randrange(10), draw.randbytes(draw.randrange(200)), draw.choice([COMPUTER, 0x01, 0x19, 0x40]))
-    return b"".join(parts)
-
-
 def judge_rows(work: Path, what: str, recording: Path) -> None:
     wanted = expected_rows(recording)
     for mode in BOTH_MODES:
         found = rows_of(work, recording, *mode)
         differing = next((it for it in zip(found, wanted) if it[0] != it[1]), (len(found), len(wanted)))
         judge_quietly(f"{what} {mode}", found == wanted, differing)
-
-
-def flight_of(work: Path) -> Path:
-    """The recording of the examples' settings."""
-    for name in ("arp", "udp_port"):
-        (ROOT / "bin").mkdir(exist_ok=True)
-        (ROOT / f"bin/{name}.txt").write_text(run(BPFREC, "asm", ROOT / f"examples/filters/{name}.bpf"))
-    run(BPFREC, "record", "examples/flight.toml", work / "flight.ch11", cwd=ROOT, stdin=subprocess.DEVNULL)
-    return work / "flight.ch11"
 
 
 @pytest.fixture(scope="module")
@@ -131,13 +90,6 @@ def test_drawn(work: Path, three: Path) -> None:
         path.write_bytes(drawn_recording(draw, turn % 2 == 0))
         judge_rows(work, f"draw {turn}", path)
     judge(f"the rows of {DRAWN} drawn recordings of both profiles", True)
-
-
-def saved(work: Path, recording: Path, channel: int) -> bytes:
-    """The frames of a channel, as tshark saves them."""
-    words = ["-r", recording, "-Y", f"ch11.channel == {channel} && eth", "-F", "nsecpcap", "-w", work / "saved.pcap"]
-    printed(work, *words)
-    return (work / "saved.pcap").read_bytes()
 
 
 def test_extract(work: Path, three: Path) -> None:
@@ -246,6 +198,24 @@ def test_statistics(work: Path, three: Path) -> None:
     judge("io,stat of all rows", told[0] == len(rows), told)
 
 
+def test_intervals(work: Path) -> None:
+    """Statistics by time, a channel a column, count each frame in its own interval."""
+    recording, ticks = flight_of(work), 20_000
+    rows = [(int(it["channel"]), int(it["counter"])) for it in expected_rows(recording) if "number" in it]
+    begin = int(expected_rows(recording)[0]["counter"])
+    columns = ",".join(f"ch11.channel=={it} && ch11.number" for it in (1, 2))
+    lines = printed(work, "-r", recording, "-q", "-z", f"io,stat,{ticks / TICKS_A_SECOND},{columns}")
+    found = [
+        [int(it[2]), int(it[4])]
+        for it in (re.findall(r"[\d.]+", line) for line in lines if "<>" in line)
+        if len(it) > 5
+    ]
+    wanted = [[0, 0] for _ in found]
+    for channel, counter in rows:
+        wanted[(counter - begin) // ticks][channel - 1] += 1
+    judge(f"{len(found)} intervals of two channels", found == wanted and len(found) > 5, (found, wanted))
+
+
 def conversations(lines: list[str]) -> list[tuple[str, ...]]:
     found = [re.match(r"(\S+ +<-> \S+).* (\d+) ([\d ,]+(?:bytes|kB|MB)) +-?[\d.]+ +[\d.]+$", it) for it in lines]
     return [it.groups() for it in found if it]
@@ -329,63 +299,6 @@ def test_programs(work: Path) -> None:
         wanted = (f"Instructions: {len(listed)}{fault}", listed if fault else done.stdout.splitlines())
         judge_quietly(f"{text[:60]}", (title, shown) == wanted, (title, shown, wanted))
     judge(f"the texts of {len(texts)} programs are those of dis", True)
-
-
-# ---- times
-
-
-def times_in(work: Path, recording: Path, *words: object) -> list[int]:
-    """The time of each frame in nanoseconds since 1970."""
-    lines = printed(work, "-r", recording, *words, "-Y", "ch11.number", "-T", "fields", "-e", "frame.time_epoch")
-    found = [re.fullmatch(r"(-?)(\d+)\.(\d{9})", it) for it in lines]
-    return [(-1 if it[1] else 1) * (int(it[2]) * 10**9 + int(it[3])) for it in found if it]
-
-
-def counters_in(recording: Path) -> list[int]:
-    return [int(it["counter"]) for it in expected_rows(recording) if "number" in it]
-
-
-@pytest.mark.parametrize("origins", [THREE_ORIGINS, BEFORE_1970], ids=["three_origins", "before_1970"])
-def test_facts(work: Path, three: Path, origins: list) -> None:
-    """Times are those of the facts beside the recording, or of those that the preference names."""
-    recording, counters = work / "x.ch11", counters_in(three)
-    shutil.copy(three, recording)
-    relative, wanted = [it * 100 for it in counters], moments_by(origins, counters)
-    judge("without facts times are since counter 0", times_in(work, recording) == relative)
-    (work / "x.ch11.json").write_text(json.dumps(facts_of_run(origins)))
-    judge("with facts they are absolute", times_in(work, recording) == wanted and wanted != relative)
-    judge("also read twice", times_in(work, recording, "-2") == wanted)
-    (work / "x.ch11.json").rename(work / "elsewhere.json")
-    named = ["-o", f"ch11.facts:{work}/elsewhere.json"]
-    judge("and by the preference", times_in(work, recording, *named) == wanted)
-
-
-def test_same_as_convert(work: Path, three: Path) -> None:
-    """Times are those of `host/bin/convert to-pcap --facts`."""
-    recording = work / "x.ch11"
-    shutil.copy(three, recording)
-    (work / "x.ch11.json").write_text(json.dumps(facts_of_run(THREE_ORIGINS)))
-    run(BPFREC, "extract", recording, 3, work / "3.feed")
-    run(CONVERT, "to-pcap", "--facts", work / "x.ch11.json", work / "3.feed", work / "3.pcap")
-    judge("as to-pcap has them", frames_in((work / "3.pcap").read_bytes()) == frames_in(saved(work, recording, 3)))
-
-
-def test_drawn_facts(work: Path) -> None:
-    """Facts that are damaged are facts or none, as docs/user/FORMATS.md says; nothing but the times depends on it."""
-    draw, recording = random.Random(SEED), work / "x.ch11"
-    shutil.copy(RECORDINGS / "two_versions_checked.ch11", recording)
-    counts = [0, 0]
-    for turn in range(DRAWN_FACTS):
-        data = damaged_facts(draw, facts_of_run(THREE_ORIGINS, [(1, 2, 3)]))
-        (work / "x.ch11.json").write_bytes(data)
-        told = value_of(data)
-        is_known = are_facts(told)
-        origins = (
-            [(it["origin"], it["counter"], None) for it in told["origins"]] if is_known else [("0.000000000", 0, None)]
-        )
-        counts[is_known] += 1
-        judge_quietly(f"draw {turn}: {data!r}", times_in(work, recording) == moments_by(origins, [32]))
-    judge(f"{counts[1]} facts, and {counts[0]} that are none", min(counts) > 5)
 
 
 # ---- saved captures
