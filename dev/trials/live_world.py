@@ -44,7 +44,7 @@ class World:
         self.asked_to_end = 0
         self.has_space = self.can_start = True
         self.played: dict[int, Played] = {}
-        self.machine = Machine(plan, self, self.made(1), NAMES)
+        self.machine = Machine(plan, self, self, self.made(1), NAMES)
 
     # ---- hands
 
@@ -70,7 +70,7 @@ class World:
         it.is_pointed_to = True
         self.consequences.append(lambda: self.open(it))
 
-    def next_recording(self) -> Recording | None:
+    def following(self, before: Recording) -> Recording | None:
         assert self.machine.old is None, "two recordings are before this one"
         if not self.can_follow:
             self.say("it can't be begun")

@@ -51,9 +51,11 @@ def role_of(pid: int, words: str, first: int) -> str:
         return "live"
     if runs(pid, CAPTURE):
         return "capture"
+    if " audit " in words:
+        return "audit"
     if runs(pid, BPFREC):
-        return "recorder" if " record " in words else "audit"
-    return "audit" if " audit " in words else "guard"
+        return "recorder" if " record " in words else "another"
+    return "guard"
 
 
 def slow_audits(here: Path) -> Path:

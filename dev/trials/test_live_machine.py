@@ -282,3 +282,18 @@ def test_unanswered_line() -> None:
     world.machine.unanswered = 0
     world.wait(0)
     judge("and then goes over", world.machine.now.number == 2)
+
+
+def test_one_before() -> None:
+    """No third recording begins as long as the first one hasn't ended."""
+    world = World(ROTATING)
+    world.machine.begin(0)
+    while_going(world)
+    world.wait(11)
+    second = world.now()
+    world.open(second)
+    world.wait(11)
+    judge("it waits for the one before", world.now() is second and second.recording.phase is Phase.GOING)
+    world.settle()
+    world.wait(0)
+    judge("and then goes over", world.machine.now.number == 3)

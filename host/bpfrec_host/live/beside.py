@@ -43,7 +43,7 @@ class Beside:
             it.keeper = None
             self.say(f"live: {it.about.out} isn't forced to its disk, and has no facts: {error}")
             return
-        self.threads.append(it.keeper)
+        self.threads = [*(thread for thread in self.threads if thread.is_alive()), it.keeper]
         self.write(it)
 
     def write(self, it: Recorded) -> None:

@@ -17,14 +17,8 @@ class Hands(Protocol):
     def start_capture(self) -> None:
         """Starts the capture of all interfaces."""
 
-    def create(self, recording: Recording) -> bool:
-        """Creates OUT, which nobody has: whether it is there now."""
-
     def point_to(self, recording: Recording) -> None:
         """Has the capture find the pipes of this recording."""
-
-    def next_recording(self) -> Optional[Recording]:
-        """Makes the next recording, with OUT and pipes; None, which is told, where that can't be done."""
 
     def signal_capture(self, number: signal.Signals) -> None:
         """Sends the capture a signal."""
@@ -38,15 +32,6 @@ class Hands(Protocol):
     def end_lines(self, recording: Recording) -> None:
         """Ends the lines that change filters."""
 
-    def forget_output(self, recording: Recording) -> None:
-        """Closes OUT, which would keep its room on the disk."""
-
-    def is_empty(self, recording: Recording) -> bool:
-        """Whether OUT was created for this recording, and nothing is in it."""
-
-    def discard(self, recording: Recording) -> None:
-        """Removes OUT."""
-
     def tell_report(self, recording: Recording) -> bool:
         """Tells what the recorder printed: whether that could be done."""
 
@@ -59,8 +44,27 @@ class Hands(Protocol):
     def say(self, line: str) -> None:
         """Tells a line on standard error."""
 
-    def has_room(self, recording: Recording) -> bool:
-        """Whether the disk has room for a next recording."""
+
+class Store(Protocol):
+    """The files of recordings."""
+
+    def create(self, recording: Recording) -> bool:
+        """Creates OUT, which nobody has: whether it is there now."""
+
+    def following(self, before: Recording) -> Optional[Recording]:
+        """Makes the next recording, with OUT and pipes; None, which is told, where that can't be done."""
+
+    def forget_output(self, recording: Recording) -> None:
+        """Closes OUT, which would keep its room on the disk."""
+
+    def is_empty(self, recording: Recording) -> bool:
+        """Whether OUT was created for this recording, and nothing is in it."""
+
+    def discard(self, recording: Recording) -> None:
+        """Removes OUT."""
 
     def size(self, recording: Recording) -> int:
         """How many bytes OUT has."""
+
+    def has_room(self, recording: Recording) -> bool:
+        """Whether the disk has room for a next recording."""

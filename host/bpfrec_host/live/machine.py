@@ -10,7 +10,7 @@ from __future__ import annotations
 import signal
 from typing import Optional
 
-from bpfrec_host.live.hands import Hands
+from bpfrec_host.live.hands import Hands, Store
 from bpfrec_host.live.life import Phase, Plan, Recording
 
 # The statuses of capture by which it says that nothing was begun.
@@ -28,8 +28,8 @@ RETRY_AFTER, MOST_DOUBLINGS, ROOM_PAUSE = 0.5, 7, 1.0
 class Machine:
     """The recordings of a run, of which one takes the frames and one more may be ending."""
 
-    def __init__(self, plan: Plan, hands: Hands, first: Recording, names: tuple[str, str]) -> None:
-        self.plan, self.hands, self.now = plan, hands, first
+    def __init__(self, plan: Plan, hands: Hands, store: Store, first: Recording, names: tuple[str, str]) -> None:
+        self.plan, self.hands, self.store, self.now = plan, hands, store, first
         self.capture_name, self.recorder_name = names
         self.old: Optional[Recording] = None
         self.is_ending = self.is_concluding = self.is_refused = False
@@ -93,7 +93,7 @@ class Machine:
         self.hands.signal_capture(signal.SIGUSR2)
         self.hands.end_lines(recording)
         self.hands.kill_recorder(recording)
-        self.hands.forget_output(recording)
+        self.store.forget_output(recording)
         self.unanswered = 0
         self.failures += 1
         self.next_try = time + RETRY_AFTER * 2 ** min(self.failures, MOST_DOUBLINGS)
@@ -164,7 +164,7 @@ class Machine:
         if self.is_waiting_for_room():
             if time >= self.next_try:
                 self.next_try = time + ROOM_PAUSE
-                if self.hands.has_room(self.now):
+                if self.store.has_room(self.now):
                     self.hand_over(time)
         elif self.is_due(time):
             self.failures = 0
@@ -206,13 +206,13 @@ class Machine:
             return False
         if self.plan.every is not None and time >= self.begun + self.plan.every:
             return True
-        return self.plan.size is not None and self.hands.size(self.now) >= self.plan.size
+        return self.plan.size is not None and self.store.size(self.now) >= self.plan.size
 
     # ---- what is done
 
     def open_output(self) -> bool:
         """Creates OUT: whether it is there now."""
-        if self.hands.create(self.now):
+        if self.store.create(self.now):
             return True
         self.recorded = self.recorded or FILE_FAULT
         self.is_refused = True
@@ -234,7 +234,7 @@ class Machine:
     def hand_over(self, time: float) -> None:
         """Begins the next recording, to which the capture goes over; where it can't be begun this one goes on."""
         self.begun = time
-        following = self.hands.next_recording()
+        following = self.store.following(self.now)
         if following is None or not self.hands.start_recorder(following):
             return
         self.old, self.now = self.now, following
@@ -263,8 +263,8 @@ class Machine:
         status = recording.status or 0
         recording.phase = Phase.ENDING
         self.recorded = self.recorded or status
-        if status != 0 and self.hands.is_empty(recording):
-            self.hands.discard(recording)
+        if status != 0 and self.store.is_empty(recording):
+            self.store.discard(recording)
             self.end(recording, status)
             return
         if not self.hands.tell_report(recording):

@@ -59,6 +59,10 @@ class Outputs:
             self.growing, self.look_at = it, time.monotonic() + SIZE_PAUSE
             self.watch(it)
 
+    def deadline(self) -> Optional[float]:
+        """When the size of a recording is looked at again."""
+        return self.look_at
+
     def tick(self, now: float) -> None:
         """Has the kernel tell of the next write again, once that is due."""
         if self.look_at is not None and now >= self.look_at:

@@ -67,8 +67,7 @@ class Ring:
 
     def is_removing(self) -> bool:
         """Whether the room of a recording may still come free."""
-        self.threads = [it for it in self.threads if it.is_alive()]
-        return bool(self.threads)
+        return any(it.is_alive() for it in self.threads)
 
     def remove_oldest(self, why: str) -> None:
         """Removes the oldest recording, with its facts; one that has another name by now is left as it is."""
@@ -79,7 +78,7 @@ class Ring:
         # A long file takes a moment, for which nobody waits.
         thread = threading.Thread(target=removed, args=(oldest.out,))
         thread.start()
-        self.threads.append(thread)
+        self.threads = [*(it for it in self.threads if it.is_alive()), thread]
 
     def join(self) -> None:
         """Waits until all are removed."""

@@ -2,10 +2,9 @@
 
 from __future__ import annotations
 
-import os
 import signal
 import time
-from typing import NamedTuple, Optional
+from typing import NamedTuple, Optional, Protocol
 
 from bpfrec_host.live import children, outputs, system
 from bpfrec_host.live.arguments import Arguments
@@ -13,7 +12,7 @@ from bpfrec_host.live.beside import Beside
 from bpfrec_host.live.capture import Capture
 from bpfrec_host.live.changes import Change
 from bpfrec_host.live.events import Events
-from bpfrec_host.live.facts import About, Writer
+from bpfrec_host.live.facts import Writer
 from bpfrec_host.live.flush import Flush
 from bpfrec_host.live.folder import Folder
 from bpfrec_host.live.guard import Guard, open_and_close
@@ -21,18 +20,16 @@ from bpfrec_host.live.life import Plan, Recording
 from bpfrec_host.live.line_flow import LineFlow
 from bpfrec_host.live.loop import Loop, Signals
 from bpfrec_host.live.machine import FILE_FAULT, Machine
-from bpfrec_host.live.names import Files, Names, is_special
+from bpfrec_host.live.names import Files, is_special
 from bpfrec_host.live.notify import Notifier
 from bpfrec_host.live.observer import Observer
 from bpfrec_host.live.recorder import Recorded
+from bpfrec_host.live.recordings import Recordings
 from bpfrec_host.live.ring import Ring
 from bpfrec_host.live.status import Terminal
 from bpfrec_host.live.telling import Telling
 from bpfrec_host.live.watches import Watches
 from bpfrec_host.live.watching import Watching
-
-# After a full disk the next recording begins once there is so much room.
-ROOM = 1 << 20
 
 
 class Programs(NamedTuple):
@@ -40,6 +37,16 @@ class Programs(NamedTuple):
 
     bpfrec: str
     capture: str
+
+
+class Timed(Protocol):
+    """What has something to do at moments of its own."""
+
+    def deadline(self) -> Optional[float]:
+        """When that is next; None where nothing is to come."""
+
+    def tick(self, now: float) -> None:
+        """Does what is due."""
 
 
 class Run:
@@ -55,8 +62,7 @@ class Run:
         terminal: Terminal,
     ) -> None:
         self.given, self.programs, self.folder = given, programs, folder
-        self.files = Files(given.mode, given.is_forced)
-        self.writer = Writer(given, folder, programs.bpfrec, self.files)
+        self.writer = Writer(given, folder, programs.bpfrec, Files(given.mode, given.is_forced))
         # Before anything runs that it may have to end.
         self.guard = Guard(self.writer)
         self.loop, self.watches, self.events = Loop(signals, self.end_by_signal), Watches(), Events(folder.events)
@@ -67,15 +73,16 @@ class Run:
         self.line_flow = LineFlow(self.loop, folder, given, self.now, terminal)
         self.flush = Flush(given.flush, folder, self.line_flow.push, self.say) if given.flush is not None else None
         self.notifier = Notifier()
-        self.ring = Ring(given.keep, given.keep_free, self.room, self.say)
+        self.ring = Ring(given.keep, given.keep_free, lambda: outputs.room_beside(self.machine.now), self.say)
         self.outputs = outputs.Outputs(self.watches, given.size is not None, self.begin_recording, self.say)
         self.beside = Beside(self.loop, self.writer, self.events, self.synced, self.say)
-        self.names = Names(given.out)
-        self.recordings: dict[int, Recorded] = {}
-        self.count, self.told_of, self.signals_came = 0, "", 0
-        first = self.prepare(self.names.next()[1] if given.is_rotating() else given.out)
+        self.recordings = Recordings(self.writer, self.outputs, self.say)
+        self.timed: list[Timed] = [self.watches, self.outputs, self.watching, self.ring, self.notifier]
+        self.timed += [self.flush] if self.flush else []
+        self.signals_came = 0
         plan = Plan(bool(given.ways), given.every, given.size, given.is_audited, given.is_strict)
-        self.machine = Machine(plan, self, first, (programs.capture, programs.bpfrec))
+        names = (programs.capture, programs.bpfrec)
+        self.machine = Machine(plan, self, self.recordings, self.recordings.first(), names)
 
     # ---- the loop
 
@@ -99,30 +106,22 @@ class Run:
         """Waits for what comes next, and has the machine do what is due."""
         self.line_flow.read()
         self.machine.unanswered = len(self.now().lines.unanswered)
-        now, pause = time.monotonic(), self.watches.pause()
-        moments = [self.machine.deadline(now), self.outputs.look_at, self.watching.deadline()]
-        moments += [self.ring.deadline(), self.notifier.deadline(), self.flush.deadline() if self.flush else None]
-        moments.append(None if pause is None else now + pause)
+        now = time.monotonic()
+        moments = [self.machine.deadline(now), *(it.deadline() for it in self.timed)]
         next_moment = min((it for it in moments if it is not None), default=None)
         self.loop.turn(None if next_moment is None else max(0.0, next_moment - now))
-        if pause is not None:
-            self.watches.look_at_all()
         now = time.monotonic()
-        self.outputs.tick(now)
-        self.watching.tick(now)
-        self.ring.tick(now)
         if self.machine.is_ending or self.machine.is_concluding:
             self.notifier.stopping(now)
-        self.notifier.tick(now)
-        if self.flush:
-            self.flush.tick(now)
+        for it in self.timed:
+            it.tick(now)
         self.machine.unanswered = len(self.now().lines.unanswered)
         self.machine.tick(now)
         self.telling.write_on()
 
     def finish(self) -> None:
         """Ends what still runs beside: threads, what wasn't printed, and the guard."""
-        for it in self.recordings.values():
+        for it in self.recordings.all.values():
             if self.machine.is_refused and outputs.is_empty(it):
                 outputs.discard(it)
             it.close()
@@ -137,61 +136,35 @@ class Run:
     def end_by_signal(self) -> None:
         """A signal came that ends the run."""
         self.signals_came += 1
-        if self.recordings:
-            self.outputs.look(self.now())
+        self.outputs.look(self.now())
         self.machine.told_to_end(time.monotonic())
 
     def end_guard(self, status: int) -> None:
         """The guard has ended, which it does by itself only once live has."""
         self.say(f"live: its guard was ended by signal {status - children.KILLED}: all goes on without it")
 
-    # ---- recordings
-
-    def recorded(self, recording: Recording) -> Recorded:
-        """What live has of a recording."""
-        return self.recordings[recording.number]
+    # ---- the recorder
 
     def now(self) -> Recorded:
         """What live has of the recording that goes on."""
-        return self.recorded(self.machine.now)
-
-    def prepare(self, out: str) -> Recording:
-        """Makes the folder of the next recording."""
-        number = self.count + 1
-        made = self.folder.make(number)
-        begun = time.strftime("%Y-%m-%dT%H:%M:%SZ", time.gmtime(time.time()))
-        about = About(number, out, number - 1, begun)
-        self.writer.prepare(about)
-        recording = Recording(number, out)
-        self.recordings[number] = Recorded(recording, made, about)
-        self.count = number
-        return recording
+        return self.recordings.of(self.machine.now)
 
     def start_recorder(self, recording: Recording) -> bool:
         """Starts the recorder, which waits for its pipes: False, which is told, where that can't be done."""
-        it = self.recorded(recording)
+        it = self.recordings.of(recording)
         try:
             if it.descriptor is None and not is_special(it.about.out):
                 it.hold_place()
             child = it.start(self.programs.bpfrec, self.guard.all)
         except OSError as error:
             self.say(f"live: {self.programs.bpfrec} record can't be started: {error.strerror}")
-            self.drop(it)
+            self.recordings.drop(recording)
             return False
         self.loop.follow(child, lambda status: self.end_recorder(it, status))
         self.loop.on_read(it.answers, lambda: self.take_answers(it))
         if not self.line_flow.is_open():
             self.line_flow.end(it)
         return True
-
-    def drop(self, it: Recorded) -> None:
-        """Lets a recording go whose recorder can't be started."""
-        outputs.discard(it)
-        self.outputs.end(it)
-        self.folder.remove(it.recording.number)
-        if len(self.recordings) > 1:
-            del self.recordings[it.recording.number]
-            it.close()
 
     def begin_recording(self, it: Recorded) -> None:
         """A recorder has opened OUT."""
@@ -237,8 +210,8 @@ class Run:
     def end_lines(self, recording: Recording) -> None:
         """Ends the lines that change filters."""
         if self.flush:
-            self.flush.end(self.recorded(recording))
-        self.line_flow.end(self.recorded(recording))
+            self.flush.end(self.recordings.of(recording))
+        self.line_flow.end(self.recordings.of(recording))
 
     def let_go(self, recording: Recording) -> None:
         """Lets a recorder go on that waits for the writer of a pipe."""
@@ -247,7 +220,7 @@ class Run:
 
     def kill_recorder(self, recording: Recording) -> None:
         """Kills a recorder."""
-        child = self.recorded(recording).child
+        child = self.recordings.of(recording).child
         if child:
             child.send(signal.SIGKILL)
 
@@ -280,75 +253,8 @@ class Run:
             return
         if self.events.origins:
             self.machine.capture_ready()
-        for it in self.recordings.values():
+        for it in self.recordings.all.values():
             self.beside.write(it)
-
-    # ---- OUT
-
-    def create(self, recording: Recording) -> bool:
-        """Creates OUT, which nobody has: whether it is there now."""
-        it = self.recorded(recording)
-        if not is_special(it.about.out):
-            try:
-                it.take_output(self.files.create(it.about.out))
-            except OSError:
-                self.say(f"file {it.about.out}")
-                return False
-            self.outputs.watch(it)
-        return True
-
-    def next_recording(self) -> Optional[Recording]:
-        """Makes the next recording, with OUT and pipes; None, which is told, where that can't be done."""
-        number, out = self.names.next()
-        try:
-            recording = self.created(out)
-            self.outputs.watch(self.recorded(recording))
-            return recording
-        except OSError:
-            self.names.give_back(number)
-        if self.told_of != out and not self.machine.now.has_failed:
-            self.say(f"live: {out} can't be begun: {self.machine.now.out} goes on")
-        self.told_of = out
-        return None
-
-    def created(self, out: str) -> Recording:
-        """A recording with its OUT. An OSError says that it can't be made, and nothing of it is there."""
-        descriptor = self.files.create(out)
-        try:
-            recording = self.prepare(out)
-        except OSError:
-            os.close(descriptor)
-            os.unlink(out)
-            self.folder.remove(self.count + 1)
-            raise
-        self.recorded(recording).take_output(descriptor)
-        return recording
-
-    def forget_output(self, recording: Recording) -> None:
-        """Closes OUT, which would keep its room on the disk."""
-        it = self.recorded(recording)
-        self.outputs.end(it)
-        it.forget()
-
-    def is_empty(self, recording: Recording) -> bool:
-        """Whether nothing is in an OUT that was created for this recording, or none was."""
-        return outputs.is_empty(self.recorded(recording))
-
-    def discard(self, recording: Recording) -> None:
-        """Removes OUT."""
-        outputs.discard(self.recorded(recording))
-
-    def size(self, recording: Recording) -> int:
-        """How many bytes OUT has."""
-        return self.recorded(recording).size()
-
-    def room(self) -> int:
-        """How many bytes are free on the disk of OUT."""
-        return outputs.room_beside(self.machine.now)
-
-    def has_room(self, recording: Recording) -> bool:
-        """Whether the disk has room for a next recording."""
-        return outputs.room_beside(recording) >= ROOM
 
     # ---- what is told
 
@@ -358,7 +264,7 @@ class Run:
 
     def tell_report(self, recording: Recording) -> bool:
         """Tells what the recorder printed: whether that could be done."""
-        it = self.recorded(recording)
+        it = self.recordings.of(recording)
         if self.given.is_rotating():
             it.report = f"recording {it.about.out}\n{it.text('report')}"
             return True
@@ -375,7 +281,7 @@ class Run:
 
     def audit(self, recording: Recording) -> bool:
         """Starts an audit; False where OUT is no file that could be audited."""
-        it = self.recorded(recording)
+        it = self.recordings.of(recording)
         if not it.is_created or it.descriptor is None:
             return False
         words, manner = [self.programs.bpfrec, "audit", "-"], children.AUDIT._replace(kept=[self.guard.all])
@@ -403,7 +309,7 @@ class Run:
 
     def conclude(self, recording: Recording, status: int) -> None:
         """Tells what is known of a recording at its end, and lets go all that it has."""
-        it = self.recorded(recording)
+        it = self.recordings.of(recording)
         if it.report:
             self.telling.print(it.report)
         self.outputs.end(it)
@@ -411,5 +317,4 @@ class Run:
         self.ring.ended(it, status)
         self.beside.end(it, status)
         if recording is not self.machine.now:
-            del self.recordings[recording.number]
-            it.close()
+            self.recordings.forget(recording)

@@ -18,16 +18,22 @@ class Watches:
     def __init__(self) -> None:
         self.looks: dict[int, Look] = {}
         self.looked_at: dict[int, Look] = {}
-        self.next_key = -1
+        self.next_key, self.next_look = -1, 0.0
         self.descriptor: Optional[int] = None
         try:
             self.descriptor = system.open_watches()
         except OSError:
             pass
 
-    def pause(self) -> Optional[float]:
-        """After how many seconds files have to be looked at; None where the kernel tells of each change."""
-        return LOOKING_PAUSE if self.looked_at else None
+    def deadline(self) -> Optional[float]:
+        """When files are looked at next; None where the kernel tells of each change."""
+        return self.next_look if self.looked_at else None
+
+    def tick(self, now: float) -> None:
+        """Looks at the files of which the kernel tells nothing."""
+        if self.looked_at and now >= self.next_look:
+            self.next_look = now + LOOKING_PAUSE
+            self.look_at_all()
 
     def add(self, path: str, events: int, look: Look) -> int:
         """Watches a file, whatever is called by its name later: the key of the watch. A second watch of a file takes

@@ -1,0 +1,249 @@
+"""Tries parts of host/bin/live by themselves, without root: streams, lines, the loop, watches and programs."""
+
+import contextlib
+import fcntl
+import json
+import os
+import signal
+import sys
+import time
+from collections.abc import Iterator
+from pathlib import Path
+
+import pytest
+from support import ROOT, judge, judge_quietly, wait_for
+
+sys.path.insert(0, str(ROOT / "host"))
+from bpfrec_host.live import changes, output, system
+from bpfrec_host.live.changes import Change, Pipe
+from bpfrec_host.live.children import Manner, start, status_of
+from bpfrec_host.live.loop import Loop, Signals
+from bpfrec_host.live.telling import Telling
+from bpfrec_host.live.watches import Watches
+
+# ---- streams
+
+
+def pipe_that_is_full() -> tuple[int, int]:
+    reads, writes = os.pipe()
+    fcntl.fcntl(writes, 1031, 4_096)
+    os.set_blocking(writes, False)
+    with contextlib.suppress(BlockingIOError):
+        while True:
+            os.write(writes, b"x")
+    os.set_blocking(writes, True)
+    return reads, writes
+
+
+def test_lines() -> None:
+    """Lines that have no room are counted, and the next one that has says so."""
+    reads, writes = pipe_that_is_full()
+    lines = output.Lines(writes)
+    begun = time.monotonic()
+    for at in range(20):
+        lines.say(f"line {at}")
+    judge("nobody waits for long", time.monotonic() - begun < 1 and lines.left_out == 20)
+    os.read(reads, 4_096)
+    fcntl.fcntl(writes, 1031, 1 << 16)
+    lines.say("after")
+    told = os.read(reads, 4_096).decode()
+    judge("the lines are counted", told == "live: 20 lines were left out: standard error had no room\nafter\n", told)
+    os.close(reads)
+    lines.say("to nobody")
+    judge("a stream that is gone holds nothing up", lines.left_out == 0)
+    os.close(writes)
+
+
+def test_printed() -> None:
+    """What there is no room for waits; a stream that breaks has failed."""
+    reads, writes = pipe_that_is_full()
+    printed = output.Printed(writes)
+    printed.put("a" * 10_000)
+    judge("it waits", len(printed.waiting) == 10_000 and not printed.has_failed)
+    got = b""
+    while len(got) < 14_096:
+        got += os.read(reads, 4_096)
+        printed.write()
+    judge("it all comes", got.endswith(b"a" * 10_000) and not printed.waiting)
+    os.close(reads)
+    printed.put("b")
+    judge("a stream that broke has failed", printed.has_failed and not printed.waiting)
+    printed.put("c")
+    judge("and takes no more", not printed.waiting)
+    with open("/dev/full", "wb") as full:
+        device = output.Printed(full.fileno())
+        device.put("d")
+        judge("a full device too", device.has_failed)
+    judge(
+        "a stream that is only read isn't reopened to be written",
+        output.another(os.open("/dev/null", 0), os.O_WRONLY) is None,
+    )
+
+
+@pytest.fixture
+def signals() -> Iterator[Signals]:
+    """Those of live, while it lasts."""
+    numbers = (signal.SIGINT, signal.SIGTERM, signal.SIGHUP, signal.SIGCHLD, signal.SIGTTIN, signal.SIGTTOU)
+    before = {it: signal.getsignal(it) for it in numbers}
+    yield Signals()
+    signal.set_wakeup_fd(-1)
+    for number, handler in before.items():
+        signal.signal(number, handler)
+
+
+def test_signals(signals: Signals) -> None:
+    """Each that ends live comes to the loop, also one that came before; an end of a program isn't one of them."""
+    os.kill(os.getpid(), signal.SIGTERM)
+    os.kill(os.getpid(), signal.SIGCHLD)
+    came: list[int] = []
+    loop = Loop(signals, lambda: came.append(1))
+    loop.turn(1)
+    judge("a signal that came before", came == [1])
+    os.kill(os.getpid(), signal.SIGINT)
+    loop.turn(1)
+    judge("and a later one", came == [1, 1] and signals.come() == [])
+
+
+def test_loop(signals: Signals) -> None:
+    """A descriptor that a call before has closed, and that another one has by now, isn't mixed up with it."""
+    loop, called = Loop(signals, lambda: None), []
+    (first, into), (second, other) = os.pipe(), os.pipe()
+
+    def close_second() -> None:
+        called.append("first")
+        loop.on_read(first, None)
+        loop.on_read(second, None)
+        loop.on_read(second, lambda: called.append("new"))
+
+    loop.on_read(first, close_second)
+    loop.on_read(second, lambda: called.append("old"))
+    os.write(into, b"x")
+    os.write(other, b"x")
+    loop.turn(1)
+    judge("what was unregistered isn't called", "old" not in called and called[0] == "first", called)
+    loop.turn(1)
+    judge("and what took its place is", called[-1] == "new")
+
+
+def test_children_without_descriptors(signals: Signals, monkeypatch: pytest.MonkeyPatch) -> None:
+    """Where the system has no descriptors of programs, SIGCHLD tells of an end."""
+    monkeypatch.delattr(os, "pidfd_open")
+    loop, ended = Loop(signals, lambda: None), []
+    child = start([sys.executable, "-c", "raise SystemExit(7)"], (0, None, None), Manner())
+    judge_quietly("it has none", child.descriptor is None)
+    loop.follow(child, ended.append)
+    wait_for("it is told", lambda: loop.turn(0.1) or ended, 10)
+    judge("the status", ended == [7])
+
+
+def test_telling(signals: Signals) -> None:
+    """Standard output that stands still is waited for, until somebody gives up."""
+    reads, writes = pipe_that_is_full()
+    failed: list[int] = []
+    loop = Loop(signals, lambda: None)
+    telling = Telling(loop, lambda: failed.append(1))
+    telling.printed, telling.lines = output.Printed(writes), output.Lines(os.open(os.devnull, os.O_WRONLY))
+    telling.print("a" * 5_000)
+    loop.call_soon(lambda: None)
+    turns = iter([False, False, True])
+    loop.call_soon(lambda: None)
+    telling.finish(lambda: next(turns) or bool(loop.calls))
+    judge("what wasn't taken is said once", failed == [1] and not telling.printed.waiting)
+    os.close(reads)
+
+
+# ---- lines that change filters
+
+
+def test_input(monkeypatch: pytest.MonkeyPatch) -> None:
+    reads, writes = os.pipe()
+    found = changes.Input()
+    found.descriptor = reads
+    os.write(writes, b"set 1 a\nset 2")
+    judge("whole lines come", found.lines() == [b"set 1 a"] and found.rest == b"set 2")
+    os.write(writes, b" b")
+    judge("the rest waits", found.lines() == [])
+    monkeypatch.setattr(changes, "MAX_LINE_LEN", 10)
+    os.write(writes, b"x" * 20)
+    judge("a long line comes in parts", found.lines() == [b"set 2 b" + b"x" * 20] and found.rest == b"")
+    os.write(writes, b"last")
+    judge_quietly("one more", found.lines() == [])
+    os.close(writes)
+    judge("the last one comes at the end", found.lines() == [b"last"] and found.descriptor is None)
+    judge("and then none", found.lines() is None)
+    found.descriptor = os.open(os.devnull, os.O_WRONLY)
+    judge("what can't be read has ended", found.lines() is None)
+    found.descriptor = os.open(os.devnull, os.O_RDONLY)
+    found.end()
+    judge("lines that are ended", found.lines() is None)
+
+
+def test_pipe() -> None:
+    """A recorder that reads no lines any more answers none."""
+    pipe = Pipe()
+    for _ in range(5_000):
+        pipe.put(b"set 1 " + b"x" * 100, Change(1, None))
+    pipe.write()
+    judge("what has no room waits", 0 < len(pipe.waiting) < 5_000 * 107 and len(pipe.unanswered) == 5_000)
+    os.close(pipe.reader)
+    pipe.write()
+    judge("one that is gone takes none", not pipe.waiting and not pipe.unanswered)
+    pipe.close()
+    pipe.close()
+    pipe.put(b"more", Change(1, None))
+    judge("and after its end nothing", not pipe.waiting)
+
+
+# ---- the kernel
+
+
+def test_watches(work: Path) -> None:
+    path = work / "watched"
+    path.write_bytes(b"")
+    looked: list[int] = []
+    watches = Watches()
+    if watches.descriptor is None:
+        pytest.skip("the kernel has no watches left")
+    key = watches.add(str(path), system.MODIFIED, lambda: looked.append(1))
+    path.write_bytes(b"a")
+    wait_for("it is told", lambda: watches.serve() or looked, 3)
+    watches.remove(key)
+    many = len(looked)
+    path.write_bytes(b"b")
+    watches.serve()
+    judge("a watch that has ended tells nothing", len(looked) == many and watches.deadline() is None)
+    gone = watches.add(str(work / "none"), system.MODIFIED, lambda: looked.append(2))
+    judge("what can't be watched is looked at", watches.deadline() is not None)
+    watches.tick(time.monotonic())
+    judge_quietly("now and then", looked[-1] == 2)
+    watches.remove(gone)
+    watches.close()
+    watches.close()
+    watches.serve()
+    judge("until that ends too", watches.deadline() is None)
+
+
+def test_without_libc(monkeypatch: pytest.MonkeyPatch) -> None:
+    """Where Python has no ctypes, live does without what it is for."""
+    monkeypatch.setattr(system, "LIBC", None)
+    system.end_with_parent(9, os.getppid())
+    system.give_capabilities_up()
+    system.keep_capabilities_from_children()
+    judge("no watches, no state of the clock", system.adjust(bytearray(208)) == -1 and Watches().descriptor is None)
+
+
+def test_children(work: Path) -> None:
+    """What a program finds: its group, ignored and blocked signals; and how its end is told."""
+    script = (
+        "import os, signal, json; print(json.dumps([os.getpgrp() == os.getpid(), "
+        "signal.getsignal(signal.SIGINT) == signal.SIG_IGN, sorted(signal.pthread_sigmask(signal.SIG_BLOCK, []))]))"
+    )
+    with open(work / "told", "wb") as into:
+        child = start([sys.executable, "-c", script], (0, into, None), Manner(ignored=(2,), blocked=(15,)))
+    wait_for("it ends", lambda: child.status() is not None, 10)
+    judge("a group of its own, and its signals", json.loads((work / "told").read_text()) == [True, True, [15]])
+    child.close()
+    child.close()
+    with pytest.raises(FileNotFoundError):
+        start([str(work / "none")], (0, None, None), Manner())
+    judge("statuses as shells have them", (status_of(3), status_of(-9)) == (3, 137))

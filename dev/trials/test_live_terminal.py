@@ -1,0 +1,97 @@
+"""Tries host/bin/live in the foreground of a terminal with job control: typed lines, Ctrl-Z, fg and Ctrl-C."""
+
+import contextlib
+import fcntl
+import os
+import pty
+import subprocess
+import termios
+import threading
+import time
+from pathlib import Path
+
+import pytest
+from frames import numbers
+from namespace import send_together
+from recordings import RUN, YES, extracted, is_recording, nothing_left, process_of, processes_of, settings_of
+from support import BPFREC, CAPTURE, LIVE, judge, judge_quietly, wait_for
+
+WANTED = {"bin/bpfrec": "make build", "bin/capture": "make build", "ip": "iproute2"}
+pytestmark = [pytest.mark.timed, pytest.mark.usefixtures("namespace")]
+CTRL_C, CTRL_Z = b"\x03", b"\x1a"
+
+
+class Terminal:
+    """An interactive bash at a terminal of its own."""
+
+    def __init__(self, work: Path, out: Path) -> None:
+        self.master, slave = pty.openpty()
+        self.shell = subprocess.Popen(
+            ["bash", "--norc", "--noprofile", "-i"],
+            stdin=slave,
+            stdout=slave,
+            stderr=slave,
+            start_new_session=True,
+            cwd=work,
+            env={**os.environ, "TMPDIR": str(work / "private"), RUN: str(out)},
+            preexec_fn=lambda: fcntl.ioctl(0, termios.TIOCSCTTY, 0),
+        )
+        os.close(slave)
+        self.shown = b""
+        threading.Thread(target=self.read, daemon=True).start()
+
+    def read(self) -> None:
+        with contextlib.suppress(OSError):
+            while part := os.read(self.master, 4_096):
+                self.shown += part
+
+    def type_in(self, line: str) -> None:
+        os.write(self.master, line.encode() + b"\n")
+
+    def press(self, key: bytes) -> None:
+        os.write(self.master, key)
+
+    def wait_until_shown(self, what: bytes, seconds: float = 10) -> None:
+        wait_for(lambda: f"{what!r} is shown: {self.shown!r}", lambda: what in self.shown, seconds)
+
+    def end(self) -> None:
+        self.shell.kill()
+        self.shell.wait()
+        os.close(self.master)
+
+
+def state_of(pid: int) -> str:
+    return Path(f"/proc/{pid}/stat").read_text().rsplit(")", 1)[1].split()[0]
+
+
+def test_terminal(work: Path) -> None:
+    out = work / "terminal.ch11"
+    terminal = Terminal(work, out)
+    terminal.type_in(f"{LIVE} --quiet {settings_of(work)} {out} rx0=1 rx1=2")
+    wait_for(lambda: f"it records: {terminal.shown!r}", lambda: is_recording(out, out), 10)
+    live = next(pid for pid, words in processes_of(out).items() if "host/bin/live" in words and state_of(pid) != "Z")
+    send_together(0, 100)
+    terminal.type_in(f"set 2 {work}/none")
+    terminal.wait_until_shown(b"installed 2 1 ")
+    terminal.press(CTRL_Z)
+    terminal.wait_until_shown(b"Stopped")
+    lives = [pid for pid, words in processes_of(out).items() if "host/bin/live" in words]
+    judge("Ctrl-Z stops host/bin/live", "T" in [state_of(pid) for pid in lives], live)
+    running = [state_of(process_of(out, program)) for program in (CAPTURE, BPFREC)]
+    judge("and neither the capture nor the recorder", "T" not in running, running)
+    send_together(100, 100)
+    wait_for("what comes meanwhile is in the file", lambda: out.stat().st_size > 0, 5)
+    terminal.type_in("fg")
+    time.sleep(0.5)
+    send_together(200, 100)
+    time.sleep(0.3)
+    terminal.press(CTRL_C)
+    terminal.wait_until_shown(YES.encode())
+    terminal.type_in("echo status $?")
+    terminal.wait_until_shown(b"status 0\r\n")
+    judge("Ctrl-C ends it with its report and audit", YES.encode() in terminal.shown, terminal.shown)
+    judge_quietly("nothing is left", nothing_left(work) and not any("live" in it for it in processes_of(out).values()))
+    terminal.end()
+    judge("all frames are recorded", numbers(extracted(work, out, 1)) == list(range(300)))
+    found = numbers(extracted(work, out, 2))
+    judge("and of the other channel those before its filter changed", found == list(range(100)), found)

@@ -1,0 +1,185 @@
+"""Tries parts of host/bin/live by themselves, without root: words, names, files, events and what is kept safe."""
+
+import errno
+import os
+import sys
+import time
+from pathlib import Path
+
+import pytest
+from support import ROOT, judge, judge_quietly, wait_for
+
+sys.path.insert(0, str(ROOT / "host"))
+from bpfrec_host.live import arguments, expressions, names, words
+from bpfrec_host.live.events import Events
+from bpfrec_host.live.keeper import Keeper, force_folder
+from bpfrec_host.live.names import Files, Names, Refusal
+
+# ---- the command line
+
+
+def refused(call) -> tuple[int, str]:
+    with pytest.raises(Refusal) as caught:
+        call()
+    return caught.value.status, caught.value.line
+
+
+def test_words(work: Path) -> None:
+    (work / "settings").write_text("limit = 65536\n")
+    (work / "old.ch11").write_bytes(b"\x25\xeb\0\0")
+    (work / "empty.ch11").write_bytes(b"")
+    settings, old = str(work / "settings"), str(work / "old.ch11")
+    table = [
+        (["s.toml", "out", "eth0=1"], ("s.toml", "out", [("eth0", 1, None)])),
+        ([settings, "out", "eth0=1"], (settings, "out", [("eth0", 1, None)])),
+        ([old, "eth0=7"], (None, old, [("eth0", 7, None)])),
+        ([str(work / "empty.ch11"), "lo"], (None, str(work / "empty.ch11"), [("lo", 1, None)])),
+        (["s.toml", "-x"], ("s.toml", "./-x", [])),
+        (
+            ["new.ch11", "lo", "e=3:tcp[0] = 5", "f=1"],
+            (None, "new.ch11", [("lo", 2, None), ("e", 3, "tcp[0] = 5"), ("f", 1, None)]),
+        ),
+        (["s.toml", "dir/a=1", "eth0=1"], ("s.toml", "dir/a=1", [("eth0", 1, None)])),
+    ]
+    for given, wanted in table:
+        found = words.words_of(given)
+        ways = [tuple(it) for it in found.ways]
+        judge_quietly(f"{given}: {found}", (found.settings, found.out, ways) == wanted)
+    for given, line in [
+        (["s.toml", "out", "eth0=65536x"], "live: no INTERFACE=CHANNEL: eth0=65536x"),
+        (["s.toml", "out", "eth0=0"], "live: no INTERFACE=CHANNEL: eth0=0"),
+        (["s.toml", "out", "=1"], "live: no INTERFACE=CHANNEL: =1"),
+        (["s.toml", "out", "a=1", "b=1"], "live: channel 1 has two interfaces"),
+        (["s.toml", "lo"], "live: OUT is missing: it stands between s.toml and lo"),
+    ]:
+        judge_quietly(f"{given}", refused(lambda given=given: words.words_of(given)) == (2, line))
+    judge("words are taken apart, and what is missing is named", True)
+
+
+def test_options(capsys: pytest.CaptureFixture) -> None:
+    given = arguments.read(["--buffer=4", "--quiet", "--clock", "adapter", "--every", "5", "--", "s.toml", "o", "lo=1"])
+    judge(
+        "options of the capture are kept in their order",
+        given.options == ["--buffer", "4", "--quiet", "--clock", "adapter"] and given.clock() == "adapter",
+    )
+    judge("and the rest is read", (given.every, given.sync, given.is_rotating()) == (5, 1, True))
+    for words_given, line in [
+        (["--origin"], "live: --origin needs a value"),
+        (["--every"], "live: --every needs a value"),
+        (["--size", "0"], "live: --size needs a number from 1 on"),
+        (["--nonsense", "x", "y"], "live: no such option: --nonsense"),
+        (["-x", "a", "b"], "live: no such option: -x"),
+        (["--eve", "3"], "live: no such option: --eve"),
+    ]:
+        with pytest.raises(SystemExit) as caught:
+            arguments.read(words_given)
+        told = capsys.readouterr().err
+        judge_quietly(f"{words_given}: {told}", caught.value.code == 2 and told == f"{line}\n")
+    judge("what is wrong is said in one line", True)
+
+
+def test_names(work: Path) -> None:
+    (work / "a_00001.ch11").write_bytes(b"")
+    (work / "a_00002.ch11.json").write_bytes(b"")
+    (work / "a_00003.ch11").symlink_to("nowhere")
+    found = Names(str(work / "a.ch11"))
+    judge("names that are taken are passed", found.next() == (4, f"{work}/a_00004.ch11"))
+    found.give_back(4)
+    judge("one that is given back comes again", found.next()[0] == 4)
+    for out, wanted in [("x", "x_00001"), (".x", ".x_00001"), ("d.d/x", "d.d/x_00001"), ("x.y.z", "x.y_00001.z")]:
+        judge_quietly(f"{out}", Names(out).next()[1] == wanted)
+    judge("the number stands before the ending", True)
+
+
+def test_files(work: Path) -> None:
+    path = work / "there"
+    path.write_bytes(b"kept")
+    with pytest.raises(FileExistsError):
+        Files().create(str(path))
+    descriptor = Files(is_forced=True).create(str(path))
+    judge("--force opens what is there, and empties nothing", os.read(descriptor, 9) == b"kept")
+    os.close(descriptor)
+    (work / "link").symlink_to(path)
+    for files in (Files(), Files(is_forced=True)):
+        with pytest.raises(OSError):
+            files.create(str(work / "link"))
+    os.mkfifo(work / "pipe")
+    with pytest.raises(OSError):
+        Files(is_forced=True).create(str(work / "pipe"))
+    judge("a folder isn't OUT", refused(lambda: Files(is_forced=True).refuse_overwriting(str(work)))[0] == 3)
+    judge("nor has it one", refused(lambda: names.refuse_folder(str(work / "no/x"))) == (3, f"file {work}/no/x"))
+
+
+def test_settings_text() -> None:
+    text = expressions.settings_text([words.Way("eth0", 3, "udp\nport 5"), words.Way("eth1", 4)])
+    judge("settings of none", text.count("[[channel]]") == 2 and "# udp port 5\n" in text and "# all frames\n" in text)
+
+
+# ---- what is noted and kept
+
+
+def test_events(work: Path) -> None:
+    """Lines that are cut, or no JSON, or of names that are no UTF-8."""
+    path = work / "events"
+    path.write_bytes(
+        b'{"origin": "1.000000000", "counter": 0}\nnonsense\n[1]\n{"lost": "e\xff0", "dropped": 1, "feed": 2}\n{"cou'
+    )
+    events = Events(path)
+    judge("whole lines count", events.read() == 2 and events.origins == [{"origin": "1.000000000", "counter": 0}])
+    judge("a name's bytes are left out", events.losses == {2: [{"interface": "e0", "dropped": 1}]})
+    with open(path, "ab") as more:
+        more.write(b'nts": "e0", "frames": 5, "feed": 2}\n{"lost_in_all": "e0 LOST 1"}\n')
+    judge("the rest comes", events.read() == 2 and events.facts(2)["counts"] == [{"interface": "e0", "frames": 5}])
+    events.forget(2)
+    judge("and is forgotten", events.facts(2)["losses"] == [] and events.lost_in_all == ["e0 LOST 1"])
+
+
+def test_keeper(work: Path, monkeypatch: pytest.MonkeyPatch) -> None:
+    """It forces a file to its disk each second, writes the newest facts, and tells of those that can't be written."""
+    told: list = []
+    path = work / "out"
+    path.write_bytes(b"")
+    descriptor = os.open(path, os.O_RDWR)
+    keeper = Keeper(descriptor, str(work), 1, told.append)
+    keeper.start()
+    wait_for("it was forced", lambda: len(told) >= 1, 3)
+    done: list[int] = []
+    keeper.write(lambda: done.append(1))
+    wait_for("facts are written", lambda: done == [1], 3)
+    for number in (2, 3, 4):
+        keeper.write(lambda number=number: done.append(number))
+    judge("others wait a second", done == [1])
+    wait_for("the newest come", lambda: done == [1, 4], 3)
+
+    def full() -> None:
+        raise OSError(errno.ENOSPC, "full")
+
+    keeper.write(full)
+    keeper.end()
+    keeper.join(5)
+    judge("facts that can't be written are told, at the end at once", told[-1] is None and not keeper.is_alive())
+    judge("the times of what is safe rise", told[:-1] == sorted(told[:-1]) and len(told) >= 3, told)
+    force_folder(str(work / "none"))
+    os.close(descriptor)
+
+
+def test_keeper_that_fails(work: Path, monkeypatch: pytest.MonkeyPatch) -> None:
+    """A disk that fails tells nothing, and a file that is let go is forced no more."""
+
+    def fails(_: int) -> None:
+        raise OSError(errno.EIO, "fails")
+
+    told: list = []
+    descriptor = os.open(work / "out", os.O_RDWR | os.O_CREAT)
+    with monkeypatch.context() as patched:
+        patched.setattr(os, "fdatasync", fails)
+        patched.setattr(os, "fsync", fails)
+        keeper = Keeper(descriptor, str(work), 1, told.append)
+        keeper.start()
+        time.sleep(0.3)
+        keeper.release()
+        wait_for("it is let go", lambda: keeper.descriptor == -1, 3)
+        keeper.end()
+        keeper.join(5)
+    judge("nothing is told of it", told == [] and not keeper.is_alive())
+    os.close(descriptor)
