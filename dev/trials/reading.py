@@ -16,11 +16,12 @@ from support import CONVERT, ROOT, judge_quietly, run
 sys.path.insert(0, str(ROOT / "host"))
 from bpfrec_host import salvage
 from bpfrec_host.formats import ch11
+from bpfrec_host.formats.ch11.sums import BlockSums
 from bpfrec_host.info import as_json
 from bpfrec_host.info import command as info
 from bpfrec_host.info.beside import time_of
 
-__all__ = ["as_json", "ch11", "info", "salvage", "time_of"]
+__all__ = ["BlockSums", "as_json", "ch11", "info", "salvage", "time_of"]
 # The same recording without data checksums and with them.
 SAMPLES = [RECORDINGS / it for it in ("two_versions.ch11", "two_versions_checked.ch11")]
 SEED = 1

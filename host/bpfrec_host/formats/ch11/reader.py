@@ -6,17 +6,9 @@ import os
 import stat
 from typing import BinaryIO, Iterator, Optional, Union
 
-from bpfrec_host.formats.ch11.packet import (
-    SYNC,
-    Damage,
-    Fault,
-    Packet,
-    body_fault,
-    has_right_sum,
-    header_fault,
-    header_of,
-)
-from bpfrec_host.formats.limits import HEADER_LEN, MAX_FRAME_LEN
+from bpfrec_host.formats.ch11.packet import SYNC, Damage, Fault, Packet, body_fault, header_fault, header_of
+from bpfrec_host.formats.ch11.sums import BlockSums
+from bpfrec_host.formats.limits import CHECKSUM_LEN, HEADER_LEN, MAX_FRAME_LEN
 
 # How many bytes are read at once, where fewer are wanted.
 PIECE = 1 << 16
@@ -36,6 +28,8 @@ class Reader:
     def __init__(self, file: BinaryIO, is_summed: bool = True, begin: int = 0) -> None:
         self.file, self.is_summed = file, is_summed
         self.at, self.held, self.is_over = begin, bytearray(), False
+        # Of a search, which may sum the same bytes for many headers.
+        self.sums = BlockSums()
         # The sequence number that comes next, by channel ID.
         self.sequences: dict[int, int] = {}
         found = os.fstat(file.fileno())
@@ -124,7 +118,7 @@ class Reader:
         """Passes over what is damaged, up to the next packet or to the end: how many bytes."""
         begin = self.at
         for length in self.claims():
-            if self.goes_on(length):
+            if self.goes_on(length) and self.fill(length):
                 self.pass_over(length)
                 return length
         inside = self.inside()
@@ -173,10 +167,10 @@ class Reader:
         if self.at in broken:
             broken.discard(self.at)
             return False
+        if self.has_wrong_sum():
+            return False
         found = self.judged(0, MOST_SEARCHED)
         if not isinstance(found, Packet):
-            return False
-        if found.header.has_checksum() and not has_right_sum(found.bytes):
             return False
         if self.at < inside:
             return self.leads_to(min(inside, self.at + MOST_SEARCHED), broken)
@@ -185,6 +179,21 @@ class Reader:
         if (self.at - begin) % 4 == 0 and missing <= MOST_MISSING:
             return True
         return self.leads_to(self.at + MAX_FRAME_LEN, broken)
+
+    def has_wrong_sum(self) -> bool:
+        """Whether a header with a data checksum stands here, and what follows is cut or has another sum."""
+        head = self.head(0)
+        if len(head) < HEADER_LEN or header_fault(head):
+            return False
+        header = header_of(head)
+        if not header.has_checksum():
+            return False
+        if header.packet_len > MOST_SEARCHED or not self.fill(header.packet_len):
+            return True
+        end = header.packet_len - CHECKSUM_LEN
+        told = int.from_bytes(self.held[end : header.packet_len], "little")
+        with memoryview(self.held) as held:
+            return self.sums.of_part(held, self.at, self.at + HEADER_LEN, self.at + end) != told
 
     def leads_to(self, end: int, broken: set[int]) -> bool:
         """Whether packets that begin here follow one another beyond that place, or to the input's end. The places of
