@@ -4,7 +4,7 @@ use crate::changes::LineControl;
 use crate::fault::output_fault;
 use crate::jobs::jobs_of;
 use crate::report::print_report;
-use cli_record_streams::{AnnouncedOutput, read_settings};
+use cli_record_streams::{AnnouncedOutput, Retried, read_settings};
 use cli_streams::{CommandEnding, Inputs, LockFile, RecordingFault, create_output};
 use rec_run::{Done, RunFault, jobs_ok, record};
 use rec_words::SettingsFault;
@@ -47,7 +47,8 @@ where
     };
     inputs.add_streams(rt)?;
     inputs.refuse_output(rt, out)?;
-    let created = AnnouncedOutput::new(rt, errors, create_output(rt, &inputs, out)?);
+    let file = create_output(rt, &inputs, out)?;
+    let created = AnnouncedOutput::new(rt, errors, Retried { file });
     match record(rt, rt.alloc(), jobs, ring, version, control, created) {
         Ok(
             Done {

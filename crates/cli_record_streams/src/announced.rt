@@ -5,6 +5,7 @@ ghost use Rattle.std.specs.IoError.{error_kind};
 ghost use Rattle.cli_streams.specs.declared.ending.CommandEnding.TheVariants.{Told, Recording};
 
 use crate::errors::print_error;
+use crate::retried::Retried;
 use ch11_packet::PACKET_PARTS;
 use cli_streams::{CommandEnding, RecordingFault, force_to_disk};
 use std::fs::OpenFile;
@@ -97,7 +98,7 @@ impl<'r, R: Wait, W: Write + Drop, E: Write + Drop> AnnouncedOutput<'r, R, W, E>
     }
 }
 
-impl<'r, R, W: OpenFile + Drop, E: Drop> AnnouncedOutput<'r, R, W, E> {
+impl<'r, R, W: OpenFile + Drop, E: Drop> AnnouncedOutput<'r, R, Retried<W>, E> {
     /// Forces what went out to its disk, if it has one.
     ///
     /// # Errors
@@ -106,7 +107,7 @@ impl<'r, R, W: OpenFile + Drop, E: Drop> AnnouncedOutput<'r, R, W, E> {
     pub fn keep(&self) -> io::Result<()>
         ensures passed { IfErr result (λ error. error_kind error ≢ ErrorKind.InvalidInput) }
     {
-        force_to_disk(&self.out)
+        force_to_disk(&self.out.file)
     }
 }
 

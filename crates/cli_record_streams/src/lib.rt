@@ -9,6 +9,7 @@ mod errors;
 mod lines;
 mod listed;
 mod opened;
+mod retried;
 
 pub use announced::AnnouncedOutput;
 pub use asked::{Asked, NoMemory, Refusal, Reply, next_asked};
@@ -16,3 +17,4 @@ pub use closing::ClosingSource;
 pub use errors::print_error;
 pub use lines::Lines;
 pub use opened::{Source, open_feed, read_filter, read_settings};
+pub use retried::Retried;

@@ -4,6 +4,7 @@ ghost use Rattle.std.specs.Prelude.{◌≡◌, IfOk, None};
 
 use crate::closing::ClosingSource;
 use crate::listed::{FilterFault, program_in};
+use crate::retried::Retried;
 use bpf_verify::Verified;
 use cli_streams::{CommandEnding, Inputs, MAX_LISTING, bounded_text};
 use eth_frame::{FeedSource, FrameSource};
@@ -15,8 +16,9 @@ use std::rt::Files;
 /// How many bytes of a feed are read at a time.
 const FEED_BUFFER: usize = 65_536;
 
-/// The source of a channel's frames, which closes its feed with the channel's last frame.
-pub type Source<F> = ClosingSource<FeedSource<BufReader<F>>>;
+/// The source of a channel's frames, which closes its feed with the channel's last frame. A read that a
+/// signal interrupts is made again.
+pub type Source<F> = ClosingSource<FeedSource<BufReader<Retried<F>>>>;
 
 /// The settings in a file, which is added to the inputs.
 pub fn read_settings<'a, R: AllocGlobal + Files>(
@@ -72,6 +74,7 @@ pub fn open_feed<'a, R: AllocGlobal + Files>(
     };
     inputs.add(&file)?;
     feeds.add(&file)?;
+    let file = Retried { file };
     let reader = BufReader::with_capacity(rt.alloc(), FEED_BUFFER, file).map_err(
         |_| CommandEnding::Memory,
     )?;

@@ -8,7 +8,7 @@ pub mod calls_bpf_insn;
 pub mod calls_bpf_machine;
 pub mod calls_bpf_verify;
 pub mod calls_ch11_packet;
-pub mod calls_cli_recording;
+pub mod calls_cli_record_streams;
 pub mod calls_cli_streams;
 pub mod calls_eth_frame;
 pub mod calls_rec_channel;

@@ -1,10 +1,12 @@
-//! The tests of the program, by its public calls: runs without words, the settings of recordings, and
-//! the limits in help.
+//! The tests of the program, by its public calls: runs without words, the settings of recordings, calls
+//! of files that a signal interrupts, and the limits in help.
 #![tactic(auto)]
 
 #[cfg(test)]
 mod command_line;
 #[cfg(test)]
 mod help;
+#[cfg(test)]
+mod retried;
 #[cfg(test)]
 mod settings;
