@@ -1,13 +1,16 @@
 #!/usr/bin/env python3
 """Times recordings from an interface beside dumpcap and tcpdump, and feeds that are made of a capture file.
 
-usage: bench/wire.py [--frames N] [--rounds N] [--part wire|files] [--before CHECKOUT]
+usage: bench/wire.py [--frames N] [--rounds N] [--part wire|files|syncs] [--before CHECKOUT]
 
 It makes a network namespace with a pair of virtual interfaces, sends frames of 64, 300 and 1,500 bytes into
 one of them as fast as bin/send_frames can, and records what the other receives: by host/bin/live, with a filter
 that keeps all and one that keeps a 32nd, which the kernel runs too with --prefilter, and by `dumpcap -w` and `tcpdump -w`, which take all or have the
 kernel drop what the same filter drops. Each has 64 MiB of the kernel's buffer. Then it makes a feed of a
 capture of as many frames, by host/bin/convert and by `capture -r`.
+
+With --part syncs it records by host/bin/live alone, forced to the disk each second (the default), and only at the end
+(`--sync 0`, told as before), in turn: what the syncs cost.
 
 It prints tables for RESULTS.md, with the machine's load. It wants root, bin/bpfrec and bin/capture (make
 build), bin/send_frames (make bin/send_frames), and Debian's iproute2, tcpdump and wireshark-common. Files go
@@ -161,9 +164,19 @@ def tell_changes(length, runs, frames):
         )
 
 
-def time_wire(work, words):
+def with_and_without_syncs(work, buffer):
+    """Recordings by host/bin/live that are forced to the disk each second, and only at their end."""
+    (work / "all").write_text(FILTERS["all"])
+    (work / "all.toml").write_text(f'[[channel]]\nid = 1\nfilter = "{work / 'all'}"\n')
+    words = ["--quiet", "--buffer", buffer, work / "all.toml", work / "out", "rx0=1"]
+    return {
+        ("host/bin/live, before", "all"): ([LIVE, "--sync", "0", *words], "origin"),
+        ("host/bin/live", "all"): ([LIVE, *words], "origin"),
+    }
+
+
+def time_wire(work, words, made):
     frames, rounds = words.frames, words.rounds
-    made = commands(work, words.buffer, words.before)
     print(
         "| Bytes | Program | Keeps | Frames sent a second | Taken a second | Dropped by the kernel | least, greatest "
         "| Processor, ns a frame |\n|---|---|---|---|---|---|---|---|"
@@ -244,7 +257,7 @@ def main():
     parser = argparse.ArgumentParser(description=__doc__, formatter_class=argparse.RawDescriptionHelpFormatter)
     parser.add_argument("--frames", type=int, default=1_000_000)
     parser.add_argument("--rounds", type=int, default=5)
-    parser.add_argument("--part", choices=["wire", "files"])
+    parser.add_argument("--part", choices=["wire", "files", "syncs"])
     parser.add_argument("--buffer", type=int, default=BUFFER_MIB, help="MiB of the kernel's buffer for each program")
     parser.add_argument(
         "--before", type=Path, metavar="CHECKOUT", help="times host/bin/live of that checkout and ours in turn alone"
@@ -267,7 +280,10 @@ def main():
     with tempfile.TemporaryDirectory() as folder:
         if words.part in (None, "wire"):
             make_pair()
-            time_wire(Path(folder), words)
+            time_wire(Path(folder), words, commands(Path(folder), words.buffer, words.before))
+        if words.part == "syncs":
+            make_pair()
+            time_wire(Path(folder), words, with_and_without_syncs(Path(folder), words.buffer))
         if words.part in (None, "files") and not words.before:
             time_files(Path(folder), words.frames, words.rounds)
     return 0

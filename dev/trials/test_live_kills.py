@@ -53,9 +53,16 @@ def role_of(pid: int, words: str, first: int) -> str:
         return "capture"
     if " audit " in words:
         return "audit"
-    if runs(pid, BPFREC):
-        return "recorder" if " record " in words else "another"
-    return "guard"
+    if runs(pid, BPFREC) and " record " in words:
+        return "recorder"
+    return "guard" if is_guard(pid) else "another"
+
+
+def is_guard(pid: int) -> bool:
+    """Whether a process holds no stream of live's; so a program isn't one that is about to be run."""
+    with contextlib.suppress(OSError):
+        return {os.readlink(f"/proc/{pid}/fd/{stream}") for stream in range(3)} == {os.devnull}
+    return False
 
 
 def slow_audits(here: Path) -> Path:

@@ -1,7 +1,8 @@
 """Cuts the power at fifty drawn moments while host/bin/live records: what was forced to the disk by then is there, whole.
 
 The disk is a file system in an image, which is copied as it is at that moment and mounted: its journal is all that it
-has. That takes no account of a disk whose own cache lies.
+has. The copy takes some milliseconds, so what stands behind the part that was synced may be of different moments, and
+isn't judged. That takes no account of a disk whose own cache lies.
 """
 
 import json
@@ -70,12 +71,11 @@ def judge_cut(work: Path, image: Path, out: Path, growth: Growth, number: int) -
         copied = work / "copied" / out.name
         size = copied.stat().st_size if copied.exists() else 0
         judge_quietly(f"cut {number}: {size} bytes are there of {wanted} that were synced", size >= wanted)
-        front = copied.read_bytes()[:wanted] if copied.exists() else b""
-        judge_quietly(f"cut {number}: they are those", front == out.read_bytes()[:wanted])
-        if size:
-            listed = outcome(BPFREC, "list", copied)
-            is_cut = "read 1 Truncated" in listed.stdout + listed.stderr
-            judge_quietly(f"cut {number}: it is read: {listed.stderr}", listed.returncode == 0 or is_cut)
+        (work / "front").write_bytes(copied.read_bytes()[:wanted] if copied.exists() else b"")
+    judge_quietly(f"cut {number}: they are those", (work / "front").read_bytes() == out.read_bytes()[:wanted])
+    listed = outcome(BPFREC, "list", work / "front")
+    is_cut = "read 1 Truncated" in listed.stdout + listed.stderr
+    judge_quietly(f"cut {number}: they are read: {listed.stderr}", listed.returncode == 0 or is_cut)
     return now - done[-1] if done else 0.0
 
 

@@ -109,6 +109,7 @@ def test_refused(work: Path) -> None:
         (["--keep-free", "1k"], "live: --keep-free needs a number from 1 on"),
         (["--flush", 0], "live: --flush needs a number from 1 to 999999999"),
         (["--mode", "999"], "live: --mode needs a mode of three octal digits, as 0640"),
+        (["--mode", "0444"], "live: --mode needs a mode by which the owner may read and write, as 0640"),
     ]
     for words, line in cases:
         running = Running(work, LIVE, *words, settings, out, "rx0=1", "rx1=2")

@@ -17,7 +17,9 @@ sys.path.insert(0, str(ROOT / "host"))
 from bpfrec_host.live import changes, output, system
 from bpfrec_host.live.changes import Change, Pipe
 from bpfrec_host.live.children import Manner, start, status_of
+from bpfrec_host.live.life import Recording
 from bpfrec_host.live.loop import Loop, Signals
+from bpfrec_host.live.outputs import Outputs
 from bpfrec_host.live.telling import Telling
 from bpfrec_host.live.watches import Watches
 
@@ -247,3 +249,39 @@ def test_children(work: Path) -> None:
     with pytest.raises(FileNotFoundError):
         start([str(work / "none")], (0, None, None), Manner())
     judge("statuses as shells have them", (status_of(3), status_of(-9)) == (3, 137))
+
+
+# ---- watches of OUT
+
+
+class Opening:
+    """A recording whose recorder is seen to have OUT open at the third look alone."""
+
+    def __init__(self, path: Path) -> None:
+        self.recording, self.descriptor = Recording(1, str(path)), os.open(path, os.O_RDWR | os.O_CREAT)
+        self.is_created, self.watch, self.looks = True, None, 0
+
+    def is_opened(self) -> bool:
+        self.looks += 1
+        return self.looks >= 3
+
+
+def test_open_that_is_seen_late(work: Path) -> None:
+    """The kernel tells of an open before it is seen: it is looked for again, and not for ever."""
+    opened: list[Opening] = []
+    watched = Outputs(Watches(), False, opened.append, print)
+    it = Opening(work / "out")
+    watched.look(it)
+    judge("not at once", opened == [] and watched.deadline() is not None)
+    for _ in range(5):
+        watched.tick(time.monotonic() + 1)
+    judge("but soon, and once", opened == [it] and it.looks == 3 and watched.deadline() is None)
+    never = Opening(work / "never")
+    never.looks = -(10**6)
+    watched.look(never)
+    for _ in range(200):
+        watched.tick(time.monotonic() + 1)
+    judge("one that another program opened is given up", opened == [it] and watched.deadline() is None)
+    watched.look(never)
+    watched.end(never)
+    judge("and ends with its recording", watched.deadline() is None)

@@ -34,6 +34,7 @@ def test_words(work: Path) -> None:
         ([settings, "out", "eth0=1"], (settings, "out", [("eth0", 1, None)])),
         ([old, "eth0=7"], (None, old, [("eth0", 7, None)])),
         ([str(work / "empty.ch11"), "lo"], (None, str(work / "empty.ch11"), [("lo", 1, None)])),
+        (["new.ch11", "eht0"], (None, "new.ch11", [("eht0", 1, None)])),
         (["s.toml", "-x"], ("s.toml", "./-x", [])),
         (
             ["new.ch11", "lo", "e=3:tcp[0] = 5", "f=1"],

@@ -8,7 +8,7 @@ import pytest
 from frames import numbers, records
 from namespace import send, send_together
 from recordings import YES, extracted, facts_of, nothing_left, parts_of, recordings, settings_of, write_settings
-from support import LIVE, Running, judge, judge_quietly
+from support import LIVE, ROOT, Running, judge, judge_quietly, pipe_at
 
 WANTED = {"bin/bpfrec": "make build", "bin/capture": "make build", "ip": "iproute2", "tcpdump": "tcpdump"}
 pytestmark = [pytest.mark.timed, pytest.mark.usefixtures("namespace")]
@@ -116,6 +116,7 @@ def test_forgotten_words(work: Path) -> None:
         ([out], 2, f"live: an INTERFACE is missing: it stands behind {out}"),
         ([work / "none.toml", "rx0=1"], 2, f"live: OUT is missing: it stands between {work}/none.toml and rx0=1"),
         ([work / "none.toml", out, "rx0=1"], 3, f"file {work}/none.toml"),
+        ([out, "nowhere0"], 3, "capture: nowhere0: no such interface"),
         ([out, "nowhere0=1"], 3, "capture: nowhere0: no such interface"),
         ([out, "rx0=1", "rx1=1"], 2, "live: channel 1 has two interfaces"),
         (
@@ -123,7 +124,7 @@ def test_forgotten_words(work: Path) -> None:
             2,
             "live: rx0=1:udp portt 5: tcpdump: can't parse filter expression: syntax error",
         ),
-        (["--quiet", out, "rx0=0"], 3, f"file {out}"),
+        (["--quiet", out, "rx0=0"], 2, "live: no INTERFACE=CHANNEL: rx0=0"),
     ]
     for words, status, told in cases:
         running = Running(work, LIVE, *words)
@@ -137,3 +138,30 @@ def test_without_tcpdump(work: Path) -> None:
     running = Running(work, *words, adds={"PATH": str(work)})
     line = "live: tcpdump is missing, which makes a filter of an expression: apt-get install tcpdump\n"
     judge("it says what to install", (running.ended()[0], running.told()) == (3, line), running.told())
+
+
+def test_ended_before_a_feed_came(work: Path) -> None:
+    """Without interfaces: a feed that nobody writes is waited for, until a signal comes."""
+    settings = write_settings(work, f'id = 1\nfilter = "{work}/all"\nfeed = "{pipe_at(work, "own.feed")}"')
+    running = Running(work, LIVE, settings, work / "never.ch11")
+    time.sleep(1)
+    judge_quietly("it waits", running.process.poll() is None)
+    running.interrupt()
+    line = "live: it was ended before anything was recorded\n"
+    judge("a signal ends it, and says so", (running.ended()[0], running.told()) == (3, line), running.told())
+    judge("nothing is created or left", not (work / "never.ch11").exists() and nothing_left(work))
+
+
+def test_feeds_alone(work: Path) -> None:
+    """Without interfaces it records what its feeds have, and lines that change filters until then."""
+    own = work / "own.feed"
+    own.write_bytes((ROOT / "examples/feeds/one.feed").read_bytes())
+    settings = write_settings(work, f'id = 1\nfilter = "{work}/all"\nfeed = "{own}"')
+    running = Running(work, LIVE, "--force", settings, work / "own.ch11")
+    running.process.stdin.close()
+    running.process.stdin = None
+    status, printed = running.ended()
+    judge(
+        "the feed is recorded and audited", status == 0 and "offered 60 kept 60" in printed and YES in printed, printed
+    )
+    judge("a recording of feeds has no facts", not (work / "own.ch11.json").exists() and nothing_left(work))

@@ -11,6 +11,8 @@ from bpfrec_host.live.help import ABOUT, MORE
 from bpfrec_host.live.words import Way, words_of
 from bpfrec_host.words import Parser
 
+# The recorder opens OUT anew, to write it.
+OWNERS = 0o600
 MAX_SECONDS, MAX_BYTES = 999_999_999, 10**15 - 1
 # The options that are the capture's own: those with a value, and those without.
 VALUED = ("--origin", "--buffer", "--direction", "--clock", "--check-sequence")
@@ -91,6 +93,8 @@ def file_mode(word: str) -> int:
     """The mode of a file, as chmod has it."""
     if not re.fullmatch(r"0?[0-7]{3}", word):
         raise argparse.ArgumentTypeError("needs a mode of three octal digits, as 0640")
+    if int(word, 8) & OWNERS != OWNERS:
+        raise argparse.ArgumentTypeError("needs a mode by which the owner may read and write, as 0640")
     return int(word, 8)
 
 

@@ -72,6 +72,7 @@ class Machine:
         self.is_ending = True
         if not self.plan.has_interfaces and self.is_open(self.now):
             # It waits for a feed of its own, and has recorded nothing.
+            self.hands.say("live: it was ended before anything was recorded")
             self.recorded = self.recorded or FILE_FAULT
             self.refuse()
             return

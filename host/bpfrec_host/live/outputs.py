@@ -14,6 +14,8 @@ from bpfrec_host.live.watches import Watches
 
 # How often the size of a recording is looked at while it grows, in seconds.
 SIZE_PAUSE = 0.05
+# The kernel tells of an open a moment before it is seen: so it is looked for again, at most so often.
+OPEN_PAUSE, MOST_LOOKS = 0.02, 50
 
 
 class Outputs:
@@ -26,6 +28,9 @@ class Outputs:
         # The recording whose growth is looked at, and when that is due again.
         self.growing: Optional[Recorded] = None
         self.look_at: Optional[float] = None
+        # The recording that somebody has opened, how often it is looked whether its recorder has, and when.
+        self.opening: Optional[Recorded] = None
+        self.looks, self.open_look_at = 0, 0.0
 
     def watch(self, it: Recorded) -> None:
         """Watches OUT: until the recorder has opened it for that, and then for where it is, and its size."""
@@ -43,13 +48,13 @@ class Outputs:
             it.watch = None
         if self.growing is it:
             self.growing = self.look_at = None
+        if self.opening is it:
+            self.opening = None
 
     def look(self, it: Recorded) -> None:
         """Sees whether the recorder has opened OUT, and whether OUT is where it was."""
         if it.recording.phase is Phase.OPENING:
-            if it.is_opened():
-                self.opened(it)
-                self.watch(it)
+            self.look_for_open(it, MOST_LOOKS)
             return
         if it.is_created and not it.is_moved and not it.is_there() and not it.recording.has_failed:
             it.is_moved = True
@@ -59,12 +64,25 @@ class Outputs:
             self.growing, self.look_at = it, time.monotonic() + SIZE_PAUSE
             self.watch(it)
 
+    def look_for_open(self, it: Recorded, looks: int) -> None:
+        """Sees whether the recorder has opened OUT; where it hasn't, so often again."""
+        if it.is_opened():
+            self.opening = None
+            self.opened(it)
+            self.watch(it)
+        else:
+            self.opening = it if looks else None
+            self.looks, self.open_look_at = looks, time.monotonic() + OPEN_PAUSE
+
     def deadline(self) -> Optional[float]:
-        """When the size of a recording is looked at again."""
-        return self.look_at
+        """When something is looked at again."""
+        moments = [self.look_at, self.open_look_at if self.opening else None]
+        return min((it for it in moments if it is not None), default=None)
 
     def tick(self, now: float) -> None:
-        """Has the kernel tell of the next write again, once that is due."""
+        """Looks at what is due, and has the kernel tell of the next write again."""
+        if self.opening and now >= self.open_look_at:
+            self.look_for_open(self.opening, self.looks - 1)
         if self.look_at is not None and now >= self.look_at:
             it, self.growing, self.look_at = self.growing, None, None
             if it:

@@ -56,8 +56,8 @@ def dashed(out: str) -> str:
 def names_settings(words: list[str]) -> bool:
     """Whether the first word is SETTINGS, and not OUT: by its ending, by what it is, or by the words behind it."""
     first, *rest = words
-    if first.endswith(".toml"):
-        return True
+    if first.endswith((".toml", ".ch11", ".ch10")):
+        return first.endswith(".toml")
     if os.path.isfile(first):
         return not is_recording(first)
     return not all(is_way(it) for it in rest)
