@@ -37,11 +37,13 @@ def run(words: list[str], observer: Optional[Observer] = None) -> int:
         tell(refusal.line)
         return refusal.status
     if signals.come():
-        folder.remove_all()
         tell("live: it was ended before anything was begun")
         return 3
     try:
         recording = Run(given, programs, folder, signals, observer or status, terminal)
+    except Refusal as refusal:
+        tell(refusal.line)
+        return refusal.status
     except BaseException:
         folder.remove_all()
         raise

@@ -14,8 +14,8 @@ Its files, below `top`:
 from __future__ import annotations
 
 import os
+import secrets
 import stat
-import tempfile
 from pathlib import Path
 from typing import Any, Optional
 
@@ -83,30 +83,27 @@ class Folder:
     def __init__(self, text: str, settings: Settings, given: Arguments) -> None:
         self.text, self.settings, self.ways = text, settings, given.ways
         # The listings that the arguments give channels, in place of those of SETTINGS.
-        listings = {it.channel: listing_of(it) for it in given.ways if it.expression or given.settings is None}
-        holder = os.environ.get("TMPDIR") or "/tmp"
-        try:
-            self.top = Path(tempfile.mkdtemp(prefix="bpfrec.", dir=holder))
-        except OSError as error:
-            raise Refusal(3, f"file {holder}: {error.strerror}") from None
+        self.listings = {it.channel: listing_of(it) for it in given.ways if it.expression or given.settings is None}
+        self.keeps_filters = given.keeps_filters()
+        self.holder = os.environ.get("TMPDIR") or "/tmp"
+        self.top = Path(self.holder, f"bpfrec.{secrets.token_hex(8)}")
         self.events = self.top / "events"
-        try:
-            self.fill(listings, given)
-        except OSError:
-            self.remove_all()
-            raise
 
-    def fill(self, listings: dict[int, str], given: Arguments) -> None:
-        """Makes what all recordings share."""
+    def make_all(self) -> None:
+        """Makes the folder and what all recordings share, once there is somebody who removes it where live is killed."""
+        try:
+            self.top.mkdir(mode=0o700)
+        except OSError as error:
+            raise Refusal(3, f"file {self.holder}: {error.strerror}") from None
         (self.top / "settings").write_text(self.text, encoding="utf-8")
         (self.top / "filters").mkdir()
         (self.top / "given").mkdir()
-        for channel, listing in listings.items():
+        for channel, listing in self.listings.items():
             self.given_filter(channel).write_text(listing, encoding="utf-8")
         self.events.touch()
         self.make_pipes("gate")
         self.point_to("gate")
-        if given.keeps_filters():
+        if self.keeps_filters:
             self.keep_filters()
 
     # ---- recordings

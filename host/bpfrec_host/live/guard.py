@@ -82,8 +82,8 @@ def watch(writer: Writer, own: int, everybody: int) -> None:
     if os.read(own, 1):
         return
     end_rest(writer.folder.top, everybody)
-    for made in sorted(it for it in writer.folder.top.iterdir() if (it / "about.json").exists()):
-        write_facts(writer, made)
+    for about in sorted(writer.folder.top.glob("*/about.json")):
+        write_facts(writer, about.parent)
     writer.folder.remove_all()
 
 

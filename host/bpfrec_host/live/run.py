@@ -65,6 +65,7 @@ class Run:
         self.writer = Writer(given, folder, programs.bpfrec, Files(given.mode, given.is_forced))
         # Before anything runs that it may have to end.
         self.guard = Guard(self.writer)
+        folder.make_all()
         self.loop, self.watches, self.events = Loop(signals, self.end_by_signal), Watches(), Events(folder.events)
         self.telling = Telling(self.loop, self.printing_failed, terminal)
         self.say = self.telling.say
