@@ -22,7 +22,7 @@ def listed():
 
 def table(packages):
     rows = "".join(f"| `{name}` | {PARTS[part]} | {what} |\n" for name, part, what in packages)
-    return f"| Package | Wanted | What for |\n|---|---|---|\n{rows}"
+    return f"| Package | Needed | What for |\n|---|---|---|\n{rows}"
 
 
 def wanted():
