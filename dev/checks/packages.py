@@ -1,5 +1,5 @@
 #!/usr/bin/env python3
-"""Compares the packages that docs/dev/BUILDING.md and the trials name with dev/package/packages.txt; --write writes its table.
+"""Compares the packages of docs/dev/BUILDING.md and the trials with dev/package/packages.txt; --write writes its table.
 
 Each package that a file of dev/trials/ names in its table WANTED must be in the list.
 """
@@ -47,7 +47,9 @@ def main():
     faults = (
         []
         if right == text
-        else ["docs/dev/BUILDING.md: its packages aren't those of dev/package/packages.txt: dev/checks/packages.py --write"]
+        else [
+            "docs/dev/BUILDING.md: its packages aren't those of dev/package/packages.txt: dev/checks/packages.py --write"
+        ]
     )
     names = {name for name, _, _ in packages}
     faults += [f"{script}: {it} isn't in dev/package/packages.txt" for it, script in wanted() if it not in names]
