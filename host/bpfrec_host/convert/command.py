@@ -15,10 +15,11 @@ from bpfrec_host.words import Parser, natural
 ABOUT = f"""\
 Makes feeds for bpfrec from captures, captures from feeds, and sample feeds; shows what a feed has.
 
-A feed holds the records of Ethernet frames, one after the other. A record has a
-counter (6 bytes, ticks of the 10 MHz relative time counter (RTC) of IRIG 106), error flags (`marks`, 1 byte),
-the frame's length (2 bytes, {MIN_FRAME_LEN} to {MAX_FRAME_LEN:,}), and the frame with its frame check sequence (FCS,
-{CHECK_SEQUENCE_LEN} bytes). Numbers are little-endian. Bit 0 of the flags says that the FCS is wrong, bit 1 that the frame has another link-layer error.
+A feed holds the records of Ethernet frames, one after the other. A record has a counter (6 bytes, ticks of the
+10 MHz relative time counter (RTC) of IRIG 106) and error flags (`marks`, 1 byte). Then come the frame's length
+(2 bytes, {MIN_FRAME_LEN} to {MAX_FRAME_LEN:,}), and the frame with its frame check sequence (FCS, {CHECK_SEQUENCE_LEN} bytes).
+Numbers are little-endian. Bit 0 of the flags says that the FCS is wrong, bit 1 that the frame has another
+link-layer error.
 
 As a file, `-` is standard input or output. It needs Python 3.9 or later, and nothing beside it.
 Nothing of this tool is proved; bpfrec itself reads no captures and computes no check sequence.
