@@ -89,6 +89,8 @@ def faults_in(text, patterns):
 def man_text():
     """The running text of the page bpfrec(1), without examples."""
     text = re.sub(r"(?s)\n\.nf\n.*?\n\.fi(?=\n)", "\n\n", MAN.read_text())
+    # What stands beside a name is a note, as a cell of a table.
+    text = re.sub(r"(?s)(?<=\n)\.TP\n.*?(?=\n\.[A-Z])", lambda it: it[0].replace(";", "\n\n"), text)
     text = re.sub(r"(?m)^\.(?:B|I|BR|IR) ?", "", text)
     return re.sub(r"(?m)^\..*$", "", text).replace("\\", "")
 
