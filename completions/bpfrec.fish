@@ -24,14 +24,14 @@ complete -c bpfrec -n '__bpfrec_at run 1' -ka '(__fish_complete_suffix .txt)'
 complete -c bpfrec -n __fish_use_subcommand -a list -d 'Prints a line for each packet of a recording'
 complete -c bpfrec -n '__bpfrec_at help 1' -a list
 complete -c bpfrec -n '__bpfrec_at list 1' -ka '(__fish_complete_suffix .ch11)'
-complete -c bpfrec -n __fish_use_subcommand -a audit -d 'Judges a recording by itself'
+complete -c bpfrec -n __fish_use_subcommand -a audit -d 'Judges a recording by its own packets'
 complete -c bpfrec -n '__bpfrec_at help 1' -a audit
 complete -c bpfrec -n '__bpfrec_at audit 1' -ka '(__fish_complete_suffix .ch11)'
 complete -c bpfrec -n __fish_use_subcommand -a extract -d 'Writes a channel\'s frames into a feed'
 complete -c bpfrec -n '__bpfrec_at help 1' -a extract
 complete -c bpfrec -n '__bpfrec_at extract 1' -ka '(__fish_complete_suffix .ch11)'
 complete -c bpfrec -n '__bpfrec_at extract 3' -ka '(__fish_complete_suffix .feed)'
-complete -c bpfrec -n __fish_use_subcommand -a upgrade -d 'Brings an old recording up to date'
+complete -c bpfrec -n __fish_use_subcommand -a upgrade -d 'Adds data checksums to an old recording'
 complete -c bpfrec -n '__bpfrec_at help 1' -a upgrade
 complete -c bpfrec -n '__bpfrec_at upgrade 1' -ka '(__fish_complete_suffix .ch11)'
 complete -c bpfrec -n '__bpfrec_at upgrade 2' -ka '(__fish_complete_suffix .ch11)'

@@ -1,5 +1,5 @@
 #!/usr/bin/env python3
-"""Compares the packages that the README and the trials name with dev/package/packages.txt; --write writes the README's table.
+"""Compares the packages of docs/dev/BUILDING.md and the trials with dev/package/packages.txt; --write writes its table.
 
 Each package that a file of dev/trials/ names in its table WANTED must be in the list.
 """
@@ -9,7 +9,7 @@ import sys
 from pathlib import Path
 
 ROOT = Path(__file__).resolve().parents[2]
-LIST, README = ROOT / "dev" / "package" / "packages.txt", ROOT / "README.md"
+LIST, PAGE = ROOT / "dev" / "package" / "packages.txt", ROOT / "docs" / "dev" / "BUILDING.md"
 BEGIN, END = "<!-- dev/package/packages.txt -->\n", "<!-- end -->\n"
 PARTS = {"build": "to build", "use": "to record interfaces", "trials": "for `make trials` alone"}
 
@@ -22,7 +22,7 @@ def listed():
 
 def table(packages):
     rows = "".join(f"| `{name}` | {PARTS[part]} | {what} |\n" for name, part, what in packages)
-    return f"| Package | Wanted | What for |\n|---|---|---|\n{rows}"
+    return f"| Package | Needed | What for |\n|---|---|---|\n{rows}"
 
 
 def wanted():
@@ -35,23 +35,25 @@ def wanted():
 
 def main():
     parser = argparse.ArgumentParser(description=__doc__, formatter_class=argparse.RawDescriptionHelpFormatter)
-    parser.add_argument("--write", action="store_true", help="writes the README's table")
+    parser.add_argument("--write", action="store_true", help="writes the table of docs/dev/BUILDING.md")
     writes = parser.parse_args().write
-    packages, text = listed(), README.read_text()
+    packages, text = listed(), PAGE.read_text()
     before, _, rest = text.partition(BEGIN)
     _, _, after = rest.partition(END)
     right = f"{before}{BEGIN}{table(packages)}{END}{after}"
     if writes:
-        README.write_text(right)
+        PAGE.write_text(right)
         return 0
     faults = (
         []
         if right == text
-        else ["README.md: its packages aren't those of dev/package/packages.txt: dev/checks/packages.py --write"]
+        else [
+            "docs/dev/BUILDING.md: its packages aren't those of dev/package/packages.txt: dev/checks/packages.py --write"
+        ]
     )
     names = {name for name, _, _ in packages}
     faults += [f"{script}: {it} isn't in dev/package/packages.txt" for it, script in wanted() if it not in names]
-    print("\n".join(faults) or f"{len(packages)} packages, as README.md and the trials have them")
+    print("\n".join(faults) or f"{len(packages)} packages, as docs/dev/BUILDING.md and the trials have them")
     return 1 if faults else 0
 
 

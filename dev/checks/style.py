@@ -1,10 +1,11 @@
 #!/usr/bin/env python3
-"""Checks how Python, C and shell scripts are written, by tools that Debian has: make lint.
+"""Checks how Python, C, shell scripts and English are written, mostly by tools that Debian has: make lint.
 
 black and isort (layout) and flake8 (faults) read all Python, mypy (strict) the package of host/, shellcheck the shell
 scripts, clang-format and clang-tidy the C, and gcc -fanalyzer that of the capture. Their settings stand in
 pyproject.toml, .flake8, .clang-format and .clang-tidy; for editors .editorconfig says the same. A NAME runs that tool
-alone. A tool that isn't there is said as left out. Status: 0 nothing is found, 1 something is, 2 a tool is missing.
+alone; "prose" is dev/checks/prose.py, which reads the English. A tool that isn't there is said as left out.
+Status: 0 nothing is found, 1 something is, 2 a tool is missing.
 """
 import argparse
 import shutil
@@ -24,6 +25,8 @@ WANTED = {
     "clang-format": "clang-format",
     "clang-tidy": "clang-tidy",
 }
+# The names of all that is run: the tools, and the reading of English.
+NAMES = [*WANTED, "prose"]
 # What shellcheck says of calls by name, and of quotes that are meant.
 SHELLCHECK = ["--exclude=SC2016,SC2317"]
 
@@ -62,15 +65,17 @@ def tools():
     yield Tool("shellcheck", [*SHELLCHECK, *shell])
     yield Tool("clang-format", ["--dry-run", "--Werror", *c])
     yield Tool("clang-tidy", [])
+    yield Tool("prose", [])
 
 
 def run(tool):
     """Runs a tool and returns whether it found nothing; None where it is missing."""
-    if not shutil.which(tool.name):
+    if tool.name in WANTED and not shutil.which(tool.name):
         print(f"left out: {tool.name} is missing: apt-get install {WANTED[tool.name]}")
         return None
-    words = ["make", "-s", "-C", "capture", "lint"] if tool.name == "clang-tidy" else [tool.name, *tool.arguments]
-    done = subprocess.run(words, cwd=ROOT, text=True, stdout=subprocess.PIPE, stderr=subprocess.STDOUT)
+    own = {"clang-tidy": ["make", "-s", "-C", "capture", "lint"], "prose": [sys.executable, "dev/checks/prose.py"]}
+    arguments = own.get(tool.name, [tool.name, *tool.arguments])
+    done = subprocess.run(arguments, cwd=ROOT, text=True, stdout=subprocess.PIPE, stderr=subprocess.STDOUT)
     print(f"{'ok' if done.returncode == 0 else 'WRONG'}: {tool.name}", flush=True)
     if done.returncode:
         print(done.stdout)
@@ -79,9 +84,9 @@ def run(tool):
 
 def main():
     parser = argparse.ArgumentParser(description=__doc__, formatter_class=argparse.RawDescriptionHelpFormatter)
-    parser.add_argument("names", nargs="*", metavar="NAME", help=", ".join(WANTED))
+    parser.add_argument("names", nargs="*", metavar="NAME", help=", ".join(NAMES))
     names = parser.parse_args().names
-    if unknown := set(names) - set(WANTED):
+    if unknown := set(names) - set(NAMES):
         parser.error(f"no such tool: {', '.join(sorted(unknown))}")
     ended = [run(it) for it in tools() if not names or it.name in names]
     if False in ended:

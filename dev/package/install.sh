@@ -33,7 +33,7 @@ files() {
     echo "644 completions/_bpfrec $ZSH/_bpfrec"
     echo "644 completions/bpfrec.fish share/fish/vendor_completions.d/bpfrec.fish"
     echo "644 host/wireshark/bpfrec.lua share/bpfrec/bpfrec.lua"
-    for file in README.md docs/user/FORMATS.md docs/user/USING.md docs/user/info.png docs/user/wireshark.png; do
+    for file in README.md docs/user/*.md docs/user/*.png; do
         echo "644 $file share/doc/bpfrec/${file##*/}"
     done
     find examples -type f ! -name bpfrec.service | sort | while read -r file; do

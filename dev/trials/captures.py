@@ -29,4 +29,4 @@ def is_as_tshark_reads(capture: Path, feed: Path, chosen: str = "") -> bool:
     read = [it for it in fields_of(capture) if not chosen or it[0] == chosen]
     kept = [(ticks(it[1]), it[4]) for it in read if it[2] == it[3]]
     got = [(it.counter, hashlib.md5(it.frame[:-4]).hexdigest()) for it in records(feed.read_bytes())]
-    return got == kept and len(kept) > 0 and told == f"frames {len(kept)} passed {len(read) - len(kept)}\n"
+    return got == kept and len(kept) > 0 and told == f"frames {len(kept)} skipped {len(read) - len(kept)}\n"

@@ -46,7 +46,7 @@ def test_both_ways(work: Path, words: list) -> None:
     read = len(run("tcpdump", "-n", "-r", capture).splitlines())
     judge(f"tcpdump reads {FRAMES} frames {words}", read == FRAMES)
     told = run(CONVERT, "from-pcap", capture, back)
-    judge("the capture's feed is the feed", told == f"frames {FRAMES} passed 0\n", told)
+    judge("the capture's feed is the feed", told == f"frames {FRAMES} skipped 0\n", told)
     judge("to the byte", feed.read_bytes() == back.read_bytes())
 
 
@@ -70,13 +70,13 @@ def test_form(work: Path, byte_order: str, magic: int, per_unit: int) -> None:
     judge("its counters", counters(back.read_bytes()) == ticks)
 
 
-def test_what_is_passed(work: Path) -> None:
+def test_what_is_skipped(work: Path) -> None:
     lengths = [(14, 14), (60, 61), (16_379, 16_379), (16_380, 16_380), (13, 13)]
     frames = [captured(9, 5, bytes(kept), wire) for kept, wire in lengths]
     capture, feed = work / "odd.pcap", work / "odd.feed"
     capture.write_bytes(capture_head(MICROSECONDS) + b"".join(frames))
     told = run(CONVERT, "from-pcap", capture, feed)
-    judge("a frame that is cut, too long or too short is passed", told == "frames 2 passed 3\n", told)
+    judge("a frame that is cut, too long or too short is skipped", told == "frames 2 skipped 3\n", told)
     judge("a short frame is padded", feed.read_bytes()[7:9] == b"\x40\x00")
     judge("the first counter is 0", counters(feed.read_bytes()) == [0, 0])
 

@@ -50,14 +50,14 @@ def converted(work: Path, data: bytes, *words: object) -> tuple[int, str]:
 def test_blocks(work: Path) -> None:
     """Each kind of block, two sections in both byte orders, each kind of time."""
     told = converted(work, all_blocks(), "--origin", SECOND)
-    judge("frames of all blocks", told == (0, "frames 9 passed 1\n"), told)
+    judge("frames of all blocks", told == (0, "frames 9 skipped 1\n"), told)
     found = records((work / "out.feed").read_bytes())
     judge("with their times, check sequences and marks", found == BLOCKS_RECORDS, found)
 
 
 def test_chosen_interface(work: Path) -> None:
     told = converted(work, all_blocks(), "--interface", 1, "--origin", SECOND)
-    judge("of interface 1", told == (0, "frames 2 passed 0\n"), told)
+    judge("of interface 1", told == (0, "frames 2 skipped 0\n"), told)
     judge("and these alone", records((work / "out.feed").read_bytes()) == BLOCKS_RECORDS[1:3])
     told = converted(work, all_blocks(), "--interface", 2)
     judge("an interface that no section has is refused", told[1].endswith(": no interface 2\n") and told[0] == 1, told)
@@ -73,7 +73,7 @@ def test_short_check_sequences(work: Path) -> None:
 def test_other_link_type(work: Path) -> None:
     data = section("<") + interface("<", link=113) + interface("<") + packet("<", 1, 1, frame_of(1))
     told = converted(work, data)
-    judge("it is no fault where none of its frames is read", told == (0, "frames 1 passed 0\n"), told)
+    judge("it is no fault where none of its frames is read", told == (0, "frames 1 skipped 0\n"), told)
 
 
 CUT_SIMPLE = section("<") + interface("<", most=60) + simple_packet("<", frame_of(1), 61)
@@ -81,7 +81,7 @@ CUT_SIMPLE = section("<") + interface("<", most=60) + simple_packet("<", frame_o
 
 def test_cut_simple_packet(work: Path) -> None:
     told = converted(work, CUT_SIMPLE)
-    judge("a simple packet block that is cut is passed", told == (0, "frames 0 passed 1\n"), told)
+    judge("a simple packet block that is cut is skipped", told == (0, "frames 0 skipped 1\n"), told)
 
 
 # ---- made by others
@@ -144,8 +144,8 @@ def outcomes(capture: Path, work: Path, words: list) -> list[tuple]:
     fault = "\n".join(lines[:-1])
     counts = lines[-1].split()[-8:]
     made = [it.read_bytes() if it.exists() else None for it in (feed, other)]
-    passed = done.stdout.split()[-1] if done.returncode == 0 else counts[5]
-    return [(made[0], passed, bare, done.returncode), (made[1], counts[5], fault, beside.returncode)]
+    skipped = done.stdout.split()[-1] if done.returncode == 0 else counts[5]
+    return [(made[0], skipped, bare, done.returncode), (made[1], counts[5], fault, beside.returncode)]
 
 
 def every_length() -> bytes:
@@ -156,7 +156,7 @@ def every_length() -> bytes:
 
 
 def odd_frames() -> bytes:
-    """Frames that are passed or padded, of which the last is cut."""
+    """Frames that are skipped or padded, of which the last is cut."""
     lengths = [(14, 14), (60, 61), (16_379, 16_379), (16_380, 16_380), (13, 13)]
     frames = [captured(9, 5, bytes(kept), wire) for kept, wire in lengths]
     return (capture_head(MICROSECONDS) + frames[0] + b"".join(frames))[:-1]

@@ -20,6 +20,7 @@ from bpfrec_host.live.children import Manner, start, status_of
 from bpfrec_host.live.life import Recording
 from bpfrec_host.live.loop import Loop, Signals
 from bpfrec_host.live.outputs import Outputs
+from bpfrec_host.live.status import Terminal
 from bpfrec_host.live.telling import Telling
 from bpfrec_host.live.watches import Watches
 
@@ -143,7 +144,7 @@ def test_telling(signals: Signals) -> None:
     reads, writes = pipe_that_is_full()
     failed: list[int] = []
     loop = Loop(signals, lambda: None)
-    telling = Telling(loop, lambda: failed.append(1))
+    telling = Telling(loop, lambda: failed.append(1), Terminal(is_quiet=True))
     telling.printed, telling.lines = output.Printed(writes), output.Lines(os.open(os.devnull, os.O_WRONLY))
     telling.print("a" * 5_000)
     loop.call_soon(lambda: None)

@@ -273,6 +273,7 @@ def test_signals_are_the_runs(flight: Flight) -> None:
     wanted = {int(it) for it in signal.valid_signals()} - {signal.SIGKILL, signal.SIGSTOP}
     connected = connection(flight)
     wait_for("it is taken", lambda: flight.status.server.open)
+    wait_for("its threads have begun", lambda: all(it.native_id for it in threading.enumerate()))
     masks = {}
     for it in threading.enumerate():
         if it is not threading.main_thread() and (it.name == "status" or "process_request" in it.name):

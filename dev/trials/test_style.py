@@ -1,4 +1,4 @@
-"""Reads Python, C and shell scripts by the tools of dev/checks/style.py (make lint). Nothing is run."""
+"""Reads Python, C, shell scripts and English by the tools of dev/checks/style.py (make lint). Nothing is run."""
 
 import sys
 
@@ -12,7 +12,7 @@ LEFT_OUT = 2
 PATIENCE = 300
 
 
-@pytest.mark.parametrize("name", style.WANTED)
+@pytest.mark.parametrize("name", style.NAMES)
 def test_style(name: str) -> None:
     done = outcome(sys.executable, ROOT / "dev/checks/style.py", name, cwd=ROOT, seconds=PATIENCE)
     if done.returncode == LEFT_OUT:

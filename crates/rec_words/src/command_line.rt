@@ -97,7 +97,7 @@ const COMMANDS: &[CommandTexts] = &[
     CommandTexts {
         name: "audit",
         usage: "bpfrec audit",
-        about: "Judges a recording by itself",
+        about: "Judges a recording by its own packets",
         help: HelpText::Audit,
         words: &[RECORDING],
     },
@@ -110,7 +110,7 @@ const COMMANDS: &[CommandTexts] = &[
             RECORDING,
             WordTexts {
                 name: "CHANNEL",
-                help: "The channel, a number from 0 to 65535",
+                help: "The channel ID, a number from 0 to 65535",
             },
             WordTexts {
                 name: "OUT",
@@ -121,7 +121,7 @@ const COMMANDS: &[CommandTexts] = &[
     CommandTexts {
         name: "upgrade",
         usage: "bpfrec upgrade",
-        about: "Brings an old recording up to date",
+        about: "Adds data checksums to an old recording",
         help: HelpText::Upgrade,
         words: &[
             WordTexts {

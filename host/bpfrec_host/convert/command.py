@@ -15,18 +15,19 @@ from bpfrec_host.words import Parser, natural
 ABOUT = f"""\
 Makes feeds for bpfrec from captures, captures from feeds, and sample feeds; shows what a feed has.
 
-A feed holds the records of Ethernet frames, one after the other: a counter (6 bytes, little-endian,
-ticks of the 10 MHz relative time counter of IRIG 106), marks (1 byte: bit 0 says that the check
-sequence is wrong, bit 1 that the frame is damaged otherwise), the frame's length (2 bytes,
-little-endian, {MIN_FRAME_LEN} to {MAX_FRAME_LEN:,}), and the frame with its {CHECK_SEQUENCE_LEN}-byte check sequence.
+A feed holds the records of Ethernet frames, one after the other. A record has a counter (6 bytes, ticks of the
+10 MHz relative time counter (RTC) of IRIG 106) and error flags (`marks`, 1 byte). Then come the frame's length
+(2 bytes, {MIN_FRAME_LEN} to {MAX_FRAME_LEN:,}), and the frame with its frame check sequence (FCS, {CHECK_SEQUENCE_LEN} bytes).
+Numbers are little-endian. Bit 0 of the flags says that the FCS is wrong, bit 1 that the frame has another
+link-layer error.
 
-As a file, `-` is standard input or output. It wants Python 3.9 or later, and nothing beside it.
+As a file, `-` is standard input or output. It needs Python 3.9 or later, and nothing beside it.
 Nothing of this tool is proved; bpfrec itself reads no captures and computes no check sequence.
 """
 FROM_PCAP = f"""Makes a feed from a capture of Ethernet: a classic pcap file (both byte orders, micro- and nanoseconds) or a
     pcapng file, of which each section and interface is read. Frames of less than {MIN_WIRE_LEN} bytes are padded as on
     the wire, check sequences are computed where the capture has none, and frames whose check sequence is wrong are
-    marked. From a pipe each frame is written before the next one is waited for. Prints `frames <n> passed <m>`, on
+    marked. From a pipe each frame is written before the next one is waited for. Prints `frames <n> skipped <m>`, on
     standard error where the feed is standard output: m frames were cut short by the capture, or have fewer bytes than a
     frame or more than {MAX_FRAME_LEN - CHECK_SEQUENCE_LEN:,}. A file that is damaged or ends in the middle is refused,
     and then OUT.feed has the frames before."""

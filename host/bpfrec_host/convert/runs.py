@@ -44,12 +44,12 @@ def padded(frame: bytes) -> bytes:
 
 
 def write_captured(captures: Iterator[Captured], origin: Optional[int], feed: Output) -> tuple[int, int]:
-    """Writes the records of captured frames: how many, and how many frames were passed."""
+    """Writes the records of captured frames: how many, and how many frames were skipped."""
     # Each frame of a large file comes through here, so names are local and what is common comes first.
     pack, pack_sequence, crc32, extend = RECORD_HEAD.pack, CHECK_SEQUENCE.pack, zlib.crc32, feed.parts.extend
     a_tick, most_counter, least_wire, added = NANOSECONDS_A_TICK, MAX_COUNTER, MIN_WIRE_LEN, CHECK_SEQUENCE_LEN
     least, most, a_write = MIN_FRAME_LEN, MAX_FRAME_LEN, PARTS_A_WRITE - 1
-    counter = frames = passed = 0
+    counter = frames = skipped = 0
     for nanoseconds, is_whole, has_check_sequence, marks, frame in captures:
         if nanoseconds is not None:
             origin = nanoseconds if origin is None else origin
@@ -63,13 +63,13 @@ def write_captured(captures: Iterator[Captured], origin: Optional[int], feed: Ou
             marks |= MARK_CHECK_SEQUENCE
         length = len(bare) + added
         if not is_whole or not least <= length <= most:
-            passed += 1
+            skipped += 1
             continue
         extend((pack(counter & 0xFFFFFFFF, counter >> 32, marks, length), bare, sequence))
         frames += 1
         if not frames & a_write:
             feed.flush()
-    return frames, passed
+    return frames, skipped
 
 
 def progress_of(source: Input, is_quiet: bool) -> Progress:
@@ -80,16 +80,16 @@ def progress_of(source: Input, is_quiet: bool) -> Progress:
 
 
 def from_pcap(path: str, output: str, origin: Optional[int], interface: Optional[int], is_quiet: bool) -> None:
-    """Writes the feed of a capture, and prints how many frames it has and how many were passed."""
+    """Writes the feed of a capture, and prints how many frames it has and how many were skipped."""
     capture = Input(path)
     captures = captured_frames(capture, interface)
     feed = Output(output, capture)
     try:
         with progress_of(capture, is_quiet):
-            frames, passed = write_captured(captures, origin, feed)
+            frames, skipped = write_captured(captures, origin, feed)
     finally:
         feed.close()
-    feed.tell(f"frames {frames} passed {passed}")
+    feed.tell(f"frames {frames} skipped {skipped}")
 
 
 def to_pcap(

@@ -20,23 +20,23 @@ ABOUT = """\
 What is in a recording: rates, gaps, versions of filters, faults, as a text, as JSON or as a page.
 
 Of each channel: frames and bytes that were kept, the versions of its filter with the first frame of each, first
-and last counter with the time between, the mean rate (frames by the time between the least and the greatest
+and last counter with the time between. Then the mean rate (frames by the time between the least and the greatest
 counter), the greatest rate (frames in a second of the counter), the longest gap between two frames, counters that
-step back, frames with marks, and the frames offered and dropped by the filter, by the record of its end. Of the
-whole: packets by kind, gaps in sequence numbers, places that can't be read, wrong checksums among them, and what
+step back, and frames with error flags. The end record has the frames offered and dropped by the filter. Of the whole:
+packets by kind, gaps in sequence numbers, places that can't be read, wrong checksums among them, and what
 `bpfrec audit` answers. Packets behind a damaged place are counted too (salvage copies them).
 
-Where the facts of the recording stand beside it, as RECORDING.json, it tells from them the host, each origin (the
-moment of counter 0) with the counter from which on it holds, the frames that were lost, and of each channel the times
-of its first and last frame. These times are UTC. The time between two frames goes by their counters.
+Where the facts of the recording stand beside it, as RECORDING.json, it prints from them the host, each origin (the
+moment of counter 0) with the counter from which on it holds, and the frames that were lost. Of each channel it prints
+the times of its first and last frame. These times are UTC. The time between two frames goes by their counters.
 """
 MORE = f"""\
 In JSON lengths of time are ticks of 100 ns, and what isn't known is null, as all that facts would say where there are
 none. Where over {MOST_SECONDS:,} seconds have frames, rates are of longer times, which are said. Of gaps, damaged
-places and origins the first {MOST_PLACES:,} are told one by one, of a channel's versions as many as a recorder writes,
+places and origins the first {MOST_PLACES:,} are printed one by one, of a channel's versions as many as a recorder writes,
 {MAX_VERSIONS:,}; all are counted.
 
-A RECORDING.json that can't be read, or has no facts of a recording, is told on standard error, and changes neither
+A RECORDING.json that can't be read, or has no facts of a recording, is reported on standard error, and changes neither
 the rest nor the status.
 
 It runs bpfrec: what BPFREC names, or the one beside it; without it there is no audit and no text of filters.

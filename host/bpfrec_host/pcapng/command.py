@@ -35,7 +35,7 @@ TIME is seconds since counter 0, as 12.5, or UTC as 2025-12-01T12:00:00.25Z, whi
 
 As OUT, `-` is standard output. It prints `frames <n> skipped <m>`, on standard error where OUT is standard output: m
 frames have another content, or fewer than 18 bytes, and no capture has them. When that is printed, OUT is on its disk.
-A damaged place is told on standard error, and what is behind it is read.
+A damaged place is reported on standard error, and what is behind it is read.
 
 It runs bpfrec for the text of filters: what BPFREC names, or the one beside it; without it they are listings.
 

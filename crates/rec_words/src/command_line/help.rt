@@ -51,12 +51,11 @@ pub(crate) const ABOUT: &str =
 pub(crate) const STATUSES: &str = "\
 As FILE, - is standard input, so commands can be joined by pipes:
   bpfrec asm arp.bpf | bpfrec verify -
-Without words, bpfrec reads a listing and a view in hexadecimal, a line each, from standard
+Without arguments, bpfrec reads a listing and a view in hexadecimal, a line each, from standard
 input, and prints what run prints.
 
-Exit status: 0 answered; 1 a text, listing, program, view, script or recording was refused; 2 the
-words are no command, or settings were refused; 3 a file could not be read or written, or standard
-output not; 4 no memory.";
+Exit status: 0 answered; 1 a text, listing, program, view, script or recording was refused; 2 wrong
+arguments, or refused settings; 3 a file or standard output could not be read or written; 4 no memory.";
 
 const ASM: &str = "\
 Reads a filter in the text of the Linux kernel's bpf_asm, and prints its listing on standard
@@ -66,7 +65,7 @@ error, with its line, counted from 1:
                                    LabelMissing, LabelTwice, Backward or TooFar
   asm 9 TooLong                    more than 4,096 instructions
 
-Exit status: 0 answered; 1 no program; 2 words; 3 the file; 4 no memory.
+Exit status: 0 answered; 1 no program; 2 arguments; 3 the file; 4 no memory.
 
 Example:
   bpfrec asm arp.bpf";
@@ -76,11 +75,11 @@ Reads a program's listing, and prints the program in the text of the Linux kerne
 standard output, a line for each instruction, with labels where jumps lead. asm reads a text of
 at most 4,096 instructions as the same program. What has no text is reported on standard error:
   dis 1 NoForm <i>                 instruction i has no legal code, or a number in a field that
-                                   it doesn't use, as tcpdump leaves them (7 0 0 5); verify and
-                                   run pass over such a number, the text could not say it
+                                   it doesn't use. tcpdump leaves such numbers (7 0 0 5), which
+                                   verify and run skip, and no text can say them
   dis 2 JumpOut <i>                a jump of instruction i leads past the last instruction
 
-Exit status: 0 answered; 1 no listing, or no text; 2 words; 3 the file; 4 no memory.
+Exit status: 0 answered; 1 no listing, or no text; 2 arguments; 3 the file; 4 no memory.
 
 Example:
   bpfrec dis arp.txt";
@@ -91,19 +90,20 @@ Reads a program's listing, as bpf_asm and tcpdump -ddd print it. Prints on stand
   refused <number> <Name> [<i>]    the first condition that it breaks, at instruction i
 A fault of the listing (listing ..) or of the file (file <path>) is reported on standard error.
 
-Exit status: 0 valid; 1 refused, or no listing; 2 words; 3 the file; 4 no memory.
+Exit status: 0 valid; 1 refused, or no listing; 2 arguments; 3 the file; 4 no memory.
 
 Example:
   bpfrec verify arp.txt";
 
 const RUN: &str = "\
 Reads a program's listing, and runs the program on a view: the bytes of a frame without its
-check sequence, in hexadecimal (the empty word is the empty view). Prints on standard output
+frame check sequence (FCS), in hexadecimal (an empty argument is the empty view). Prints on
+standard output
   <value> <steps>                  what the program returns, and how many instructions ran
 A value of 0 means that the frame is dropped. A program that verify refuses is refused here
 too; a view that is odd, not hexadecimal or over 16,379 bytes is reported as view.
 
-Exit status: 0 answered; 1 refused; 2 words; 3 the file; 4 no memory.
+Exit status: 0 answered; 1 refused; 2 arguments; 3 the file; 4 no memory.
 
 Example:
   bpfrec run arp.txt ffffffffffff0200000000010806";
@@ -115,29 +115,30 @@ there are and how many of them hold something else than frames and records:
   packets <n> other <m>
 with these columns:
   <at>                             the place of the packet's first byte
-  <channel>                        its channel ID; 0 of a record, which tells a program or an end
+  <channel>                        its channel ID; 0 of a record, which has a program or an end
   <type>                           its data type, in hexadecimal: 68 frames, 00 a record
   <sequence>                       its number among its channel's packets, modulo 256
   <length> <data length>           its bytes, and those of its body without filler and checksum
-  <counter>                        its relative time counter, in units of 100 ns
+  <counter>                        its relative time counter (RTC), in ticks of 100 ns
   <what>                           what it holds:
     frames <n>                     n frames
     program <channel> <version> <first> <count>
                                    a program of that channel, from frame <first> on
     end <channel> <offered> <kept> the end of that channel
-    other                          anything else, which is passed over
+    other                          anything else, which is skipped
 A recording that can't be read to its end is reported on standard error, and nothing is listed:
   read <number> <Name> <at>        Truncated, Sync, Checksum, Length, Body or DataChecksum, and
                                    the place of the packet that has it
 
-Exit status: 0 listed; 1 not read to its end; 2 words; 3 the file; 4 no memory.
+Exit status: 0 listed; 1 not read to its end; 2 arguments; 3 the file; 4 no memory.
 
 Example:
   bpfrec list flight.ch11";
 
 const AUDIT: &str = "\
-Reads a recording and judges it by itself: whether each frame was accepted by the program that the
-recording has for it, and whether each channel's end counts its frames. Prints on standard output
+Reads a recording and judges it by its own packets: whether each frame was accepted by the program
+that the recording has for it, and whether each channel's end counts its frames. Prints on standard
+output
   channel <id> programs <n> frames <n> offered <n>     for each channel, in ascending order
   yes other <m>                    m packets hold something else
 or the first thing that is wrong, with packets and frames counted from 0:
@@ -151,7 +152,7 @@ or the first thing that is wrong, with packets and frames counted from 0:
 A recording without packets is yes other 0, so look for the lines of your channels.
 A recording that can't be read to its end is reported as by list.
 
-Exit status: 0 yes; 1 no, or not read to its end; 2 words; 3 the file; 4 no memory.
+Exit status: 0 yes; 1 no, or not read to its end; 2 arguments; 3 the file; 4 no memory.
 
 Example:
   bpfrec audit flight.ch11";
@@ -159,25 +160,25 @@ Example:
 const EXTRACT: &str = "\
 Reads a recording, writes the frames of one of its channels into the feed OUT, in order, and
 prints on standard output
-  frames <n> passed <m>            n frames are in the feed, and m were passed over, since they
-                                   are no frames with their check sequence
+  frames <n> passed <m>            n frames are in the feed, and m were skipped, since they
+                                   are no frames with their frame check sequence (FCS)
 A recording that can't be read to its end is reported as by list, and then OUT is not created.
 
-Exit status: 0 written; 1 not read to its end; 2 words; 3 a file; 4 no memory.
+Exit status: 0 written; 1 not read to its end; 2 arguments; 3 a file; 4 no memory.
 
 Example:
   bpfrec extract flight.ch11 1 channel_1.feed";
 
 const UPGRADE: &str = "\
-Reads a recording, gives each packet of frames, each program and each end that has no data checksum
-one, and writes the recording so into OUT. All that they say stays, so list, audit and extract find
-the same in it, but for the places and the lengths of packets. Each other packet is copied, and so
-is one that would get too long, past 524,288 bytes. Prints on standard output
-  upgraded <n> copied <m>          n packets were given a data checksum, and m were copied
+Copies a recording into OUT and adds a data checksum to each packet of frames, program and end that
+lacks one. A packet that would get too long, past 524,288 bytes, is copied as it is, and so is any
+other packet. The contents do not change: list, audit and extract find the same, but for the places
+and the lengths of packets. Prints on standard output
+  upgraded <n> copied <m>          n packets got a data checksum, and m were copied
 A recording that is up to date is copied byte for byte: upgraded 0. A recording that can't be read to
 its end is reported as by list, and then OUT is not created. OUT may not be IN.
 
-Exit status: 0 written; 1 not read to its end; 2 words; 3 a file; 4 no memory.
+Exit status: 0 written; 1 not read to its end; 2 arguments; 3 a file; 4 no memory.
 
 Example:
   bpfrec upgrade last_year.ch11 flight.ch11";
@@ -188,8 +189,8 @@ event after another, in any order. Prints the answer of each event on standard o
 a line are separated by one space, and a listing takes the rest of its line:
   recorder <limit> <ring> <version>                the first line, as in the settings of record
   channel <id> <net> <speed> <max> <listing>       1 to 64 of them, each with an id of its own
-  take <channel> <counter> <marks> <frame>         a frame comes, in hexadecimal with its check
-                                                   sequence; marks: 1 CRC error, 2 frame error
+  take <channel> <counter> <marks> <frame>         a frame comes, in hexadecimal with its FCS;
+                                                   marks: 1 CRC error, 2 frame error
   install <channel> <listing>                      the channel's filter is changed
   send <channel>                                   its next piece goes to its ring
   write <channel>                                  the first piece of its ring is written
@@ -202,11 +203,11 @@ Each event is answered by a line:
   closed <offered> <kept>
   refused <number> <Name>                          NoChannel, Closed, RingFull, NothingToSend,
                                                    NothingToWrite, VersionsFull or CountFull
-A refused event changes nothing, and the script goes on. A line that is none of these ends it, and
+A refused event changes nothing, and the script goes on. A line of another form ends it, and
 is reported on standard error, counted from 1; 0 is a script that ends before its first channel:
   script line <n>
 
-Exit status: 0 the script ended; 1 a line is refused; 2 words; 3 the file; 4 no memory.
+Exit status: 0 the script ended; 1 a line is refused; 2 arguments; 3 the file; 4 no memory.
 
 Example:
 bpfrec simulate - <<'END'
@@ -222,7 +223,7 @@ const PRINT_VERSION: &str = "\
 Prints on standard output what --version prints too:
   bpfrec <version>
 
-Exit status: 0 answered; 2 words; 3 standard output.
+Exit status: 0 answered; 2 arguments; 3 standard output.
 
 Example:
   bpfrec version";
@@ -268,7 +269,7 @@ where <ending> is SourceEnd, CountFull, or SourceFault and the fault; none of th
 status. Settings that are refused are reported as settings <number> <Name> .., with status 2; an output
 that fails as run 2 Output <whole> <bytes>, at that moment.
 
-Exit status: 0 recorded; 1 a filter was refused, or the recording failed; 2 words or settings;
+Exit status: 0 recorded; 1 a filter was refused, or the recording failed; 2 arguments or settings;
 3 a file; 4 no memory.
 
 Example:

@@ -1,0 +1,45 @@
+"""Tries dev/checks/prose.py on texts with and without faults. Nothing is run."""
+
+import sys
+
+import pytest
+from support import ROOT, judge
+
+sys.path.insert(0, str(ROOT / "dev" / "checks"))
+import prose
+
+LONG = " ".join(["word"] * 41)
+CLEAN = [
+    " ".join(["word"] * 40) + ".",
+    f"{LONG[:100]}.\nThe next sentence: `{LONG}`",
+    f"```text\n{LONG}\n```",
+    f"| a cell of {LONG[:80]}; and {LONG[:100]} | `so many` |",
+    "32-bit words are told apart by `told` alone.".replace("told apart", "read"),
+    f"- {LONG[:100]}\n- {LONG[:100]}",
+]
+WRONG = [
+    (f"{LONG}.", 1),
+    (f"One.\n\n{LONG}", 3),
+    ("It wants root.", 1),
+    ("One.\nThe failure is\ntold.", 1),
+    ("A default of 256 MiB\nby itself.", 1),
+    (f"| {LONG} |", 1),
+    ("So many frames", 1),
+    ("These are passed\nover.", 1),
+]
+
+
+@pytest.mark.parametrize("text", CLEAN)
+def test_clean(text: str) -> None:
+    found = list(prose.faults_in(text, prose.refused()))
+    judge("it finds nothing", found == [], str(found))
+
+
+@pytest.mark.parametrize("text, line", WRONG)
+def test_wrong(text: str, line: int) -> None:
+    found = list(prose.faults_in(text, prose.refused()))
+    judge("it finds the fault and its line", [at for at, _ in found] == [line], str(found))
+
+
+def test_each_word() -> None:
+    judge("STYLE's table is read", len(prose.refused()) >= 10, str(prose.refused()))
