@@ -12,3 +12,5 @@ pub mod WorldRuns
 pub mod Moves
 pub mod SendsAndWrites
 pub mod Ties
+pub mod Buffers
+pub mod BufferMoves

@@ -1,10 +1,12 @@
 //! Laws of runs, which run nothing.
 
-ghost use Rattle.std.specs.Prelude.{ℕ, ◌≡◌, ◌<◌, true, List, All, Some};
+ghost use Rattle.std.specs.Prelude.{ℕ, ◌+◌, ◌≡◌, ◌<◌, ◌≤◌, true, List, All, Some, slice_get};
 ghost use Rattle.std.specs.List.{AllZip};
 ghost use Rattle.rec_lane.specs.Pieces.{PieceData};
 ghost use Rattle.rec_writer.specs.Recording.{RecordedChannel, AreOfChannels};
 ghost use Rattle.rec_writer.specs.Writers.{HoldsRecording};
+ghost use Rattle.rec_core.specs.Buffers.{Move, FlowState, FlowSpec, FlowWorld, LeadTo, CanStep, buffers_of, return_places, is_giving_back, IsMoving, IsAnyMoving};
+ghost use Rattle.rec_core.specs.Buffers.Stage.{NeedsBuffer};
 ghost use Rattle.rec_core.specs.Openings.{SpecData, AreSpecs};
 ghost use Rattle.rec_core.specs.Ties.{IsOfSpec, IsRunOfWorld};
 ghost use Rattle.rec_core.specs.World.{WorldState, IsInOrder};
@@ -13,7 +15,8 @@ ghost use Rattle.rec_core.specs.Written.{RunsFromOpening, WritesInOrder, WritesA
 
 use ch11_packet::packets_have_their_lengths;
 use rec_lane::{
-    later_versions_leave_the_frames, pieces_are_of_their_channel, pieces_so_far_begin_all_pieces,
+    few_pieces_become_certain_at_a_time, later_versions_leave_the_frames,
+    pieces_are_of_their_channel, pieces_so_far_begin_all_pieces,
 };
 use rec_writer::what_a_writer_put_is_a_recording;
 
@@ -79,4 +82,40 @@ pub fn a_failed_output_is_cut_in_one_piece()
     ensures channel { (ring : ℕ) (before : List ℕ) (core : CoreState) (world : WorldState)
         (channel : ℕ) → StandsCutAt ring (Some before) core world channel
         → IsCutShortAt before core.writer world channel }
+{}
+
+/// Law: no channel stands still. In every state that steps lead to, a channel is closed and all its
+/// pieces are written, or its source is asked, or the recorder can do a step of it, or the writer can
+/// give back the buffer in its hand. So all is ended, or some step can be done, or some source is
+/// asked.
+pub fn no_channel_stands_still()
+    ensures each { (ring spare : ℕ) (specs : List FlowSpec) (moves : List Move) (new : FlowWorld)
+        → 0 < ring → LeadTo ring spare specs moves new
+        → (at : ℕ) (f : FlowState) → slice_get new.flows at ≡ Some f
+        → IsMoving ring (return_places ring spare) new at f }
+    ensures some { (ring spare : ℕ) (specs : List FlowSpec) (moves : List Move) (new : FlowWorld)
+        → 0 < ring → LeadTo ring spare specs moves new
+        → IsAnyMoving ring (return_places ring spare) new }
+{
+    packets_have_their_lengths();
+    few_pieces_become_certain_at_a_time();
+}
+
+/// Law: no buffer of a channel is lost or doubled. Those in its lane, in its packets that wait and in
+/// its ring, in the writer's hand and in its return ring are as many at each step. So the return ring
+/// has a place for each one that comes back. With two to spare a worker never waits for one.
+pub fn buffers_are_neither_lost_nor_doubled()
+    ensures count { (ring spare : ℕ) (specs : List FlowSpec) (moves : List Move) (new : FlowWorld)
+        → LeadTo ring spare specs moves new
+        → All (λ (f : FlowState). buffers_of f ≡ return_places ring spare) new.flows }
+    ensures room { (ring spare : ℕ) (specs : List FlowSpec) (moves : List Move) (new : FlowWorld)
+        → LeadTo ring spare specs moves new
+        → All (λ (f : FlowState). f.returned + f.hand ≤ ring + spare) new.flows }
+    ensures back { (ring spare : ℕ) (specs : List FlowSpec) (moves : List Move) (new : FlowWorld)
+        → LeadTo ring spare specs moves new
+        → (at : ℕ) (f : FlowState) → slice_get new.flows at ≡ Some f → f.hand ≡ 1
+        → CanStep ring (return_places ring spare) new at is_giving_back }
+    ensures ready { (ring spare : ℕ) (specs : List FlowSpec) (moves : List Move) (new : FlowWorld)
+        → 2 ≤ spare → LeadTo ring spare specs moves new
+        → All (λ (f : FlowState). f.stage ≡ NeedsBuffer → f.held ≡ 1 → 0 < f.returned) new.flows }
 {}

@@ -19,6 +19,7 @@ pub use fault::CoreFault;
 pub use laws::{
     a_failed_output_is_cut_in_one_piece, a_recording_is_a_run, a_run_that_ended_is_a_recording,
     a_run_writes_each_channel_in_order, an_ended_world_holds_its_recording,
+    buffers_are_neither_lost_nor_doubled, no_channel_stands_still,
 };
 pub use rec_channel::MAX_RING;
 pub use reply::{Reply, Which};
