@@ -14,3 +14,5 @@ pub mod SendsAndWrites
 pub mod Ties
 pub mod Buffers
 pub mod BufferMoves
+pub mod BufferRuns
+pub mod BufferWork

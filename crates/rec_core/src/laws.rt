@@ -1,11 +1,11 @@
 //! Laws of runs, which run nothing.
 
-ghost use Rattle.std.specs.Prelude.{ℕ, ◌+◌, ◌≡◌, ◌<◌, ◌≤◌, true, List, All, Some, slice_get};
+ghost use Rattle.std.specs.Prelude.{ℕ, ◌+◌, ◌≡◌, ◌<◌, ◌≤◌, ◌⊎◌, true, false, List, length, All, Some, slice_get};
 ghost use Rattle.std.specs.List.{AllZip};
 ghost use Rattle.rec_lane.specs.Pieces.{PieceData};
 ghost use Rattle.rec_writer.specs.Recording.{RecordedChannel, AreOfChannels};
 ghost use Rattle.rec_writer.specs.Writers.{HoldsRecording};
-ghost use Rattle.rec_core.specs.Buffers.{Move, FlowState, FlowSpec, FlowWorld, LeadTo, CanStep, buffers_of, return_places, is_giving_back, IsMoving, IsAnyMoving};
+ghost use Rattle.rec_core.specs.Buffers.{Move, FlowState, FlowSpec, FlowWorld, FlowStepAt, FlowRun, LeadTo, CanStep, buffers_of, return_places, without_buffers, specs_of_flows, IsUnrefusedRun, is_without_frames, is_of_writer, is_giving_back, IsMoving, IsAnyMoving, IsWorkerMoving, work_left, most_steps};
 ghost use Rattle.rec_core.specs.Buffers.Stage.{NeedsBuffer};
 ghost use Rattle.rec_core.specs.Openings.{SpecData, AreSpecs};
 ghost use Rattle.rec_core.specs.Ties.{IsOfSpec, IsRunOfWorld};
@@ -118,4 +118,47 @@ pub fn buffers_are_neither_lost_nor_doubled()
     ensures ready { (ring spare : ℕ) (specs : List FlowSpec) (moves : List Move) (new : FlowWorld)
         → 2 ≤ spare → LeadTo ring spare specs moves new
         → All (λ (f : FlowState). f.stage ≡ NeedsBuffer → f.held ≡ 1 → 0 < f.returned) new.flows }
+{}
+
+/// Law: every list of steps ends. A number falls with each step, so no list of steps from the start is
+/// longer than 10 for each frame, 9 for each channel, and the filters that can be installed. Where each
+/// source that is asked says that it has ended, some step can be done until all is ended.
+pub fn a_recorder_comes_to_its_end()
+    ensures falls { (ring spare : ℕ) (specs : List FlowSpec) (moves : List Move) (old : FlowWorld)
+        → LeadTo ring spare specs moves old
+        → (at : ℕ) (move : Move) (new : FlowWorld)
+        → FlowStepAt ring (return_places ring spare) old at move new
+        → work_left new < work_left old }
+    ensures few { (ring spare : ℕ) (specs : List FlowSpec) (moves : List Move) (new : FlowWorld)
+        → LeadTo ring spare specs moves new → length moves + work_left new ≤ most_steps specs }
+    ensures end { (ring spare : ℕ) (specs : List FlowSpec) (moves : List Move) (new : FlowWorld)
+        → 0 < ring → LeadTo ring spare specs moves new
+        → AreEnded (without_buffers new)
+        ⊎ ((at : ℕ) × CanStep ring (return_places ring spare) new at is_without_frames) }
+{
+    packets_have_their_lengths();
+    few_pieces_become_certain_at_a_time();
+}
+
+/// Law: nor does a worker stand still where the output failed, and the writer neither writes nor gives
+/// a buffer back. It is at its end, or looks at the stop word, or its source is asked, or it can do a
+/// step; and it does only as many as were left.
+pub fn no_worker_waits_for_a_failed_output()
+    ensures each { (ring spare : ℕ) (specs : List FlowSpec) (moves : List Move) (new : FlowWorld)
+        → LeadTo ring spare specs moves new
+        → (at : ℕ) (f : FlowState) → slice_get new.flows at ≡ Some f
+        → IsWorkerMoving ring (return_places ring spare) new at f }
+    ensures few { (ring spare : ℕ) (specs : List FlowSpec) (moves : List Move) (old : FlowWorld)
+        → LeadTo ring spare specs moves old → (later : List Move) (new : FlowWorld)
+        → FlowRun ring (return_places ring spare) old later new
+        → All (λ (move : Move). is_of_writer move ≡ false) later
+        → length later + work_left new ≤ work_left old }
+{}
+
+/// Law: with the buffers forgotten, the steps are a run of the core's world in which nothing is
+/// refused.
+pub fn steps_with_buffers_are_a_run()
+    ensures { (ring spare : ℕ) (specs : List FlowSpec) (moves : List Move) (new : FlowWorld)
+        → LeadTo ring spare specs moves new
+        → IsUnrefusedRun ring (specs_of_flows specs) (without_buffers new) }
 {}
