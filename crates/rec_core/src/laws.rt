@@ -1,7 +1,10 @@
 //! Laws of runs, which run nothing.
 
-ghost use Rattle.std.specs.Prelude.{ℕ, ◌+◌, ◌≡◌, ◌<◌, ◌≤◌, ◌⊎◌, true, false, List, length, All, Some, slice_get};
+ghost use Rattle.std.specs.Prelude.{ℕ, ◌+◌, ◌≡◌, ◌<◌, ◌≤◌, ◌⊎◌, true, false, List, [], length, All, Some, slice_get};
 ghost use Rattle.std.specs.List.{AllZip};
+ghost use Rattle.ch11_packet.specs.declared.limit.TheConstants.{MIN_LIMIT};
+ghost use Rattle.eth_frame.specs.Frame.{FrameData, IsFrame};
+ghost use Rattle.rec_lane.specs.Growth.{GrowsByFew};
 ghost use Rattle.rec_lane.specs.Pieces.{PieceData};
 ghost use Rattle.rec_writer.specs.Recording.{RecordedChannel, AreOfChannels};
 ghost use Rattle.rec_writer.specs.Writers.{HoldsRecording};
@@ -9,7 +12,9 @@ ghost use Rattle.rec_core.specs.Buffers.{Move, FlowState, FlowSpec, FlowWorld, F
 ghost use Rattle.rec_core.specs.Buffers.Stage.{NeedsBuffer};
 ghost use Rattle.rec_core.specs.Openings.{SpecData, AreSpecs};
 ghost use Rattle.rec_core.specs.Ties.{IsOfSpec, IsRunOfWorld};
-ghost use Rattle.rec_core.specs.World.{WorldState, IsInOrder};
+ghost use Rattle.rec_core.specs.World.{ChannelState, WorldState, ChannelDoes, IsInOrder, produced};
+ghost use Rattle.rec_core.specs.World.EventData.{OfTake, OfClose};
+ghost use Rattle.rec_core.specs.declared.reply.Reply.TheVariants.{Took, Closed as HasClosed};
 ghost use Rattle.rec_core.specs.Worlds.{CoreState, StandsForWorld, StandsCutAt};
 ghost use Rattle.rec_core.specs.Written.{RunsFromOpening, WritesInOrder, WritesAll, AreEnded, recorded_channels, IsCutShort, IsCutShortAt};
 
@@ -154,6 +159,20 @@ pub fn no_worker_waits_for_a_failed_output()
         → All (λ (move : Move). is_of_writer move ≡ false) later
         → length later + work_left new ≤ work_left old }
 {}
+
+/// Law: the buffers refuse no frame and no end. Whatever frame is taken, if the longest frame fits into
+/// a packet of its own, and whenever a channel is closed, the pieces that become certain are few.
+pub fn buffers_refuse_no_frame()
+    ensures take { (ring channel number version value : ℕ) (c d : ChannelState) (frame : FrameData)
+        → MIN_LIMIT ≤ c.settings.limit → IsFrame frame
+        → ChannelDoes ring c (OfTake channel frame) (Took number version value) d []
+        → GrowsByFew (produced c) (produced d) }
+    ensures close { (ring channel offered kept : ℕ) (c d : ChannelState)
+        → ChannelDoes ring c (OfClose channel) (HasClosed offered kept) d []
+        → GrowsByFew (produced c) (produced d) }
+{
+    few_pieces_become_certain_at_a_time();
+}
 
 /// Law: with the buffers forgotten, the steps are a run of the core's world in which nothing is
 /// refused.
