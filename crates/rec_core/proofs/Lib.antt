@@ -12,3 +12,7 @@ pub mod WorldRuns
 pub mod Moves
 pub mod SendsAndWrites
 pub mod Ties
+pub mod Buffers
+pub mod BufferMoves
+pub mod BufferRuns
+pub mod BufferWork

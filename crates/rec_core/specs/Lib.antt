@@ -6,3 +6,4 @@ pub mod Written
 pub mod Ties
 pub mod Steps
 pub mod Views
+pub mod Buffers

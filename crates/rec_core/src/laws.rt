@@ -1,19 +1,27 @@
 //! Laws of runs, which run nothing.
 
-ghost use Rattle.std.specs.Prelude.{ℕ, ◌≡◌, ◌<◌, true, List, All, Some};
+ghost use Rattle.std.specs.Prelude.{ℕ, ◌+◌, ◌≡◌, ◌<◌, ◌≤◌, ◌⊎◌, true, false, List, [], length, All, Some, slice_get};
 ghost use Rattle.std.specs.List.{AllZip};
+ghost use Rattle.ch11_packet.specs.declared.limit.TheConstants.{MIN_LIMIT};
+ghost use Rattle.eth_frame.specs.Frame.{FrameData, IsFrame};
+ghost use Rattle.rec_lane.specs.Growth.{GrowsByFew};
 ghost use Rattle.rec_lane.specs.Pieces.{PieceData};
 ghost use Rattle.rec_writer.specs.Recording.{RecordedChannel, AreOfChannels};
 ghost use Rattle.rec_writer.specs.Writers.{HoldsRecording};
+ghost use Rattle.rec_core.specs.Buffers.{Move, FlowState, FlowSpec, FlowWorld, FlowStepAt, FlowRun, LeadTo, CanStep, buffers_of, return_places, without_buffers, specs_of_flows, IsUnrefusedRun, is_without_frames, is_of_writer, is_giving_back, IsMoving, IsAnyMoving, IsWorkerMoving, work_left, most_steps};
+ghost use Rattle.rec_core.specs.Buffers.Stage.{NeedsBuffer};
 ghost use Rattle.rec_core.specs.Openings.{SpecData, AreSpecs};
 ghost use Rattle.rec_core.specs.Ties.{IsOfSpec, IsRunOfWorld};
-ghost use Rattle.rec_core.specs.World.{WorldState, IsInOrder};
+ghost use Rattle.rec_core.specs.World.{ChannelState, WorldState, ChannelDoes, IsInOrder, produced};
+ghost use Rattle.rec_core.specs.World.EventData.{OfTake, OfClose};
+ghost use Rattle.rec_core.specs.declared.reply.Reply.TheVariants.{Took, Closed as HasClosed};
 ghost use Rattle.rec_core.specs.Worlds.{CoreState, StandsForWorld, StandsCutAt};
 ghost use Rattle.rec_core.specs.Written.{RunsFromOpening, WritesInOrder, WritesAll, AreEnded, recorded_channels, IsCutShort, IsCutShortAt};
 
 use ch11_packet::packets_have_their_lengths;
 use rec_lane::{
-    later_versions_leave_the_frames, pieces_are_of_their_channel, pieces_so_far_begin_all_pieces,
+    few_pieces_become_certain_at_a_time, later_versions_leave_the_frames,
+    pieces_are_of_their_channel, pieces_so_far_begin_all_pieces,
 };
 use rec_writer::what_a_writer_put_is_a_recording;
 
@@ -79,4 +87,97 @@ pub fn a_failed_output_is_cut_in_one_piece()
     ensures channel { (ring : ℕ) (before : List ℕ) (core : CoreState) (world : WorldState)
         (channel : ℕ) → StandsCutAt ring (Some before) core world channel
         → IsCutShortAt before core.writer world channel }
+{}
+
+/// Law: no channel stands still. In every state that steps lead to, a channel is closed and all its
+/// pieces are written, or its source is asked, or the recorder can do a step of it, or the writer can
+/// give back the buffer in its hand. So all is ended, or some step can be done, or some source is
+/// asked.
+pub fn no_channel_stands_still()
+    ensures each { (ring spare : ℕ) (specs : List FlowSpec) (moves : List Move) (new : FlowWorld)
+        → 0 < ring → LeadTo ring spare specs moves new
+        → (at : ℕ) (f : FlowState) → slice_get new.flows at ≡ Some f
+        → IsMoving ring (return_places ring spare) new at f }
+    ensures some { (ring spare : ℕ) (specs : List FlowSpec) (moves : List Move) (new : FlowWorld)
+        → 0 < ring → LeadTo ring spare specs moves new
+        → IsAnyMoving ring (return_places ring spare) new }
+{
+    packets_have_their_lengths();
+    few_pieces_become_certain_at_a_time();
+}
+
+/// Law: no buffer of a channel is lost or doubled. Those in its lane, in its packets that wait and in
+/// its ring, in the writer's hand and in its return ring are as many at each step. So the return ring
+/// has a place for each one that comes back. With two to spare a worker never waits for one.
+pub fn buffers_are_neither_lost_nor_doubled()
+    ensures count { (ring spare : ℕ) (specs : List FlowSpec) (moves : List Move) (new : FlowWorld)
+        → LeadTo ring spare specs moves new
+        → All (λ (f : FlowState). buffers_of f ≡ return_places ring spare) new.flows }
+    ensures room { (ring spare : ℕ) (specs : List FlowSpec) (moves : List Move) (new : FlowWorld)
+        → LeadTo ring spare specs moves new
+        → All (λ (f : FlowState). f.returned + f.hand ≤ ring + spare) new.flows }
+    ensures back { (ring spare : ℕ) (specs : List FlowSpec) (moves : List Move) (new : FlowWorld)
+        → LeadTo ring spare specs moves new
+        → (at : ℕ) (f : FlowState) → slice_get new.flows at ≡ Some f → f.hand ≡ 1
+        → CanStep ring (return_places ring spare) new at is_giving_back }
+    ensures ready { (ring spare : ℕ) (specs : List FlowSpec) (moves : List Move) (new : FlowWorld)
+        → 2 ≤ spare → LeadTo ring spare specs moves new
+        → All (λ (f : FlowState). f.stage ≡ NeedsBuffer → f.held ≡ 1 → 0 < f.returned) new.flows }
+{}
+
+/// Law: every list of steps ends. A number falls with each step, so no list of steps from the start is
+/// longer than 10 for each frame, 9 for each channel, and the filters that can be installed. Where each
+/// source that is asked says that it has ended, some step can be done until all is ended.
+pub fn a_recorder_comes_to_its_end()
+    ensures falls { (ring spare : ℕ) (specs : List FlowSpec) (moves : List Move) (old : FlowWorld)
+        → LeadTo ring spare specs moves old
+        → (at : ℕ) (move : Move) (new : FlowWorld)
+        → FlowStepAt ring (return_places ring spare) old at move new
+        → work_left new < work_left old }
+    ensures few { (ring spare : ℕ) (specs : List FlowSpec) (moves : List Move) (new : FlowWorld)
+        → LeadTo ring spare specs moves new → length moves + work_left new ≤ most_steps specs }
+    ensures end { (ring spare : ℕ) (specs : List FlowSpec) (moves : List Move) (new : FlowWorld)
+        → 0 < ring → LeadTo ring spare specs moves new
+        → AreEnded (without_buffers new)
+        ⊎ ((at : ℕ) × CanStep ring (return_places ring spare) new at is_without_frames) }
+{
+    packets_have_their_lengths();
+    few_pieces_become_certain_at_a_time();
+}
+
+/// Law: nor does a worker stand still where the output failed, and the writer neither writes nor gives
+/// a buffer back. It is at its end, or looks at the stop word, or its source is asked, or it can do a
+/// step; and it does only as many as were left.
+pub fn no_worker_waits_for_a_failed_output()
+    ensures each { (ring spare : ℕ) (specs : List FlowSpec) (moves : List Move) (new : FlowWorld)
+        → LeadTo ring spare specs moves new
+        → (at : ℕ) (f : FlowState) → slice_get new.flows at ≡ Some f
+        → IsWorkerMoving ring (return_places ring spare) new at f }
+    ensures few { (ring spare : ℕ) (specs : List FlowSpec) (moves : List Move) (old : FlowWorld)
+        → LeadTo ring spare specs moves old → (later : List Move) (new : FlowWorld)
+        → FlowRun ring (return_places ring spare) old later new
+        → All (λ (move : Move). is_of_writer move ≡ false) later
+        → length later + work_left new ≤ work_left old }
+{}
+
+/// Law: the buffers refuse no frame and no end. Whatever frame is taken, if the longest frame fits into
+/// a packet of its own, and whenever a channel is closed, the pieces that become certain are few.
+pub fn buffers_refuse_no_frame()
+    ensures take { (ring channel number version value : ℕ) (c d : ChannelState) (frame : FrameData)
+        → MIN_LIMIT ≤ c.settings.limit → IsFrame frame
+        → ChannelDoes ring c (OfTake channel frame) (Took number version value) d []
+        → GrowsByFew (produced c) (produced d) }
+    ensures close { (ring channel offered kept : ℕ) (c d : ChannelState)
+        → ChannelDoes ring c (OfClose channel) (HasClosed offered kept) d []
+        → GrowsByFew (produced c) (produced d) }
+{
+    few_pieces_become_certain_at_a_time();
+}
+
+/// Law: with the buffers forgotten, the steps are a run of the core's world in which nothing is
+/// refused.
+pub fn steps_with_buffers_are_a_run()
+    ensures { (ring spare : ℕ) (specs : List FlowSpec) (moves : List Move) (new : FlowWorld)
+        → LeadTo ring spare specs moves new
+        → IsUnrefusedRun ring (specs_of_flows specs) (without_buffers new) }
 {}

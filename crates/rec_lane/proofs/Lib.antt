@@ -6,3 +6,4 @@ pub mod Contents
 pub mod Longer
 pub mod Fronts
 pub mod Groups
+pub mod Growth

@@ -7,3 +7,4 @@ pub mod Lanes
 pub mod Currents
 pub mod Steps
 pub mod Views
+pub mod Growth

@@ -11,6 +11,7 @@ ghost use Rattle.rec_lane.specs.Offered.{OfferedFrame, AllMet, AreAccepted, fram
 ghost use Rattle.rec_lane.specs.Parts.{BeginsList};
 ghost use Rattle.rec_lane.specs.Packets.{packets, AreLongestFronts};
 ghost use Rattle.rec_lane.specs.Pieces.{LaneSettings, PieceData, channel_of, groups, AreGroups, piece_frames, pieces_so_far, channel_pieces, ArePiecesSoFar};
+ghost use Rattle.rec_lane.specs.Growth.{GrowsByFew};
 ghost use Rattle.rec_lane.specs.Lanes.{MarkedFrom, AreCertain, OffersTakeFrames, EndsAreEnds};
 
 use bpf_machine::{a_valid_program_returns, runs_once};
@@ -81,6 +82,16 @@ pub fn pieces_so_far_begin_all_pieces()
     runs_once();
     later_versions_leave_the_past();
 }
+
+/// Law: a frame makes two pieces certain at most, one of them a packet of frames at most, if the
+/// longest frame fits into a packet of its own; and so does the channel's end.
+pub fn few_pieces_become_certain_at_a_time()
+    ensures frame { (settings : LaneSettings) (offered : List OfferedFrame) (f : OfferedFrame)
+        → MIN_LIMIT ≤ settings.limit → IsFrame f.frame
+        → GrowsByFew (pieces_so_far settings offered) (pieces_so_far settings (offered ++ f ∷ [])) }
+    ensures end { (settings : LaneSettings) (offered : List OfferedFrame)
+        → GrowsByFew (pieces_so_far settings offered) (channel_pieces settings offered) }
+{}
 
 /// Law: the frames in the pieces of a channel, in order, are the accepted frames.
 pub fn pieces_hold_the_accepted_frames()

@@ -12,9 +12,9 @@ mod version;
 
 pub use lane::Lane;
 pub use laws::{
-    accepted_frames_are_one_list, groups_are_frames_of_one_version,
-    later_versions_leave_the_frames, packets_are_longest_fronts, pieces_are_of_their_channel,
-    pieces_hold_the_accepted_frames, pieces_so_far_begin_all_pieces,
+    accepted_frames_are_one_list, few_pieces_become_certain_at_a_time,
+    groups_are_frames_of_one_version, later_versions_leave_the_frames, packets_are_longest_fronts,
+    pieces_are_of_their_channel, pieces_hold_the_accepted_frames, pieces_so_far_begin_all_pieces,
     the_filter_takes_the_longest_view,
 };
 pub use offered::{Offered, OfferedKnown};

@@ -23,3 +23,4 @@ pub use ranges::{a_count_is_in_range, a_job_is_in_range, a_lane_is_in_range};
 pub use rec_channel::MAX_RING;
 pub use recording::record;
 pub use report::{ChannelReport, Done, Report, RunFault};
+pub use threads::setup::the_spare_buffers_are_enough;

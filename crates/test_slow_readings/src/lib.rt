@@ -18,6 +18,8 @@ mod search;
 #[cfg(test)]
 mod shared;
 #[cfg(test)]
+mod standing;
+#[cfg(test)]
 mod tests;
 #[cfg(test)]
 mod world;

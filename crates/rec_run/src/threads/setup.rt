@@ -1,8 +1,10 @@
 //! What is made for each job before the first thread starts, and the start of the workers.
 
-ghost use Rattle.std.specs.Prelude.{◌≡◌, [], length, ◌+◌, ◌^◌, ◌<◌, ◌≤◌, vec_len, vec_capacity, IfOk, OnOk};
-ghost use Rattle.rtrb.specs.Ring.{IsPair, sent, received, known_free};
+ghost use Rattle.std.specs.Prelude.{ℕ, ◌≡◌, [], length, List, All, ◌+◌, ◌^◌, ◌<◌, ◌≤◌, vec_len, vec_capacity, IfOk, OnOk};
+ghost use Rattle.rtrb.specs.Ring.{IsPair, sent, received, known_free, producer_capacity};
 ghost use Rattle.rec_lane.specs.Settings.{spec_data};
+ghost use Rattle.rec_core.specs.Buffers.{Move, FlowState, FlowSpec, FlowWorld, LeadTo, IsAnyMoving, return_places};
+ghost use Rattle.rec_core.specs.Buffers.Stage.{NeedsBuffer};
 ghost use Rattle.rec_run.specs.WorkerThread.{StartsWith};
 ghost use Rattle.rec_run.specs.Jobs.{IsJob};
 ghost use Rattle.rec_run.specs.Threads.{jobs_in, job_at, jobs_of, IsUnread, AreUnread};
@@ -15,6 +17,7 @@ use crate::writer::line::WriterLine;
 use ch11_packet::{Blank, Limit};
 use eth_frame::FrameSource;
 use rec_channel::{MAX_VERSIONS, SharedSlot, Slot};
+use rec_core::{buffers_are_neither_lost_nor_doubled, no_channel_stands_still};
 use rec_lane::{Lane, LaneSpec, Piece};
 use rtrb::{Consumer, Producer, RingBuffer};
 use std::alloc::{AllocError, Global};
@@ -26,6 +29,23 @@ use std::thread::{Scope, Threads};
 /// pieces: one for the open packet's successor, and one that is on its way.
 const SPARE_BUFFERS: usize = 2;
 
+/// Law: as many buffers are enough. With rings of any size a recorder doesn't stand still; a worker
+/// that needs a buffer finds one; and the return ring has a place for each one that comes back.
+pub fn the_spare_buffers_are_enough()
+    ensures moves { (ring : ℕ) (specs : List FlowSpec) (moves : List Move) (new : FlowWorld)
+        → 0 < ring → LeadTo ring SPARE_BUFFERS specs moves new
+        → IsAnyMoving ring (return_places ring SPARE_BUFFERS) new }
+    ensures ready { (ring : ℕ) (specs : List FlowSpec) (moves : List Move) (new : FlowWorld)
+        → LeadTo ring SPARE_BUFFERS specs moves new
+        → All (λ (f : FlowState). f.stage ≡ NeedsBuffer → f.held ≡ 1 → 0 < f.returned) new.flows }
+    ensures room { (ring : ℕ) (specs : List FlowSpec) (moves : List Move) (new : FlowWorld)
+        → LeadTo ring SPARE_BUFFERS specs moves new
+        → All (λ (f : FlowState). f.returned + f.hand < return_places ring SPARE_BUFFERS) new.flows }
+{
+    no_channel_stands_still();
+    buffers_are_neither_lost_nor_doubled();
+}
+
 /// Makes the ring on which empty buffers come back: `ring + 2` of them are in it, and there is room
 /// for one more.
 fn return_ring(
@@ -36,6 +56,8 @@ fn return_ring(
     ensures pair { IfOk result (λ r. IsPair r.0 r.1) }
     ensures many { IfOk result (λ r. (length (sent r.0) ≡ ring + SPARE_BUFFERS)
         × (ring + SPARE_BUFFERS < 2 ^ 64)) }
+    ensures places { IfOk result (λ r.
+        producer_capacity r.0 ≡ return_places ring SPARE_BUFFERS) }
 {
     let Some(places) = ring.checked_add(SPARE_BUFFERS + 1) else {
         return Err(AllocError);
@@ -57,6 +79,8 @@ fn make_tools(
     ensures pair { IfOk result (λ r. IsPair r.0.ring r.1 × (received r.1 ≡ [])) }
     ensures filled { IfOk result (λ r. (length (sent r.2) ≡ ring + SPARE_BUFFERS)
         × (ring + SPARE_BUFFERS < 2 ^ 64)) }
+    ensures places { IfOk result (λ r.
+        producer_capacity r.2 ≡ return_places ring SPARE_BUFFERS) }
 {
     let limit = spec.limit;
     let lane = Lane::new(alloc, spec)?;

@@ -1,7 +1,7 @@
 //! What a worker waits for: room in its ring, an empty buffer.
 
-ghost use Rattle.std.specs.Prelude.{◌≡◌, ◌∷◌, ◌++◌, [], true, false, IfNone, IfSome};
-ghost use Rattle.rtrb.specs.Ring.{sent, SameProducer};
+ghost use Rattle.std.specs.Prelude.{◌≡◌, ◌≤◌, ◌+◌, ◌∷◌, ◌++◌, [], true, false, length, IfNone, IfSome};
+ghost use Rattle.rtrb.specs.Ring.{sent, received, SameProducer};
 ghost use Rattle.rec_lane.specs.Parts.{BeginsList};
 ghost use Rattle.rec_run.specs.WorkerSteps.{IsStop, HasBuffer};
 
@@ -69,6 +69,9 @@ pub(crate) fn make_ready<R: Wait>(
 ) -> Option<WorkerEnd>
     ensures ready { IfNone result (HasBuffer lane.old lane.new) }
     ensures stopped { IfSome result (λ end. IsStop end × (lane.new ≡ lane.old)) }
+    // It takes none where the lane has its buffer, and else one at most.
+    ensures none { lane.old.ready ≡ true → received blanks.new ≡ received blanks.old }
+    ensures one { length (received blanks.new) ≤ length (received blanks.old) + 1 }
 {
     if lane.is_ready() {
         return None;
