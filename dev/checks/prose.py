@@ -19,7 +19,7 @@ STYLE = ROOT / "docs" / "dev" / "STYLE.md"
 MAN = ROOT / "man" / "bpfrec.1"
 MOST = 40
 # Tools whose help is not mended yet.
-NOT_YET = {"live"}
+NOT_YET: set[str] = set()
 # The rows of STYLE's table of words: what is refused, as a pattern, and what to write.
 ROW = re.compile(r"^\| `([^`]+)` \| (.+) \|$", re.MULTILINE)
 

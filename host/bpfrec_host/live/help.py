@@ -19,14 +19,14 @@ Beside a recording of interfaces stands OUT.json, its facts: the origin of its c
 filters, what was lost and when, and in the end the report and the audit. `info` and `convert to-pcap --facts` take
 times from it.
 
-With --every SECONDS or --size BYTES it begins a new recording each time when so much time has gone by since
-the last began, or when that has at least so many bytes; with both, at the first of them. Each is whole and
-audited by itself: a channel goes over between two frames, so that each frame is in one of them and in no other,
+With --every SECONDS or --size BYTES it begins a new recording each time when SECONDS have gone by since the
+last began, or when that has at least BYTES bytes; with both, at the first of them. Each is whole and audited
+on its own: a channel goes over between two frames, so that each frame is in one of them and in no other,
 and the counters go on. OUT gives their names: flight.ch11 makes flight_00001.ch11 and so on, past those that are
 there. A filter that was changed stays changed. Each channel needs an interface then; one that has as many frames
 as its `max` is empty in later recordings. When a recording has ended, its name is printed, its report and its
-audit. With --keep N the last N that ended stay, and with --keep-free BYTES the oldest are removed until so much is
-free: only recordings of this run whose audit says yes, each of which is told. Where the disk is full, the next
+audit. With --keep N the last N that ended stay, and with --keep-free BYTES the oldest are removed until as much is
+free: only recordings of this run whose audit says yes, and each is reported. Where the disk is full, the next
 recording begins once a mebibyte is free; without --every and --size a disk that is full ends the run.
 
 With --prefilter the kernel drops what a channel's filter drops, which takes far less time where most frames are
@@ -35,7 +35,7 @@ change a filter. Frames with a VLAN tag and those of fewer than 60 bytes always 
 sees them otherwise than the recorder does.
 
 On a terminal a table shows each second how it goes, but with --quiet. With --status PORT a page shows the same to a
-browser, on this machine alone; with --status ADDRESS:PORT to whoever reaches the address. The port serves the data
+browser, on this machine alone; with --status ADDRESS:PORT to anybody who reaches the address. The port serves the data
 too: /status.json as JSON and /metrics for Prometheus.
 
 With --no-audit nothing is audited. With --strict the status is 5 where an interface lost frames; either way the
