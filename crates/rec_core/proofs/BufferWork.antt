@@ -1,6 +1,6 @@
 -- A number that falls with each step: what is left to do of each channel.
 -- idea: a frame pays for its turn and for the two pieces that it makes certain; a piece pays for its send, its write and its buffer.
-use Rattle.std.proofs.Common.{ℕ, suc, ◌+◌, ◌-◌, ◌*◌, ◌≡◌, ◌≤◌, ◌<◌, Bool, true, false, List, [], ◌∷◌, ◌++◌, length, drop, map, All}
+use Rattle.std.proofs.Common.{ℕ, suc, ◌+◌, ◌-◌, ◌*◌, ◌≡◌, ◌≤◌, ◌<◌, false, List, [], ◌∷◌, length, map}
 use Rattle.std.proofs.Common.{Some, refl, sym, ◌∙◌, ap, subst, arith, zero}
 use Rattle.std.specs.Prelude.{slice_get, slice_set}
 use Rattle.std.specs.List.{sum_by}

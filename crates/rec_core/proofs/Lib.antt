@@ -16,3 +16,4 @@ pub mod Buffers
 pub mod BufferMoves
 pub mod BufferRuns
 pub mod BufferWork
+pub mod BufferOffers

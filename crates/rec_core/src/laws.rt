@@ -8,9 +8,9 @@ ghost use Rattle.rec_lane.specs.Growth.{GrowsByFew};
 ghost use Rattle.rec_lane.specs.Pieces.{PieceData};
 ghost use Rattle.rec_writer.specs.Recording.{RecordedChannel, AreOfChannels};
 ghost use Rattle.rec_writer.specs.Writers.{HoldsRecording};
-ghost use Rattle.rec_core.specs.Buffers.{Move, FlowState, FlowSpec, FlowWorld, FlowStepAt, FlowRun, LeadTo, CanStep, buffers_of, return_places, without_buffers, specs_of_flows, IsUnrefusedRun, is_without_frames, is_of_writer, is_giving_back, IsMoving, IsAnyMoving, IsWorkerMoving, work_left, most_steps};
-ghost use Rattle.rec_core.specs.Buffers.Stage.{NeedsBuffer};
-ghost use Rattle.rec_core.specs.Openings.{SpecData, AreSpecs};
+ghost use Rattle.rec_core.specs.Buffers.{Move, FlowState, FlowSpec, FlowWorld, FlowStepAt, FlowRun, LeadTo, CanStep, CanOffer, buffers_of, return_places, without_buffers, specs_of_flows, IsUnrefusedRun, is_without_frames, is_of_writer, is_giving_back, IsMoving, IsAnyMoving, IsWorkerMoving, work_left, most_steps};
+ghost use Rattle.rec_core.specs.Buffers.Stage.{NeedsBuffer, Asks};
+ghost use Rattle.rec_core.specs.Openings.{SpecData, AreSpecs, HaveFilters};
 ghost use Rattle.rec_core.specs.Ties.{IsOfSpec, IsRunOfWorld};
 ghost use Rattle.rec_core.specs.World.{ChannelState, WorldState, ChannelDoes, IsInOrder, produced};
 ghost use Rattle.rec_core.specs.World.EventData.{OfTake, OfClose};
@@ -18,6 +18,7 @@ ghost use Rattle.rec_core.specs.declared.reply.Reply.TheVariants.{Took, Closed a
 ghost use Rattle.rec_core.specs.Worlds.{CoreState, StandsForWorld, StandsCutAt};
 ghost use Rattle.rec_core.specs.Written.{RunsFromOpening, WritesInOrder, WritesAll, AreEnded, recorded_channels, IsCutShort, IsCutShortAt};
 
+use bpf_machine::a_valid_program_returns;
 use ch11_packet::packets_have_their_lengths;
 use rec_lane::{
     few_pieces_become_certain_at_a_time, later_versions_leave_the_frames,
@@ -159,6 +160,21 @@ pub fn no_worker_waits_for_a_failed_output()
         → All (λ (move : Move). is_of_writer move ≡ false) later
         → length later + work_left new ≤ work_left old }
 {}
+
+/// Law: a source that is asked may answer with any frame that is one: it can be offered, wherever
+/// steps lead from channels with filters, if the longest frame fits into a packet of its own.
+pub fn any_frame_can_be_offered()
+    ensures { (ring spare : ℕ) (specs : List FlowSpec) (moves : List Move) (new : FlowWorld)
+        → AreSpecs (specs_of_flows specs) → HaveFilters (specs_of_flows specs)
+        → LeadTo ring spare specs moves new
+        → (at : ℕ) (f : FlowState) (frame : FrameData) → slice_get new.flows at ≡ Some f
+        → f.stage ≡ Asks → 0 < f.left → MIN_LIMIT ≤ f.channel.settings.limit → IsFrame frame
+        → CanOffer ring (return_places ring spare) new at f frame }
+{
+    a_valid_program_returns();
+    a_run_writes_each_channel_in_order();
+    few_pieces_become_certain_at_a_time();
+}
 
 /// Law: the buffers refuse no frame and no end. Whatever frame is taken, if the longest frame fits into
 /// a packet of its own, and whenever a channel is closed, the pieces that become certain are few.

@@ -19,9 +19,9 @@ pub use fault::CoreFault;
 pub use laws::{
     a_failed_output_is_cut_in_one_piece, a_recorder_comes_to_its_end, a_recording_is_a_run,
     a_run_that_ended_is_a_recording, a_run_writes_each_channel_in_order,
-    an_ended_world_holds_its_recording, buffers_are_neither_lost_nor_doubled,
-    buffers_refuse_no_frame, no_channel_stands_still, no_worker_waits_for_a_failed_output,
-    steps_with_buffers_are_a_run,
+    an_ended_world_holds_its_recording, any_frame_can_be_offered,
+    buffers_are_neither_lost_nor_doubled, buffers_refuse_no_frame, no_channel_stands_still,
+    no_worker_waits_for_a_failed_output, steps_with_buffers_are_a_run,
 };
 pub use rec_channel::MAX_RING;
 pub use reply::{Reply, Which};

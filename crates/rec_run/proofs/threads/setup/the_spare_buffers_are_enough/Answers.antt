@@ -1,5 +1,4 @@
-use Rattle.std.proofs.Common.{◌+◌, ◌<◌, arith, All}
-use Rattle.rec_core.specs.Buffers.{FlowState, return_places}
+use Rattle.std.proofs.Common.{arith}
 use Rattle.rec_run.specs.declared.threads.setup.TheConstants.{SPARE_BUFFERS}
 use Rattle.rec_run.proofs.threads.setup.the_spare_buffers_are_enough.Goals as goal
 
