@@ -24,8 +24,11 @@ from support import INFO, judge, judge_quietly, outcome, run
 
 WANTED = {"bin/bpfrec": "make build"}
 DAMAGED, BY_PROCESS = 1_500, 40
-# What info says of the second sample without facts, as it did before it read any.
+# What info says of the second sample without facts.
 WITHOUT_FACTS = """\
+channel        frames       offered    frames/s         first s          last s  marks
+      1             1             2           -       0.0000032       0.0000032
+
 bytes                      248
 packets: frames            1
 packets: program           2

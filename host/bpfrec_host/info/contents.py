@@ -195,6 +195,9 @@ class Recording:
         self.gaps: list[Missing] = []
         self.gap_count = 0
         self.damages: list[ch11.Damage] = []
+        # Of each of these the channel and the first counter of the last frames before it; None where there are none.
+        self.before: list[Optional[tuple[int, int]]] = []
+        self.last_frames: Optional[tuple[int, int]] = None
         self.damage_count, self.damaged_bytes = 0, 0
 
     def take(self, it: Union[ch11.Packet, ch11.Damage]) -> None:
@@ -208,6 +211,7 @@ class Recording:
         self.follow(it)
         if isinstance(what, ch11.Frames):
             self.channels[header.channel].take(what)
+            self.last_frames = header.channel, header.counter
         elif isinstance(what, ch11.Program):
             self.channels[what.channel].take_version(what, header.counter)
         elif isinstance(what, ch11.End):
@@ -232,6 +236,7 @@ class Recording:
         self.damage_count, self.damaged_bytes = self.damage_count + 1, self.damaged_bytes + damage.length
         if len(self.damages) < MOST_PLACES:
             self.damages.append(damage)
+            self.before.append(self.last_frames)
 
 
 def read(path: str, is_summed: bool = True, is_quiet: bool = True) -> Recording:

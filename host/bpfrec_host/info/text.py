@@ -8,6 +8,7 @@ from bpfrec_host.formats import ch11, facts
 from bpfrec_host.formats.limits import TICKS_A_SECOND
 from bpfrec_host.info.beside import Beside, time_of
 from bpfrec_host.info.contents import KINDS, MOST_PLACES, Channel, Missing, Recording
+from bpfrec_host.info.overview import overview
 from bpfrec_host.program import Audit
 
 # What is known, as a name and a value.
@@ -114,7 +115,7 @@ def rows_of_whole(recording: Recording, audit: Audit, beside: Optional[Beside]) 
 
 
 def text_page(recording: Recording, audit: Audit, beside: Optional[Beside] = None) -> str:
-    """All numbers, as a text."""
+    """A table of all channels, and then all numbers, as a text."""
     parts = [("", rows_of_whole(recording, audit, beside))]
     for channel, it in sorted(recording.channels.items()):
         versions = [
@@ -127,4 +128,4 @@ def text_page(recording: Recording, audit: Audit, beside: Optional[Beside] = Non
         indent = "  " if title else ""
         found += [f"\n{title}"] if title else []
         found += [f"{indent}{name:<26} {value}" for name, value in rows]
-    return "\n".join(found) + "\n"
+    return overview(recording, beside) + "\n" + "\n".join(found) + "\n"

@@ -1,0 +1,76 @@
+"""Tries what stands ahead in host/bin/info: a line for each channel, and damaged places by channel and time."""
+
+import subprocess
+from pathlib import Path
+
+import pytest
+from support import BPFREC, INFO, ROOT, judge, outcome, run
+
+WANTED = {"bin/bpfrec": "make build"}
+HEAD = "channel        frames       offered    frames/s         first s          last s  marks"
+DROP_ALL = "1,6 0 0 0,"
+# Lines by hand, of feeds of 60 frames: the first channel takes 50 of them, and the second keeps none.
+LINES = [
+    HEAD,
+    "      1            11            50       559.7       0.0035196       0.0231719",
+    "      2             0            60           -               -               -  KEPT NOTHING",
+]
+
+
+@pytest.fixture
+def recording(work: Path) -> Path:
+    """A recording of the samples of examples/, whose second channel has a filter that drops all."""
+    (work / "none.txt").write_text(DROP_ALL)
+    settings = (ROOT / "examples/flight.toml").read_text().replace("examples/arp.txt", f"{work}/none.txt")
+    (work / "flight.toml").write_text(settings)
+    run(BPFREC, "record", work / "flight.toml", work / "flight.ch11", cwd=ROOT, stdin=subprocess.DEVNULL)
+    return work / "flight.ch11"
+
+
+def lines_of(recording: Path) -> list[str]:
+    """What stands ahead of the first empty line."""
+    return outcome(INFO, recording).stdout.split("\n\n")[0].split("\n")
+
+
+def place_of(recording: Path, kind: str) -> tuple[int, int]:
+    """Where the first packet of a kind begins, and its length, by `bpfrec list`."""
+    rows = [it.split() for it in run(BPFREC, "list", recording).splitlines()[:-1]]
+    return next((int(it[0]), int(it[4])) for it in rows if it[7] == kind)
+
+
+def damaged(recording: Path, at: int) -> Path:
+    """The same with another byte."""
+    data = bytearray(recording.read_bytes())
+    data[at] ^= 1
+    other = recording.with_name("damaged.ch11")
+    other.write_bytes(data)
+    return other
+
+
+def test_table(recording: Path) -> None:
+    found = lines_of(recording)
+    judge("a line for each channel, and the one that kept nothing is marked", found == LINES, str(found))
+
+
+def test_damage_ahead(recording: Path) -> None:
+    at, length = place_of(recording, "frames")
+    found = lines_of(damaged(recording, at + 30))
+    wanted = f"DAMAGED DataChecksum at {at:,} ({length:,} bytes), ahead of all frames"
+    judge("a damaged place ahead of all frames", found[-1] == wanted, str(found))
+    judge("its channel has kept nothing else", found[1].endswith("  KEPT NOTHING"), str(found))
+
+
+def test_damage_behind(recording: Path) -> None:
+    at, length = place_of(recording, "end")
+    found = lines_of(damaged(recording, at + 40))
+    wanted = f"DAMAGED DataChecksum at {at:,} ({length:,} bytes), behind frames of channel 1 at 0.0035196 s"
+    judge("a damaged place by channel and time", found[-1] == wanted, str(found))
+    judge("a channel without its end is marked", any(it.endswith("NO END RECORD") for it in found), str(found))
+
+
+def test_missing(recording: Path) -> None:
+    """A recording twice, one behind the other: the sequence numbers begin again."""
+    twice = recording.with_name("twice.ch11")
+    twice.write_bytes(2 * recording.read_bytes())
+    found = lines_of(twice)
+    judge("packets that are missing are marked", found[1].endswith("  255 PACKETS MISSING"), str(found))

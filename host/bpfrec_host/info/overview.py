@@ -1,0 +1,67 @@
+"""What stands ahead of all that info prints: a line for each channel, and each damaged place by channel and time."""
+
+from __future__ import annotations
+
+from typing import Optional
+
+from bpfrec_host.formats import ch11
+from bpfrec_host.formats.limits import TICKS_A_SECOND
+from bpfrec_host.info.beside import Beside, time_of
+from bpfrec_host.info.contents import Channel, Recording
+
+HEADS = ("channel", "frames", "offered", "frames/s", "first s", "last s", "marks")
+WIDTHS = (7, 13, 13, 11, 15, 15)
+# How many damaged places are shown one by one here; the row "damaged places" has more.
+MOST_SHOWN = 10
+
+
+def time_text(counter: Optional[int]) -> str:
+    """A counter as seconds since counter 0, to 100 ns."""
+    return "-" if counter is None else f"{counter // TICKS_A_SECOND}.{counter % TICKS_A_SECOND:07d}"
+
+
+def marks_of(channel: Channel, missing: int) -> list[str]:
+    """What a reader should see at once of a channel."""
+    return [
+        *(["KEPT NOTHING"] if not channel.frames else []),
+        *(["NO END RECORD"] if channel.end is None else []),
+        *([f"{missing:,} PACKETS MISSING"] if missing else []),
+    ]
+
+
+def line_of(number: int, channel: Channel, missing: int) -> str:
+    """A channel's line of the table."""
+    offered, rate, counters = channel.offered(), channel.mean_rate(), channel.counters()
+    first, last = counters[:2] if counters else (None, None)
+    cells = (
+        str(number),
+        f"{channel.frames:,}",
+        "-" if offered is None else f"{offered:,}",
+        "-" if rate is None else f"{rate:,.1f}",
+        time_text(first),
+        time_text(last),
+    )
+    numbers = " ".join(f"{it:>{width}}" for it, width in zip(cells, WIDTHS))
+    return f"{numbers}  {', '.join(marks_of(channel, missing))}".rstrip()
+
+
+def damage_line(damage: ch11.Damage, before: Optional[tuple[int, int]], beside: Optional[Beside]) -> str:
+    """A damaged place with the channel and the time of the frames that stand before it."""
+    place = f"DAMAGED {damage.fault.name} at {damage.fault.at:,} ({damage.length:,} bytes)"
+    if before is None:
+        return f"{place}, ahead of all frames"
+    channel, counter = before
+    moment = time_of(counter, beside)
+    return f"{place}, behind frames of channel {channel} at {time_text(counter)} s{f', {moment}' if moment else ''}"
+
+
+def overview(recording: Recording, beside: Optional[Beside]) -> str:
+    """The table of all channels, and the first damaged places."""
+    channels = sorted(recording.channels.items())
+    lines = [" ".join(f"{it:>{width}}" for it, width in zip(HEADS, WIDTHS)) + f"  {HEADS[-1]}"]
+    lines += [line_of(number, it, recording.missing[number]) for number, it in channels]
+    shown = list(zip(recording.damages, recording.before))[:MOST_SHOWN]
+    lines += [damage_line(damage, before, beside) for damage, before in shown]
+    more = recording.damage_count - len(shown)
+    lines += [f"DAMAGED {more:,} more places"] if more else []
+    return "".join(f"{it}\n" for it in lines)
