@@ -29,6 +29,8 @@ CHECKED = (
     "limits",
     "python39",
     "plugin",
+    "commands",
+    "prose",
 )
 CHECKS = tuple(f"dev/checks/{it}.py" for it in CHECKED)
 # What is checked of the program once it is built, and where it stands then.

@@ -126,7 +126,22 @@ install_all() {
     while read -r from at; do
         [[ $from == */libexec/* && ! -e $to/bin/$from ]] || ln -sfn "$from" "$to/$at"
     done < <(links)
+    install_names
     install_plugin
+}
+
+# The installed documents name the installed commands and folders.
+install_names() {
+    local file tool
+    for file in "$to"/share/doc/bpfrec/*.md; do
+        sed -Ei "s#(^sudo .*|cap_net_raw=ep )bin/capture#\\1$PREFIX/libexec/bpfrec/bpfrec-capture#g" "$file"
+        for tool in "${tools[@]}"; do
+            sed -i "s|host/bin/$tool\\b|bpfrec-$tool|g" "$file"
+        done
+        sed -Ei "s#(^|[^/[:alnum:]])bin/(bpfrec)([^-_/[:alnum:]]|\$)#\\1\\2\\3#g; s#\\bbin/capture\\b#bpfrec-capture#g" "$file"
+        sed -i "s|host/wireshark/bpfrec.lua|$PREFIX/share/bpfrec/bpfrec.lua|g; s|docs/user/\\([A-Za-z]*\\.[a-z]*\\)|\\1|g" "$file"
+        sed -i "s|at the top of the repository after \`make build\`,|in a folder with \`examples\`, a copy of $PREFIX/share/doc/bpfrec/examples, and an empty \`bin\`,|" "$file"
+    done
 }
 
 uninstall_all() {

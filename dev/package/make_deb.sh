@@ -4,9 +4,11 @@ set -euo pipefail
 
 usage='usage: dev/package/make_deb.sh
 
-Makes bin/bpfrec_<version>_<architecture>.deb by dpkg-deb, of what dev/package/install.sh installs. It wants bin/bpfrec
-(make build) and Debian'"'"'s dpkg; bin/capture is in it where it is built. The recorder needs the C library
-alone; the tools recommend python3, and bpfrec-capture the package that libpcap is of here.
+Makes bin/bpfrec_<version>_<architecture>.deb by dpkg-deb, of what dev/package/install.sh installs. It needs bin/bpfrec
+(make build) and Debian'"'"'s dpkg and binutils; bin/capture is in it where it is built. The recorder needs the C library
+alone; the tools recommend python3, and bpfrec-capture the package that libpcap is of here. Programs are stripped. The
+same sources and programs make the same bytes: all times are SOURCE_DATE_EPOCH, by default that of the last commit.
+MAINTAINER names another maintainer.
 
 Status: 0 made, 2 wrong words, 3 something is missing.'
 
@@ -17,16 +19,18 @@ case ${*:-} in
 esac
 cd "$(dirname "$0")/../.." || exit 3
 if ! command -v dpkg-deb > /dev/null; then
-    echo "make deb wants dpkg-deb: it is Debian's dpkg" >&2
+    echo "make deb needs dpkg-deb: it is Debian's dpkg" >&2
     exit 3
 fi
+export SOURCE_DATE_EPOCH=${SOURCE_DATE_EPOCH:-$(git log -1 --format=%ct 2> /dev/null || date -ud 2026-11-25 +%s)}
+maintainer=${MAINTAINER:-bpfrec maintainers <maintainers@bpfrec.invalid>}
 version=$(sed -n 's/^pub const VERSION: &str = "\(.*\)";$/\1/p' crates/rec_words/src/command_line.rt)
 architecture=$(dpkg --print-architecture)
 root=$(mktemp -d)
 trap 'rm -rf "$root"' EXIT
 chmod 755 "$root"
 
-# The newest symbols of the C library that the programs want.
+# The newest symbols of the C library that the programs need.
 libc_version() {
     grep -aoh 'GLIBC_2\.[0-9]*' "$@" | sed 's/GLIBC_//' | sort -Vu | tail -n 1
 }
@@ -47,13 +51,27 @@ for link in "$root"/usr/share/man/man1/bpfrec-*.1; do
     ln -s bpfrec.1.gz "$link.gz"
 done
 package=$(pcap_package)
+for program in "$root/usr/bin/bpfrec" "$root/usr/libexec/bpfrec/bpfrec-capture"; do
+    [[ ! -f $program ]] || strip --strip-unneeded "$program"
+done
+documents=$root/usr/share/doc/bpfrec
+install -m 644 dev/package/copyright "$documents/copyright"
+install -m 644 CHANGELOG.md "$documents/CHANGELOG.md"
+gzip -9n > "$documents/changelog.gz" << END
+bpfrec ($version) unstable; urgency=medium
+
+  * CHANGELOG.md has what changed for users.
+
+ -- $maintainer  $(LC_ALL=C date -u -d "@$SOURCE_DATE_EPOCH" -R)
+END
+find "$root" -exec touch -hd "@$SOURCE_DATE_EPOCH" {} +
 mkdir "$root/DEBIAN"
 cat > "$root/DEBIAN/control" << END
 Package: bpfrec
 Version: $version
 Architecture: $architecture
-Maintainer: bpfrec <root@localhost>
-Installed-Size: $(du -sk --exclude DEBIAN "$root" | cut -f 1)
+Maintainer: $maintainer
+Installed-Size: $(du -sk --apparent-size --exclude DEBIAN "$root" | cut -f 1)
 Depends: libc6 (>= $(libc_version bin/bpfrec))
 Recommends: python3 (>= 3.9), python3 (>= 3.11) | python3-tomli${package:+, $package}
 Suggests: tcpdump, wireshark

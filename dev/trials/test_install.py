@@ -6,6 +6,7 @@ removed.
 """
 
 import os
+import re
 import shutil
 import subprocess
 import sys
@@ -208,6 +209,34 @@ def test_package(work: Path, package: Path) -> None:
     judge_tools(field, unpacked / "usr/bin")
     judge_names(unpacked / "usr/bin")
     judge_plugin(unpacked)
+
+
+def test_package_is_whole(package: Path) -> None:
+    fields = ran("dpkg-deb", "-f", package, "Maintainer")[1]
+    listed = ran("dpkg-deb", "-c", package)[1]
+    judge("it has a maintainer", re.fullmatch(r".+ <\S+@\S+>\n", fields) and "root@" not in fields, fields)
+    for name in ("copyright", "changelog.gz", "CHANGELOG.md", "GLOSSARY.md"):
+        judge(f"it has {name}", f"./usr/share/doc/bpfrec/{name}\n" in listed, listed)
+
+
+def test_package_again(package: Path) -> None:
+    before = package.read_bytes()
+    status, told = ran("make", "-s", "-C", ROOT, "deb")
+    judge("the same sources make the same bytes", status == 0 and package.read_bytes() == before, told)
+
+
+def test_lintian(package: Path) -> None:
+    if not shutil.which("lintian"):
+        pytest.skip("left out: lintian is missing: apt-get install lintian")
+    status, told = ran("lintian", "--fail-on", "error", package)
+    judge("lintian finds no error", status == 0, told)
+
+
+def test_installed_names(work: Path, package: Path) -> None:
+    ran("dpkg-deb", "-x", package, work)
+    using = (work / "usr/share/doc/bpfrec/USING.md").read_text()
+    others = re.findall(r"host/bin/(?!check_sums)\w+|(?<![\w/])bin/(?:bpfrec|capture)\b(?![-.\w])", using)
+    judge("the installed USING names installed commands", others == [] and "bpfrec-live" in using, others)
 
 
 def test_dpkg(request: pytest.FixtureRequest) -> None:
