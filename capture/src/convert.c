@@ -90,7 +90,7 @@ void run_conversion(struct conversion *conversion) {
         conversion->is_well &= output->state == OUTPUT_LEFT;
         tell("%s: %s", conversion->to, output_fault(output));
     }
-    tell("%s frames %" PRIu64 " bytes %" PRIu64 " passed %" PRIu64 " waited %" PRId64, conversion->from, feed->frames,
+    tell("%s frames %" PRIu64 " bytes %" PRIu64 " skipped %" PRIu64 " waited %" PRId64, conversion->from, feed->frames,
          feed->frame_bytes, feed->passed, output->waited / (NANOSECONDS_PER_SECOND / 1000));
     close_file(file);
 }

@@ -37,7 +37,7 @@ void tell_counts(struct interface *interface) {
     const struct feed *feed = &interface->feed;
     const struct counts *counts = &interface->counts;
     count_drops(interface);
-    tell("%s frames %" PRIu64 " bytes %" PRIu64 " dropped %" PRIu64 " missed %" PRIu64 " passed %" PRIu64
+    tell("%s frames %" PRIu64 " bytes %" PRIu64 " dropped %" PRIu64 " missed %" PRIu64 " skipped %" PRIu64
          " waited %" PRId64,
          interface->name, feed->frames, feed->frame_bytes, counts->dropped, counts->missed, feed->passed,
          milliseconds(feed->output.waited));

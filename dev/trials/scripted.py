@@ -173,7 +173,7 @@ class Flight:
         self.status.recording_ended(self.number, exit_status, self.now(), report, list(audit))
 
 
-NAMES = ("frames", "bytes", "dropped", "missed", "passed", "waited")
+NAMES = ("frames", "bytes", "dropped", "missed", "skipped", "waited")
 
 
 def wires_of(count: int) -> dict[int, Wire]:

@@ -80,7 +80,7 @@ def judge_report(lines: list[str], told: str, mark: int) -> None:
         ],
     )
     judge("its audit says yes", lines[-1] == YES and any("channel 1 programs 1 frames" in it for it in lines))
-    counts = re.findall(r"rx0 frames (\d+) bytes \d+ dropped (\d+) missed (\d+) passed (\d+) waited \d+", told)
+    counts = re.findall(r"rx0 frames (\d+) bytes \d+ dropped (\d+) missed (\d+) skipped (\d+) waited \d+", told)
     judge(
         "a line a second, and the counts at the end",
         len(counts) > 1 and counts[-1] == (str(2 * FRAMES), "0", "0", "0"),

@@ -42,10 +42,10 @@ def channel_of(flight: Flight, channel: int):
 
 
 def test_lines_of_the_capture() -> None:
-    line = "capture: eth0 frames 533 bytes 125990 dropped 1 missed 2 passed 3 waited 4\n"
+    line = "capture: eth0 frames 533 bytes 125990 dropped 1 missed 2 skipped 3 waited 4\n"
     wanted = ("eth0", Counts(frames=533, bytes=125_990, dropped=1, missed=2, skipped=3, waited=4))
     judge("a line of counts is read", counted_in(line) == wanted and counted_in(line[:-1]) == wanted)
-    odd = 'capture: a"\\:{}<b> frames 1 bytes 2 dropped 0 missed 0 passed 0 waited 0'
+    odd = 'capture: a"\\:{}<b> frames 1 bytes 2 dropped 0 missed 0 skipped 0 waited 0'
     judge("an interface may have any letters but blanks", counted_in(odd).interface == 'a"\\:{}<b>')
     others = [
         "",

@@ -17,7 +17,7 @@ READ_LEN = 1 << 16
 # A name of an interface has no blanks. The longest number that the capture prints has 20 digits.
 NUMBER = "([0-9]{1,20})"
 LINE = re.compile(
-    rf"capture: (\S+) frames {NUMBER} bytes {NUMBER} dropped {NUMBER} missed {NUMBER} passed {NUMBER} waited {NUMBER}"
+    rf"capture: (\S+) frames {NUMBER} bytes {NUMBER} dropped {NUMBER} missed {NUMBER} skipped {NUMBER} waited {NUMBER}"
 )
 
 

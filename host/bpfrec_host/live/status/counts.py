@@ -10,7 +10,7 @@ from bpfrec_host.live.observer import Counts
 # A name of an interface has no blanks. The longest number that the capture prints has 20 digits.
 LINE = re.compile(
     r"capture: (?P<interface>\S+) frames ([0-9]{1,20}) bytes ([0-9]{1,20}) dropped ([0-9]{1,20}) missed ([0-9]{1,20})"
-    r" passed ([0-9]{1,20}) waited ([0-9]{1,20})\n?"
+    r" skipped ([0-9]{1,20}) waited ([0-9]{1,20})\n?"
 )
 
 
