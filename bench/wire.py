@@ -166,8 +166,9 @@ def tell_changes(length, runs, frames):
 
 def with_and_without_syncs(work, buffer):
     """Recordings by host/bin/live that are forced to the disk each second, and only at their end."""
-    (work / "all").write_text(FILTERS["all"])
-    (work / "all.toml").write_text(f'[[channel]]\nid = 1\nfilter = "{work / 'all'}"\n')
+    listing = work / "all"
+    listing.write_text(FILTERS["all"])
+    (work / "all.toml").write_text(f'[[channel]]\nid = 1\nfilter = "{listing}"\n')
     words = ["--quiet", "--buffer", buffer, work / "all.toml", work / "out", "rx0=1"]
     return {
         ("host/bin/live, before", "all"): ([LIVE, "--sync", "0", *words], "origin"),

@@ -16,7 +16,7 @@ import tempfile
 import time
 from pathlib import Path
 
-from namespace import make_pair, make_quiet, own_namespace, wait_until_up
+from namespace import make_pair, own_namespace
 from recordings import Traffic, begin, nothing_left, settings_of
 from support import judge, run
 
