@@ -2,7 +2,7 @@
 //! verifier has masks; one reads a channel's pieces from plain lists of all frames and versions,
 //! where the lane keeps none; one looks back through all packets of a recording, where the audit
 //! goes through them once; one works out each answer of a recorder's core anew from lists of all
-//! that happened.
+//! that happened. A search walks all states of small recorders.
 #![tactic(auto)]
 
 #[cfg(test)]
