@@ -12,23 +12,23 @@ export PREFIX DESTDIR
 help: ## lists the targets
 	@grep -E '^[a-z-]+:.*## ' Makefile | sed -E 's/:[^#]*## /\t/' | expand -t 18
 
-try: ## in a minute: a program that is checked as it runs and NOT proved, and the recording of make demo by it
+try: ## in a minute: compiles the program with checks as it runs and WITHOUT proof, and shows the recording of make demo
 	dev/build/unproved.py
 	UNPROVED=1 dev/build/demo.sh
 
 demo: build ## builds the program, and shows a recording from filter to extracted frames
 	dev/build/demo.sh
 
-build: ## proves the program and all that it stands on: bin/bpfrec, and bin/capture where libpcap-dev is
+build: ## proves the program and all that it stands on: bin/bpfrec, and bin/capture if libpcap-dev is installed
 	@dev/build/build.py $(if $(KEEP_COSTS),--keep-costs)
 
-capture: ## bin/capture alone, which makes feeds of interfaces; it wants libpcap-dev
+capture: ## bin/capture alone, which makes feeds of interfaces; it needs libpcap-dev
 	@$(MAKE) -s -C capture
 
 quick: ## all tests, compiled with checks and run, with no proof: minutes, also on a fresh checkout
 	@dev/build/quick.py
 
-crate: ## one crate: its proof, its edits that must fail, its tests; as make crate C=rec_lane
+crate: ## one crate: its proof, its edits that must fail, its tests: make crate C=rec_lane
 	@dev/build/crate.py $(C)
 
 trials: ## what runs the built program, its tools, interfaces and disks; one alone: pytest dev/trials -k NAME
@@ -49,7 +49,7 @@ uninstall: ## removes what make install has installed
 deb: ## a Debian package of the same: bin/bpfrec_<version>_<architecture>.deb
 	@dev/package/make_deb.sh
 
-refused-growth: build ## refuses each growth of memory of each command, and of calls beside them, in turn
+refused-growth: build ## refuses each growth of memory of each command, in turn
 	cd crates/test_recorder && $(RT) test -- without_memory
 	cd crates/test_reader && $(RT) test -- without_memory
 	dev/trials/refused_growth.py

@@ -6,7 +6,7 @@ usage: bench/wire.py [--frames N] [--rounds N] [--part wire|files|syncs] [--befo
 It makes a network namespace with a pair of virtual interfaces, sends frames of 64, 300 and 1,500 bytes into
 one of them as fast as bin/send_frames can, and records what the other receives: by host/bin/live, with a filter
 that keeps all and one that keeps a 32nd, which the kernel runs too with --prefilter, and by `dumpcap -w` and `tcpdump -w`, which take all or have the
-kernel drop what the same filter drops. Each has 64 MiB of the kernel's buffer. Then it makes a feed of a
+kernel drop what the same filter drops. Each has 256 MiB of the kernel's buffer. Then it makes a feed of a
 capture of as many frames, by host/bin/convert and by `capture -r`.
 
 With --part syncs it records by host/bin/live alone, forced to the disk each second (the default), and only at the end
@@ -87,6 +87,8 @@ def commands(work, buffer, before):
         for program, tree in {"host/bin/live, before": before, "host/bin/live": ROOT}.items():
             if tree and not (before and expression):
                 made[program, name] = [tree / "host/bin/live", *live[1:]], "origin"
+            if tree and not before and not expression:
+                made[f"{program} --no-audit", name] = [LIVE, "--no-audit", *live[1:]], "origin"
             if tree and expression:
                 made[program.replace("live", "live --prefilter"), name] = [
                     tree / "host/bin/live",
@@ -152,6 +154,11 @@ def record_once(work, program, words, ready, length, frames, is_ahead=False):
     return sending, spent, used.ru_utime + used.ru_stime, kept, dropped
 
 
+def empty_cost(work, program, words, ready):
+    """The seconds of processors that a recording of no frame takes: the median of three."""
+    return statistics.median(record_once(work, program, words, ready, LENGTHS[0], 0, True)[2] for _ in range(3))
+
+
 def tell_changes(length, runs, frames):
     """What the other checkout took, and what ours does: medians over the rounds, in which the two went in turn."""
     for before, after in [(key, (key[0].replace(", before", ""), key[1])) for key in runs if ", before" in key[0]]:
@@ -182,6 +189,7 @@ def time_wire(work, words, made):
         "| Bytes | Program | Keeps | Frames sent a second | Taken a second | Dropped by the kernel | least, greatest "
         "| Processor, ns a frame |\n|---|---|---|---|---|---|---|---|"
     )
+    empty = {key: empty_cost(work, key[0], *it) for key, it in made.items()}
     for length in LENGTHS:
         runs = {key: [] for key in made}
         for turn in range(rounds):
@@ -191,7 +199,7 @@ def time_wire(work, words, made):
             sent = statistics.median(frames / it[0] for it in done)
             taken = statistics.median((frames - it[4]) / it[0] for it in done)
             drops = [it[4] for it in done]
-            processors = statistics.median(1e9 * it[2] / frames for it in done)
+            processors = statistics.median(1e9 * (it[2] - empty[program, name]) / frames for it in done)
             print(
                 f"| {length} | {program} | {KEPT_SHARE[name]} | {sent:,.0f} | {taken:,.0f} | {statistics.median(drops):,.0f} "
                 f"| {min(drops):,}, {max(drops):,} | {processors:,.0f} |",

@@ -13,7 +13,7 @@ _bpfrec_words() {
 }
 
 _bpfrec() {
-    local commands='asm dis verify run list audit extract upgrade record simulate version'
+    local commands='asm dis verify run list audit extract upgrade export record simulate version'
     COMPREPLY=()
     if [[ $COMP_CWORD == 1 ]]; then
         _bpfrec_words "$commands help --help --version"
@@ -34,6 +34,8 @@ _bpfrec() {
         extract/4) _bpfrec_files feed ;;
         upgrade/2) _bpfrec_files ch11 ;;
         upgrade/3) _bpfrec_files ch11 ;;
+        export/2) _bpfrec_files ch11 ;;
+        export/3) _bpfrec_files pcapng ;;
         record/2) _bpfrec_files toml ;;
         record/3) _bpfrec_files ch11 ;;
         simulate/2) _bpfrec_files script ;;
@@ -43,7 +45,7 @@ _bpfrec() {
 _bpfrec_tool() {
     local options='' kind=''
     case ${1##*/} in
-        bpfrec-capture) options='-r --origin --buffer --direction --prefilter --no-promiscuous --clock --check-sequence --interface --quiet --strict --hold --events --parent --help' kind='*' ;;
+        bpfrec-capture) options='-r --origin --buffer --direction --prefilter --no-promiscuous --clock --check-sequence --interface --quiet --strict --hold --events --parent --version --help' kind='*' ;;
         bpfrec-live) options='--force --every --size --sync --flush --keep --keep-free --mode --status --prefilter --no-audit --strict --origin --buffer --direction --clock --check-sequence --quiet --no-promiscuous --help' kind=toml ;;
         bpfrec-convert) options='from-pcap to-pcap show make --origin --interface --quiet --facts --drop-check-sequence --help' kind='*' ;;
         bpfrec-info) options='--json --quiet --html --help' kind=ch11 ;;

@@ -35,6 +35,10 @@ complete -c bpfrec -n __fish_use_subcommand -a upgrade -d 'Adds data checksums t
 complete -c bpfrec -n '__bpfrec_at help 1' -a upgrade
 complete -c bpfrec -n '__bpfrec_at upgrade 1' -ka '(__fish_complete_suffix .ch11)'
 complete -c bpfrec -n '__bpfrec_at upgrade 2' -ka '(__fish_complete_suffix .ch11)'
+complete -c bpfrec -n __fish_use_subcommand -a export -d 'Writes all channels\' frames into a pcapng file'
+complete -c bpfrec -n '__bpfrec_at help 1' -a export
+complete -c bpfrec -n '__bpfrec_at export 1' -ka '(__fish_complete_suffix .ch11)'
+complete -c bpfrec -n '__bpfrec_at export 2' -ka '(__fish_complete_suffix .pcapng)'
 complete -c bpfrec -n __fish_use_subcommand -a record -d 'Records channels through their filters'
 complete -c bpfrec -n '__bpfrec_at help 1' -a record
 complete -c bpfrec -n '__bpfrec_at record 1' -ka '(__fish_complete_suffix .toml)'
@@ -59,6 +63,7 @@ complete -c bpfrec-capture -l strict
 complete -c bpfrec-capture -l hold
 complete -c bpfrec-capture -l events
 complete -c bpfrec-capture -l parent
+complete -c bpfrec-capture -l version
 complete -c bpfrec-capture -l help
 complete -c bpfrec-live -l force
 complete -c bpfrec-live -l every

@@ -18,7 +18,7 @@
 #include <time.h>
 #include <unistd.h>
 
-enum { FEATURES_A_BLOCK = 32, TAI_AHEAD_SECONDS = 37 };
+enum { FEATURES_A_BLOCK = 32, TAI_AHEAD_SECONDS = 37, CLOCK_LEN = 32 };
 
 static const char *const JOINING[] = {"rx-gro", "rx-lro", "rx-gro-hw", "tx-generic-segmentation",
                                       "tx-tcp-segmentation"};
@@ -71,11 +71,18 @@ static void ask_features(int socket, const char *interface, uint32_t count, stru
     free(features);
 }
 
+/* The number of an adapter's clock, or -1. */
+static int ask_clock(int socket, const char *interface) {
+    struct ethtool_ts_info info = {.cmd = ETHTOOL_GET_TS_INFO};
+    return ask(socket, interface, &info) == 0 ? info.phc_index : -1;
+}
+
 void ask_adapter(const char *interface, struct adapter *adapter) {
     int socket_fd = socket(AF_INET, SOCK_DGRAM | SOCK_CLOEXEC, 0);
-    *adapter = (struct adapter){0};
+    *adapter = (struct adapter){.clock = -1};
     if (socket_fd < 0)
         return;
+    adapter->clock = ask_clock(socket_fd, interface);
     uint32_t count = count_features(socket_fd, interface);
     if (count > 0)
         ask_features(socket_fd, interface, count, adapter);
@@ -118,6 +125,18 @@ static int tai_ahead(void) {
     return adjtimex(&times) >= 0 && times.tai != 0 ? times.tai : TAI_AHEAD_SECONDS;
 }
 
+void tell_clock(const char *interface, int number, enum stamping stamping) {
+    char clock[CLOCK_LEN] = "";
+    if (number >= 0)
+        snprintf(clock, sizeof clock, " /dev/ptp%d", number);
+    if (stamping == BY_HOST)
+        tell("%s clock host: UTC", interface);
+    else if (stamping == BY_DISCIPLINED_ADAPTER)
+        tell("%s clock adapter%s, which follows the host's: UTC", interface, clock);
+    else
+        tell("%s clock adapter%s: its first frame shows the scale", interface, clock);
+}
+
 void tell_adapter_clock(const char *interface, nanoseconds stamp) {
     struct timespec now;
     clock_gettime(CLOCK_REALTIME, &now);
@@ -129,4 +148,6 @@ void tell_adapter_clock(const char *interface, nanoseconds stamp) {
     else if (ahead > 1 || ahead < -1)
         tell("%s: the adapter's clock is %+.3f s ahead of the host's, and so are the times of its frames", interface,
              ahead);
+    else
+        tell("%s: the adapter's clock runs UTC, and so do the times of its frames", interface);
 }

@@ -9,6 +9,14 @@ enum { JOINING_LEN = 128 };
 struct adapter {
     int gives_check_sequences; /* frames come with their check sequences */
     char joining[JOINING_LEN]; /* the features by which frames are joined to longer ones, as `ethtool -k` names them */
+    int clock;                 /* the number of its clock, as of /dev/ptp0; -1 where it has none that is known */
+};
+
+/* Whose clock frames are stamped by. */
+enum stamping {
+    BY_HOST,
+    BY_DISCIPLINED_ADAPTER, /* which follows the host's */
+    BY_ADAPTER,             /* as it runs */
 };
 
 /* Asks the kernel, which knows nothing of some interfaces. */
@@ -20,7 +28,11 @@ int is_interface_up(const char *name);
 /* How many bytes of memory the kernel has for the frames of a packet socket; 0 where it doesn't say. */
 uint64_t ring_len(int socket);
 
-/* Tells where an adapter's own clock isn't the host's, by a frame that comes now: in which scale it runs. */
+/* Tells which clock stamps the frames of an interface, by the number of the adapter's, and in which scale where that is
+ * known. */
+void tell_clock(const char *interface, int number, enum stamping stamping);
+
+/* Tells in which scale an adapter's own clock runs, by a frame that comes now. */
 void tell_adapter_clock(const char *interface, nanoseconds stamp);
 
 #endif

@@ -3,6 +3,7 @@
 #include "capture_file.h"
 
 #include <errno.h>
+#include <fcntl.h>
 #include <getopt.h>
 #include <limits.h>
 #include <poll.h>
@@ -11,6 +12,7 @@
 #include <stdio.h>
 #include <stdlib.h>
 #include <string.h>
+#include <sys/stat.h>
 #include <unistd.h>
 
 enum {
@@ -23,7 +25,10 @@ enum {
     MOST_HOLD = 60,
     BYTES_A_MIB = 1 << 20,
     MOST_INTERFACE = 65535,
-    LINE_LEN = 512,
+    /* A pipe that has room takes so many bytes without waiting. */
+    LINE_LEN = PIPE_BUF,
+    /* Any text with two paths. */
+    TEXT_LEN = 3 * PATH_MAX,
 };
 
 static const char USAGE[] =
@@ -32,13 +37,13 @@ static const char USAGE[] =
     "\n"
     "Makes feeds for bpfrec of the frames of interfaces, as they come, or of capture files (pcap or pcapng).\n"
     "A PIPE is a named pipe, which is waited for until it has a reader, or a file; - is standard output, and\n"
-    "as FILE standard input. INT, TERM and HUP end it: what the kernel still holds is written; a second\n"
+    "as FILE standard input. INT, TERM and HUP end it: what is in the kernel's buffers is written; a second\n"
     "signal, a second later or more, ends it at once. USR1 has each interface's feed go over, between two\n"
     "records, to what its path names by then; to a named pipe once that has a reader.\n"
     "\n"
-    "Counters run on where the host's clock is set: a line tells the origin from then on, by which frames have\n"
-    "their times. An interface that is taken away is taken again once it is back. Once all are open the program\n"
-    "gives up its privileges, root's too: a feed has to be where its user may write.\n"
+    "Counters run on where the host's clock is set: a line prints the origin that is right from then on. An\n"
+    "interface that is removed is taken again once it is back. Once all are open the program gives up its\n"
+    "privileges, root's too, and most calls of the kernel: a feed has to be where its user may write.\n"
     "\n"
     "  --origin WHEN          the moment at which counters are 0: now (default of interfaces), zero (1970-01-01),\n"
     "                         first (default of files: their first frame), or a time, as\n"
@@ -50,26 +55,28 @@ static const char USAGE[] =
     "  --prefilter INTERFACE=LISTING\n"
     "                         frames that the listed program drops don't leave the kernel: they are neither\n"
     "                         counted nor offered to the recorder. A listing is what `bpfrec asm` or\n"
-    "                         `tcpdump -ddd` prints. Frames that the kernel sees otherwise than the recorder\n"
-    "                         does, with a VLAN tag or of fewer than 60 bytes, always leave it\n"
+    "                         `tcpdump -ddd` prints. Frames that the kernel sees differently from the recorder,\n"
+    "                         with a VLAN tag or of fewer than 60 bytes, always leave it\n"
     "  --no-promiscuous       only frames that are meant for the host\n"
-    "  --clock WHICH          host (default) or adapter: whose time frames have. An adapter's clock may run\n"
-    "                         TAI, as by PTP, which is printed; it may need cap_net_admin too\n"
+    "  --clock WHICH          host (default) or adapter: whose clock stamps frames, which a line prints with its\n"
+    "                         scale: UTC, or TAI as by PTP. An adapter's may need cap_net_admin too\n"
     "  --check-sequence WHICH given, missing, or adapter (default): whether frames come with their frame check\n"
-    "                         sequences (FCS). Missing ones are computed, wrong ones flagged\n"
+    "                         sequences (FCS). Missing ones are computed, wrong ones get error flag bit 0\n"
     "  --interface N          of a pcapng file the frames of each section's interface N, from 0 on\n"
     "  --quiet                no lines each second\n"
-    "  --strict               status 5 where an interface lost frames\n"
+    "  --strict               status 5 if an interface lost frames\n"
     "  --hold SECONDS         how long an interface whose reader has left waits for USR2 (0 to 60, default 0): by\n"
     "                         that it goes on with the next feed, and the kernel keeps its frames until then\n"
     "  --events FILE          notes origins, losses and counts behind what FILE has, as lines of JSON, and prints\n"
     "                         no losses at the end\n"
     "  --parent PID           ends, as by TERM, once the process has died that started it\n"
+    "  --version              prints the version\n"
     "\n"
     "Once a second and at the end a line on standard error for each interface: the frames and bytes of its\n"
     "feed, the frames that the kernel dropped and that the interface missed, those that were skipped (cut\n"
-    "short, or of no length that a feed takes), and the milliseconds that the pipe was full. At the very end a\n"
-    "line for each interface that lost frames: eth0 LOST 16801 dropped 322 skipped (dropped by the kernel).\n"
+    "short, or of a length that can't be recorded), and the milliseconds that the pipe was full, where that goes on\n"
+    "for a tenth of a second. At the very end a line for each interface that lost frames:\n"
+    "eth0 LOST 16801 dropped 322 skipped (dropped by the kernel).\n"
     "Lines that standard error has no room for are left out and counted.\n"
     "\n"
     "Status: 0 it ended as asked, or its readers left, 1 an interface, a file or a feed failed,\n"
@@ -90,6 +97,7 @@ enum {
     HOLD,
     EVENTS,
     PARENT,
+    VERSION_ASKED,
     HELP
 };
 
@@ -107,30 +115,51 @@ static const struct option OPTIONS[] = {
     {"hold", required_argument, NULL, HOLD},
     {"events", required_argument, NULL, EVENTS},
     {"parent", required_argument, NULL, PARENT},
+    {"version", no_argument, NULL, VERSION_ASKED},
     {"help", no_argument, NULL, HELP},
     {NULL, 0, NULL, 0},
 };
 
-/* Writes a line, where standard error has room for it. */
+/* Standard error, opened anew where it is a pipe or a terminal: then no write waits, and whoever shares it keeps one
+ * that does. */
+static int open_standard_error(void) {
+    struct stat kind;
+    int is_shared = fstat(STDERR_FILENO, &kind) == 0 && (S_ISFIFO(kind.st_mode) || isatty(STDERR_FILENO));
+    int fd = is_shared ? open("/proc/self/fd/2", O_WRONLY | O_NONBLOCK | O_NOCTTY | O_CLOEXEC) : -1;
+    return fd >= 0 ? fd : STDERR_FILENO;
+}
+
+/* Writes a line, where standard error has room for it. Whether it had: a terminal may have room for a part. */
 static int write_line(const char *line) {
-    struct pollfd error = {.fd = STDERR_FILENO, .events = POLLOUT};
+    static int fd = -1, is_cut;
+    fd = fd >= 0 ? fd : open_standard_error();
+    struct pollfd error = {.fd = fd, .events = POLLOUT};
+    ssize_t len = (ssize_t)strlen(line), count = 0;
     if (poll(&error, 1, 0) <= 0 || (error.revents & POLLOUT) == 0)
         return 0;
-    (void)!write(STDERR_FILENO, line, strlen(line));
-    return 1;
+    if (!is_cut || write(fd, "\n", 1) == 1)
+        count = write(fd, line, (size_t)len);
+    is_cut = count < len && (is_cut || count > 0);
+    return count == len;
+}
+
+/* Puts a text into a line behind what stands there: of one that is too long its beginning and its end. */
+static void put_text(char line[LINE_LEN], const char *text) {
+    static const char GAP[] = "...";
+    size_t begin = strlen(line), room = LINE_LEN - begin - 2, len = strlen(text);
+    size_t front = len <= room ? len : (room - strlen(GAP)) / 2, tail = len <= room ? 0 : room - strlen(GAP) - front;
+    snprintf(line + begin, room + 2, "%.*s%s%s\n", (int)front, text, tail > 0 ? GAP : "", text + len - tail);
 }
 
 void tell(const char *format, ...) {
     static pthread_mutex_t lock = PTHREAD_MUTEX_INITIALIZER;
     static unsigned left_out;
-    /* with zeros behind it */
-    char line[LINE_LEN] = "capture: ", count_line[LINE_LEN];
-    size_t begin = strlen(line);
+    char text[TEXT_LEN], line[LINE_LEN] = "capture: ", count_line[LINE_LEN];
     va_list values;
     va_start(values, format);
-    vsnprintf(line + begin, sizeof line - begin - 1, format, values);
+    vsnprintf(text, sizeof text, format, values);
     va_end(values);
-    line[strlen(line)] = '\n';
+    put_text(line, text);
     pthread_mutex_lock(&lock);
     snprintf(count_line, sizeof count_line, "capture: %u lines were left out: standard error had no room\n", left_out);
     if (left_out > 0 && write_line(count_line))
@@ -199,7 +228,7 @@ static int take_option(int option, const char *value, struct arguments *argument
 }
 
 static int wrong(const char *what, const char *word) {
-    tell("%s%s: capture --help has its words", what, word);
+    tell("%s%s: capture --help has its arguments", what, word);
     return 2;
 }
 
@@ -255,9 +284,9 @@ static int usual_buffer(int count) {
     return share >= USUAL_BUFFER ? USUAL_BUFFER : share > LEAST_BUFFER ? (int)share : LEAST_BUFFER;
 }
 
-/* The status. */
-static int show_usage(void) {
-    if (fputs(USAGE, stdout) >= 0 && fflush(stdout) == 0)
+/* Prints a text that was asked for. The status. */
+static int show(const char *text) {
+    if (fputs(text, stdout) >= 0 && fflush(stdout) == 0)
         return 0;
     tell("file -: %s", strerror(errno));
     return 1;
@@ -270,12 +299,12 @@ int read_arguments(int argc, char **argv, struct arguments *arguments, int *is_d
     arguments->routes = calloc((size_t)argc, sizeof *arguments->routes);
     arguments->prefilters = calloc((size_t)argc, sizeof *arguments->prefilters);
     while (status == 0 && (option = getopt_long(argc, argv, "r:", OPTIONS, NULL)) != -1) {
-        if (option == HELP) {
+        if (option == HELP || option == VERSION_ASKED) {
             *is_done = 1;
-            return show_usage();
+            return show(option == HELP ? USAGE : "capture " VERSION "\n");
         }
         if (option == '?' || arguments->routes == NULL || arguments->prefilters == NULL)
-            return wrong("the words are wrong", "");
+            return wrong("the arguments are wrong", "");
         arguments->are_files |= option == 'r';
         has_origin |= option == ORIGIN;
         if (option == 'r')

@@ -91,6 +91,6 @@ void run_conversion(struct conversion *conversion) {
         tell("%s: %s", conversion->to, output_fault(output));
     }
     tell("%s frames %" PRIu64 " bytes %" PRIu64 " skipped %" PRIu64 " waited %" PRId64, conversion->from, feed->frames,
-         feed->frame_bytes, feed->passed, output->waited / (NANOSECONDS_PER_SECOND / 1000));
+         feed->frame_bytes, feed->skipped, output->waited / (NANOSECONDS_PER_SECOND / 1000));
     close_file(file);
 }

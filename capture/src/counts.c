@@ -22,15 +22,11 @@ void begin_counts(struct interface *interface) {
 }
 
 void count_drops(struct interface *interface) {
-    struct counts *counts = &interface->counts;
-    struct pcap_stat now = counts->seen;
-    if (interface->pcap == NULL || pcap_stats(interface->pcap, &now) != 0)
-        return;
-    int missed = (int)(now.ps_ifdrop - counts->seen.ps_ifdrop);
-    counts->dropped += now.ps_drop - counts->seen.ps_drop;
-    /* libpcap finds the interface's own count by its name, which may have changed: then it begins anew. */
-    counts->missed += missed > 0 ? (unsigned)missed : 0;
-    counts->seen = now;
+    struct ring_losses quiet = look_at_losses(&interface->rings.each[QUIET_RING]);
+    struct ring_losses burst = look_at_losses(&interface->rings.each[BURST_RING]);
+    interface->counts.dropped += (uint64_t)quiet.dropped + burst.dropped;
+    /* Both say what the one interface missed. */
+    interface->counts.missed += quiet.missed;
 }
 
 void tell_counts(struct interface *interface) {
@@ -39,7 +35,7 @@ void tell_counts(struct interface *interface) {
     count_drops(interface);
     tell("%s frames %" PRIu64 " bytes %" PRIu64 " dropped %" PRIu64 " missed %" PRIu64 " skipped %" PRIu64
          " waited %" PRId64,
-         interface->name, feed->frames, feed->frame_bytes, counts->dropped, counts->missed, feed->passed,
+         interface->name, feed->frames, feed->frame_bytes, counts->dropped, counts->missed, feed->skipped,
          milliseconds(feed->output.waited));
 }
 
@@ -48,7 +44,7 @@ void tell_counts(struct interface *interface) {
 /* Notes what was lost since it was noted last. */
 static void note_losses(struct interface *interface) {
     struct counts *counts = &interface->counts;
-    uint64_t counter = counter_now(), skipped = interface->feed.passed;
+    uint64_t counter = counter_now(), skipped = interface->feed.skipped;
     uint64_t dropped_now = counts->dropped - counts->noted.dropped, missed_now = counts->missed - counts->noted.missed;
     uint64_t skipped_now = skipped - counts->noted.skipped;
     char name[JSON_NAME_LEN];
@@ -77,7 +73,7 @@ void note_counts(struct interface *interface) {
                ", \"dropped\": %" PRIu64 ", \"missed\": %" PRIu64 ", \"skipped\": %" PRIu64 ", \"waited\": %" PRId64
                ", \"feed\": %d}",
                name, interface->counts.noted.counter, feed->frames, feed->frame_bytes, interface->counts.dropped,
-               interface->counts.missed, feed->passed, milliseconds(feed->output.waited), interface->switched);
+               interface->counts.missed, feed->skipped, milliseconds(feed->output.waited), interface->switched);
 }
 
 /* ---- in time */
@@ -110,7 +106,7 @@ void tell_in_time(void *it) {
 /* ---- the end */
 
 int tell_lost(const struct interface *interface) {
-    uint64_t dropped = interface->counts.dropped, missed = interface->counts.missed, skipped = interface->feed.passed;
+    uint64_t dropped = interface->counts.dropped, missed = interface->counts.missed, skipped = interface->feed.skipped;
     char name[JSON_NAME_LEN], missed_text[64] = "";
     if (dropped + missed + skipped == 0)
         return 0;

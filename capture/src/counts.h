@@ -2,14 +2,12 @@
 #ifndef COUNTS_H
 #define COUNTS_H
 
-#include <pcap/pcap.h>
 #include <stdint.h>
 
 struct interface;
 
 struct counts {
     uint64_t dropped, missed; /* by the kernel, and by the interface; of all times that it was open */
-    struct pcap_stat seen;    /* what libpcap said last, since it was opened */
     int64_t next_line;
     int64_t next_note;
     unsigned notes;
@@ -21,7 +19,7 @@ struct counts {
 /* Begins to count, now. */
 void begin_counts(struct interface *interface);
 
-/* Takes what libpcap has counted since it was asked last. */
+/* Takes what the rings have lost since they were asked last. */
 void count_drops(struct interface *interface);
 
 /* Tells the counts in a line. */

@@ -14,7 +14,9 @@ enum {
     LEAST_WIRE_LEN = 60,
     LEAST_FRAME_LEN = HEADER_LEN + CHECK_SEQUENCE_LEN,
     MOST_FRAME_LEN = 16383,
-    FIRST_ROOM = 1 << 18,
+    FIRST_ROOM = 1 << 17,
+    /* Past it no more frames are kept for another output. */
+    MOST_ROOM = 1 << 24,
     ROOM_BESIDE = 1 << 20,
 };
 
@@ -37,19 +39,34 @@ void write_beside(struct feed *feed) {
     start_output_thread(&feed->writer, &feed->output, feed->room);
 }
 
+/* The length of the record that begins there, as its head says. */
+static size_t record_len(const unsigned char *record) {
+    return RECORD_HEAD_LEN + ((size_t)record[7] | (size_t)record[8] << 8);
+}
+
+/* Keeps the records that an output which failed has not taken whole, of what was to be written. */
+static void keep_unwritten(struct feed *feed, size_t len, uint64_t taken) {
+    size_t at = 0;
+    while (at < len && at + record_len(feed->bytes + at) <= taken) {
+        at += record_len(feed->bytes + at);
+        feed->waiting--;
+    }
+    memmove(feed->bytes, feed->bytes + at, len - at);
+    feed->len = len - at;
+}
+
 int flush_feed(struct feed *feed) {
     size_t len = feed->len;
-    uint64_t taken = feed->output.taken, waiting = feed->waiting;
     feed->len = 0;
-    feed->waiting = 0;
     if (feed->writer.is_started)
         return hand_over(&feed->writer, &feed->bytes, len);
-    int goes_on = write_all(&feed->output, feed->bytes, len);
-    if (!goes_on && feed->output.taken == taken) {
-        feed->len = len;
-        feed->waiting = waiting;
+    uint64_t taken = feed->output.taken;
+    if (write_all(&feed->output, feed->bytes, len)) {
+        feed->waiting = 0;
+        return 1;
     }
-    return goes_on;
+    keep_unwritten(feed, len, feed->output.taken - taken);
+    return 0;
 }
 
 int flush_old(struct feed *feed) {
@@ -99,14 +116,23 @@ static void put_head(unsigned char *record, uint64_t counter, unsigned marks, si
     record[8] = (unsigned char)(len >> 8);
 }
 
-int put_frame(struct feed *feed, uint64_t counter, const struct captured *captured) {
-    size_t len = wire_len(captured);
-    if (len == 0) {
-        feed->passed++;
-        return 1;
-    }
-    if (feed->len + RECORD_HEAD_LEN + len > feed->room && !flush_feed(feed))
+/* Makes room for records that wait for another output, as those of a turn may that came when the output failed. Whether
+ * it could. */
+static int lengthen_room(struct feed *feed) {
+    unsigned char *more = feed->room < MOST_ROOM ? realloc(feed->bytes, 2 * feed->room) : NULL;
+    if (more == NULL)
         return 0;
+    feed->bytes = more;
+    feed->room *= 2;
+    return 1;
+}
+
+static int has_room(const struct feed *feed, size_t len) {
+    return feed->len + RECORD_HEAD_LEN + len <= feed->room;
+}
+
+/* Puts a frame's record behind the others, where there is room for it. */
+static void put_record(struct feed *feed, uint64_t counter, const struct captured *captured, size_t len) {
     if (feed->len == 0)
         feed->since = steady_now();
     unsigned char *record = feed->bytes + feed->len, *frame = record + RECORD_HEAD_LEN;
@@ -124,7 +150,35 @@ int put_frame(struct feed *feed, uint64_t counter, const struct captured *captur
     feed->frames++;
     feed->waiting++;
     feed->frame_bytes += len;
-    return 1;
+}
+
+int put_frame(struct feed *feed, uint64_t counter, const struct captured *captured) {
+    size_t len = wire_len(captured);
+    if (len == 0) {
+        feed->skipped++;
+        return 1;
+    }
+    int goes_on = has_room(feed, len) || flush_feed(feed);
+    if (!goes_on && (feed->writer.is_started || (!has_room(feed, len) && !lengthen_room(feed)))) {
+        feed->lost++;
+        return 0;
+    }
+    put_record(feed, counter, captured, len);
+    return goes_on;
+}
+
+uint64_t take_lost(struct feed *feed) {
+    uint64_t lost = feed->lost;
+    feed->lost = 0;
+    return lost;
+}
+
+uint64_t take_unwritten(struct feed *feed) {
+    uint64_t unwritten = feed->waiting + take_lost(feed);
+    feed->frames -= feed->waiting;
+    feed->frame_bytes -= feed->len - RECORD_HEAD_LEN * feed->waiting;
+    feed->waiting = feed->len = 0;
+    return unwritten;
 }
 
 void close_feed(struct feed *feed) {

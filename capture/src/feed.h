@@ -16,8 +16,10 @@ struct feed {
     unsigned char *bytes;
     size_t len, room;
     int64_t since; /* when the first of the waiting bytes came */
-    uint64_t frames, frame_bytes, passed;
-    uint64_t waiting; /* of the frames, those that wait to be written */
+    uint64_t frames, frame_bytes;
+    uint64_t skipped; /* frames that no feed takes */
+    uint64_t lost;    /* frames for which there was no room once the output had failed */
+    uint64_t waiting; /* of the frames, those that no output has taken whole */
 };
 
 /* A frame as it was captured. */
@@ -37,15 +39,23 @@ void write_beside(struct feed *feed);
 
 /* Puts the record of a frame behind the others: padded to the least length on the wire and with its check sequence
  * where it came without, marked where that is wrong. A frame that was cut short, or has a length that no feed takes,
- * is counted as passed. 0 where the feed was found to be open no more. */
+ * is counted as skipped. 0 where the feed was found to be open no more: the frame waits, or where it can't it is lost.
+ */
 int put_frame(struct feed *feed, uint64_t counter, const struct captured *captured);
+
+/* How many frames were lost since this was asked. */
+uint64_t take_lost(struct feed *feed);
+
+/* Gives up the frames that no output has taken, which count no more as the feed's. How many, with those that are lost.
+ */
+uint64_t take_unwritten(struct feed *feed);
 
 /* Goes over to what the path names by now: what waits is written to the file or pipe before, so each record is whole in
  * one of them. Else it goes on as before. */
 enum switching switch_feed(struct feed *feed);
 
-/* Writes what waits, or hands it to the thread. Whether the feed is still open. Where its reader has left before it
- * took any of it, it waits for another feed. */
+/* Writes what waits, or hands it to the thread. Whether the feed is still open: else the records that weren't taken
+ * whole wait for another feed. */
 int flush_feed(struct feed *feed);
 
 /* Writes what has waited for a millisecond. Whether the feed is still open. */

@@ -31,7 +31,8 @@ int open_input(struct input *input, const char *path) {
     struct stat kind;
     input->size = FIRST_ROOM;
     input->bytes = malloc(input->size);
-    input->fd = strcmp(path, "-") == 0 ? dup(STDIN_FILENO) : open(path, O_RDONLY | O_CLOEXEC);
+    /* Without waiting for a writer of a pipe: its bytes are waited for, and meanwhile a signal is heard. */
+    input->fd = strcmp(path, "-") == 0 ? dup(STDIN_FILENO) : open(path, O_RDONLY | O_NONBLOCK | O_CLOEXEC);
     if (input->fd < 0 || input->bytes == NULL || fstat(input->fd, &kind) != 0) {
         refuse(input, "%s", strerror(errno));
         return 0;
@@ -74,7 +75,7 @@ int have(struct input *input, size_t len) {
         if (input->waits && !wait_for_bytes(input))
             return 0;
         ssize_t count = read(input->fd, input->bytes + input->end, input->size - input->end);
-        if (count < 0 && errno == EINTR)
+        if (count < 0 && (errno == EINTR || (errno == EAGAIN && input->waits)))
             continue;
         if (count < 0)
             return refuse(input, "%s", strerror(errno));

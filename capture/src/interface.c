@@ -5,20 +5,21 @@
 
 #include <errno.h>
 #include <inttypes.h>
-#include <linux/filter.h>
 #include <net/if.h>
 #include <poll.h>
 #include <string.h>
-#include <sys/socket.h>
-#include <time.h>
 
 enum {
-    FRAMES_A_TURN = 64,
-    NAP_NANOSECONDS = 250000,
     /* How long a wait may take before a switch of the feed is seen, and before one is tried again. */
     MOST_PAUSE_MS = 100,
     SWITCH_PAUSE_MS = 2,
 };
+
+/* Whether it is up, by whichever name it has by now. */
+static int is_up(const struct interface *interface) {
+    char name[IF_NAMESIZE];
+    return if_indextoname(interface->number, name) != NULL && is_interface_up(name);
+}
 
 /* ---- frames */
 
@@ -28,12 +29,13 @@ static void take_frame(unsigned char *it, const struct pcap_pkthdr *head, const 
                                       0};
     nanoseconds moment = (nanoseconds)head->ts.tv_sec * NANOSECONDS_PER_SECOND +
                          (nanoseconds)head->ts.tv_usec * interface->nanoseconds_per_unit;
-    if (interface->is_down) {
+    /* Frames of before may come once it is down. */
+    if (interface->is_down && is_up(interface)) {
         interface->is_down = 0;
         tell("%s: it is up again", interface->name);
     }
-    if (interface->is_clock_of_its_own) {
-        interface->is_clock_of_its_own = 0;
+    if (interface->is_scale_unknown) {
+        interface->is_scale_unknown = 0;
         tell_adapter_clock(interface->name, moment);
     }
     if (!interface->arguments->uses_adapter_clock)
@@ -41,26 +43,19 @@ static void take_frame(unsigned char *it, const struct pcap_pkthdr *head, const 
     put_frame(&interface->feed, counter_at(moment, &interface->arguments->origin), &captured);
 }
 
-/* Keeps further frames out of the kernel's buffer, past libpcap, which would take those in it for unwanted too. */
-static void detach(struct interface *interface) {
-    struct sock_filter drop = BPF_STMT(BPF_RET | BPF_K, 0);
-    struct sock_fprog program = {1, &drop};
-    setsockopt(pcap_fileno(interface->pcap), SOL_SOCKET, SO_ATTACH_FILTER, &program, sizeof program);
-    interface->is_detached = 1;
+static void count_lost_frame(unsigned char *it, const struct pcap_pkthdr *head, const unsigned char *bytes) {
+    (void)head;
+    (void)bytes;
+    ((struct interface *)it)->counts.dropped++;
 }
 
 /* ---- interfaces that go and come */
 
-static void close_pcap(struct interface *interface) {
-    if (interface->pcap != NULL)
-        pcap_close(interface->pcap);
-    interface->pcap = NULL;
-}
-
 static void lose_interface(struct interface *interface) {
-    count_drops(interface);
-    close_pcap(interface);
     interface->is_down = 0;
+    take_all_rest(&interface->rings, take_frame, interface);
+    count_drops(interface);
+    close_rings(&interface->rings);
     interface->is_gone = 1;
     tell("%s: the interface is gone, and is taken again once it is back", interface->name);
 }
@@ -71,7 +66,7 @@ static void look_at_interface(struct interface *interface) {
     char name[IF_NAMESIZE];
     if (if_indextoname(interface->number, name) == NULL) {
         lose_interface(interface);
-    } else if (!interface->is_down && !is_interface_up(name)) {
+    } else if (!interface->is_down && !is_up(interface)) {
         tell("%s: it is down, and is recorded on once it is up", interface->name);
         interface->is_down = 1;
     }
@@ -91,6 +86,14 @@ static int wait_until_back(struct interface *interface) {
     return 1;
 }
 
+/* What is done while no frames are taken: the pipe is full, or has no reader. */
+static void while_waiting(void *it) {
+    struct interface *interface = it;
+    if (!interface->is_gone)
+        relieve_quiet_ring(&interface->rings);
+    tell_in_time(interface);
+}
+
 /* ---- other feeds */
 
 /* Keeps that a switch was done, or can't be, by this error. */
@@ -108,27 +111,18 @@ static void follow_switches(struct interface *interface) {
         return;
     enum switching switching = switch_feed(&interface->feed);
     int error = errno;
+    if (switching == SWITCHED)
+        interface->counts.dropped += take_lost(&interface->feed);
     if (switching != SWITCH_LATER)
         note_counts(interface);
     note_switch(interface, asked, switching, error);
 }
 
-static void count_lost_frame(unsigned char *it, const struct pcap_pkthdr *head, const unsigned char *bytes) {
-    (void)head;
-    (void)bytes;
-    ((struct interface *)it)->counts.dropped++;
-}
-
-/* Counts the frames as dropped that wait for a feed that never came. */
+/* Counts the frames as dropped that wait for a feed that never came, and those that the kernel keeps. */
 static void drop_waiting(struct interface *interface) {
-    interface->counts.dropped += interface->feed.waiting;
-    interface->feed.frames -= interface->feed.waiting;
-    interface->feed.waiting = interface->feed.len = 0;
-    if (interface->is_gone)
-        return;
-    detach(interface);
-    while (pcap_dispatch(interface->pcap, -1, count_lost_frame, (unsigned char *)interface) > 0)
-        ;
+    interface->counts.dropped += take_unwritten(&interface->feed);
+    if (!interface->is_gone)
+        take_all_rest(&interface->rings, count_lost_frame, interface);
 }
 
 /* Waits, where the reader of the feed has left or failed, for word that the next feed is to go on, and for that feed.
@@ -141,7 +135,7 @@ static int wait_for_next_feed(struct interface *interface) {
     while (!is_stopping() && (is_held(interface->switched) || (!is_open(output) && steady_now() < until))) {
         struct pollfd stop = {.fd = stop_fd};
         poll(&stop, 1, SWITCH_PAUSE_MS);
-        tell_in_time(interface);
+        while_waiting(interface);
         if (is_held(interface->switched))
             follow_switches(interface);
     }
@@ -163,55 +157,89 @@ static int pause_of(const struct interface *interface) {
     return left > 0 ? (int)left : 0;
 }
 
-/* Whether frames come more often than once in a nap, by those since the last wait. */
-static int is_burst(struct interface *interface) {
-    int64_t now = steady_now(), since = now - interface->last_wait;
-    int64_t taken = interface->taken;
-    interface->last_wait = now;
-    interface->taken = 0;
-    return taken * NAP_NANOSECONDS > since;
-}
-
-/* Waits for frames or for the end of the run. In a burst it sleeps a moment without waiting for anything: the kernel
- * would wake it for each single frame, which takes more time than the frame itself. */
+/* Waits for frames or for the end of the run. */
 static void wait_for_frames(struct interface *interface) {
-    if (is_burst(interface) && !is_stopping()) {
-        nanosleep(&(struct timespec){0, NAP_NANOSECONDS}, NULL);
-        return;
-    }
-    struct pollfd waits[2] = {{.fd = pcap_get_selectable_fd(interface->pcap), .events = POLLIN}, {.fd = stop_fd}};
-    /* libpcap says nothing of an interface that is only down. */
-    if (poll(waits, 2, pause_of(interface)) > 0 && (waits[0].revents & (POLLERR | POLLHUP)) != 0)
+    struct rings *rings = &interface->rings;
+    enum { IN_USE, OTHER, STOP, WAITS };
+    struct pollfd waits[WAITS] = {
+        [IN_USE] = {.fd = pcap_get_selectable_fd(ring_in_use(rings)->pcap), .events = POLLIN},
+        [OTHER] = {.fd = pcap_get_selectable_fd(other_ring(rings)->pcap), .events = POLLIN},
+        [STOP] = {.fd = stop_fd},
+    };
+    note_all_written(&interface->feed.output);
+    int ready = poll(waits, WAITS, pause_of(interface));
+    /* libpcap says nothing of an interface that is only down, and the kernel nothing of one that goes once it is. */
+    if ((waits[IN_USE].revents & (POLLERR | POLLHUP)) != 0 || (ready == 0 && interface->is_down))
         look_at_interface(interface);
+    else if ((waits[OTHER].revents & (POLLERR | POLLHUP)) != 0)
+        forget_fault(other_ring(rings));
+    else if (waits[IN_USE].revents == 0 && waits[OTHER].revents != 0)
+        exchange_rings(rings, take_frame, interface);
 }
 
 /* Takes what the kernel has. Whether there is more to come. */
 static int turn(struct interface *interface) {
+    struct rings *rings = &interface->rings;
     follow_switches(interface);
     if (is_held(interface->switched))
         return 0;
     if (interface->is_gone)
         return wait_until_back(interface);
-    if (is_stopping() && !interface->is_detached)
-        detach(interface);
-    int count = pcap_dispatch(interface->pcap, FRAMES_A_TURN, take_frame, (unsigned char *)interface);
-    tell_in_time(interface);
-    if (count > 0) {
-        interface->taken += count;
-        return flush_old(&interface->feed);
+    if (is_stopping()) {
+        take_all_rest(rings, take_frame, interface);
+        return 0;
     }
+    int count = take_frames_in_use(rings, take_frame, interface);
+    tell_in_time(interface);
+    follow_rate(rings, take_frame, interface);
+    if (count == FRAMES_A_TURN)
+        return flush_old(&interface->feed);
     if (count < 0)
         look_at_interface(interface);
-    if (!flush_feed(&interface->feed) || interface->is_detached || is_hurried())
+    if (!flush_feed(&interface->feed))
         return 0;
     if (!interface->is_gone)
         wait_for_frames(interface);
     return 1;
 }
 
+/* Says why a feed is open no more, and accounts for the frames that it has not taken: those of a reader that left were
+ * its own to leave, and others are lost. */
+static void account_for_fault(struct interface *interface) {
+    const struct output *output = &interface->feed.output;
+    const char *path = interface->route->to, *fault = output_fault(output);
+    if (output->state != OUTPUT_LEFT) {
+        tell("%s: %s %s", interface->name, path, fault);
+        drop_waiting(interface);
+        return;
+    }
+    uint64_t unwritten = take_unwritten(&interface->feed);
+    if (unwritten > 0)
+        tell("%s: %s %s, which %" PRIu64 " frames were for", interface->name, path, fault, unwritten);
+    else
+        tell("%s: %s %s", interface->name, path, fault);
+}
+
+/* Ends a feed, and tells the counts before its pipe is closed, so that they come ahead of what its reader tells then.
+ */
+static void end_feed(struct interface *interface) {
+    struct feed *feed = &interface->feed;
+    flush_feed(feed);
+    int was_open = is_open(&feed->output);
+    if (interface->is_gone)
+        tell("%s: the interface is gone", interface->name);
+    if (!was_open)
+        account_for_fault(interface);
+    tell_counts(interface);
+    note_counts(interface);
+    close_feed(feed);
+    if (was_open && !is_open(&feed->output))
+        tell("%s: %s %s", interface->name, interface->route->to, output_fault(&feed->output));
+}
+
 void run_interface(struct interface *interface) {
     struct feed *feed = &interface->feed;
-    feed->output.while_waiting = tell_in_time;
+    feed->output.while_waiting = while_waiting;
     feed->output.listener = interface;
     begin_counts(interface);
     if (open_feed(feed, interface->route->to))
@@ -219,21 +247,8 @@ void run_interface(struct interface *interface) {
             while (turn(interface))
                 ;
         while (wait_for_next_feed(interface));
-    flush_feed(feed);
-    if (feed->output.state == OUTPUT_ABANDONED)
-        drop_waiting(interface);
-    if (interface->is_gone)
-        tell("%s: the interface is gone", interface->name);
-    int was_open = is_open(&feed->output);
-    if (!was_open)
-        tell("%s: %s %s", interface->name, interface->route->to, output_fault(&feed->output));
-    /* Before the pipe is closed, so that the counts come ahead of what its reader tells then. */
-    tell_counts(interface);
-    note_counts(interface);
-    close_feed(feed);
-    if (was_open && !is_open(&feed->output))
-        tell("%s: %s %s", interface->name, interface->route->to, output_fault(&feed->output));
-    close_pcap(interface);
+    end_feed(interface);
+    close_rings(&interface->rings);
 }
 
 void pass_later_feeds(struct interface *interface, const atomic_int *running) {

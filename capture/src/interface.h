@@ -2,31 +2,31 @@
 #ifndef INTERFACE_H
 #define INTERFACE_H
 
+#include "adapter.h"
 #include "arguments.h"
 #include "clock.h"
 #include "counts.h"
 #include "feed.h"
 #include "moment.h"
+#include "rings.h"
 
-#include <pcap/pcap.h>
 #include <stdatomic.h>
 
 struct interface {
     const char *name;
     const struct route *route;
     const struct arguments *arguments;
-    pcap_t *pcap;    /* NULL once it is closed */
-    unsigned number; /* the kernel's */
+    struct rings rings; /* closed while it is gone */
+    unsigned number;    /* the kernel's */
     int has_check_sequences;
     int nanoseconds_per_unit;
-    int is_clock_of_its_own; /* frames have the adapter's time, which the host doesn't set; until that was told */
+    enum stamping stamping;
+    int clock_number;     /* of the adapter, as of /dev/ptp0; -1 where it has none that is known */
+    int is_scale_unknown; /* frames have the adapter's time as it runs, and none has shown its scale yet */
     struct frame_clock clock;
     struct feed feed;
     struct counts counts;
-    int64_t last_wait; /* when it began */
-    int taken;         /* frames since then */
-    int switched;      /* how many switches of the feed were done */
-    int is_detached;
+    int switched; /* how many switches of the feed were done */
     int is_down;
     int is_gone;
 };
@@ -35,8 +35,8 @@ struct interface {
  * else a line has said why not. */
 int open_interface(struct interface *interface, const struct route *route, const struct arguments *arguments);
 
-/* Tells how much the kernel really keeps of it: it has room for as many frames as slots of the longest fit. */
-void tell_buffer(const struct interface *interface);
+/* Tells how much memory the kernel really has for its frames, and whose clock stamps them. */
+void tell_opened(const struct interface *interface);
 
 /* Opens an interface again that was gone, where one of its name is there and up. */
 int open_again(struct interface *interface);

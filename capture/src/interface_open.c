@@ -4,10 +4,12 @@
 #include "prefilter.h"
 #include "privileges.h"
 
+#include <errno.h>
 #include <inttypes.h>
 #include <limits.h>
 #include <net/if.h>
 #include <pthread.h>
+#include <string.h>
 #include <unistd.h>
 
 enum {
@@ -49,38 +51,43 @@ static int refused_by(pcap_t *pcap, const char *name, int status) {
 }
 
 /* Takes the adapter's clock, where it is disciplined to the host's, and else as it runs. Whether there is one. */
-static int use_adapter_clock(struct interface *interface) {
+static int use_adapter_clock(struct interface *interface, pcap_t *pcap) {
     static const int CLOCKS[] = {PCAP_TSTAMP_ADAPTER, PCAP_TSTAMP_ADAPTER_UNSYNCED};
-    int *known, count = pcap_list_tstamp_types(interface->pcap, &known), is_set = 0;
+    int *known, count = pcap_list_tstamp_types(pcap, &known), is_set = 0;
     for (size_t clock = 0; clock < sizeof CLOCKS / sizeof *CLOCKS && !is_set; clock++)
         for (int i = 0; i < count && !is_set; i++) {
-            is_set = known[i] == CLOCKS[clock] && pcap_set_tstamp_type(interface->pcap, known[i]) == 0;
-            interface->is_clock_of_its_own = is_set && known[i] == PCAP_TSTAMP_ADAPTER_UNSYNCED;
+            is_set = known[i] == CLOCKS[clock] && pcap_set_tstamp_type(pcap, known[i]) == 0;
+            interface->stamping = known[i] == PCAP_TSTAMP_ADAPTER ? BY_DISCIPLINED_ADAPTER : BY_ADAPTER;
         }
     if (count > 0)
         pcap_free_tstamp_types(known);
+    interface->is_scale_unknown = is_set && interface->stamping == BY_ADAPTER;
     return is_set;
 }
 
-static int set_up(struct interface *interface) {
-    pcap_t *pcap = interface->pcap;
-    const char *name = interface->name;
-    const struct arguments *arguments = interface->arguments;
-    pcap_set_snaplen(pcap, MOST_CAPTURED);
-    pcap_set_promisc(pcap, arguments->is_promiscuous);
-    pcap_set_immediate_mode(pcap, 1);
-    pcap_set_buffer_size(pcap, arguments->buffer_mib * BYTES_A_MIB);
-    pcap_set_tstamp_precision(pcap, PCAP_TSTAMP_PRECISION_NANO);
-    if (arguments->uses_adapter_clock && !use_adapter_clock(interface))
-        return refused(name, "its adapter gives no times");
+static int activate(const struct interface *interface, enum ring_kind kind) {
+    pcap_t *pcap = interface->rings.each[kind].pcap;
     int status = pcap_activate(pcap);
     if (status < 0)
-        return refused_by(pcap, name, status);
-    if (status > 0)
-        tell("%s: %s", name, status == PCAP_WARNING ? pcap_geterr(pcap) : pcap_statustostr(status));
+        return refused_by(pcap, interface->name, status);
+    if (status > 0 && kind == QUIET_RING)
+        tell("%s: %s", interface->name, status == PCAP_WARNING ? pcap_geterr(pcap) : pcap_statustostr(status));
     if (pcap_datalink(pcap) != DLT_EN10MB)
-        return refused(name, "no Ethernet interface");
+        return refused(interface->name, "no Ethernet interface");
     return 1;
+}
+
+static int set_up(struct interface *interface, enum ring_kind kind) {
+    struct ring *ring = &interface->rings.each[kind];
+    const struct arguments *arguments = interface->arguments;
+    pcap_set_snaplen(ring->pcap, MOST_CAPTURED);
+    /* It is asked of the interface, so one ring does for both. */
+    pcap_set_promisc(ring->pcap, arguments->is_promiscuous && kind == QUIET_RING);
+    prepare_ring(ring, arguments->buffer_mib);
+    pcap_set_tstamp_precision(ring->pcap, PCAP_TSTAMP_PRECISION_NANO);
+    if (arguments->uses_adapter_clock && !use_adapter_clock(interface, ring->pcap))
+        return refused(interface->name, "its adapter gives no times");
+    return activate(interface, kind);
 }
 
 static int set_direction(pcap_t *pcap, const char *name, enum direction direction) {
@@ -95,36 +102,55 @@ static void note_adapter(struct interface *interface) {
     ask_adapter(interface->name, &adapter);
     enum check_sequences asked = interface->arguments->check_sequences;
     interface->has_check_sequences = asked == AS_THE_ADAPTER_SAYS ? adapter.gives_check_sequences : asked == GIVEN;
+    interface->clock_number = adapter.clock;
     if (adapter.joining[0] != 0)
         tell("%s: the kernel may join frames (%s), and a joined frame is none of the wire: ethtool -K %s gro off lro "
-             "off "
-             "gso off tso off",
+             "off gso off tso off",
              interface->name, adapter.joining, interface->name);
 }
 
-void tell_buffer(const struct interface *interface) {
-    uint64_t len = ring_len(pcap_fileno(interface->pcap));
+void tell_opened(const struct interface *interface) {
+    uint64_t len = 0;
+    for (int kind = 0; kind < RINGS; kind++)
+        len += ring_len(pcap_fileno(interface->rings.each[kind].pcap));
     if (len > 0)
         tell("%s buffer %" PRIu64 " MiB", interface->name, len / BYTES_A_MIB);
+    tell_clock(interface->name, interface->clock_number, interface->stamping);
+}
+
+/* Opens one of the rings of an interface that is there by now. */
+static int open_ring(struct interface *interface, enum ring_kind kind) {
+    char error[PCAP_ERRBUF_SIZE];
+    const char *name = interface->name;
+    pcap_t *pcap = pcap_create(name, error);
+    interface->rings.each[kind] = (struct ring){.pcap = pcap, .kind = kind};
+    if (pcap == NULL)
+        return refused(name, error);
+    if (!set_up(interface, kind) || !set_direction(pcap, name, interface->arguments->direction))
+        return 0;
+    return pcap_setnonblock(pcap, 1, error) == 0 || refused(name, error);
+}
+
+/* Has the kernel drop what the interface's prefilter drops, where it has one. Whether it could. */
+static int set_prefilter(const struct interface *interface) {
+    const struct ring *each = interface->rings.each;
+    pcap_t *const pcaps[RINGS] = {each[QUIET_RING].pcap, each[BURST_RING].pcap};
+    const char *path = interface->route->prefilter;
+    return path == NULL || drop_by_listing(pcaps, RINGS, interface->name, path);
 }
 
 /* Opens an interface that is there by now, as it was asked for. */
-static int open_pcap(struct interface *interface) {
-    char error[PCAP_ERRBUF_SIZE];
-    const char *name = interface->name, *prefilter = interface->route->prefilter;
-    interface->number = if_nametoindex(name);
-    interface->pcap = pcap_create(name, error);
-    if (interface->pcap == NULL)
-        return refused(name, error);
-    if (!set_up(interface) || !set_direction(interface->pcap, name, interface->arguments->direction))
+static int open_all_of(struct interface *interface) {
+    interface->number = if_nametoindex(interface->name);
+    for (int kind = 0; kind < RINGS; kind++)
+        if (!open_ring(interface, (enum ring_kind)kind))
+            return 0;
+    if (!set_prefilter(interface))
         return 0;
-    if (prefilter != NULL && !drop_by_listing(interface->pcap, name, prefilter))
-        return 0;
-    if (pcap_setnonblock(interface->pcap, 1, error) != 0)
-        return refused(name, error);
-    int is_nano = pcap_get_tstamp_precision(interface->pcap) == PCAP_TSTAMP_PRECISION_NANO;
+    if (!group_rings(&interface->rings))
+        return refused(interface->name, strerror(errno));
+    int is_nano = pcap_get_tstamp_precision(interface->rings.each[QUIET_RING].pcap) == PCAP_TSTAMP_PRECISION_NANO;
     interface->nanoseconds_per_unit = is_nano ? 1 : 1000;
-    interface->counts.seen = (struct pcap_stat){0};
     note_adapter(interface);
     return 1;
 }
@@ -132,7 +158,7 @@ static int open_pcap(struct interface *interface) {
 int open_interface(struct interface *interface, const struct route *route, const struct arguments *arguments) {
     *interface =
         (struct interface){.name = route->from, .route = route, .arguments = arguments, .feed = {.output.fd = -1}};
-    return open_pcap(interface);
+    return open_all_of(interface);
 }
 
 int open_again(struct interface *interface) {
@@ -140,14 +166,12 @@ int open_again(struct interface *interface) {
     static pthread_mutex_t opening = PTHREAD_MUTEX_INITIALIZER;
     pthread_mutex_lock(&opening);
     begin_to_open();
-    int is_open = open_pcap(interface);
+    int is_open = open_all_of(interface);
     end_to_open();
     pthread_mutex_unlock(&opening);
-    if (is_open) {
-        tell_buffer(interface);
-    } else if (interface->pcap != NULL) {
-        pcap_close(interface->pcap);
-        interface->pcap = NULL;
-    }
+    if (is_open)
+        tell_opened(interface);
+    else
+        close_rings(&interface->rings);
     return is_open;
 }

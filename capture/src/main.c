@@ -10,6 +10,7 @@
 #include "interface.h"
 #include "privileges.h"
 #include "signals.h"
+#include "system_calls.h"
 
 #include <errno.h>
 #include <fcntl.h>
@@ -28,7 +29,7 @@ enum { WELL = 0, FAILED = 1, NOT_BEGUN = 3, LOST = 5 };
 struct work {
     struct interface interface;
     struct conversion conversion;
-    int is_file;
+    int is_file, is_started;
     pthread_t thread;
 };
 
@@ -99,22 +100,37 @@ static void follow_settings(void) {
     tell_settings(0);
 }
 
+/* Says why nothing can be begun: NOT_BEGUN. */
+static int not_begun(const char *what, int error) {
+    tell("%s: %s", what, strerror(error));
+    return NOT_BEGUN;
+}
+
+/* Starts a thread for each. Whether all could be started; else a line has said why not, and the others are to end. */
+static int start_all(struct work *works, int count) {
+    int error = 0, started = 0;
+    atomic_store(&running, count);
+    while (started < count && (error = pthread_create(&works[started].thread, NULL, run, &works[started])) == 0)
+        works[started++].is_started = 1;
+    if (started == count)
+        return 1;
+    tell("no thread: %s", strerror(error));
+    if (atomic_fetch_sub(&running, count - started) == count - started)
+        close(ended_writer);
+    return 0;
+}
+
 /* Runs all to their ends; `beside` is called now and then, where it isn't NULL. The status. */
 static int run_all(struct work *works, int count, void (*beside)(void)) {
-    int ended[2], started = 0;
-    if (pipe(ended) != 0)
-        return NOT_BEGUN;
+    int ended[2];
+    if (pipe2(ended, O_CLOEXEC) != 0)
+        return not_begun("no pipe", errno);
     ended_writer = ended[1];
-    atomic_store(&running, count);
-    while (started < count && pthread_create(&works[started].thread, NULL, run, &works[started]) == 0)
-        started++;
-    if (started < count) {
-        tell("no thread: %s", strerror(errno));
-        return FAILED;
-    }
+    int is_all_well = start_all(works, count);
+    if (!is_all_well)
+        stop_run();
     serve_signals(ended[0], beside);
-    int is_all_well = 1;
-    for (int i = 0; i < count; i++) {
+    for (int i = 0; i < count && works[i].is_started; i++) {
         pthread_join(works[i].thread, NULL);
         is_all_well &= works[i].is_file ? works[i].conversion.is_well : is_well(&works[i].interface);
     }
@@ -143,10 +159,10 @@ static void follow_parent(pid_t parent) {
 static int begin_live(const struct work *works, const struct arguments *arguments) {
     char text[SECONDS_TEXT_LEN];
     for (int i = 0; i < arguments->count; i++)
-        tell_buffer(&works[i].interface);
+        tell_opened(&works[i].interface);
     drop_privileges();
+    forbid_other_calls();
     follow_parent(arguments->parent);
-    share_pipes(arguments->count);
     if (arguments->events != NULL && !open_events(arguments->events))
         return 0;
     print_seconds(arguments->origin.at, text);
@@ -165,20 +181,29 @@ static int run_live(struct work *works, const struct arguments *arguments) {
     return status == WELL && has_lost && arguments->is_strict ? LOST : status;
 }
 
+/* Converts files, whose bytes may be anybody's. The status. */
+static int run_files(struct work *works, const struct arguments *arguments) {
+    drop_privileges_but_files();
+    forbid_other_calls();
+    return run_all(works, arguments->count, NULL);
+}
+
 /* Does what the arguments say. The status. */
 static int run_arguments(struct work *works, struct arguments *arguments) {
-    if (!prepare_stop() || !find_origin(arguments))
+    if (!prepare_stop())
+        return not_begun("no signals", errno);
+    if (!find_origin(arguments))
         return NOT_BEGUN;
     start_clock(&arguments->origin);
     if (!open_all(works, arguments))
         return NOT_BEGUN;
-    return arguments->are_files ? run_all(works, arguments->count, NULL) : run_live(works, arguments);
+    return arguments->are_files ? run_files(works, arguments) : run_live(works, arguments);
 }
 
 int main(int argc, char **argv) {
     struct arguments arguments;
     if (!fill_streams())
-        return NOT_BEGUN;
+        return not_begun("/dev/null", errno);
     int is_done, status = read_arguments(argc, argv, &arguments, &is_done);
     if (status != 0 || is_done)
         return status;
@@ -188,7 +213,7 @@ int main(int argc, char **argv) {
         return NOT_BEGUN;
     }
     struct work *works = calloc((size_t)arguments.count, sizeof *works);
-    status = works != NULL ? run_arguments(works, &arguments) : NOT_BEGUN;
+    status = works != NULL ? run_arguments(works, &arguments) : not_begun("no room", ENOMEM);
     free(works);
     free(arguments.routes);
     free(arguments.prefilters);

@@ -7,7 +7,7 @@
 /* Nanoseconds since 1970-01-01, as wide as the times of any capture file. */
 typedef __int128 nanoseconds;
 
-enum { NANOSECONDS_PER_TICK = 100, NANOSECONDS_PER_SECOND = 1000000000 };
+enum { NANOSECONDS_PER_TICK = 100, NANOSECONDS_PER_MS = 1000000, NANOSECONDS_PER_SECOND = 1000000000 };
 
 /* The moment at which the counter is 0; the first frame of a file, until that is known. */
 struct origin {

@@ -10,12 +10,13 @@
 #include <sys/stat.h>
 #include <unistd.h>
 
-enum { PIPE_LEN = 1 << 20, PIPES_LEN = 1 << 25, READER_PAUSE_MS = 5, FULL_PAUSE_MS = 200 };
+enum { READER_PAUSE_MS = 5, FULL_PAUSE_MS = 10 };
 
 /* How long a run that is to end waits for the reader of a pipe, who may be about to come. */
 static const int64_t LAST_WAIT = 2 * (int64_t)NANOSECONDS_PER_SECOND;
 
-static int pipe_len = PIPE_LEN;
+/* How long a reader may have more to read than it takes. */
+static const int64_t TOO_SLOW = NANOSECONDS_PER_SECOND / 10;
 
 static int ended(struct output *output, enum output_state state, int error) {
     output->state = state;
@@ -58,22 +59,29 @@ static int open_path(struct output *output, const char *path) {
     }
 }
 
-void share_pipes(int count) {
-    pipe_len = PIPES_LEN / count < PIPE_LEN ? PIPES_LEN / count : PIPE_LEN;
-}
-
-/* Makes a pipe longer, where the system allows it; it is only quicker. */
-static void lengthen(int fd) {
-    (void)!fcntl(fd, F_SETPIPE_SZ, pipe_len);
-}
-
 int open_output(struct output *output, const char *path) {
     output->path = path;
     output->fd = open_path(output, path);
     if (output->fd < 0)
         return is_stopping() ? ended(output, OUTPUT_ABANDONED, 0) : fail_output(output, errno);
-    lengthen(output->fd);
     return 1;
+}
+
+void note_all_written(struct output *output) {
+    output->behind_since = 0;
+    output->waited_so_far = 0;
+}
+
+/* Counts a wait, once there was always more to write for so long that the reader is too slow. */
+static void count_wait(struct output *output, int64_t begin) {
+    int64_t now = steady_now();
+    if (output->behind_since == 0)
+        output->behind_since = begin;
+    output->waited_so_far += now - begin;
+    if (now - output->behind_since < TOO_SLOW)
+        return;
+    output->waited += output->waited_so_far;
+    output->waited_so_far = 0;
 }
 
 /* Waits until the pipe takes bytes again, or the run is to end at once. */
@@ -81,7 +89,7 @@ static void wait_for_room(struct output *output) {
     struct pollfd waits[2] = {{.fd = output->fd, .events = POLLOUT}, {.fd = hurry_fd}};
     int64_t begin = steady_now();
     int ready = poll(waits, 2, FULL_PAUSE_MS);
-    output->waited += steady_now() - begin;
+    count_wait(output, begin);
     if (ready > 0 && waits[1].revents != 0)
         ended(output, OUTPUT_ABANDONED, 0);
     else if (ready == 0 && output->while_waiting)
@@ -141,7 +149,6 @@ enum switching open_next(const struct output *output, int *fd) {
 void go_over(struct output *output, int fd) {
     /* It is emptied only where it is a file, and another one. */
     (void)!ftruncate(fd, 0);
-    lengthen(fd);
     close(output->fd);
     output->fd = fd;
     output->state = OUTPUT_OPEN;

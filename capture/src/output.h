@@ -17,15 +17,13 @@ struct output {
     int fd;
     enum output_state state;
     int error;
-    int64_t waited;                /* nanoseconds for which the pipe was full */
+    int64_t waited;                /* nanoseconds for which the pipe was full, while it was behind */
+    int64_t behind_since;          /* from when on there was always more to write */
+    int64_t waited_so_far;         /* of that time, as long as it is short */
     uint64_t taken;                /* bytes that went out */
     void (*while_waiting)(void *); /* called now and then while the pipe is full */
     void *listener;
 };
-
-/* Says how many outputs there are: a user may have pipes of 64 MiB in all, and there are twice as many while feeds
- * go over to others. */
-void share_pipes(int count);
 
 /* Opens what is at `path`, where `-` is standard output. A named pipe is waited for until it has a reader. Whether it
  * is open; else `state` says why not. */
@@ -36,6 +34,10 @@ int is_open(const struct output *output);
 
 /* The output failed with this error. It is no more open: 0. */
 int fail_output(struct output *output, int error);
+
+/* Notes that all is written for now. A pipe is full each time that many frames come at once; its reader is too slow
+ * where there is always more to write for a tenth of a second, and only such waits are counted. */
+void note_all_written(struct output *output);
 
 /* Writes all the bytes. Whether it is still open. */
 int write_all(struct output *output, const unsigned char *bytes, size_t len);

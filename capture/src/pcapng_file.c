@@ -21,6 +21,8 @@ enum {
     LEAST_SIMPLE_LEN = 16,
     LEAST_PACKET_LEN = 32,
     MOST_BLOCK_LEN = 1 << 24,
+    /* Of a section: so many as --interface can name. */
+    MOST_INTERFACES = 65536,
 
     OPTION_PACKET_FLAGS = 2,
     OPTION_RESOLUTION = 9,
@@ -54,6 +56,8 @@ static int read_section(struct capture_file *file, const unsigned char *block) {
 
 static int read_interface(struct capture_file *file, const unsigned char *block, const unsigned char *end) {
     struct input *input = &file->input;
+    if (file->count == MOST_INTERFACES)
+        return refuse(input, "more than %d interfaces at byte %" PRIu64, MOST_INTERFACES, input->at);
     struct file_interface *it = add_interface(file);
     struct pcapng_option option;
     if (it == NULL)

@@ -132,7 +132,7 @@ static void pass_what_differs(struct program *program) {
     program->count += HEAD_INSNS;
 }
 
-int drop_by_listing(pcap_t *pcap, const char *interface, const char *path) {
+int drop_by_listing(pcap_t *const *pcaps, int count, const char *interface, const char *path) {
     static char text[MOST_BYTES + 1];
     static struct program program;
     program.count = 0;
@@ -147,9 +147,10 @@ int drop_by_listing(pcap_t *pcap, const char *interface, const char *path) {
         return 1;
     }
     struct bpf_program given = {program.count, program.insns};
-    if (pcap_setfilter(pcap, &given) != 0) {
-        tell("%s: %s: %s", interface, path, pcap_geterr(pcap));
-        return 0;
-    }
+    for (int at = 0; at < count; at++)
+        if (pcap_setfilter(pcaps[at], &given) != 0) {
+            tell("%s: %s: %s", interface, path, pcap_geterr(pcaps[at]));
+            return 0;
+        }
     return 1;
 }

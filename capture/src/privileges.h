@@ -6,7 +6,10 @@
  * force, for one that comes back. */
 void drop_privileges(void);
 
-/* Puts that one in force for this thread, and out of force again. */
+/* The same of a program that captures nothing: only those are kept by which root reads the files of others. */
+void drop_privileges_but_files(void);
+
+/* Puts the one to open an interface in force for this thread, and out of force again. */
 void begin_to_open(void);
 void end_to_open(void);
 

@@ -3,6 +3,7 @@
 #include "moment.h"
 
 #include <errno.h>
+#include <fcntl.h>
 #include <poll.h>
 #include <pthread.h>
 #include <signal.h>
@@ -55,7 +56,8 @@ int prepare_stop(void) {
     /* A job in the background may have been started with one of them ignored. */
     signal(SIGINT, SIG_DFL);
     signal(SIGTERM, SIG_DFL);
-    if (pthread_sigmask(SIG_BLOCK, &set, NULL) != 0 || pipe(stop) != 0 || pipe(hurry) != 0)
+    errno = pthread_sigmask(SIG_BLOCK, &set, NULL);
+    if (errno != 0 || pipe2(stop, O_CLOEXEC) != 0 || pipe2(hurry, O_CLOEXEC) != 0)
         return 0;
     stop_fd = stop[0];
     stop_writer = stop[1];
@@ -71,6 +73,11 @@ void follow_process(int process) {
         kill(getpid(), SIGTERM);
 }
 
+void stop_run(void) {
+    if (atomic_exchange(&stopping, 1) == 0)
+        close(stop_writer);
+}
+
 /* Does what a signal asks for; `first` is when the first came that ends the run. */
 static void serve(int signal, int64_t *first) {
     if (signal == SIGUSR1) {
@@ -79,8 +86,7 @@ static void serve(int signal, int64_t *first) {
         atomic_store(&held, atomic_load(&switches));
     } else if (!is_stopping()) {
         *first = steady_now();
-        atomic_store(&stopping, 1);
-        close(stop_writer);
+        stop_run();
     } else if (!is_hurried() && steady_now() - *first > ONE_SIGNAL) {
         atomic_store(&hurried, 1);
         close(hurry_writer);

@@ -12,6 +12,9 @@ int prepare_stop(void);
 int is_stopping(void);
 int is_hurried(void);
 
+/* Has the run end, as INT does. */
+void stop_run(void);
+
 /* How many times the feeds were asked, by USR1, to go over to what their paths name by then. */
 int switches_asked(void);
 

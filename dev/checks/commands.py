@@ -23,7 +23,7 @@ def differing(page):
     """What the page doesn't have, or has beside the help."""
     texts = manual.Help()
     usages = {" ".join(["bpfrec", it.name, *(word.name for word in it.words)]) for it in texts.commands}
-    shown = set(re.findall(r"`(bpfrec [a-z]+[ A-Z]*)`", page))
+    shown = set(re.findall(r"`(bpfrec [a-z]+[] A-Z[]*)`", page))
     yield from (f"no row `{it}`" for it in sorted(usages - shown))
     yield from (f"`{it}` is no command of the help" for it in sorted(shown - usages))
     for name in help_texts.tools():

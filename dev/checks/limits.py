@@ -185,7 +185,7 @@ def script_texts():
     yield "Script", "`recorder <limit> <ring> <version>`", limit_ring_version
     yield "Script", "`channel <id> <net> <speed> <max> <listing>`", f"{it.MIN_CHANNELS} to {it.MAX_CHANNELS} lines"
     yield "Script", "`channel <id> <net> <speed> <max> <listing>`", id_net_speed
-    yield "Script", "`take <channel> <counter> <marks> <frame>`", f"marks 0 to {it.MAX_MARKS}"
+    yield "Script", "`take <channel> <counter> <marks> <frame>`", f"error flags 0 to {it.MAX_MARKS}"
     yield "Script", "`take <channel> <counter> <marks> <frame>`", f"below 2^{it.COUNTER_BITS}"
     yield "Script", "`refused 6 VersionsFull`", f"{it.MAX_VERSIONS:,} programs"
 
@@ -203,7 +203,7 @@ def packet_texts():
     yield "Packets", f"from {it.FRAME_HEADER_LEN}", "the frame's bytes"
     yield "Packets", f"from {it.PROGRAM_HEAD_LEN}", f"{it.INSN_LEN} bytes each"
     yield "Packets", "Length", f"fewer than {it.TAGGED_HEAD_LEN} bytes"
-    yield "Packets", "Length", f"the record of an end hasn't {it.END_RECORD_LEN} bytes"
+    yield "Packets", "Length", f"an end record hasn't {it.END_RECORD_LEN} bytes"
     yield "Packets", "Short", f"fewer than {it.BODY_WORD_LEN} bytes"
     yield "Packets", "its length", f"{it.CHECKSUM_LEN} bytes more"
 

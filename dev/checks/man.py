@@ -41,7 +41,7 @@ def printed_otherwise(program):
             command.help,
             command.about,
             *(it.help for it in command.words),
-            *(f"<{it.name}>" for it in command.words),
+            *(it.name if it.name.startswith("[") else f"<{it.name}>" for it in command.words),
         ]
         if [it for it in wanted if it not in said]:
             yield f"{command.name} --help"

@@ -90,6 +90,8 @@ def kinds_of(words):
 KINDS = [
     ("recording", "ch11"),
     ("feed that", "feed"),
+    ("pcapng file", "pcapng"),
+    ("seconds", None),
     ("listing", "txt"),
     ("filter in the text", "bpf"),
     ("script", "script"),
@@ -113,6 +115,11 @@ def string_of(literal):
     return re.sub(r"\\(.)", lambda it: {"n": "\n", "t": "\t"}.get(it[1], it[1]), text)
 
 
+def shown(name, is_required):
+    """A word's name as usage shows it."""
+    return name if is_required == "true" else f"[{name}]"
+
+
 class Help:
     """The texts of the program's help."""
 
@@ -120,10 +127,10 @@ class Help:
         source = COMMANDS.read_text() + HELP.read_text()
         quoted = r'"((?:[^"\\]|\\.)*)"'
         texts = {name: string_of(it) for name, it in re.findall(rf"const (\w+): &str =\s*{quoted};", source, re.DOTALL)}
-        word = rf"WordTexts \{{\s*name: {quoted},\s*help: {quoted},\s*\}}"
+        word = rf"WordTexts \{{\s*name: {quoted},\s*help: {quoted},\s*is_required: (true|false),\s*\}}"
         words = {
-            name: Word(string_of(a), string_of(b))
-            for name, a, b in re.findall(rf"const (\w+): WordTexts = {word};", source)
+            name: Word(shown(string_of(a), c), string_of(b))
+            for name, a, b, c in re.findall(rf"const (\w+): WordTexts = {word};", source)
         }
         named = dict(re.findall(r"HelpText::(\w+) => (\w+),", source))
         table = source[source.index("const COMMANDS:") :]
@@ -133,7 +140,7 @@ class Help:
         for name, _, about, help_name, given in re.findall(row, table, re.DOTALL):
             found = []
             for it in re.finditer(rf"{word}|\b([A-Z_]+)\b(?=\s*[,\]]|\s*$)", given):
-                found.append(words[it[3]] if it[3] else Word(string_of(it[1]), string_of(it[2])))
+                found.append(words[it[4]] if it[4] else Word(shown(string_of(it[1]), it[3]), string_of(it[2])))
             self.commands.append(Command(name, string_of(about), texts[named[help_name]], found))
         if len(self.commands) != table.count("    CommandTexts {") or not self.commands:
             raise SystemExit(f"{COMMANDS.relative_to(ROOT)}: not every command of COMMANDS can be read")

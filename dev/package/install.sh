@@ -69,7 +69,7 @@ plugins() {
 install_plugin() {
     local folder plugin=$to/share/bpfrec/bpfrec.lua
     folder=$DESTDIR$(plugins)
-    if ! { mkdir -p "$folder" && ln -sfn "$(realpath -m --relative-to="$folder" "$plugin")" "$folder/bpfrec.lua"; } 2> /dev/null; then
+    if ! { { [[ -d $folder ]] || install -d "$folder"; } && ln -sfn "$(realpath -m --relative-to="$folder" "$plugin")" "$folder/bpfrec.lua"; } 2> /dev/null; then
         echo "$folder can't be written, so Wireshark finds no recordings: link $plugin into ~/.local/lib/wireshark/plugins"
     fi
 }

@@ -35,13 +35,15 @@ libc_version() {
     grep -aoh 'GLIBC_2\.[0-9]*' "$@" | sed 's/GLIBC_//' | sort -Vu | tail -n 1
 }
 
-# The package of the libpcap that bin/capture runs with.
-pcap_package() {
+# The packages of the libraries that bin/capture runs with, beside the C library, each after a comma.
+capture_packages() {
     local library
     [[ -x bin/capture ]] || return 0
-    library=$(ldd bin/capture | sed -n 's/.*libpcap[^ ]* => \([^ ]*\) .*/\1/p')
-    # A file of /usr/lib may be known as one of /lib.
-    { dpkg -S "*/${library##*/}" 2> /dev/null || true; } | sed -n 's/:.*//p' | head -n 1
+    ldd bin/capture | sed -n 's/.*=> \([^ ]*\) .*/\1/p' | grep -E 'lib(pcap|deflate|z|seccomp)\.' |
+        while read -r library; do
+            # A file of /usr/lib may be known as one of /lib.
+            { dpkg -S "*/${library##*/}" 2> /dev/null || true; } | sed -n 's/:.*//p' | head -n 1
+        done | sort -u | sed 's/^/, /' | tr -d '\n'
 }
 
 DESTDIR=$root PREFIX=/usr ZSH=share/zsh/vendor-completions dev/package/install.sh
@@ -50,7 +52,7 @@ for link in "$root"/usr/share/man/man1/bpfrec-*.1; do
     rm "$link"
     ln -s bpfrec.1.gz "$link.gz"
 done
-package=$(pcap_package)
+libraries=$(capture_packages)
 for program in "$root/usr/bin/bpfrec" "$root/usr/libexec/bpfrec/bpfrec-capture"; do
     [[ ! -f $program ]] || strip --strip-unneeded "$program"
 done
@@ -73,7 +75,7 @@ Architecture: $architecture
 Maintainer: $maintainer
 Installed-Size: $(du -sk --apparent-size --exclude DEBIAN "$root" | cut -f 1)
 Depends: libc6 (>= $(libc_version bin/bpfrec))
-Recommends: python3 (>= 3.9), python3 (>= 3.11) | python3-tomli${package:+, $package}
+Recommends: python3 (>= 3.9), python3 (>= 3.11) | python3-tomli$libraries
 Suggests: tcpdump, wireshark
 Section: net
 Priority: optional

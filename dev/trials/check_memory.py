@@ -13,6 +13,7 @@ By a malloc that is preloaded (dev/trials/failing_malloc.c, with cc):
 - a filter runs once on a frame: a recording with the greatest filter takes less than 1.4 times the
   processor's time of its audit, which runs the filter once on each frame (0.8 to 1.1 as measured, and twice
   that where it ran twice), by the least of three rounds or more
+- each further place of a ring takes one growth, its buffer's; each further channel takes as many as another
 - 64 channels are recorded from pipes whose paths have over 90 bytes
 - where a thread can't be started, whichever, those that run are stopped, no line of standard input is read,
   nothing is written, and the program ends as out of memory
@@ -23,8 +24,6 @@ ask for 65,536 bytes at once at most.
 It takes some seconds, and dev/build/test.py and dev/build/gate.py run it. The status is 1 where something else happens.
 """
 import argparse
-import contextlib
-import errno
 import os
 import resource
 import struct
@@ -32,15 +31,16 @@ import subprocess
 import sys
 import tempfile
 import threading
-import time
 from pathlib import Path
 
-from frames import counted_feed
+from feeding import feed_on, feed_once, frames_of, pipe_to, seconds_of_children
 from support import BPFREC, DROPS_ALL, KEEPS_ALL, TRIALS, shared_library
 
 FRAMES, FEW, CHANGES = 100_000, 1_000, 100
 MOST_CHANNELS = 64
 MOST_INSNS = 4_096
+# The growths of a channel whose ring has one place: 30 as measured, beside those of lists that double.
+MOST_A_CHANNEL = 32
 FILTERED, FEWEST_ROUNDS, MOST_ROUNDS, MOST_RATIO = 20_000, 3, 10, 1.4
 SECONDS = 100
 # A header that claims a packet of four gigabytes, and how much memory its readers may have.
@@ -52,11 +52,6 @@ NO_LINE, NO_LINE_ANSWER = b"x\n", b"refused 0 Line\n"
 COUNTS = ("growths", "recording", "late", "refused", "largest", "started", "running", "left")
 # A folder whose name alone is longer than most paths.
 PREFIX = "bpfrec-memory-" + 12 * "longer-"
-
-
-def frames_of(count, first=0):
-    """The feed of so many frames of 64 bytes, whose counters are their numbers."""
-    return counted_feed([bytes(range(64))] * count, first)
 
 
 class Checks:
@@ -183,7 +178,7 @@ class Checks:
             again, new = self.work / "again.feed", self.work / "again.ch11"
             again.unlink(missing_ok=True)
             new.unlink(missing_ok=True)
-            writes = (["extract", file, "1", str(again)], ["upgrade", file, str(new)])
+            writes = (["extract", file, "1", str(again)], ["upgrade", file, str(new)], ["export", file, "-"])
             ran = [self.run_on(path, *words) for words in (["list", file], ["audit", file], *writes)]
             listed = [line.split() for line in ran[0].stdout.splitlines()]
             counts = [int(line[-1]) for line in listed if line[-2] == b"frames"]
@@ -196,9 +191,10 @@ class Checks:
                 len(found),
                 ran[2].stdout,
                 ran[3].stdout,
+                len(ran[4].stdout),
             )
             holds = (
-                seen[0] == [0, 0, 0, 0]
+                seen[0] == [0, 0, 0, 0, 0]
                 and listed[-1][1] == b"%d" % seen[1]
                 and sum(counts) == len(kept)
                 and found == kept
@@ -277,6 +273,32 @@ class Checks:
         self.judge(f"{FEW} and {FRAMES} frames take memory equally often", counts[0] == counts[1] > 0, counts)
         print(f"    {counts[0]} times")
 
+    def growths_of(self, channels, ring):
+        """How often a recording of so many channels and places of a ring takes memory."""
+        self.settings(channels)
+        settings = self.work / "settings.toml"
+        settings.write_text(f"limit = 16424\nring = {ring}\n{settings.read_text()}")
+        for channel in range(1, channels + 1):
+            threading.Thread(target=feed_once, args=(self.work / f"feed_{channel}", frames_of(1)), daemon=True).start()
+        self.start("shapes.ch11", subprocess.DEVNULL).communicate(timeout=SECONDS)
+        return self.counted()["recording"]
+
+    def shapes(self):
+        rings = [1, 2, 3, 64, 4_096]
+        by_ring = [self.growths_of(1, it) for it in rings]
+        self.judge(
+            "a further place of a ring takes one growth",
+            [it - by_ring[0] for it in by_ring] == [it - 1 for it in rings],
+            by_ring,
+        )
+        by_channels = [self.growths_of(it, 1) for it in (16, 32, 64)]
+        few, many = by_channels[1] - by_channels[0], by_channels[2] - by_channels[1]
+        self.judge(
+            f"a further channel takes {MOST_A_CHANNEL} growths at most, however many there are",
+            few <= 16 * MOST_A_CHANNEL and many <= 32 * MOST_A_CHANNEL,
+            by_channels,
+        )
+
     def threads(self):
         """Refuses each thread of three channels and the control; their feeds go on for as long as they are read."""
         channels = 3
@@ -316,49 +338,19 @@ class Checks:
     def claims(self):
         (self.work / "claim.ch11").write_bytes(CLAIM)
         limit = lambda: resource.setrlimit(resource.RLIMIT_AS, (ADDRESSES, ADDRESSES))
-        for words in (["list"], ["audit"], ["extract", "1", "claim.feed"], ["upgrade", "claim.new"]):
+        for words in (
+            ["list"],
+            ["audit"],
+            ["extract", "1", "claim.feed"],
+            ["upgrade", "claim.new"],
+            ["export", "claim.pcapng"],
+        ):
             words = [self.program, words[0], "claim.ch11", *words[1:]]
             env = {"LD_PRELOAD": str(self.library), "GROWTHS": str(self.counts)}
             ran = subprocess.run(words, cwd=self.work, env=env, capture_output=True, preexec_fn=limit, timeout=SECONDS)
             seen = (ran.returncode, ran.stdout, ran.stderr, self.counted()["largest"])
             holds = seen[0] == 1 and b"read 1 Truncated 0" in seen[1] + seen[2] and seen[3] <= MOST_AT_ONCE
             self.judge(f"`{words[1]}` of a header that claims four gigabytes", holds, seen)
-
-
-def seconds_of_children():
-    """The seconds of a processor that the programs took which have ended."""
-    used = resource.getrusage(resource.RUSAGE_CHILDREN)
-    return used.ru_utime + used.ru_stime
-
-
-def pipe_to(running, path):
-    """Opens a pipe as soon as a recording reads it; an error where the recording ends before."""
-    while True:
-        try:
-            pipe = os.open(path, os.O_WRONLY | os.O_NONBLOCK)
-            os.set_blocking(pipe, True)
-            return os.fdopen(pipe, "wb")
-        except OSError as error:
-            if error.errno != errno.ENXIO or running.poll() is not None:
-                raise
-        time.sleep(0.001)
-
-
-def feed_once(path, frames):
-    """Writes these frames into a pipe, as far as its reader takes them."""
-    with contextlib.suppress(BrokenPipeError), open(path, "wb") as pipe:
-        pipe.write(frames)
-
-
-def feed_on(path):
-    """Writes frames into a pipe until its reader has closed it."""
-    frames = frames_of(100)
-    try:
-        with open(path, "wb", buffering=0) as pipe:
-            while True:
-                pipe.write(frames)
-    except BrokenPipeError:
-        pass
 
 
 def main():
@@ -377,6 +369,7 @@ def main():
             checks.same_number,
             checks.once,
             checks.channels,
+            checks.shapes,
             checks.threads,
             checks.claims,
         ):

@@ -161,8 +161,13 @@ ssize_t write(int file, const void *bytes, size_t count) {
 }
 
 int fsync(int file) {
+    struct stat found;
+
     if (!real_fsync)
         real_fsync = dlsym(RTLD_NEXT, "fsync");
+    /* The folder of a new OUT is forced before anything is recorded. */
+    if (fstat(file, &found) == 0 && S_ISDIR(found.st_mode))
+        return real_fsync(file);
     __atomic_store_n(&moment, AFTER, __ATOMIC_SEQ_CST);
     if (counts->recording == 0)
         counts->recording = counts->growths;

@@ -12,7 +12,7 @@ Each run has an address space of a gibibyte and 20 seconds. A case is kept where
 - takes over two megabytes more memory than on an empty file; a recording than of the same settings with
   empty feeds;
 - disagrees with itself: `asm` and `dis` of a program, `verify` and `run`, `list` with `extract`, with
-  `audit` and with `upgrade`, `record` and `simulate` of the same frames.
+  `audit`, with `export` and with `upgrade`, `record` and `simulate` of the same frames.
 
 It wants `prlimit` and GNU `time`.
 """
@@ -26,9 +26,10 @@ import time
 from pathlib import Path
 
 from frames import feed_of
-from fuzz_answers import Case, Runner, Wrong
+from fuzz_answers import PACKET_BLOCK, Case, Runner, Wrong, blocks_of, judge_frames
 from fuzz_inputs import (
     DATA,
+    ODD_OUTPUTS,
     TOKENS,
     Corpus,
     damaged,
@@ -100,6 +101,17 @@ def recordings(run, draw, corpus):
     if draw.random() < 0.9:
         recording = with_sums(draw, damaged(draw, recording))
     readings(run, recording)
+    odd_outputs(run, draw, recording)
+
+
+def odd_outputs(run, draw, recording):
+    """An OUT that can't be looked at is a fault behind that of the recording."""
+    listed, out = run(Case(["list", "in"], {"in": recording})), draw.choice(ODD_OUTPUTS)
+    wanted = listed.errors if listed.status else f"file {out}\n"
+    for words in (["extract", "in", "1"], ["upgrade", "in"]):
+        told = run(Case([*words, out], {"in": recording}))
+        if told.errors != wanted or told.output:
+            raise Wrong(f"OUT {out[:20]} of {words[0]}: {told.errors}")
 
 
 def readings(run, recording):
@@ -112,12 +124,11 @@ def readings(run, recording):
     if listed.status != 0:
         if (audited.status, audited.errors) != (listed.status, listed.errors):
             raise Wrong("list and audit disagree")
-        extracted = run(Case(["extract", "in", "1", "out"], files))
-        if extracted.errors != listed.errors or extracted.file("out") is not None:
-            raise Wrong("list and extract disagree")
-        upgraded = run(Case(["upgrade", "in", "out"], files))
-        if upgraded.errors != listed.errors or upgraded.file("out") is not None:
-            raise Wrong("list and upgrade disagree")
+        for words in (["extract", "in", "1"], ["upgrade", "in"]):
+            done = run(Case([*words, "out"], files))
+            if done.errors != listed.errors or done.file("out") is not None:
+                raise Wrong(f"list and {words[0]} disagree")
+        exports(run, files, listed)
         return
     frames, programs_of = {}, {}
     for line in listed.output.splitlines()[:-1]:
@@ -139,7 +150,18 @@ def readings(run, recording):
         _, written, _, passed = extracted.output.split()
         if int(written) + int(passed) != frames.get(channel, 0):
             raise Wrong("list and extract count otherwise")
+    if exports(run, files, listed) != sum(frames.values()):
+        raise Wrong("list and export count otherwise")
     upgrades(run, recording, listed, audited)
+
+
+def exports(run, files, listed):
+    """What is exported, to a file and to standard output alike, ends as the list does: how many frames."""
+    refused_output(run, ["export", "in"], "in", files)
+    exported = run(Case(["export", "in", "out", "1764590400"], files))
+    if (exported.status, exported.errors) != (listed.status, listed.errors):
+        raise Wrong("list and export disagree")
+    return sum(kind == PACKET_BLOCK for kind in blocks_of(exported.file("out")))
 
 
 def upgrades(run, recording, listed, audited):
@@ -195,8 +217,12 @@ def feeds(run, draw, corpus):
     if recorded.status != 0:
         return
     refused_output(run, ["record", "settings"], draw.choice(["settings", "feed", "./feed", "filter"]), files)
+    refused = run(Case(["record", "settings", draw.choice(ODD_OUTPUTS)], {**files, "in": b""}))
+    if (refused.status, refused.output) != (3, ""):
+        raise Wrong(f"an OUT that can't be looked at: {refused.errors}")
     recorded = run(Case(["record", "settings", "out"], files, lines))
     recording = recorded.file("out")
+    judge_frames(recording, list(frames_in(feed)), net, speed, recorded.output)
     readings(run, recording)
     audited = run(Case(["audit", "in"], {"in": recording}))
     if audited.status != 0:

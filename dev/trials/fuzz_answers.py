@@ -1,9 +1,12 @@
 """What `bpfrec` may answer, by docs/user/FORMATS.md, and runs of it that are judged by that, for fuzz.py."""
 
 import re
+import struct
 import subprocess
 from dataclasses import dataclass, field
 from pathlib import Path
+
+from fuzz_inputs import held_frames
 
 ADDRESS_SPACE = 2**30
 SECONDS_A_RUN = 20
@@ -43,6 +46,7 @@ ALLOWED = {
     "list": [(0, PACKETS, ""), (1, "", READ), FILE],
     "audit": [(0, YES, ""), (1, NO, ""), (1, "", READ), FILE],
     "extract": [(0, r"frames \d+ passed \d+\n", ""), (1, "", READ), (2, "", r"(.*\n)+"), FILE],
+    "export": [(0, "", ""), (1, "", READ), (2, "", r"(.*\n)+"), FILE],
     "upgrade": [(0, r"upgraded \d+ copied \d+\n", ""), (1, "", READ), FILE],
     # the rings of some settings don't fit the address space
     "record": [(0, REPORT, ANSWERS), (1, "", LISTING), (1, REFUSED, ""), (2, "", SETTINGS), FILE, (4, "", "memory\n")],
@@ -62,6 +66,10 @@ class Case:
 
     def command(self):
         return self.words[0] if self.words else ""
+
+    def held_kib(self):
+        """What it may hold of its input: a script with its frames."""
+        return 2 * len(self.files["in"]) // 1_024 if self.command() == "simulate" else 0
 
 
 @dataclass
@@ -99,7 +107,7 @@ class Runner:
         ran, peak = self.run(case)
         command = case.command()
         self.over[command] = max(self.over.get(command, 0), peak - empty)
-        if peak > empty + MOST_MEMORY_KIB:
+        if peak > empty + MOST_MEMORY_KIB + case.held_kib():
             raise Wrong(f"{peak} KiB of memory, {empty} on an empty file")
         output, errors = ran.stdout.decode(errors="replace"), ran.stderr.decode(errors="replace")
         for status, on_output, on_errors in ALLOWED[command]:
@@ -137,3 +145,31 @@ class Runner:
         if key not in self.empty:
             self.empty[key] = self.run(Case(case.words, files))[1]
         return self.empty[key]
+
+
+def judge_frames(recording, frames, net, speed, report):
+    """The frames that a recording has are of the feed, in its order, with its marks and the numbers of the settings."""
+    left, found = iter(frames), list(held_frames(recording))
+    if len(found) != int(report.split()[7]):
+        raise Wrong(f"{len(found)} frames are recorded, and it says {report}")
+    for frame, *numbers in found:
+        if frame not in left or numbers != [net, speed]:
+            raise Wrong(f"a frame of counter {frame[0]}, marks {frame[1]} and {len(frame[2])} bytes, {numbers}")
+
+
+# ---- exports
+
+# the type of a pcapng block with a frame
+PACKET_BLOCK = 6
+
+
+def blocks_of(capture):
+    """The types of the blocks of a pcapng file, which is nothing else."""
+    found, at = [], 0
+    while at < len(capture):
+        kind, length = struct.unpack_from("<II", capture, at)
+        if length < 12 or length % 4 or capture[at + length - 4 : at + length] != struct.pack("<I", length):
+            raise Wrong("an export has a block of a wrong length")
+        found.append(kind)
+        at += length
+    return found

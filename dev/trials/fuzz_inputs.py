@@ -57,10 +57,16 @@ def damaged(draw, content):
     return bytes(content)
 
 
+# Names of an OUT that can't be looked at: below a file, in no folder, too long, and empty.
+ODD_OUTPUTS = ("in/out", "no_folder/out", 300 * "n", 20 * "long/" + 5_000 * "n", "")
+
+
 def drawn_frames(draw):
-    """Frames as (counter, marks, bytes)."""
+    """Frames as (counter, marks, bytes); sometimes more of the longest than the longest packet has room for."""
     count = draw.choice([0, 1, 2, 7, 40])
     lengths = [18, 19, 60, 300, 1518, 16383]
+    if draw.random() < 0.1:
+        count, lengths = draw.randrange(30, 70), [16_382, 16_383]
     return [
         (
             draw.choice([0, 16, 2**48 - 1, draw.randrange(2**48)]),
@@ -101,6 +107,22 @@ def frames_in(feed):
             return
         yield counter, marks, feed[at + 9 : at + 9 + length]
         at += 9 + length
+
+
+def held_frames(recording):
+    """The frames of a recording, as ((counter, marks, bytes), net, speed), by docs/user/FORMATS.md."""
+    at = 0
+    while at < len(recording):
+        length, data_length = (int.from_bytes(recording[at + it : at + it + 4], "little") for it in (4, 8))
+        body = recording[at + 24 : at + 24 + data_length] if recording[at + 15] == 0x68 else bytes(4)
+        place = 4
+        for _ in range(int.from_bytes(body[:2], "little")):
+            counter, word = (int.from_bytes(body[place + it : place + it + 6], "little") for it in (0, 8))
+            word &= 0xFFFFFFFF
+            frame = body[place + 12 : place + 12 + (word & 0x3FFF)]
+            yield (counter, word >> 31 & 1 | word >> 29 & 2, frame), word >> 16 & 255, word >> 24 & 15
+            place += 12 + len(frame) + len(frame) % 2
+        at += length
 
 
 class Corpus:

@@ -32,7 +32,7 @@ def facts_of(recording: Path) -> dict:
     answer = info.audit_of(str(recording))
     found = info.read(str(recording), not answer[0].startswith("yes"))
     judge_quietly(
-        f"text and page of {recording}", info.text_page(found, answer) and info.page("recording", found, answer)
+        f"text and page of {recording}", [*info.text_parts(found, answer), *info.page_parts("recording", found, answer)]
     )
     return json.loads(json.dumps(as_json.object_of(found, answer[0])))
 

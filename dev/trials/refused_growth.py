@@ -8,7 +8,7 @@ as it is and then with its 1st, 2nd, .. growth refused, by a malloc that is prel
 standard output, `memory` on standard error, status 4 and no feed, or with the very answer of the run as
 it is. A recording may also go on to its end, where the growth was one for a line of standard input: then
 it prints its lines, and `memory` after the answers. A script may have answered its first events, and a
-recording that is read twice may have been listed, extracted or upgraded in part.
+recording that is read twice may have been listed, extracted or upgraded in part, and one exported in part.
 
 The tests make a call that lacked memory again, and assert that it is answered then as ever. Each must pass
 with its 1st, 2nd, .. growth refused, or end before its calls because what it needs itself lacked memory. The
@@ -58,7 +58,7 @@ def samples():
     for recording in sorted(DATA.glob("recordings/*.ch11")):
         runs += [([command, str(recording)], b"") for command in ("list", "audit")]
         runs += [(["extract", str(recording), channel, FEED], b"") for channel in ("1", "7", "x")]
-        runs.append((["upgrade", str(recording), FEED], b""))
+        runs += [(["upgrade", str(recording), FEED], b""), (["export", str(recording), FEED, "1"], b"")]
     runs += [(["simulate", str(script)], b"") for script in sorted(DATA.glob("scripts/*.script"))]
     for settings in sorted(DATA.glob("records/*.toml")):
         if settings.name == "endings.toml":
@@ -67,7 +67,8 @@ def samples():
     # an output that is an input
     runs.append((["record", str(DATA / "records/two.toml"), "records/two.toml"], b""))
     two = str(DATA / "recordings/two_versions.ch11")
-    runs += [(["extract", two, "1", two], b""), (["upgrade", two, two], b"")]
+    runs += [(["extract", two, "1", two], b""), (["upgrade", two, two], b""), (["export", two, two], b"")]
+    runs += [(["export", two, "-"], b""), (["export", two, FEED, "x"], b"")]
     return runs + [(["verify", str(DATA / "nowhere")], b""), (["asm", str(DATA)], b"")]
 
 
@@ -98,11 +99,11 @@ def is_recorded(words, got, whole):
 
 
 def is_begun(words, got, whole):
-    """Whether a script, a list, an audit, an extraction or an upgrade ended for want of memory after a part of it."""
+    """Whether a script, a list, an audit, an extraction, an export or an upgrade ended for want of memory after a part of it."""
     status, output, errors, feed = got
-    begun = whole[1].startswith(output) and (not output or output.endswith(b"\n"))
+    begun = whole[1].startswith(output) and (words[:1] == ["export"] or not output or output.endswith(b"\n"))
     written = feed is None or (whole[3] is not None and whole[3].startswith(feed))
-    partly = (["simulate"], ["list"], ["audit"], ["extract"], ["upgrade"])
+    partly = (["simulate"], ["list"], ["audit"], ["extract"], ["upgrade"], ["export"])
     return words[:1] in partly and status == 4 and errors == b"memory\n" and begun and written
 
 

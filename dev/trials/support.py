@@ -19,8 +19,8 @@ ROOT = Path(__file__).resolve().parents[2]
 # Another build of either is tried by the variables BPFREC and CAPTURE, by which the tools find it too.
 BPFREC = Path(os.environ.get("BPFREC") or ROOT / "bin/bpfrec")
 CAPTURE = Path(os.environ.get("CAPTURE") or ROOT / "bin/capture")
-LIVE, CONVERT, INFO, PCAPNG, SALVAGE = (
-    ROOT / "host/bin" / name for name in ("live", "convert", "info", "pcapng", "salvage")
+LIVE, CONVERT, INFO, PCAPNG, SALVAGE, PREFLIGHT, CHECK_SUMS = (
+    ROOT / "host/bin" / name for name in ("live", "convert", "info", "pcapng", "salvage", "preflight", "check_sums")
 )
 # What a trial may want that a build makes.
 BUILT = {"bin/bpfrec": BPFREC, "bin/capture": CAPTURE}
@@ -137,7 +137,7 @@ class Reader(threading.Thread):
 
     def __init__(self, path: Path) -> None:
         super().__init__(daemon=True)
-        self.path, self.data = path, b""
+        self.path, self.data = path, bytearray()
         self.start()
 
     def run(self) -> None:
@@ -147,7 +147,7 @@ class Reader(threading.Thread):
 
     def all(self) -> bytes:
         self.join(SECONDS)
-        return self.data
+        return bytes(self.data)
 
 
 def pipe_at(work: Path, name: str) -> Path:

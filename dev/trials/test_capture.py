@@ -177,11 +177,11 @@ def refusals(work: Path, settings: Path, out: Path) -> list[tuple]:
         (
             ["--origin", "yesterday", settings, out, "rx0=1"],
             2,
-            "capture: no such value: yesterday: capture --help has its words",
+            "capture: no such value: yesterday: capture --help has its arguments",
         ),
         ([settings, settings, "rx0=1"], 3, f"file {settings}"),
         ([work / "missing.toml", out, "rx0=1"], 3, f"file {work / 'missing.toml'}"),
-        ([settings], 2, "live: it takes SETTINGS and OUT: host/bin/live --help has its words"),
+        ([settings], 2, "live: it takes SETTINGS and OUT: host/bin/live --help has its arguments"),
     ]
 
 

@@ -172,8 +172,8 @@ def test_last_frames(work: Path) -> None:
     )
 
 
-def test_latency(work: Path) -> None:
-    """A single frame is with its reader within two milliseconds."""
+def latencies(work: Path, many: int) -> list[float]:
+    """After how many milliseconds single frames are with their reader, ascending."""
     pipe = pipe_at(work, "quick.pipe")
     running = Running(work, CAPTURE, "--quiet", f"rx0={pipe}")
     late = []
@@ -181,25 +181,30 @@ def test_latency(work: Path) -> None:
         running.wait_until_told("origin")
         time.sleep(0.1)
         origin = origin_told(running.told())
-        for number in range(500):
+        for number in range(many):
             into.send(numbered(number))
             record = reader.read(73)
             now = time.time_ns()
-            late.append(now - origin - 100 * int.from_bytes(record[:6], "little"))
+            late.append((now - origin - 100 * int.from_bytes(record[:6], "little")) / MILLISECOND)
             time.sleep(0.002)
         running.interrupt()
         reader.read()
     running.ended()
-    late.sort()
-    print(
-        f"a frame is read {late[250] / MILLISECOND:.3f} ms after its time (median), 99 of 100 within "
-        f"{late[495] / MILLISECOND:.3f}, at most {late[-1] / MILLISECOND:.3f}; load {os.getloadavg()[0]:.1f}"
-    )
-    judge(
-        "a live frame is with its reader within two milliseconds",
-        late[250] < 2 * MILLISECOND,
-        f"{late[250] / MILLISECOND:.3f} ms",
-    )
+    return sorted(late)
+
+
+def test_latency(work: Path) -> None:
+    """A single frame is with its reader within two milliseconds, in one of three rounds: other work may delay both."""
+    for _ in range(3):
+        late = latencies(work, 1_000)
+        shares = {share: late[int(share * len(late) / 100) - 1] for share in (50, 99, 99.5)}
+        print(
+            f"ms after a frame's time, of 100 frames: {shares}, at most {late[-1]:.3f}; load {os.getloadavg()[0]:.1f}"
+        )
+        if shares[99.5] < 2:
+            break
+    judge("of 100 live frames 50 are with their reader within half a millisecond", shares[50] < 0.5, shares)
+    judge("and 99.5 within two", shares[99] < 2 and shares[99.5] < 2, shares)
 
 
 # ---- what becomes of frames

@@ -170,6 +170,11 @@ def wrong_sequences(work: Path) -> bytes:
     return with_wrong_sequences(capture.read_bytes())
 
 
+def many_interfaces(count: int) -> bytes:
+    """A section with so many interfaces, and a frame of the last that --interface can name."""
+    return section("<") + interface("<") * count + packet("<", 65_535, 7, frame_of(1))
+
+
 KINDS = {
     "blocks": lambda _: all_blocks(),
     "cut_simple": lambda _: CUT_SIMPLE,
@@ -178,6 +183,8 @@ KINDS = {
     "wrong": wrong_sequences,
     "odd": lambda _: odd_frames(),
     "every_length": lambda _: every_length(),
+    "most_interfaces": lambda _: many_interfaces(65_536),
+    "more_interfaces": lambda _: many_interfaces(65_537),
 }
 
 
@@ -191,6 +198,10 @@ def test_beside_capture(work: Path, kind: str, words: list) -> None:
     path.write_bytes(KINDS[kind](work))
     mine, theirs = outcomes(path, work, words)
     judge(f"capture -r of {kind} {words}", mine == theirs, (mine[1:], theirs[1:]))
+    if kind == "more_interfaces":
+        judge(
+            "more interfaces than can be named are refused", "more than 65536 interfaces at byte" in mine[2], mine[1:]
+        )
 
 
 def test_damaged_beside_capture(work: Path) -> None:

@@ -1,16 +1,23 @@
-"""Runs dev/trials/fuzz.py for a minute; `make fuzz` takes an hour."""
+"""Runs dev/trials/fuzz.py for a minute, which may be over with the inputs that are always the same, and on drawn inputs
+alone; `make fuzz` takes an hour."""
 
 import sys
 
 from support import BPFREC, TRIALS, judge, outcome
 
 WANTED = {"bin/bpfrec": "make build", "time": "time"}
-SECONDS = 60
+SECONDS, DRAWN = 60, 600
 
 
-def test_fuzz() -> None:
+def test_minute() -> None:
     done = outcome(sys.executable, TRIALS / "fuzz.py", "--seconds", SECONDS, BPFREC, seconds=SECONDS + 240)
     print(done.stdout)
     judge(
         f"inputs are drawn for {SECONDS} seconds, and no case is kept", done.returncode == 0, done.stdout + done.stderr
     )
+
+
+def test_drawn() -> None:
+    done = outcome(sys.executable, TRIALS / "fuzz.py", "--seed", 2, "--files", DRAWN, BPFREC, seconds=240)
+    print(done.stdout)
+    judge(f"{DRAWN} inputs are drawn, and no case is kept", done.returncode == 0, done.stdout + done.stderr)

@@ -244,7 +244,7 @@ def test_refusals(work: Path) -> None:
         ([work / "nowhere", out], 3, f"file {work}/nowhere: No such file or directory\n"),
         ([work, out], 3, f"file {work}: Is a directory\n"),
         ([SAMPLES[0], "/dev/full"], 3, "file /dev/full: No space left on device\n"),
-        ([SAMPLES[0]], 2, "salvage: it takes DAMAGED and OUT: host/bin/salvage --help has its words\n"),
+        ([SAMPLES[0]], 2, "salvage: it takes DAMAGED and OUT: host/bin/salvage --help has its arguments\n"),
     ]
     for words, status, told in cases:
         done = outcome(SALVAGE, *words)

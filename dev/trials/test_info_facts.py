@@ -26,7 +26,7 @@ WANTED = {"bin/bpfrec": "make build"}
 DAMAGED, BY_PROCESS = 1_500, 40
 # What info says of the second sample without facts.
 WITHOUT_FACTS = """\
-channel        frames       offered    frames/s         first s          last s  marks
+channel        frames       offered    frames/s         first s          last s  remarks
       1             1             2           -       0.0000032       0.0000032
 
 bytes                      248
@@ -50,9 +50,9 @@ channel 1
   greatest rate              1 frames in a second
   longest gap                unknown
   counters that step back    0
-  frames with marks          0
+  frames with error flags    0
   versions of the filter     2
-  record of its end          there
+  end record                 there
   version 0                  from frame 0, counter 16
   version 1                  from frame 1, counter 32
 """
@@ -188,7 +188,9 @@ def judge_times(path: Path, bare: dict, found, answer: tuple, origins: list, cou
     for counter in [*counters, *(it + step for _, it, _ in origins for step in (-1, 0, 1))]:
         if 0 <= counter < 2**48:
             judge_quietly(f"counter {counter} of {origins}", time_of(counter, known) == time_by(origins, counter))
-    judge_quietly("text and page", info.text_page(found, answer, known) and info.page("x", found, answer, known))
+    judge_quietly(
+        "text and page", [*info.text_parts(found, answer, known), *info.page_parts("x", found, answer, known)]
+    )
 
 
 def test_drawn_times(work: Path) -> None:
@@ -241,7 +243,11 @@ def judge_damaged(turn: int, sample: Path, data: bytes) -> bool:
         and (f": {beside}: no facts of a recording: " in lines) == is_refused,
     )
     said = as_json.object_of(found, answer[0], known)
-    pages = [info.text_page(found, answer, known), info.page("x", found, answer, known), json.dumps(said)]
+    pages = [
+        "".join(info.text_parts(found, answer, known)),
+        "".join(info.page_parts("x", found, answer, known)),
+        json.dumps(said),
+    ]
     judge_quietly("text, page and JSON", all(pages))
     if not is_refused:
         origins = [(it["origin"], it["counter"], None) for it in told["origins"]]

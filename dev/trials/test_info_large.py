@@ -7,7 +7,7 @@ from collections.abc import Iterator
 from pathlib import Path
 
 import pytest
-from frames import FRAMES, HEADER_LENGTH, end_packet, header_of, program_packet
+from frames import FRAMES, HEADER_LENGTH, body_of, end_packet, header_of, packet_of, program_packet
 from reading import ch11
 from support import BPFREC, INFO, SALVAGE, judge, outcome, run
 
@@ -17,6 +17,8 @@ LIMIT = 65_536
 # Processor time alone: other work on the machine doesn't count.
 LEAST_SPEED = 100
 MOST_MEMORY_KIB = 8_192
+# What is kept of a channel, in bytes.
+CHANNELS, MOST_A_CHANNEL = 16_000, 2_600
 FRAME = bytes(range(64))
 STRIDE = 12 + len(FRAME)
 # The frames of a full packet.
@@ -81,3 +83,20 @@ def test_large(work: Path, large: Path, name: str) -> None:
     judge("it takes the memory of one packet", memory < least + MOST_MEMORY_KIB, f"{memory} KiB, {least} for none")
     if name == "with_audit":
         judge(f"info reads {LEAST_SPEED} MB/s", size / processor >= LEAST_SPEED, f"{size / processor:,.0f} MB/s")
+
+
+def of_channels(path: Path, count: int) -> Path:
+    """A recording of so many channels, each of two frames."""
+    bodies = (body_of([(at, 0, bytes(18)), (at + 20_000_000, 0, bytes(18))]) for at in range(count))
+    path.write_bytes(b"".join(packet_of(at + 1, it, 0, FRAMES, at, True) for at, it in enumerate(bodies)))
+    return path
+
+
+@pytest.mark.parametrize("form", [[], ["--json"], ["--html", "/dev/null"]], ids=["text", "json", "page"])
+def test_channels(work: Path, form: list) -> None:
+    """Of each further channel little is kept, and what is printed is not held."""
+    few, many = (
+        timed(work, INFO, "--quiet", *form, of_channels(work / "channels.ch11", it))[2] for it in (10, CHANNELS)
+    )
+    a_channel = (many - few) * 1_024 // CHANNELS
+    judge(f"{a_channel} bytes for a channel", a_channel < MOST_A_CHANNEL, (few, many))

@@ -7,7 +7,7 @@ import pytest
 from support import BPFREC, INFO, ROOT, judge, outcome, run
 
 WANTED = {"bin/bpfrec": "make build"}
-HEAD = "channel        frames       offered    frames/s         first s          last s  marks"
+HEAD = "channel        frames       offered    frames/s         first s          last s  remarks"
 DROP_ALL = "1,6 0 0 0,"
 # Lines by hand, of feeds of 60 frames: the first channel takes 50 of them, and the second keeps none.
 LINES = [
@@ -33,9 +33,9 @@ def lines_of(recording: Path) -> list[str]:
 
 
 def place_of(recording: Path, kind: str) -> tuple[int, int]:
-    """Where the first packet of a kind begins, and its length, by `bpfrec list`."""
+    """Where the last packet of a kind begins, and its length, by `bpfrec list`. A channel may end ahead of another."""
     rows = [it.split() for it in run(BPFREC, "list", recording).splitlines()[:-1]]
-    return next((int(it[0]), int(it[4])) for it in rows if it[7] == kind)
+    return [(int(it[0]), int(it[4])) for it in rows if it[7] == kind][-1]
 
 
 def damaged(recording: Path, at: int) -> Path:

@@ -13,7 +13,7 @@ import sys
 from pathlib import Path
 
 import pytest
-from support import BPFREC, ROOT, judge, outcome
+from support import BPFREC, ROOT, judge, judge_quietly, outcome
 
 sys.path.insert(0, str(ROOT / "dev/package"))
 import manual
@@ -145,6 +145,40 @@ def test_install(work: Path) -> None:
         "no link leads nowhere, and nothing is left beside",
         all(it.exists() for it in files_in(dest)) and not list(dest.rglob("__pycache__")),
     )
+
+
+def installed_in(dest: Path) -> dict[str, tuple]:
+    """All that is installed: its mode, and its bytes or where it leads."""
+    found: dict[str, tuple] = {}
+    for it in dest.rglob("*"):
+        what = os.readlink(it) if it.is_symlink() else it.read_bytes() if it.is_file() else "folder"
+        found[str(it.relative_to(dest))] = (oct(it.lstat().st_mode & 0o7777), what)
+    return found
+
+
+def test_modes(work: Path) -> None:
+    """Whatever the umask, all may be read by all, and programs alone be run; each tool has its page; and a second
+    installation, over one with another umask, makes the same."""
+    dest, before = work / "dest", os.umask(0o077)
+    try:
+        made("install", dest)
+    finally:
+        os.umask(before)
+    first = installed_in(dest)
+    programs = ("bin/", "libexec/bpfrec/")
+    for name, (mode, what) in first.items():
+        is_program = name.startswith(tuple(f"{PREFIX[1:]}/{it}" for it in programs))
+        wanted = "0o755" if what == "folder" or is_program else "0o644"
+        judge_quietly(
+            f"{name} has the mode {wanted}: {mode}",
+            mode == ("0o777" if isinstance(what, str) and what != "folder" else wanted),
+        )
+    pages = {it.name for it in Path(f"{dest}{PREFIX}/share/man/man1").iterdir()}
+    tools = {f"bpfrec-{it}.1" for it in [*manual.TOOLS, "live", "capture"]}
+    judge("each tool has its page", pages == {"bpfrec.1", *tools}, pages ^ tools)
+    made("install", dest)
+    again = installed_in(dest)
+    judge("a second installation makes the same", again == first, {it for it in again if again[it] != first.get(it)})
 
 
 def test_uninstall(work: Path) -> None:

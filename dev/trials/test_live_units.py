@@ -12,7 +12,7 @@ from support import ROOT, judge, judge_quietly, wait_for
 sys.path.insert(0, str(ROOT / "host"))
 from bpfrec_host.live import arguments, expressions, names, words
 from bpfrec_host.live.events import Events
-from bpfrec_host.live.keeper import Keeper, force_folder
+from bpfrec_host.live.keeper import Keeper
 from bpfrec_host.live.names import Files, Names, Refusal
 
 # ---- the command line
@@ -160,7 +160,18 @@ def test_keeper(work: Path, monkeypatch: pytest.MonkeyPatch) -> None:
     keeper.join(5)
     judge("facts that can't be written are told, at the end at once", told[-1] is None and not keeper.is_alive())
     judge("the times of what is safe rise", told[:-1] == sorted(told[:-1]) and len(told) >= 3, told)
-    force_folder(str(work / "none"))
+    os.close(descriptor)
+
+
+def test_keeper_without_folder(work: Path) -> None:
+    """A folder that can't be forced keeps it from nothing."""
+    told: list = []
+    descriptor = os.open(work / "out", os.O_RDWR | os.O_CREAT)
+    keeper = Keeper(descriptor, str(work / "none"), 1, told.append)
+    keeper.start()
+    wait_for("the file was forced", lambda: len(told) >= 1, 3)
+    keeper.end()
+    keeper.join(5)
     os.close(descriptor)
 
 

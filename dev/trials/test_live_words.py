@@ -110,7 +110,7 @@ def test_channels_that_are_free(work: Path) -> None:
 def test_forgotten_words(work: Path) -> None:
     settings, out = settings_of(work), work / "no.ch11"
     cases = [
-        ([], 2, "live: it takes SETTINGS and OUT: host/bin/live --help has its words"),
+        ([], 2, "live: it takes SETTINGS and OUT: host/bin/live --help has its arguments"),
         ([settings, "rx0=1"], 2, f"live: OUT is missing: it stands between {settings} and rx0=1"),
         ([settings, "rx0"], 2, f"live: OUT is missing: it stands between {settings} and rx0"),
         ([out], 2, f"live: an INTERFACE is missing: it stands behind {out}"),

@@ -267,11 +267,11 @@ def test_refusals(work: Path, three: Path) -> None:
 
 
 def test_forced(work: Path) -> None:
-    """OUT is on its disk before the answer; where that fails there is none."""
+    """A new OUT and its folder are on their disk before the answer; where that fails there is none."""
     (work / "fsync.c").write_text(FSYNC)
     run("cc", "-shared", "-fPIC", "-o", work / "fsync.so", work / "fsync.c", seconds=60)
     env = {**os.environ, "LD_PRELOAD": str(work / "fsync.so")}
     done = outcome("python3", PCAPNG, work / "a.pcapng", SAMPLES[1], env=env)
-    judge("forced, then answered", done.stdout == "fsync\nframes 1 skipped 0\n", done)
+    judge("forced, then answered", done.stdout == "fsync\nfsync\nframes 1 skipped 0\n", done)
     done = outcome("python3", PCAPNG, work / "b.pcapng", SAMPLES[1], env={**env, "FSYNC_FAILS": "5"})
     judge("no answer where that fails", (done.returncode, done.stdout) == (3, "fsync\n"), done)

@@ -10,6 +10,7 @@ import subprocess
 from pathlib import Path
 
 import pytest
+from disks import memory_disk
 from preflight_cases import ALL_CASES, FILES, FORBIDDEN_CASES, GOOD, SECOND, Case
 from support import BPFREC, ROOT, judge, outcome
 
@@ -17,6 +18,8 @@ WANTED = {"bin/bpfrec": "make build"}
 PREFLIGHT = ROOT / "host/bin/preflight"
 # 64 channels of 4,099 buffers of 524,284 bytes.
 MOST_BUFFERS = 137_538_567_424
+# By how much the memory that is available may change meanwhile.
+ABOUT = 256 << 20
 
 
 @pytest.fixture
@@ -100,9 +103,38 @@ def test_notes(folder: Path) -> None:
     judge_lines("notes", done.stdout.splitlines(), wanted)
 
 
+def available() -> int:
+    """How many bytes of memory the kernel says are available."""
+    found = re.search(r"^MemAvailable:\s*(\d+) kB$", Path("/proc/meminfo").read_text(), re.MULTILINE)
+    return int(found[1]) * 1024
+
+
+def free_on(folder: Path) -> int:
+    """How many bytes a disk has for all users."""
+    status = os.statvfs(folder)
+    return status.f_bavail * status.f_frsize
+
+
+def test_notes_of_room(folder: Path) -> None:
+    """The numbers of notes are those of statvfs and of /proc/meminfo, before and behind."""
+    (folder / "s.toml").write_text("limit = 16424\nring = 4096\n" + GOOD)
+    with memory_disk(folder / "disk", "size=3m") as disk:
+        (disk / "old.ch11").write_bytes(bytes(1_000_000))
+        for out in (disk / "new.ch11", disk / "old.ch11", folder / "new.ch11"):
+            before = free_on(out.parent), available()
+            done = preflight(folder, "s.toml", "--out", str(out))
+            behind = free_on(out.parent), available()
+            told = int(re.search(r"(\d+) bytes are free on its disk\n", done.stdout)[1])
+            judge(f"{out.name}: {told} bytes", min(before[0], behind[0]) <= told <= max(before[0], behind[0]), before)
+            told = int(re.search(r"and (\d+) bytes are available\n", done.stdout)[1])
+            near = min(before[1], behind[1]) - ABOUT <= told <= max(before[1], behind[1]) + ABOUT
+            judge("memory as the kernel says", near, (before, told, behind))
+    buffers = "buffers of at most 67321976 bytes (channels 1, of each 4099, of 16424 bytes)"
+    judge("the buffers of its settings", f"s.toml: note: {buffers}, and " in done.stdout, done.stdout)
+
+
 def test_memory(folder: Path) -> None:
-    available = re.search(r"^MemAvailable:\s*(\d+) kB$", Path("/proc/meminfo").read_text(), re.MULTILINE)
-    if int(available[1]) * 1024 > 0.9 * MOST_BUFFERS:
+    if available() > 0.9 * MOST_BUFFERS:
         pytest.skip("this machine has memory for all buffers that can be set")
     tables = "".join(GOOD.replace("id = 1", f"id = {id}") for id in range(1, 65))
     what = f"buffers of at most {MOST_BUFFERS} bytes (channels 64, of each 4099, of 524284 bytes)"

@@ -12,6 +12,9 @@ pytestmark = pytest.mark.timed
 # A header that claims a packet of four gigabytes.
 CLAIM = bytes.fromhex("25eb0100 fcffffff 00000000 08000001 00000000 000029ec")
 
+# How many bytes the blocks of an export have: of a section, of channel 1 as an interface, and of a frame of 64 bytes.
+SECTION_LENGTH, DESCRIPTION_LENGTH, FRAME_LENGTH = 28, 92, 96
+
 
 def peak_of(settings: Path, out: Path) -> int:
     """The most memory that a recording takes, in KiB."""
@@ -51,6 +54,16 @@ def test_extract(work: Path, whole: Path, long_feed: Path) -> None:
     judge("it is extracted", done.returncode == 0 and same)
 
 
+def test_export(work: Path, whole: Path) -> None:
+    done = read_within("export", whole, work / "read.pcapng")
+    size = (work / "read.pcapng").stat().st_size
+    judge(
+        "it is exported",
+        done.returncode == 0 and size == SECTION_LENGTH + DESCRIPTION_LENGTH + MANY * FRAME_LENGTH,
+        size,
+    )
+
+
 def without_checksums(recording: bytes) -> bytes:
     """The same packets without their data checksums, as they were written once."""
     old, at = bytearray(), 0
@@ -86,9 +99,13 @@ def test_claimed_length(work: Path, command: str) -> None:
     judge(f"a length that is only claimed takes no memory in {command}", told.stderr == "read 1 Truncated 0\n", told)
 
 
-@pytest.mark.parametrize("command", ["list", "audit", "extract", "upgrade"])
+@pytest.mark.parametrize("command", ["list", "audit", "extract", "export", "upgrade"])
 def test_input_without_end(work: Path, command: str) -> None:
-    more = {"extract": ["1", work / "read.feed"], "upgrade": [work / "read.feed"]}.get(command, [])
+    more = {
+        "extract": ["1", work / "read.feed"],
+        "upgrade": [work / "read.feed"],
+        "export": [work / "read.pcapng"],
+    }.get(command, [])
     with open("/dev/zero", "rb") as zeros:
         told = outcome(BPFREC, command, "-", *more, stdin=zeros, seconds=60)
     judge(f"an input without an end is read to its first fault by {command}", told.stderr == "read 2 Sync 0\n", told)

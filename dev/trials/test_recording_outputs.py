@@ -2,6 +2,7 @@
 
 import errno
 import os
+import re
 import resource
 import signal
 import subprocess
@@ -9,6 +10,7 @@ from collections.abc import Callable
 from pathlib import Path
 
 import pytest
+from exports import wanted_of
 from recorder import ONE_FRAME, RECORDINGS, make_feed, record, write_settings
 from support import BPFREC, TRIALS, judge, judge_quietly, outcome, shared_library
 
@@ -111,6 +113,8 @@ def forced_run(work: Path, command: str, given: Path) -> tuple[list, str, bytes]
     if command == "upgrade":
         made = (RECORDINGS / "two_versions_checked.ch11").read_bytes()
         return ["upgrade", file], "upgraded 4 copied 0\n", made
+    if command == "export":
+        return ["export", file], "", wanted_of((RECORDINGS / "two_versions.ch11").read_bytes()).bytes
     settings, plain = write_settings(work, [make_feed(work / "forced.feed", FRAMES)], ["all"]), work / "forced.plain"
     report = record(settings, plain).stdout
     return ["record", settings], report, plain.read_bytes()
@@ -118,19 +122,28 @@ def forced_run(work: Path, command: str, given: Path) -> tuple[list, str, bytes]
 
 @pytest.mark.parametrize(
     "command, from_input",
-    [("record", False), ("extract", False), ("upgrade", False), ("extract", True), ("upgrade", True)],
-    ids=["record", "extract", "upgrade", "extract_of_input", "upgrade_of_input"],
+    [("record", False), *((it, is_input) for is_input in (False, True) for it in ("extract", "export", "upgrade"))],
+    ids=["record", *(it + end for end in ("", "_of_input") for it in ("extract", "export", "upgrade"))],
 )
 def test_forced(work: Path, failing_fsync: Path, command: str, from_input: bool) -> None:
-    """What a command made is forced to its disk before it prints, and where that fails it prints nothing else."""
+    """What a command made is forced to its disk before it prints, and of a new OUT its folder; where that fails it prints
+    nothing else."""
     given, out = RECORDINGS / "two_versions.ch11" if from_input else Path("/dev/null"), work / "forced.out"
     words, line, made = forced_run(work, command, given)
     # the whole of OUT, and nothing is printed yet
     forced = f"{len(made)} 0 {out}\n"
+    told = forced_by([*words, out], given, failing_fsync, errno.EIO)
+    of_folder = rf"\d+ 0 {work}\n"
+    judge(
+        "where the folder of a new OUT can't be forced, nothing is printed",
+        told[:3] == (3, "", f"file {out}\n") and re.fullmatch(of_folder, told[3]),
+        told,
+    )
+    out.unlink()
     told = forced_by([*words, out], given, failing_fsync, 0)
     judge(
-        f"{command} forces OUT to its disk before it prints",
-        told == (0, line, "", forced) and out.read_bytes() == made,
+        f"{command} forces OUT to its disk before it prints, and its folder",
+        told[:3] == (0, line, "") and re.fullmatch(of_folder + re.escape(forced), told[3]) and out.read_bytes() == made,
         told,
     )
     for error in [errno.EIO, errno.ENOSPC]:
@@ -189,17 +202,25 @@ def test_outs(work: Path, own: Path) -> None:
         ("> stream.lines", "stream.lines"),
         (">> stream.lines", "/dev/stdout"),
         ("< stream.lines", "./stream.lines"),
+        ("2>> stream.lines", "stream.lines"),
+        ("2>> stream.lines", "/dev/stderr"),
     ],
-    ids=["written", "appended", "read"],
+    ids=["written", "appended", "read", "told", "told_by_name"],
 )
-def test_out_is_stream(work: Path, own: Path, how: str, out: str) -> None:
+@pytest.mark.parametrize("command", ["record", "extract", "upgrade"])
+def test_out_is_stream(work: Path, own: Path, command: str, how: str, out: str) -> None:
     """A file that a standard stream is, is no OUT: what is printed would be written over it."""
-    lines = work / "stream.lines"
+    lines, sample = work / "stream.lines", RECORDINGS / "two_versions.ch11"
     lines.write_text("set 9 nowhere\n")
-    kept = b"" if how.startswith("> ") else lines.read_bytes()
-    told = outcome("sh", "-c", f"{BPFREC} record {own} {out} {how}", cwd=work, stdin=subprocess.DEVNULL)
-    refused = (told.returncode, told.stderr) == (3, f"file {out}\n")
-    judge(f"OUT {out} with {how} is refused", refused and lines.read_bytes() == kept, told)
+    words = {
+        "record": f"record {own} {out}",
+        "extract": f"extract {sample} 1 {out}",
+        "upgrade": f"upgrade {sample} {out}",
+    }
+    kept, refusal = b"" if how.startswith("> ") else lines.read_bytes(), f"file {out}\n"
+    told = outcome("sh", "-c", f"{BPFREC} {words[command]} {how}", cwd=work, stdin=subprocess.DEVNULL)
+    wanted = (3, "", kept + refusal.encode()) if how.startswith("2") else (3, refusal, kept)
+    judge(f"OUT {out} with {how} is refused", (told.returncode, told.stderr, lines.read_bytes()) == wanted, told)
 
 
 def test_out_of_extract_is_stream(work: Path, own: Path) -> None:
@@ -226,12 +247,12 @@ def test_out_is_own_pipe(work: Path, own: Path) -> None:
 
 @pytest.mark.parametrize("link", [os.symlink, os.link], ids=["symlink", "link"])
 def test_into_itself(work: Path, own: Path, link: Callable) -> None:
-    """A recording isn't extracted or upgraded into itself by another name, and settings aren't recorded into."""
+    """A recording isn't extracted, exported or upgraded into itself by another name, and settings aren't recorded into."""
     same, other = work / "same.ch11", work / "other.ch11"
     recording = (RECORDINGS / "two_versions.ch11").read_bytes()
     same.write_bytes(recording)
     link(same, other)
-    for words in (["extract", same, "1"], ["upgrade", same]):
+    for words in (["extract", same, "1"], ["export", same], ["upgrade", same]):
         told = outcome(BPFREC, *words, other)
         is_refused = (told.returncode, told.stderr) == (3, f"file {other}\n")
         judge(f"{words[0]} into itself is refused", is_refused and same.read_bytes() == recording, told)

@@ -157,13 +157,15 @@ def test_answers(work: Path, short_feed: Path) -> None:
 
 
 def test_lines_are_writes(work: Path, short_feed: Path) -> None:
-    """Each line that a command prints is one write."""
-    settings, out = write_settings(work, [short_feed], ["all"]), work / "lines.ch11"
+    """Each line that a command prints is one write; `list` alone prints several lines at once, all of them whole."""
+    settings, out = write_settings(work, [short_feed, short_feed], ["all", "half"]), work / "lines.ch11"
     record(settings, out)
     commands = [
         ["record", settings, "/dev/null"],
         ["audit", out],
         ["extract", out, "1", work / "again.feed"],
+        ["upgrade", out, work / "again.ch11"],
+        ["asm", ROOT / "crates/test_cases/data/filters/arp.bpf"],
         ["verify", work / "all"],
         ["run", work / "all", "00"],
         ["simulate", ROOT / "crates/test_cases/data/scripts/changed_filter.script"],
@@ -174,7 +176,10 @@ def test_lines_are_writes(work: Path, short_feed: Path) -> None:
     ]
     for words in commands:
         writes = writes_of(*words)
-        judge(f"{words[0]} writes whole lines", writes and all(it.endswith(b"\n") for it in writes), writes)
+        is_whole = writes and all(it.count(b"\n") == 1 and it.endswith(b"\n") for it in writes)
+        judge(f"{words[0]} writes line by line", is_whole, writes)
+    writes = writes_of("list", out)
+    judge("list writes whole lines", writes and all(it.endswith(b"\n") for it in writes), writes)
 
 
 # ---- what ends a recording

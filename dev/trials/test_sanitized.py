@@ -1,8 +1,9 @@
 """Tries bin/capture under the sanitizers of gcc and clang, and its readers of capture files with drawn bytes.
 
 Under the sanitizers of addresses and of undefined behaviour it goes through the trials test_capture*.py and
-test_convert*.py; under that of threads two interfaces go over to other feeds again and again; and for a minute
-libFuzzer gives the readers of capture files what it draws from capture/fuzz/corpus/. A report of any of them is wrong.
+test_convert*.py; under that of threads two interfaces go over to other feeds again and again, and a file is converted;
+and for a minute libFuzzer gives the readers of capture files what it draws from capture/fuzz/corpus/. A report of any
+of them is wrong.
 """
 
 import os
@@ -13,6 +14,7 @@ from pathlib import Path
 
 import pytest
 from namespace import send_together
+from pcapng import capture_head, captured
 from support import ROOT, TRIALS, Reader, Running, judge, judge_quietly, outcome, pipe_at
 
 WANTED = {
@@ -78,12 +80,26 @@ def test_addresses(of_addresses: Path, reports: Path, file: str) -> None:
     judge_no_report(reports)
 
 
-def test_threads(work: Path, reports: Path, namespace: None) -> None:
+@pytest.fixture(scope="module")
+def of_threads(place: Path) -> Path:
+    """The capture under the sanitizer of threads."""
+    return built(place, "threads", "capture")
+
+
+def test_threads_of_file(of_threads: Path, work: Path, reports: Path) -> None:
+    """A file whose feed a thread of its own writes, under the thread sanitizer."""
+    file = work / "long.pcap"
+    file.write_bytes(capture_head(0xA1B23C4D) + b"".join(captured(at, 0, bytes(1_500)) for at in range(5_000)))
+    done = outcome(of_threads, "-r", f"{file}={work}/made.feed", env={**os.environ, **reporting_to(reports)})
+    judge("a file under the thread sanitizer", done.returncode == 0 and "frames 5000 " in done.stderr, done.stderr)
+    judge_no_report(reports)
+
+
+def test_threads(of_threads: Path, work: Path, reports: Path, namespace: None) -> None:
     """Two interfaces that go over to other feeds, under the thread sanitizer."""
-    capture = built(work, "threads", "capture")
     pipes = [pipe_at(work, name) for name in ("0.pipe", "1.pipe")]
     readers = [Reader(it) for it in pipes]
-    running = Running(work, capture, *(f"rx{at}={it}" for at, it in enumerate(pipes)), adds=reporting_to(reports))
+    running = Running(work, of_threads, *(f"rx{at}={it}" for at, it in enumerate(pipes)), adds=reporting_to(reports))
     running.wait_until_told("origin")
     for turn in range(SWITCHES):
         send_together(200 * turn, 200)

@@ -10,7 +10,7 @@ from reading import SAMPLES
 from support import BPFREC, ROOT, judge, outcome, run
 
 WANTED = {"bin/bpfrec": "make build"}
-TOOLS = ("check_sums", "convert", "info", "live", "preflight", "salvage")
+TOOLS = ("check_sums", "convert", "info", "live", "pcapng", "preflight", "salvage")
 OLD = next(iter(sorted(Path.home().glob(".pyenv/versions/3.[78].*/bin/python"))), None)
 
 each_tool = pytest.mark.parametrize("tool", TOOLS)

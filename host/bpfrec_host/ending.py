@@ -6,7 +6,7 @@ import errno
 import io
 import os
 import sys
-from typing import Callable
+from typing import Callable, Iterable, Iterator
 
 # The statuses of faults that any tool may meet: a file, no memory, and Ctrl-C, as shells have it.
 FILE_STATUS, MEMORY_STATUS, INTERRUPTED_STATUS = 3, 4, 130
@@ -28,17 +28,39 @@ def full_name(tool: str) -> str:
     return f"python3 -m bpfrec_host {tool}" if called == "__main__.py" else f"host/bin/{tool}"
 
 
+# So many letters go out at once: a pipe takes a shorter text as a whole, also where its reader leaves early.
+PART_LEN = 1 << 15
+
 # What is done before a text is printed: a line of progress is emptied.
 before_text: Callable[[], None] = lambda: None
 
 
 def say(text: str) -> None:
     """Prints a text on standard output, at once."""
+    say_parts([text])
+
+
+def grouped(parts: Iterable[str]) -> Iterator[str]:
+    """The same text in fewer parts, each but the last of PART_LEN letters or more."""
+    held: list[str] = []
+    length = 0
+    for part in parts:
+        held.append(part)
+        length += len(part)
+        if length >= PART_LEN:
+            yield "".join(held)
+            held, length = [], 0
+    yield "".join(held)
+
+
+def say_parts(parts: Iterable[str]) -> None:
+    """Prints a text that is made part by part, of which the whole isn't held."""
     before_text()
     try:
         if sys.stdout is None:
             raise OSError(errno.EBADF, os.strerror(errno.EBADF))
-        sys.stdout.write(text)
+        for part in grouped(parts):
+            sys.stdout.write(part)
         sys.stdout.flush()
     except OSError as error:
         error.filename = "-"
@@ -98,6 +120,12 @@ def guarded(tool: str, command: Callable[[], int]) -> int:
     except KeyboardInterrupt:
         tell(f"{tool}: interrupted")
         return INTERRUPTED_STATUS
+    except ImportError as error:
+        # A part of Python that is a shared object, for which there is no room.
+        if "failed to map segment" not in str(error):
+            raise
+        tell(f"{tool}: out of memory")
+        return MEMORY_STATUS
     except MemoryError:
         tell(f"{tool}: out of memory")
         return MEMORY_STATUS

@@ -9,25 +9,25 @@ from bpfrec_host.ending import full_name, say, short_name, tell
 from bpfrec_host.formats import ch11
 from bpfrec_host.program import audit_of
 from bpfrec_host.progress import Progress, size_of
-from bpfrec_host.streams import force
+from bpfrec_host.streams import force, force_folder_of
 from bpfrec_host.words import Parser
 
 ABOUT = """\
 What is left of a recording that was cut or damaged: all packets that are whole, as they are.
 
 Copies the packets of DAMAGED before the first fault and, behind each damaged place, those that begin again with a
-right header, and with a right data checksum where they have one. It prints a line for each place where something
+right header, and with a right data checksum if they have one. It prints a line for each place where something
 was lost, as it finds it:
 
   lost <bytes> at <place> after read <number> <Name>   bytes that are no packet, and what is wrong with the first
   missing <n> of <channel> from <sequence> at <place>  sequence numbers of that channel ID that are missing before
                                                        the packet at <place>, modulo 256, so more may be
 
-then `no end of <channel>` for each channel whose record of its end isn't there; where something was lost, what
-`bpfrec audit` says of OUT, or why it wasn't asked:
+then `no end of <channel>` for each channel without an end record; if something was lost, what `bpfrec audit` says of
+OUT, or why it wasn't asked:
 
-  audit: <answer>                                      as audit: no 5 NoEnd 1; it is not asked where OUT is no
-                                                       regular file, or where bpfrec is missing
+  audit: <answer>                                      as audit: no 5 NoEnd 1; it is not asked if OUT is no
+                                                       regular file, or if bpfrec is missing
 
 and at last
 
@@ -40,7 +40,7 @@ MORE = """\
 It runs bpfrec: what BPFREC names, or the one beside it.
 
 Status: 0 nothing was lost, 1 something was, 2 the arguments are wrong, 3 a file can't be read or written, and OUT
-isn't created where DAMAGED can't be opened, 4 out of memory.
+isn't created if DAMAGED can't be opened, 4 out of memory.
 """
 
 
@@ -50,7 +50,7 @@ class SalvageParser(Parser):
     def error(self, message: str) -> NoReturn:
         """Ends where the arguments are wrong."""
         name = full_name("salvage")
-        tell(f"{short_name('salvage')}: it takes DAMAGED and OUT: {name} --help has its words")
+        tell(f"{short_name('salvage')}: it takes DAMAGED and OUT: {name} --help has its arguments")
         self.exit(2)
 
 
@@ -132,8 +132,11 @@ def run(words: list[str]) -> int:
 
 def salvage_into(path: str, damaged: BinaryIO, is_quiet: bool) -> bool:
     """Copies what is whole into a file; whose fault has its name, where it has no other."""
+    is_new = not os.path.exists(path)
     try:
         with open(path, "wb") as out:
+            if is_new:
+                force_folder_of(path)
             return salvage(damaged, out, is_quiet)
     except OSError as error:
         error.filename = error.filename or path

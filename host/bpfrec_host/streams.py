@@ -17,11 +17,33 @@ PARTS_A_WRITE = 256
 def force(out: BinaryIO) -> None:
     """Forces a file to its disk; a pipe or a device that says that it can't be is skipped."""
     out.flush()
+    force_descriptor(out.fileno())
+
+
+def force_descriptor(descriptor: int) -> None:
+    """The same, of an open file whose bytes were written."""
     try:
-        os.fsync(out.fileno())
+        os.fsync(descriptor)
     except OSError as error:
         if error.errno != errno.EINVAL:
             raise
+
+
+def force_folder(folder: str) -> None:
+    """Forces a folder to its disk, so that a new file's name is there; one that may not be read can't be forced."""
+    try:
+        descriptor = os.open(folder, os.O_RDONLY | os.O_DIRECTORY)
+    except PermissionError:
+        return
+    try:
+        force_descriptor(descriptor)
+    finally:
+        os.close(descriptor)
+
+
+def force_folder_of(path: str) -> None:
+    """Forces the folder of a new file to its disk."""
+    force_folder(os.path.dirname(os.path.realpath(path)))
 
 
 class Refused(Exception):
@@ -115,7 +137,10 @@ class Output:
 
     def create(self, source: Optional[Input], facts: Optional[str]) -> int:
         """The descriptor of the file, which is emptied only once it is known to be no input."""
+        is_new = not os.path.exists(self.name)
         descriptor = os.open(self.name, os.O_WRONLY | os.O_CREAT, 0o666)
+        if is_new:
+            force_folder_of(self.name)
         if stat.S_ISREG(os.fstat(descriptor).st_mode):
             if source and os.path.sameopenfile(descriptor, source.descriptor):
                 raise Refused(f"{self.name}: the output is the input")
@@ -141,10 +166,11 @@ class Output:
             raise Refused(f"{self.name}: {fault.strerror}") from None
 
     def close(self) -> None:
-        """Writes what is left, and closes the file."""
+        """Writes what is left, forces the file to its disk, and closes it."""
         self.flush()
         try:
             if self.descriptor != 1:
+                force_descriptor(self.descriptor)
                 os.close(self.descriptor)
         except OSError as fault:
             raise Refused(f"{self.name}: {fault.strerror}") from None

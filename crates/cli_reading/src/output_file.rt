@@ -10,6 +10,9 @@ use std::io;
 use std::io::{BufWriter, ErrorKind, Write};
 use std::rt::Files;
 
+/// How many bytes of an output are written at once.
+pub(crate) const PIECE: usize = 65_536;
+
 /// An output's file. It is created after the buffer before it, so that there is none if there is no
 /// memory for the buffer.
 #[derive(Drop)]
@@ -55,7 +58,9 @@ where
     R::File: LockFile,
 {
     let uncreated = OutputFile { file: None };
-    let mut output = BufWriter::new(rt.alloc(), uncreated).map_err(|_| CommandEnding::Memory)?;
+    let mut output = BufWriter::with_capacity(rt.alloc(), PIECE, uncreated).map_err(
+        |_| CommandEnding::Memory,
+    )?;
     output.get_mut().file = Some(create_output(rt, inputs, out)?);
     Ok(output)
 }

@@ -4,7 +4,9 @@ ghost use Rattle.std.specs.Prelude.{◌≡◌, ◌<◌, IfSome, length};
 ghost use Rattle.cli_filters.specs.Lines.{AnswersLines};
 
 use cli_filters::{answer_lines, assemble_file, disassemble_file, run_file, verify_file};
-use cli_reading::{audit_recording, extract_frames, list_packets, upgrade_recording};
+use cli_reading::{
+    audit_recording, export_frames, extract_frames, list_packets, upgrade_recording,
+};
 use cli_record::record_channels;
 use cli_simulate::simulate_script;
 use cli_streams::{ANSWERED, CommandEnding, LockFile, print_line, print_text};
@@ -97,6 +99,9 @@ where
         ),
         Words::Upgrade { recording, out } => {
             upgrade_recording(rt, recording, out, input, output)
+        }
+        Words::Export { file, out, origin } => {
+            export_frames(rt, file, out, origin, input, output)
         }
         Words::Simulate { file } => simulate_script(rt, file, input, output),
         Words::Version => print_version(rt.alloc(), output),

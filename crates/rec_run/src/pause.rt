@@ -7,10 +7,15 @@ use std::time::Duration;
 /// How often a pause yields before it sleeps.
 const YIELDS: u32 = 100;
 
-/// How long a pause sleeps at a time, in milliseconds.
-const SLEEP: u64 = 1;
+/// How often it then sleeps for a short time, which is a second in all.
+const SHORT_SLEEPS: u32 = 1_000;
 
-/// A pause of a thread that waits: it yields at first, and then sleeps a millisecond at a time.
+/// How long a pause sleeps at a time, in milliseconds: at first, and where nothing has come for a second.
+const SHORT_SLEEP: u64 = 1;
+
+const LONG_SLEEP: u64 = 10;
+
+/// A pause of a thread that waits: it yields at first, then sleeps a millisecond at a time, and after a second ten.
 #[derive(Drop)]
 pub(crate) struct Pause {
     turns: u32,
@@ -30,8 +35,13 @@ impl Pause {
         if self.turns < YIELDS {
             self.turns += 1;
             thread::yield_now();
+        } else if self.turns < YIELDS + SHORT_SLEEPS {
+            self.turns += 1;
+            self.parker
+                .park_timeout(rt, Duration::from_millis(SHORT_SLEEP));
         } else {
-            self.parker.park_timeout(rt, Duration::from_millis(SLEEP));
+            self.parker
+                .park_timeout(rt, Duration::from_millis(LONG_SLEEP));
         }
     }
 

@@ -5,7 +5,7 @@ ghost use Rattle.std.specs.Prelude.{◌≡◌, IfOk, false, map};
 ghost use Rattle.clap.specs.Words.{app_of, rule_of};
 ghost use Rattle.clap.specs.declared.builder.Command.TheViews.{out-Command as fields_of};
 ghost use Rattle.rec_words.specs.Commands.{bpfrec_app, command_app, operand_rule, top_app, with_commands};
-ghost use Rattle.rec_words.specs.CommandTexts.{command_data};
+ghost use Rattle.rec_words.specs.CommandTexts.{command_data, word_data};
 
 use crate::command_line::help::{ABOUT, HelpText, STATUSES, text_of};
 use clap::{Arg, ArgAction, Command};
@@ -24,7 +24,7 @@ pub(crate) struct CommandTexts {
     pub(crate) about: &'static str,
     /// What else help says of it.
     pub(crate) help: HelpText,
-    /// The words after it, in order; each must be given.
+    /// The words after it, in order.
     pub(crate) words: &'static [WordTexts],
 }
 
@@ -34,18 +34,22 @@ pub(crate) struct WordTexts {
     pub(crate) name: &'static str,
     /// What the word is.
     pub(crate) help: &'static str,
+    /// Whether it must be given.
+    pub(crate) is_required: bool,
 }
 
 /// A file with a listing.
 const LISTING: WordTexts = WordTexts {
     name: "FILE",
     help: "A program's listing: the count, then code jt jf k of each instruction",
+    is_required: true,
 };
 
 /// A file with a recording.
 const RECORDING: WordTexts = WordTexts {
     name: "FILE",
     help: "A recording: packets, one after the other",
+    is_required: true,
 };
 
 /// The commands, in the order in which help lists them.
@@ -58,6 +62,7 @@ const COMMANDS: &[CommandTexts] = &[
         words: &[WordTexts {
             name: "FILE",
             help: "A filter in the text of the Linux kernel's bpf_asm",
+            is_required: true,
         }],
     },
     CommandTexts {
@@ -84,6 +89,7 @@ const COMMANDS: &[CommandTexts] = &[
             WordTexts {
                 name: "HEX",
                 help: "The view in hexadecimal",
+                is_required: true,
             },
         ],
     },
@@ -111,10 +117,12 @@ const COMMANDS: &[CommandTexts] = &[
             WordTexts {
                 name: "CHANNEL",
                 help: "The channel ID, a number from 0 to 65535",
+                is_required: true,
             },
             WordTexts {
                 name: "OUT",
                 help: "The feed that is written",
+                is_required: true,
             },
         ],
     },
@@ -127,10 +135,31 @@ const COMMANDS: &[CommandTexts] = &[
             WordTexts {
                 name: "IN",
                 help: "A recording: packets, one after the other",
+                is_required: true,
             },
             WordTexts {
                 name: "OUT",
                 help: "The recording that is written",
+                is_required: true,
+            },
+        ],
+    },
+    CommandTexts {
+        name: "export",
+        usage: "bpfrec export",
+        about: "Writes all channels' frames into a pcapng file",
+        help: HelpText::Export,
+        words: &[
+            RECORDING,
+            WordTexts {
+                name: "OUT",
+                help: "The pcapng file that is written",
+                is_required: true,
+            },
+            WordTexts {
+                name: "ORIGIN",
+                help: "Seconds from 1970 to counter 0, which are added to times",
+                is_required: false,
             },
         ],
     },
@@ -143,10 +172,12 @@ const COMMANDS: &[CommandTexts] = &[
             WordTexts {
                 name: "SETTINGS",
                 help: "The channels, their feeds and filters",
+                is_required: true,
             },
             WordTexts {
                 name: "OUT",
                 help: "The recording that is written",
+                is_required: true,
             },
         ],
     },
@@ -158,6 +189,7 @@ const COMMANDS: &[CommandTexts] = &[
         words: &[WordTexts {
             name: "FILE",
             help: "A script: a recorder, its channels, and events, a line each",
+            is_required: true,
         }],
     },
     CommandTexts {
@@ -221,13 +253,13 @@ fn command<'a>(alloc: Global, texts: &CommandTexts) -> Result<Command<'a>, Alloc
     Ok(command)
 }
 
-/// A word that must be given.
+/// A word.
 fn operand<'a>(alloc: Global, texts: &WordTexts) -> Arg<'a>
-    ensures rule { rule_of result ≡ operand_rule texts.now.name.now }
+    ensures rule { rule_of result ≡ operand_rule (word_data texts.now) }
     ensures local { result.global ≡ false }
 {
     Arg::new(alloc, texts.name)
-        .required(true)
+        .required(texts.is_required)
         .action(ArgAction::Set)
         .help(texts.help)
 }

@@ -1,8 +1,8 @@
 //! What the words of the command line ask for, by `clap`.
 
 ghost use Rattle.std.specs.Prelude.{◌≡◌, ◌⊎◌, true, map, string_bytes, IfOk, IfErr};
-ghost use Rattle.clap.specs.Words.{HasKind, Kinds, fault_of, found_of, kind_of, rows_of, subcommand_of, subcommand_rows_of, takes};
-ghost use Rattle.rec_words.specs.Commands.{AsksFor, bpfrec_app, word_for};
+ghost use Rattle.clap.specs.Words.{HasKind, Kinds, fault_of, first_of, found_of, kind_of, rows_of, subcommand_of, subcommand_rows_of, takes};
+ghost use Rattle.rec_words.specs.Commands.{AsksFor, bpfrec_app, texts_of, word_for};
 ghost use Rattle.rec_words.specs.WordsFaults.{IsFaultOf};
 ghost use Rattle.rec_words.specs.declared.words.WordsFault.TheVariants.{Memory};
 
@@ -51,6 +51,12 @@ pub enum Words<'a> {
     Upgrade {
         recording: &'a str,
         out: &'a str,
+    },
+    /// `export FILE OUT [ORIGIN]`
+    Export {
+        file: &'a str,
+        out: &'a str,
+        origin: Option<&'a str>,
     },
     /// `record SETTINGS OUT`
     Record {
@@ -139,6 +145,11 @@ fn command_in<'a>(matches: &ArgMatches<'a>) -> Words<'a>
         let out = word_for(inner, "OUT");
         return Words::Upgrade { recording, out };
     }
+    if name == "export" {
+        let out = word_for(inner, "OUT");
+        let origin = optional_word_for(inner, "ORIGIN");
+        return Words::Export { file, out, origin };
+    }
     if name == "record" {
         let settings = word_for(inner, "SETTINGS");
         let out = word_for(inner, "OUT");
@@ -158,6 +169,13 @@ fn word_for<'a>(matches: &ArgMatches<'a>, name: &str) -> &'a str
     ensures { result.now ≡ word_for name.now (rows_of (found_of matches.now)) }
 {
     matches.get_str(name).unwrap_or("")
+}
+
+/// The word that a command has for this name, if it has one.
+fn optional_word_for<'a>(matches: &ArgMatches<'a>, name: &str) -> Option<&'a str>
+    ensures { texts_of result ≡ first_of name.now (rows_of (found_of matches.now)) }
+{
+    matches.get_str(name)
 }
 
 /// What an error of clap comes to.

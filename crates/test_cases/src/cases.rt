@@ -107,7 +107,7 @@ pub(crate) static RECORDINGS: [&[&str]; 23] = [
 ];
 
 /// Files that can't be read, words that are no command, and the version.
-pub(crate) static REFUSED: [&[&str]; 38] = [
+pub(crate) static REFUSED: [&[&str]; 41] = [
     // files that can't be read, or are no text
     &["verify", "nowhere"],
     &["verify", "."],
@@ -122,6 +122,8 @@ pub(crate) static REFUSED: [&[&str]; 38] = [
     &["extract", "recordings/two_versions.ch11", "1", "/dev/full"],
     &["upgrade", "recordings/two_versions.ch11", "/dev/full"],
     &["upgrade", "recordings/two_versions.ch11", "/dev/null"],
+    &["export", "recordings/two_versions.ch11", "/dev/full"],
+    &["export", "recordings/two_versions.ch11", "/dev/null"],
     // words that are no command
     &["verify"],
     &["verify", "arp", "arp"],
@@ -136,6 +138,7 @@ pub(crate) static REFUSED: [&[&str]; 38] = [
     &["extract"],
     &["upgrade", "recordings/two_versions.ch11"],
     &["upgrade"],
+    &["export", "recordings/two_versions.ch11", "out", "0", "0"],
     &["simulate"],
     &["simulate", "nowhere"],
     &["simulate", "not_utf8"],
@@ -166,7 +169,7 @@ pub(crate) static CHECKED: [&[&str]; 9] = [
 ];
 
 /// Words that ask for help.
-pub(crate) static HELP: [&[&str]; 14] = [
+pub(crate) static HELP: [&[&str]; 15] = [
     &["--help"],
     &["-h"],
     &["help"],
@@ -179,6 +182,7 @@ pub(crate) static HELP: [&[&str]; 14] = [
     &["extract", "--help"],
     &["help", "extract"],
     &["upgrade", "--help"],
+    &["export", "--help"],
     &["simulate", "--help"],
     &["version", "--help"],
 ];

@@ -6,6 +6,7 @@
 
 mod audits;
 mod cases;
+mod exports;
 mod extracts;
 mod records;
 mod run;
@@ -15,6 +16,7 @@ mod upgrades;
 
 use audits::show_audits;
 use cases::{CHECKED, HELP, PROGRAMS, RECORDINGS, REFUSED};
+use exports::{EXPORTS, ExportCase};
 use extracts::{EXTRACTS, ExtractCase};
 use rec_cli::LockFile;
 use records::show_records;
@@ -36,6 +38,7 @@ fn main(rt: HostRuntime) -> io::Result<()> {
     show_refused(&rt)?;
     show_checked(&rt)?;
     show_extracts(&rt)?;
+    show_exports(&rt)?;
     show_upgrades(&rt)?;
     show_long_list(&rt)?;
     show_texts(&rt)?;
@@ -100,6 +103,17 @@ where
 {
     for case in &EXTRACTS {
         show_extract(rt, case)?;
+    }
+    Ok(())
+}
+
+fn show_exports<R: AllocGlobal + Files + Print + Threads + Wait + Sync>(rt: &R) -> io::Result<()>
+where
+    R::File: Send + LockFile,
+    R::Dir: Send,
+{
+    for case in &EXPORTS {
+        show_export(rt, case)?;
     }
     Ok(())
 }
@@ -217,6 +231,23 @@ where
     Ok(())
 }
 
+/// A recording's export: what is printed, and then the bytes of the file, if it was created.
+fn show_export<R: AllocGlobal + Files + Print + Threads + Wait + Sync>(
+    rt: &R,
+    case: &ExportCase,
+) -> io::Result<()>
+where
+    R::File: Send + LockFile,
+    R::Dir: Send,
+{
+    match case.origin {
+        Some(origin) => show_run(rt, &["export", case.recording, case.out, origin], NOTHING)?,
+        None => show_run(rt, &["export", case.recording, case.out], NOTHING)?,
+    };
+    show_file(rt, "file", case.out)?;
+    Ok(())
+}
+
 /// A recording's upgrade: what is printed, and then the bytes of the file, if it was created, and its
 /// audit.
 fn show_upgrade<R: AllocGlobal + Files + Print + Threads + Wait + Sync>(
@@ -260,8 +291,8 @@ where
     let run = run_program(rt, words, NOTHING)?;
     title(rt, words)?;
     for name in [
-        "asm", "dis", "verify", "run", "audit", "extract", "upgrade", "simulate", "FILE", "HEX",
-        "CHANNEL", "OUT", "Usage",
+        "asm", "dis", "verify", "run", "audit", "extract", "upgrade", "export", "simulate", "FILE",
+        "HEX", "CHANNEL", "OUT", "ORIGIN", "Usage",
     ] {
         if run.output().contains(name) {
             println!(rt; "names {name}")?;

@@ -1,9 +1,11 @@
-//! The tests of filters, frames and packets, by the public calls of their crates. They stand in one
+//! The tests of filters, frames, packets and blocks, by the public calls of their crates. They stand in one
 //! crate, since a crate with tests of its own is proved twice.
 #![tactic(auto)]
 
 #[cfg(test)]
 mod assembler;
+#[cfg(test)]
+mod blocks;
 #[cfg(test)]
 mod disassembler;
 #[cfg(test)]

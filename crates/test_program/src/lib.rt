@@ -1,11 +1,13 @@
 //! The tests of the program, by its public calls: runs without words, the settings of recordings, calls
-//! of files that a signal interrupts, and the limits in help.
+//! of files that a signal interrupts, how lines go out, and the limits in help.
 #![tactic(auto)]
 
 #[cfg(test)]
 mod command_line;
 #[cfg(test)]
 mod help;
+#[cfg(test)]
+mod printed;
 #[cfg(test)]
 mod retried;
 #[cfg(test)]

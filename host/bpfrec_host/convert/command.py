@@ -15,9 +15,9 @@ from bpfrec_host.words import Parser, natural
 ABOUT = f"""\
 Makes feeds for bpfrec from captures, captures from feeds, and sample feeds; shows what a feed has.
 
-A feed holds the records of Ethernet frames, one after the other. A record has a counter (6 bytes, ticks of the
-10 MHz relative time counter (RTC) of IRIG 106) and error flags (`marks`, 1 byte). Then come the frame's length
-(2 bytes, {MIN_FRAME_LEN} to {MAX_FRAME_LEN:,}), and the frame with its frame check sequence (FCS, {CHECK_SEQUENCE_LEN} bytes).
+A feed has a record for each Ethernet frame, one after the other. A record has a counter (6 bytes, ticks of the
+10 MHz relative time counter (RTC) of IRIG 106) and link-layer error flags (`marks`, 1 byte). Then come the frame's
+length (2 bytes, {MIN_FRAME_LEN} to {MAX_FRAME_LEN:,}), and the frame with its frame check sequence (FCS, {CHECK_SEQUENCE_LEN} bytes).
 Numbers are little-endian. Bit 0 of the flags says that the FCS is wrong, bit 1 that the frame has another
 link-layer error.
 
@@ -26,17 +26,17 @@ Nothing of this tool is proved; bpfrec itself reads no captures and computes no 
 """
 FROM_PCAP = f"""Makes a feed from a capture of Ethernet: a classic pcap file (both byte orders, micro- and nanoseconds) or a
     pcapng file, of which each section and interface is read. Frames of less than {MIN_WIRE_LEN} bytes are padded as on
-    the wire, check sequences are computed where the capture has none, and frames whose check sequence is wrong are
-    marked. From a pipe each frame is written before the next one is waited for. Prints `frames <n> skipped <m>`, on
-    standard error where the feed is standard output: m frames were cut short by the capture, or have fewer bytes than a
+    the wire, a frame check sequence (FCS) that the capture lacks is computed, and a frame with a wrong one gets error
+    flag bit 0. From a pipe each frame is written before the next one is waited for. Prints `frames <n> skipped <m>`,
+    on standard error if the feed is standard output: m frames were cut short by the capture, or have fewer bytes than a
     frame or more than {MAX_FRAME_LEN - CHECK_SEQUENCE_LEN:,}. A file that is damaged or ends in the middle is refused,
     and then OUT.feed has the frames before."""
-TO_PCAP = """Makes a classic pcap file (nanoseconds, little-endian) from a feed, such as `bpfrec extract` writes. Marks have
-    no place in it. Prints `frames <n>`, on standard error where the capture is standard output. A frame whose time is
-    before 1970, or past 2106-02-07, is refused. The status is 3 where the FILE of --facts can't be read, and 1 where it
-    has no facts of a recording."""
-SHOW = f"""Prints a line for each record: the counter, the marks, the length of the frame with its check sequence, and the
-    frame's first {SHOWN_BYTES} bytes."""
+TO_PCAP = """Makes a classic pcap file (nanoseconds, little-endian) from a feed, such as `bpfrec extract` writes. It has no
+    place for error flags. Prints `frames <n>`, on standard error if the capture is standard output. A frame whose time
+    is before 1970, or past 2106-02-07, is refused. The status is 3 if the FILE of --facts can't be read, and 1 if it has
+    no facts of a recording."""
+SHOW = f"""Prints a line for each record of a feed: the counter, the error flags, the length of the frame with its FCS, and
+    the frame's first {SHOWN_BYTES} bytes."""
 MAKE = "Makes a feed of COUNT sample frames, the same for the same SEED."
 
 Commands = argparse._SubParsersAction
@@ -85,15 +85,15 @@ def add_to_pcap(commands: "Commands[Parser]") -> None:
         metavar="WHEN",
         type=moment_of,
         default="zero",
-        help="the moment of counter 0, as of from-pcap or as capture told it; zero (1970-01-01) by default",
+        help="the moment of counter 0, as given to from-pcap or as capture printed it; zero (1970-01-01) by default",
     )
     times.add_argument(
         "--facts",
         metavar="FILE",
-        help="the facts beside the recording that the feed is of, as flight.ch11.json: by them each frame "
-        "has its time, also where the clock was set during the recording",
+        help="the facts beside the recording that the feed comes from, as flight.ch11.json: by them each frame "
+        "has its time, even if the clock was set during the recording",
     )
-    made.add_argument("--drop-check-sequence", action="store_true", help="leave the check sequences out")
+    made.add_argument("--drop-check-sequence", action="store_true", help="leave each frame's FCS out")
     add_quiet(made)
     made.set_defaults(
         run=lambda given: to_pcap(

@@ -26,6 +26,8 @@ MIN_BLOCK_LENS = {
     PACKET_BLOCK: 32,
 }
 MAX_BLOCK_LEN = 1 << 24
+# Of a section: so many as --interface can name.
+MAX_INTERFACES = 65_536
 OPTION_PACKET_FLAGS = 2
 OPTION_RESOLUTION = 9
 OPTION_CHECK_SEQUENCE_LEN = 13
@@ -168,6 +170,8 @@ class Blocks:
 
     def add_interface(self, data: bytes, at: int, end: int) -> None:
         """Takes the description of the section's next interface."""
+        if len(self.interfaces) == MAX_INTERFACES:
+            raise self.refused(f"more than {MAX_INTERFACES} interfaces")
         interface = Interface(*struct.unpack_from(self.order + "H2xI", data, at + 8))
         self.is_found |= self.chosen == len(self.interfaces)
         self.interfaces.append(interface)

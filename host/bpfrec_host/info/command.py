@@ -4,37 +4,38 @@ from __future__ import annotations
 
 import json
 import os
+from itertools import chain
 from typing import Optional
 
-from bpfrec_host.ending import full_name, say
+from bpfrec_host.ending import full_name, say_parts
 from bpfrec_host.formats.limits import MAX_VERSIONS
 from bpfrec_host.info.as_json import object_of
 from bpfrec_host.info.beside import Beside, facts_beside
 from bpfrec_host.info.contents import MOST_PLACES, MOST_SECONDS, Recording, read
-from bpfrec_host.info.page import page
-from bpfrec_host.info.text import text_page
+from bpfrec_host.info.page import page_parts
+from bpfrec_host.info.text import text_parts
 from bpfrec_host.program import Audit, audit_of
 from bpfrec_host.words import Parser
 
 ABOUT = """\
 What is in a recording: rates, gaps, versions of filters, faults, as a text, as JSON or as a page.
 
-Of each channel: frames and bytes that were kept, the versions of its filter with the first frame of each, first
-and last counter with the time between. Then the mean rate (frames by the time between the least and the greatest
-counter), the greatest rate (frames in a second of the counter), the longest gap between two frames, counters that
-step back, and frames with error flags. The end record has the frames offered and dropped by the filter. Of the whole:
-packets by kind, gaps in sequence numbers, places that can't be read, wrong checksums among them, and what
-`bpfrec audit` answers. Packets behind a damaged place are counted too (salvage copies them).
+For each channel: frames and bytes that were kept, the versions of its filter with the first frame of each, the first
+and last value of the relative time counter (RTC) with the time between. Then the mean rate (frames by the time between
+the least and the greatest counter), the greatest rate (frames in a second of the counter), the longest gap between two
+frames, counters that step back, and frames with error flags. The end record has the frames offered and dropped by the
+filter. For the whole: packets by kind, gaps in sequence numbers, places that can't be read, wrong checksums among them,
+and what `bpfrec audit` answers. Packets behind a damaged place are counted too (salvage copies them).
 
-Where the facts of the recording stand beside it, as RECORDING.json, it prints from them the host, each origin (the
-moment of counter 0) with the counter from which on it holds, and the frames that were lost. Of each channel it prints
-the times of its first and last frame. These times are UTC. The time between two frames goes by their counters.
+If the facts of the recording are beside it, as RECORDING.json, it prints from them the host, each origin (the moment
+of counter 0) with the counter from which on it is right, and the frames that were lost. For each channel it prints
+the times of its first and last frame. These times are UTC. The time between two frames is that of their counters.
 """
 MORE = f"""\
-In JSON lengths of time are ticks of 100 ns, and what isn't known is null, as all that facts would say where there are
-none. Where over {MOST_SECONDS:,} seconds have frames, rates are of longer times, which are said. Of gaps, damaged
-places and origins the first {MOST_PLACES:,} are printed one by one, of a channel's versions as many as a recorder writes,
-{MAX_VERSIONS:,}; all are counted.
+In JSON lengths of time are ticks of 100 ns, and what isn't known is null, as all that comes from facts if there are
+none. If over {MOST_SECONDS:,} seconds have frames, rates are for longer times, which are printed. The first {MOST_PLACES:,}
+gaps, damaged places and origins are printed one by one, and the first {MAX_VERSIONS:,} versions of a channel's filter; all
+are counted.
 
 A RECORDING.json that can't be read, or has no facts of a recording, is reported on standard error, and changes neither
 the rest nor the status.
@@ -63,7 +64,7 @@ def write_page(path: str, name: str, recording: Recording, audit: Audit, beside:
             raise OSError(0, f"it is {what} itself", path)
     try:
         with open(path, "w", encoding="utf-8") as file:
-            file.write(page(os.path.basename(name), recording, audit, beside))
+            file.writelines(page_parts(os.path.basename(name), recording, audit, beside))
     except OSError as error:
         error.filename = error.filename or path
         raise
@@ -77,9 +78,10 @@ def run(words: list[str]) -> int:
     recording = read(given.recording, not audit.is_yes(), given.quiet)
     beside = facts_beside(given.recording)
     if given.json:
-        say(json.dumps(object_of(recording, audit.answer, beside), indent=2) + "\n")
+        parts = json.JSONEncoder(indent=2).iterencode(object_of(recording, audit.answer, beside))
+        say_parts(chain(parts, ["\n"]))
     elif not given.html:
-        say(text_page(recording, audit, beside))
+        say_parts(text_parts(recording, audit, beside))
     if given.html:
         write_page(given.html, given.recording, recording, audit, beside)
     return 1 if recording.damage_count else 0

@@ -26,6 +26,8 @@ KINDS: dict[type, str] = {ch11.Frames: "frames", ch11.Program: "program", ch11.E
 class Rates:
     """How many frames have their counters in each `ticks` ticks; in twice as many where these would be too many."""
 
+    __slots__ = ("ticks", "most", "counts")
+
     def __init__(self, ticks: int, most: int) -> None:
         self.ticks, self.most = ticks, most
         self.counts: defaultdict[int, int] = defaultdict(int)
@@ -69,6 +71,8 @@ class Rates:
 class Gaps:
     """The longest gaps between two frames, each with the counter at which it begins."""
 
+    __slots__ = ("longest", "kept")
+
     def __init__(self) -> None:
         self.longest = 0
         self.kept: list[tuple[int, int]] = []
@@ -101,6 +105,12 @@ class Version(NamedTuple):
 
 class Channel:
     """What a recording has of a channel."""
+
+    # Of a damaged recording there may be 65,535.
+    __slots__ = (
+        *("frames", "bytes", "marked", "steps_back", "first", "last", "least", "greatest", "rates", "times", "gaps"),
+        *("versions", "version_count", "hidden_versions", "end", "end_counter"),
+    )
 
     def __init__(self) -> None:
         self.frames, self.bytes, self.marked, self.steps_back = 0, 0, 0, 0

@@ -2,14 +2,14 @@
 
 from __future__ import annotations
 
-from typing import Optional
+from typing import Iterator, Optional
 
 from bpfrec_host.formats import ch11
 from bpfrec_host.formats.limits import TICKS_A_SECOND
 from bpfrec_host.info.beside import Beside, time_of
 from bpfrec_host.info.contents import Channel, Recording
 
-HEADS = ("channel", "frames", "offered", "frames/s", "first s", "last s", "marks")
+HEADS = ("channel", "frames", "offered", "frames/s", "first s", "last s", "remarks")
 WIDTHS = (7, 13, 13, 11, 15, 15)
 # How many damaged places are shown one by one here; the row "damaged places" has more.
 MOST_SHOWN = 10
@@ -20,7 +20,7 @@ def time_text(counter: Optional[int]) -> str:
     return "-" if counter is None else f"{counter // TICKS_A_SECOND}.{counter % TICKS_A_SECOND:07d}"
 
 
-def marks_of(channel: Channel, missing: int) -> list[str]:
+def remarks_of(channel: Channel, missing: int) -> list[str]:
     """What a reader should see at once of a channel."""
     return [
         *(["KEPT NOTHING"] if not channel.frames else []),
@@ -42,7 +42,7 @@ def line_of(number: int, channel: Channel, missing: int) -> str:
         time_text(last),
     )
     numbers = " ".join(f"{it:>{width}}" for it, width in zip(cells, WIDTHS))
-    return f"{numbers}  {', '.join(marks_of(channel, missing))}".rstrip()
+    return f"{numbers}  {', '.join(remarks_of(channel, missing))}".rstrip()
 
 
 def damage_line(damage: ch11.Damage, before: Optional[tuple[int, int]], beside: Optional[Beside]) -> str:
@@ -55,13 +55,14 @@ def damage_line(damage: ch11.Damage, before: Optional[tuple[int, int]], beside: 
     return f"{place}, behind frames of channel {channel} at {time_text(counter)} s{f', {moment}' if moment else ''}"
 
 
-def overview(recording: Recording, beside: Optional[Beside]) -> str:
-    """The table of all channels, and the first damaged places."""
-    channels = sorted(recording.channels.items())
-    lines = [" ".join(f"{it:>{width}}" for it, width in zip(HEADS, WIDTHS)) + f"  {HEADS[-1]}"]
-    lines += [line_of(number, it, recording.missing[number]) for number, it in channels]
+def overview(recording: Recording, beside: Optional[Beside]) -> Iterator[str]:
+    """The table of all channels, and the first damaged places, line by line."""
+    yield " ".join(f"{it:>{width}}" for it, width in zip(HEADS, WIDTHS)) + f"  {HEADS[-1]}\n"
+    for number, it in sorted(recording.channels.items()):
+        yield f"{line_of(number, it, recording.missing[number])}\n"
     shown = list(zip(recording.damages, recording.before))[:MOST_SHOWN]
-    lines += [damage_line(damage, before, beside) for damage, before in shown]
+    for damage, before in shown:
+        yield f"{damage_line(damage, before, beside)}\n"
     more = recording.damage_count - len(shown)
-    lines += [f"DAMAGED {more:,} more places"] if more else []
-    return "".join(f"{it}\n" for it in lines)
+    if more:
+        yield f"DAMAGED {more:,} more places\n"

@@ -76,7 +76,7 @@ def filters(channel: Channel, axis: Axis, texts: Texts) -> Iterator[str]:
 
 def section(channel_id: int, channel: Channel, axis: Axis, texts: Texts, beside: Optional[Beside]) -> str:
     """What the page has of a channel."""
-    bad = [] if channel.end else ["record of its end"]
+    bad = [] if channel.end else ["end record"]
     return (
         f"<section><h2>Channel {channel_id}</h2>{timeline(channel, axis)}{table(rows_of(channel, beside), bad)}"
         f"{''.join(filters(channel, axis, texts))}</section>"
@@ -93,16 +93,18 @@ def bad_rows(recording: Recording, audit: program.Audit, beside: Optional[Beside
     ]
 
 
-def page(name: str, recording: Recording, audit: program.Audit, beside: Optional[Beside] = None) -> str:
-    """The whole page of a recording of this name."""
+def page_parts(name: str, recording: Recording, audit: program.Audit, beside: Optional[Beside] = None) -> Iterator[str]:
+    """The page of a recording of this name, part by part."""
     axis, texts = Axis(recording.channels.values()), Texts()
     whole = table(rows_of_whole(recording, audit, beside), bad_rows(recording, audit, beside))
     span = f"Counters {number(axis.first)} to {number(axis.last)}, {seconds(axis.last - axis.first)}, in each timeline."
     times = f" Times are UTC, from the facts in {on_a_line(os.path.basename(beside.path))}." if beside else ""
-    sections = (section(channel, it, axis, texts, beside) for channel, it in sorted(recording.channels.items()))
-    return (
+    yield (
         "<!DOCTYPE html>\n<html lang=en><meta charset=utf-8>"
         '<meta name=viewport content="width=device-width, initial-scale=1">'
         f"<title>{escaped(name)}</title><style>{STYLE}</style><h1>{escaped(name)}</h1>{whole}"
-        f"<p>{escaped(span)} {escaped(LEGEND)}{escaped(times)}</p>{''.join(sections)}</html>\n"
+        f"<p>{escaped(span)} {escaped(LEGEND)}{escaped(times)}</p>"
     )
+    for channel, it in sorted(recording.channels.items()):
+        yield section(channel, it, axis, texts, beside)
+    yield "</html>\n"

@@ -56,9 +56,9 @@ def rows_of(channel: Channel, beside: Optional[Beside]) -> list[Row]:
         ("greatest rate", f"{number(most)} frames in {time}" if most else "unknown"),
         ("longest gap", seconds(channel.longest_gap())),
         ("counters that step back", number(channel.steps_back)),
-        ("frames with marks", number(channel.marked)),
+        ("frames with error flags", number(channel.marked)),
         ("versions of the filter", number(channel.version_count)),
-        ("record of its end", "there" if channel.end else "missing"),
+        ("end record", "there" if channel.end else "missing"),
     ]
 
 
@@ -114,18 +114,22 @@ def rows_of_whole(recording: Recording, audit: Audit, beside: Optional[Beside]) 
     ]
 
 
-def text_page(recording: Recording, audit: Audit, beside: Optional[Beside] = None) -> str:
-    """A table of all channels, and then all numbers, as a text."""
-    parts = [("", rows_of_whole(recording, audit, beside))]
-    for channel, it in sorted(recording.channels.items()):
-        versions = [
-            (f"version {known.name()}", f"from frame {number(known.first)}, counter {number(known.counter)}")
-            for known in it.versions
-        ]
-        parts.append((f"channel {channel}", rows_of(it, beside) + versions))
-    found = []
-    for title, rows in parts:
-        indent = "  " if title else ""
-        found += [f"\n{title}"] if title else []
-        found += [f"{indent}{name:<26} {value}" for name, value in rows]
-    return overview(recording, beside) + "\n" + "\n".join(found) + "\n"
+def channel_lines(channel_id: int, channel: Channel, beside: Optional[Beside]) -> Iterator[str]:
+    """The lines of a channel, behind an empty one."""
+    versions = [
+        (f"version {it.name()}", f"from frame {number(it.first)}, counter {number(it.counter)}")
+        for it in channel.versions
+    ]
+    yield f"\nchannel {channel_id}\n"
+    for name, value in rows_of(channel, beside) + versions:
+        yield f"  {name:<26} {value}\n"
+
+
+def text_parts(recording: Recording, audit: Audit, beside: Optional[Beside] = None) -> Iterator[str]:
+    """A table of all channels, and then all numbers, as the parts of a text."""
+    yield from overview(recording, beside)
+    yield "\n"
+    for name, value in rows_of_whole(recording, audit, beside):
+        yield f"{name:<26} {value}\n"
+    for channel_id, it in sorted(recording.channels.items()):
+        yield from channel_lines(channel_id, it, beside)

@@ -2,10 +2,13 @@
 
 from __future__ import annotations
 
+import contextlib
 import os
 import threading
 import time
 from typing import Callable, Optional
+
+from bpfrec_host.streams import force_folder
 
 # Facts that change are written so often at most, in seconds; the last ones at once.
 FACTS_PAUSE = 1.0
@@ -45,7 +48,9 @@ class Keeper(threading.Thread):
     def run(self) -> None:
         """Does what is due until it is ended."""
         if self.pause:
-            force_folder(self.folder)
+            # The recorder tells of a disk that fails.
+            with contextlib.suppress(OSError):
+                force_folder(self.folder or ".")
         while True:
             with self.changed:
                 while not self.is_due():
@@ -106,17 +111,3 @@ class Keeper(threading.Thread):
         if self.descriptor >= 0:
             os.close(self.descriptor)
             self.descriptor = -1
-
-
-def force_folder(path: str) -> None:
-    """Forces a folder to its disk, so that a new file's name is there."""
-    try:
-        descriptor = os.open(path or ".", os.O_RDONLY | os.O_DIRECTORY | os.O_CLOEXEC)
-    except OSError:
-        return
-    try:
-        os.fsync(descriptor)
-    except OSError:
-        pass
-    finally:
-        os.close(descriptor)

@@ -34,7 +34,7 @@ class Words(NamedTuple):
 
 def words_of(words: list[str]) -> Words:
     """What the words say; a Refusal names what is missing or wrong."""
-    help_text = f"{full_name('live')} --help has its words"
+    help_text = f"{full_name('live')} --help has its arguments"
     if not words or (len(words) == 1 and names_settings(words)):
         raise Refusal(2, f"live: it takes SETTINGS and OUT: {help_text}")
     if names_settings(words):

@@ -20,27 +20,27 @@ from bpfrec_host.words import Parser, natural
 ABOUT = """\
 Makes one capture in pcapng of recordings: of all their time or a slice of it, of all channels or some, merged by time.
 
-Each channel is an interface, with the name that the facts beside the recording have for it. Frames have their check
-sequences, and the marks of wrong ones. Comments have the counts of each channel, the filter in force at its first
-frame and, at the first frame behind a change, the filter from there on.
+Each channel is an interface, with the name that the facts beside the recording have for it. Frames have their frame
+check sequence (FCS) and their error flags. Comments have the counts of each channel, the filter in force at its first
+frame and, at the first frame after a change, the filter from there on.
 
 The packets of the slice are found by the headers of all packets, and no others are read. Of a channel whose packets
 rise by their counters, frames are looked for in the packets of the slice alone; else in all.
 
-Where the facts stand beside a recording, as RECORDING.json, times are those of the facts; without facts they are the
-time since counter 0, from 1970 on. All recordings must have facts, or none.
+If the facts are beside a recording, as RECORDING.json, times are those of the facts; without facts they are the time
+since the relative time counter (RTC) was 0, from 1970 on. All recordings must have facts, or none.
 """
 MORE = """\
 TIME is seconds since counter 0, as 12.5, or UTC as 2025-12-01T12:00:00.25Z, which needs facts.
 
-As OUT, `-` is standard output. It prints `frames <n> skipped <m>`, on standard error where OUT is standard output: m
-frames have another content, or fewer than 18 bytes, and no capture has them. When that is printed, OUT is on its disk.
+As OUT, `-` is standard output. It prints `frames <n> skipped <m>`, on standard error if OUT is standard output: m
+frames have another content, or fewer than 18 bytes, and no capture can have them. When that is printed, OUT is on its disk.
 A damaged place is reported on standard error, and what is behind it is read.
 
 It runs bpfrec for the text of filters: what BPFREC names, or the one beside it; without it they are listings.
 
 Status: 0 done, 1 a recording is damaged or can't be used, 2 the arguments are wrong, 3 a file can't be read or
-written, or OUT is there, 4 out of memory.
+written, or OUT exists, 4 out of memory.
 """
 
 
@@ -56,7 +56,7 @@ def parser() -> Parser:
     made.add_argument(
         "--channel", metavar="N", type=channel_id, action="append", help="this channel; it may be given several times"
     )
-    made.add_argument("--force", action="store_true", help="overwrites an OUT that is there")
+    made.add_argument("--force", action="store_true", help="overwrites an OUT that exists")
     made.add_argument("--quiet", action="store_true", help="shows no progress on a terminal")
     made.add_argument("out", metavar="OUT")
     made.add_argument("recordings", metavar="RECORDING", nargs="+")

@@ -44,7 +44,7 @@ class Interface:
         found = [it.channel.end for it in self.slices]
         ends = [it for it in found if it]
         if not ends:
-            return f"channel {self.channel}: no record of its end"
+            return f"channel {self.channel}: no end record"
         told = f"frames offered {sum(it.offered for it in ends)}, kept {sum(it.kept for it in ends)}"
         lacking = f", and {len(found) - len(ends)} recordings without its end" if len(found) > len(ends) else ""
         return f"channel {self.channel}: {told}{lacking}"

@@ -8,7 +8,7 @@ import stat
 import sys
 from typing import BinaryIO, Iterable
 
-from bpfrec_host.streams import Refused
+from bpfrec_host.streams import Refused, force_folder_of
 
 STREAM = "-"
 # How many bytes are written at once.
@@ -39,7 +39,11 @@ def judge(path: str, inputs: Iterable[str], is_forced: bool) -> None:
 def create(path: str) -> BinaryIO:
     """The file, emptied; or standard output."""
     if path != STREAM:
-        return open(path, "wb", BUFFER_LEN)
+        is_new = not os.path.exists(path)
+        made = open(path, "wb", BUFFER_LEN)
+        if is_new:
+            force_folder_of(path)
+        return made
     if sys.stdout is None:
         raise OSError(errno.EBADF, os.strerror(errno.EBADF), STREAM)
     return open(sys.stdout.fileno(), "wb", BUFFER_LEN, closefd=False)

@@ -18,7 +18,7 @@ from bpfrec_host.preflight.report import NotJudged, Report
 from bpfrec_host.words import Parser
 
 ABOUT = """\
-Names, before a recording, all faults that `bpfrec record SETTINGS OUT` would answer, not only the first.
+Names, before a recording, all faults for which `bpfrec record SETTINGS OUT` would end, not only the first.
 
 Run it in the folder in which the recording will run, since paths are used as they are written. It judges
 
@@ -26,13 +26,13 @@ Run it in the folder in which the recording will run, since paths are used as th
 - each filter, by `bpfrec verify`, and each feed that is a file, to its end;
 - two channels whose feeds are one pipe or device;
 - OUT: whether it can be written, that it isn't among the inputs, and how much room its disk has;
-- the memory that the buffers of the recording take at most, beside what is available.
+- the memory that the buffers of the recording take at most, and how much is available.
 
 With --capture it records FEED through each filter into /dev/null, and says how many frames are kept.
 
 With --live it judges the arguments of `live` that follow, as `--live --every 3600 wire.toml flight.ch11 eth0=1`: the
-same of SETTINGS and OUT, which may not be there. It judges whether each interface is there and up and whether the
-kernel joins its frames; the permission to capture; what the kernel keeps of frames, beside the memory that is available; and the
+same for SETTINGS and OUT, which may not exist. It judges whether each interface exists and is up and whether the
+kernel joins its frames; the permission to capture; the kernel's buffers, and how much memory is available; and the
 expressions that are filters.
 
 It creates nothing but temporary files, empties nothing, and opens no pipe, since that would wait for
@@ -41,9 +41,9 @@ the pipe's other end.
 MORE = """\
 Each finding is a line on standard output, `FILE[:LINE]: [channel ID: ]what`; a channel without an ID
 is `channel table N`. What is no fault begins with `note:`. The last line is `N faults`. The status is
-0 without faults, 1 with faults, 2 where nothing was judged, 3 where the findings can't be printed, and
-4 where it is out of memory. Nothing is judged where the arguments are wrong, the program is missing,
-SETTINGS is a pipe, or TOML can't be read. That is so where Python has no tomllib (3.11 is the first that
+0 without faults, 1 with faults, 2 if nothing was judged, 3 if the findings can't be printed, and
+4 if it is out of memory. Nothing is judged if the arguments are wrong, the program is missing,
+SETTINGS is a pipe, or TOML can't be read. That is so if Python has no tomllib (3.11 is the first that
 has it) and no tomli, or its tomllib doesn't read what is new in TOML 1.1, which bpfrec reads.
 
 It runs bpfrec: what BPFREC names, or the one beside it. Nothing of this tool is proved.

@@ -18,6 +18,8 @@ pub(crate) enum HelpText {
     Extract,
     /// [`UPGRADE`]
     Upgrade,
+    /// [`EXPORT`]
+    Export,
     /// [`RECORD`]
     Record,
     /// [`SIMULATE`]
@@ -37,6 +39,7 @@ pub(crate) fn text_of(help: &HelpText) -> &'static str {
         HelpText::Audit => AUDIT,
         HelpText::Extract => EXTRACT,
         HelpText::Upgrade => UPGRADE,
+        HelpText::Export => EXPORT,
         HelpText::Record => RECORD,
         HelpText::Simulate => SIMULATE,
         HelpText::Version => PRINT_VERSION,
@@ -145,7 +148,7 @@ or the first thing that is wrong, with packets and frames counted from 0:
   no 1 NoProgram <packet>          frames, and no program of their channel before them
   no 2 BadProgram <packet>         a program that verify refuses
   no 3 NotAccepted <packet> <frame>
-                                   a frame that its program drops, or that has no check sequence
+                                   a frame that its program drops, or that has no FCS
   no 4 Order <packet>              a packet after its channel's end, or programs out of order
   no 5 NoEnd <channel>             a channel without its end
   no 6 Counts <channel>            an end whose numbers are not those of its frames
@@ -197,7 +200,7 @@ a line are separated by one space, and a listing takes the rest of its line:
   close <channel>                                  no more frames come
 Each event is answered by a line:
   took <number> <version> <value>                  a value of 0 drops the frame
-  installed <version> <mark>                       from frame <mark> on
+  installed <version> <first>                      from frame <first> on
   sent program <version>, sent frames <n>, or sent end
   wrote <packet>                                   its bytes in hexadecimal
   closed <offered> <kept>
@@ -219,6 +222,24 @@ write 1
 close 1
 END";
 
+const EXPORT: &str = "\
+Reads a recording once, and writes the frames of all its channels into the pcapng file OUT, which
+Wireshark, tshark and tcpdump read. A channel is an interface with the name channel <id>, and with
+the version of its first filter as a comment. A frame has its bytes with the frame check sequence
+(FCS), its error flags, and its counter as the time. Where the filter changed, the first frame
+behind has the new version as a comment. As OUT, - is standard output; it prints nothing else.
+
+Times are those since counter 0, from 1970 on. ORIGIN is added to them, a number of seconds from 0
+to 9223372036854775807.
+A recording that can't be read to its end is reported as by list, and then OUT has the frames of the
+packets before. OUT may not be FILE.
+
+Exit status: 0 written; 1 not read to its end; 2 arguments; 3 a file; 4 no memory.
+
+Examples:
+  bpfrec export flight.ch11 flight.pcapng
+  bpfrec export flight.ch11 - | wireshark -k -i -";
+
 const PRINT_VERSION: &str = "\
 Prints on standard output what --version prints too:
   bpfrec <version>
@@ -233,7 +254,7 @@ Records the channels that SETTINGS names into the file OUT, until every feed has
 standard input. SETTINGS is a TOML document:
   limit = 65536                    the longest packet of frames without its data checksum,
                                    in bytes, 16424 to 524284
-  ring = 64                        how many pieces of a channel may wait for OUT, 1 to 4096
+  ring = 64                        how many packets of a channel may wait for OUT, 1 to 4096
   version = 8                      the data type version of the packets, 0 to 255
   [[channel]]                      1 to 64 of them, each with an id of its own
   id = 1                           1 to 65535
@@ -243,15 +264,15 @@ standard input. SETTINGS is a TOML document:
   speed = 0                        their Ethernet speed, 0 to 15
   max = 9223372036854775807        how many frames are taken at most, 0 to this number
 Only id, feed and filter must be set; the numbers above are the others' defaults. Filters and
-feeds are opened channel by channel, and then OUT is created, or emptied if it is there; the opening
+feeds are opened channel by channel, and then OUT is created, or emptied if it exists; the opening
 of a pipe waits for its writer. No pipe may feed two channels. OUT may be none of these files, nor
 a file that a standard stream is, nor what another recorder writes: it is locked. With /dev/null as
 OUT the filters are tried; a named pipe as OUT takes the recording to another machine.
 
-From then on a silent pipe holds up no other channel. Nothing is dropped when time is short: a pipe
-that fills holds up its writer, which has to count what it drops. A channel that has ended closes
+From then on a silent pipe delays no other channel. Nothing is dropped when time is short: a pipe
+that fills delays its writer, which has to count what it drops. A channel that has ended closes
 its feed. Recording ends when every feed and standard input have ended; after OUT has failed each
-of them ends with its next frame or line. Ctrl-C would end it without end packets; keep it from the
+of them ends with its next frame or line. Ctrl-C would end it without end records; keep it from the
 recorder, so that what feeds it ends first:
   (trap '' INT TERM; exec bpfrec record flight.toml flight.ch11 < /dev/null) &
 A job in the background needs < /dev/null, or a pipe.
@@ -259,12 +280,12 @@ A job in the background needs < /dev/null, or a pipe.
 A line on standard input changes the filter of a channel while recording goes on:
   set <channel> <file>             the program that <file> lists is in force from now on
 and each is answered on standard error, as soon as its answer is known:
-  installed <channel> <version> <mark>   from frame <mark> on, counted from 0
+  installed <channel> <version> <first>  from frame <first> on, counted from 0
   refused <channel> <reason>       Line, File, Listing, Program, NoChannel or VersionsFull
 
 At the end it prints on standard output
   channel <id> versions <n> offered <n> kept <n> <ending>   for each channel, in their order
-  wrote <pieces> <bytes>
+  wrote <packets> <bytes>
 where <ending> is SourceEnd, CountFull, or SourceFault and the fault; none of them changes the
 status. Settings that are refused are reported as settings <number> <Name> .., with status 2; an output
 that fails as run 2 Output <whole> <bytes>, at that moment.

@@ -4,14 +4,14 @@ use Rattle.std.proofs.lemmas.List.{drop_more}
 use Rattle.clap.specs.Words.{App, Rule, with_rule}
 use Rattle.rec_words.specs.declared.command_line.WordTexts.{WordTexts}
 use Rattle.rec_words.specs.Commands.{operand_rule, with_words}
-use Rattle.rec_words.specs.CommandTexts.{word_names}
+use Rattle.rec_words.specs.CommandTexts.{word_data, words_data}
 use Rattle.rec_words.proofs.command_line.command.Goals as goal
 
 -- the first of the words that are left is added
 one_more : (app next whole : App) (rule : Rule) (all : List WordTexts) (at : ℕ) (d : WordTexts) → at < length all
-    → next ≡ with_rule app rule → rule ≡ operand_rule (get_or all at d).name.now
-    → with_words app (word_names (drop at all)) ≡ whole
-    → with_words next (word_names (drop (at + 1) all)) ≡ whole
+    → next ≡ with_rule app rule → rule ≡ operand_rule (word_data (get_or all at d))
+    → with_words app (words_data (drop at all)) ≡ whole
+    → with_words next (words_data (drop (at + 1) all)) ≡ whole
 one_more app next whole rule all at d here added same before =
     rw (added, same) (rw (drop_more all at d here) at before)
 

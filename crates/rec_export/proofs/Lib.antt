@@ -1,0 +1,7 @@
+pub mod Texts
+pub mod Showing
+pub mod Parts
+pub mod Sayings
+pub mod Numbering
+pub mod ShownFrames
+pub mod Whole

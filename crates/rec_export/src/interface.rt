@@ -1,0 +1,199 @@
+//! The channels of a recording as interfaces.
+
+ghost use Rattle.std.specs.Prelude.{◌≡◌, ◌<◌, ◌^◌, length, IfOk, OnOk, OnErr};
+ghost use Rattle.std.specs.Option.{option_map};
+ghost use Rattle.std.specs.Io.KnownBytes.{Appends};
+ghost use Rattle.pcapng_blocks.specs.Blocks.{block_bytes, blocks_bytes};
+ghost use Rattle.pcapng_blocks.specs.Outputs.{TakesStart};
+ghost use Rattle.pcapng_blocks.specs.Views.{options_data};
+ghost use Rattle.rec_export.specs.Frames.{IsShort, text_of};
+ghost use Rattle.rec_export.specs.Export.{description, export_state};
+ghost use Rattle.rec_export.specs.Interfaces.{channel_name, description_options, interface_block, later_of, number_of, version_text, version_with, with_interface};
+
+use crate::fault::ExportFault;
+use crate::frame::FCS_LEN;
+use pcapng_blocks::{Block, BlockOption, LINK_TYPE_ETHERNET, write_block};
+use std::alloc::{AllocError, Global};
+use std::io::Write;
+
+/// The unit of times: the relative time counter goes on every 10^-7 seconds.
+const TIME_RESOLUTION: u8 = 7;
+
+/// A version of a channel's filter.
+#[derive(Clone, Copy, Debug, PartialEq, Eq)]
+pub(crate) struct FilterVersion {
+    /// The number of versions before it.
+    pub(crate) number: u32,
+    /// The number of its instructions.
+    pub(crate) insns: u16,
+}
+
+/// A channel that has an interface.
+#[derive(Clone, Copy, Debug, PartialEq, Eq)]
+pub(crate) struct Interface {
+    /// The channel.
+    pub(crate) channel: u16,
+    /// The filter's version that came into force behind the last frame, and isn't in the
+    /// interface's description.
+    pub(crate) later: Option<FilterVersion>,
+}
+
+/// The number of a channel's interface; that of the next one, if the channel has none.
+pub(crate) fn number_of(interfaces: &[Interface], channel: u16) -> usize
+    ensures { result ≡ number_of channel interfaces.now }
+{
+    let mut number = 0;
+    'interfaces: while number < interfaces.len() {
+        if interfaces[number].channel == channel {
+            return number;
+        }
+        number += 1;
+    }
+    number
+}
+
+/// The filter's version of a channel that no frame was shown of.
+pub(crate) fn later_of(interfaces: &[Interface], channel: u16) -> Option<FilterVersion>
+    ensures { result ≡ later_of channel interfaces.now }
+{
+    match interfaces.get(number_of(interfaces, channel)) {
+        Some(interface) => interface.later,
+        None => None,
+    }
+}
+
+/// Puts an interface in the place of the one that its channel had, or behind all.
+pub(crate) fn put_interface(
+    interfaces: &mut Vec<Interface>,
+    channel: u16,
+    later: Option<FilterVersion>,
+) -> Result<(), AllocError>
+    ensures { OnOk result (interfaces.new.items
+        ≡ with_interface channel later interfaces.old.items) }
+{
+    let interface = Interface { channel, later };
+    let number = number_of(interfaces.as_slice(), channel);
+    if number < interfaces.len() {
+        interfaces[number] = interface;
+        return Ok(());
+    }
+    interfaces.push(interface)?;
+    Ok(())
+}
+
+/// Writes the description of a channel's interface, if the channel has none yet.
+pub(crate) fn describe<W: Write>(
+    alloc: Global,
+    out: &mut W,
+    origin: Option<u64>,
+    interfaces: &[Interface],
+    channel: u16,
+    version: Option<FilterVersion>,
+) -> Result<(), ExportFault>
+    ensures whole { OnOk result (Appends (W.contents out.old) (W.contents out.new)
+        (blocks_bytes (description (export_state origin interfaces.now) channel version))) }
+    ensures part { OnErr result (TakesStart (W.contents out.old) (W.contents out.new)
+        (blocks_bytes (description (export_state origin interfaces.now) channel version))) }
+{
+    if number_of(interfaces, channel) < interfaces.len() {
+        return Ok(());
+    }
+    write_description(alloc, out, origin, channel, version)
+}
+
+/// Writes the description of a channel's interface.
+fn write_description<W: Write>(
+    alloc: Global,
+    out: &mut W,
+    origin: Option<u64>,
+    channel: u16,
+    version: Option<FilterVersion>,
+) -> Result<(), ExportFault>
+    ensures whole { OnOk result (Appends (W.contents out.old) (W.contents out.new)
+        (block_bytes (interface_block origin channel version))) }
+    ensures part { OnErr result (TakesStart (W.contents out.old) (W.contents out.new)
+        (block_bytes (interface_block origin channel version))) }
+{
+    let name = channel_name(alloc, channel)?;
+    let comment = comment_of(alloc, version)?;
+    let options = description_options(alloc, text_in(&comment), name.as_slice(), origin)?;
+    let block = Block::Interface {
+        link_type: LINK_TYPE_ETHERNET,
+        snap_len: 0,
+        options: options.as_slice(),
+    };
+    write_block(out, &block)?;
+    Ok(())
+}
+
+/// The options of a channel's interface.
+fn description_options<'a>(
+    alloc: Global,
+    comment: Option<&'a [u8]>,
+    name: &'a [u8],
+    origin: Option<u64>,
+) -> Result<Vec<BlockOption<'a>>, AllocError>
+    ensures { IfOk result (λ options. options_data options.items
+        ≡ description_options (text_of comment.entry) name.entry.now origin) }
+{
+    let mut options = Vec::new(alloc);
+    if let Some(text) = comment {
+        options.push(BlockOption::Comment(text))?;
+    }
+    options.push(BlockOption::InterfaceName(name))?;
+    options.push(BlockOption::TimeResolution(TIME_RESOLUTION))?;
+    options.push(BlockOption::FcsLen(FCS_LEN))?;
+    if let Some(seconds) = origin {
+        options.push(BlockOption::TimeOffset(seconds))?;
+    }
+    Ok(options)
+}
+
+/// The text on a filter's version, if there is one.
+pub(crate) fn comment_of(
+    alloc: Global,
+    version: Option<FilterVersion>,
+) -> Result<Option<Vec<u8>>, ExportFault>
+    ensures text { IfOk result (λ comment. option_map (λ text. text.items) comment
+        ≡ option_map version_text version) }
+    ensures short { IfOk result (λ comment. IsShort (option_map (λ text. text.items) comment)) }
+{
+    match version {
+        Some(FilterVersion { number, insns }) => Ok(Some(version_text(alloc, number, insns)?)),
+        None => Ok(None),
+    }
+}
+
+/// A comment's text.
+pub(crate) fn text_in(comment: &Option<Vec<u8>>) -> Option<&[u8]>
+    ensures { text_of result ≡ option_map (λ text. text.items) comment.now }
+{
+    match comment {
+        Some(text) => Some(text.as_slice()),
+        None => None,
+    }
+}
+
+/// The text on a filter's version, by its number and the number of its instructions.
+fn version_text(alloc: Global, number: u32, insns: u16) -> Result<Vec<u8>, ExportFault>
+    ensures text { IfOk result (λ text. text.items ≡ version_text (version_with number insns)) }
+    ensures short { IfOk result (λ text. length text.items < 2 ^ 16) }
+{
+    let mut text = Vec::new(alloc);
+    match write!(&mut text, "filter version {number}, {insns} instructions") {
+        Ok(()) => Ok(text),
+        Err(_) => Err(ExportFault::Memory),
+    }
+}
+
+/// The name of a channel.
+fn channel_name(alloc: Global, channel: u16) -> Result<Vec<u8>, ExportFault>
+    ensures name { IfOk result (λ name. name.items ≡ channel_name channel) }
+    ensures short { IfOk result (λ name. length name.items < 2 ^ 16) }
+{
+    let mut name = Vec::new(alloc);
+    match write!(&mut name, "channel {channel}") {
+        Ok(()) => Ok(name),
+        Err(_) => Err(ExportFault::Memory),
+    }
+}

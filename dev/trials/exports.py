@@ -1,0 +1,73 @@
+"""The export of a recording by docs/user/FORMATS.md: a second definition, beside which `bpfrec export` is tried."""
+
+from typing import NamedTuple
+
+from pcapng import interface, option, packet, section
+from reading import ch11, packets_of
+from rows import frames_in
+
+INSN_LEN = 8
+COMMENT, NAME, FLAGS, RESOLUTION, CHECK_SEQUENCE_LEN, OFFSET = 1, 2, 2, 9, 13, 14
+END = option("<", 0, b"")
+
+
+class Shown(NamedTuple):
+    """A frame that an export is to show."""
+
+    interface: int
+    channel: int
+    counter: int
+    bytes: bytes
+    marks: int
+    comment: str
+
+
+class Export:
+    """What an export of packets is to be, by docs/user/FORMATS.md: its frames, and its bytes."""
+
+    def __init__(self, origin: int | None = None) -> None:
+        self.origin = origin
+        self.numbers: dict[int, int] = {}
+        self.later: dict[int, str] = {}
+        self.frames: list[Shown] = []
+        self.bytes = section("<")
+
+    def take(self, it) -> None:
+        if isinstance(it.what, ch11.Program):
+            text = f"filter version {it.what.version}, {len(it.what.insns) // INSN_LEN} instructions"
+            if not self.describe(it.what.channel, text):
+                self.later[it.what.channel] = text
+        elif isinstance(it.what, ch11.Frames):
+            self.describe(it.header.channel)
+            for frame in frames_in(it):
+                self.show(it.header.channel, frame)
+
+    def describe(self, channel: int, comment: str = "") -> bool:
+        """Describes a channel's interface, unless it is."""
+        if channel in self.numbers:
+            return False
+        self.numbers[channel] = len(self.numbers)
+        options = [option("<", COMMENT, comment.encode())] if comment else []
+        options += [option("<", NAME, f"channel {channel}".encode()), option("<", RESOLUTION, b"\x07")]
+        options.append(option("<", CHECK_SEQUENCE_LEN, b"\x04"))
+        if self.origin is not None:
+            options.append(option("<", OFFSET, self.origin.to_bytes(8, "little")))
+        self.bytes += interface("<", *options, END)
+        return True
+
+    def show(self, channel: int, frame) -> None:
+        marks, number, comment = frame.word >> 30, self.numbers[channel], self.later.pop(channel, "")
+        self.frames.append(Shown(number, channel, frame.counter, frame.bytes, marks, comment))
+        options = [option("<", COMMENT, comment.encode())] if comment else []
+        if marks:
+            value = 4 << 5 | (1 << 24 if marks & 2 else 0) | (1 << 31 if marks & 1 else 0)
+            options.append(option("<", FLAGS, value.to_bytes(4, "little")))
+        self.bytes += packet("<", number, frame.counter, frame.bytes, *options, *[END][: len(options)])
+
+
+def wanted_of(data: bytes, origin: int | None = None) -> Export:
+    """The export of a recording that is read to its end."""
+    made = Export(origin)
+    for it in packets_of(data):
+        made.take(it)
+    return made
