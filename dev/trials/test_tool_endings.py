@@ -137,17 +137,25 @@ def test_no_memory(work: Path, tool: str) -> None:
     judge(f"{tool}: no memory", (running.returncode, told) == (4, f"{name}: out of memory\n"), (printed[:200], told))
 
 
-def under(most: int, *words: object) -> subprocess.CompletedProcess:
+def under(most: int, *words: object, **more) -> subprocess.CompletedProcess:
     """A run of so many mebibytes of addresses."""
     limit = lambda: resource.setrlimit(resource.RLIMIT_AS, (most * MEBIBYTE, most * MEBIBYTE))
-    return outcome(*words, preexec_fn=limit)
+    return outcome(*words, preexec_fn=limit, **more)
+
+
+def begins_in(most: int) -> bool:
+    """Python begins a tool in so many mebibytes. In a little less than it needs Python may end by a fault or hang."""
+    words = [sys.executable, "-B", "-c", f"import sys; sys.path.insert(0, '{ROOT}/host'); import bpfrec_host.__main__"]
+    try:
+        return under(most, *words, seconds=5).returncode == 0
+    except subprocess.TimeoutExpired:
+        return False
 
 
 @pytest.fixture(scope="module")
 def least() -> int:
-    """The mebibytes in which Python begins a tool."""
-    words = [sys.executable, "-B", "-c", f"import sys; sys.path.insert(0, '{ROOT}/host'); import bpfrec_host.__main__"]
-    return next(it for it in range(8, 200) if under(it, *words).returncode == 0)
+    """The mebibytes in which Python begins a tool, and in each larger size too."""
+    return 1 + next(it for it in range(200, 0, -1) if not begins_in(it))
 
 
 @pytest.mark.parametrize("tool", ["check_sums", "info", "pcapng", "salvage", "from-pcap", "preflight", "live"])
