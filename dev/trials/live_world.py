@@ -43,6 +43,7 @@ class World:
         self.is_capturing = self.is_capture_ready = False
         self.asked_to_end = 0
         self.has_space = self.can_start = True
+        self.is_pipe = False
         self.played: dict[int, Played] = {}
         self.machine = Machine(plan, self, self, self.made(1), NAMES)
 
@@ -106,6 +107,9 @@ class World:
         it = self.played[recording.number]
         it.has_lines = False
         self.consequences.append(lambda: self.end_by_itself(it))
+
+    def is_special(self, recording: Recording) -> bool:
+        return self.is_pipe
 
     def forget_output(self, recording: Recording) -> None:
         pass

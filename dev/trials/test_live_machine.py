@@ -11,6 +11,8 @@ from live_world import KILLED, Phase, Plan, World
 from support import judge, judge_quietly
 
 SINGLE, ROTATING, FILES = Plan(True), Plan(True, every=10), Plan(False)
+# More than a recorder ever opens, so that it never opens OUT.
+MOST_PIPES = 1_000
 PLANS = {"single": SINGLE, "rotating": ROTATING, "without interfaces": FILES}
 
 # ---- what may happen
@@ -243,6 +245,44 @@ def test_stuck_recorder() -> None:
     world.wait(2.1)
     world.settle()
     judge("and then killed", not world.now().is_running and world.machine.status(False) == 1)
+
+
+def test_unread_pipe() -> None:
+    """A recorder that waits for a reader of OUT is given two seconds behind the capture's end."""
+    world = World(SINGLE)
+    world.is_pipe = True
+    world.machine.begin(0)
+    world.ready()
+    world.consequences.clear()
+    world.now().pipes_left = MOST_PIPES
+    world.machine.told_to_end(world.time)
+    world.settle()
+    world.wait(1.9)
+    judge("it is given time", not world.is_capturing and world.now().is_running and world.said == [])
+    world.wait(0.2)
+    world.settle()
+    judge("it is ended", world.machine.is_done() and world.machine.status(False) == 3 and not world.is_left())
+    judge("and the reason is told", world.said == ["live: nobody reads out_1: nothing was recorded"], world.said)
+
+
+def test_stuck_reader() -> None:
+    """A recorder whose reader stands still is ended by a second signal a second later, and by none before."""
+    world = World(SINGLE)
+    world.is_pipe = True
+    world.machine.begin(0)
+    while_going(world)
+    it = world.now()
+    it.has_opened = False
+    world.machine.told_to_end(world.time)
+    world.settle()
+    world.wait(0.9)
+    world.machine.told_to_end(world.time)
+    world.settle()
+    judge("not at once", not world.is_capturing and it.is_running)
+    world.wait(0.2)
+    world.machine.told_to_end(world.time)
+    world.settle()
+    judge("a second later", not it.is_running and world.machine.status(False) == KILLED and it.audits == 0)
 
 
 def test_room() -> None:

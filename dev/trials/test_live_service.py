@@ -4,8 +4,6 @@ import os
 import re
 import shutil
 import signal
-import socket
-import threading
 import time
 from pathlib import Path
 
@@ -13,30 +11,12 @@ import pytest
 from frames import numbers
 from namespace import send_together
 from recordings import RUN, YES, begin, extracted, process_of, settings_of
+from service import Manager
 from support import BPFREC, CAPTURE, LIVE, NOBODY, ROOT, Running, judge, judge_quietly, outcome, wait_for
 
 WANTED = {"bin/bpfrec": "make build", "bin/capture": "make build", "ip": "iproute2", "setpriv": "util-linux"}
 pytestmark = pytest.mark.timed
 UNIT = ROOT / "examples/bpfrec.service"
-
-
-class Manager(threading.Thread):
-    """A service manager, as far as it is told something."""
-
-    def __init__(self, name: str) -> None:
-        super().__init__(daemon=True)
-        self.name, self.told = name, []
-        self.socket = socket.socket(socket.AF_UNIX, socket.SOCK_DGRAM)
-        self.socket.bind(f"\0{name[1:]}" if name.startswith("@") else name)
-        self.adds = {"NOTIFY_SOCKET": name, "WATCHDOG_USEC": "1000000"}
-        self.start()
-
-    def run(self) -> None:
-        while True:
-            self.told.append((time.monotonic(), self.socket.recv(4_096).decode().split("\n")))
-
-    def times(self, line: str) -> list[float]:
-        return [moment for moment, lines in list(self.told) if line in lines]
 
 
 @pytest.mark.parametrize("kind", ["path", "abstract"])

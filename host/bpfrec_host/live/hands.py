@@ -51,6 +51,9 @@ class Store(Protocol):
     def create(self, recording: Recording) -> bool:
         """Creates OUT, which nobody has: whether it is there now."""
 
+    def is_special(self, recording: Recording) -> bool:
+        """Whether OUT is a pipe or a device, which may have to wait for a reader."""
+
     def following(self, before: Recording) -> Optional[Recording]:
         """Makes the next recording, with OUT and pipes; None, which is told, where that can't be done."""
 

@@ -18,8 +18,11 @@ NOT_BEGUN = (2, 3)
 OUTPUT_FAULT, FILE_FAULT, LOST = 1, 3, 5
 KILLED = 128
 # How long a capture that was told to end has until it is told once more, which hurries it; a recorder whose output
-# failed, and what feeds it has ended, until it is killed; and how often one that still opens its pipes is let go.
+# failed, or waits for a reader of OUT, and what feeds it has ended, until it is killed; and how often one that still
+# opens its pipes is let go.
 HURRY_AFTER, GIVE_UP_AFTER, LET_GO_PAUSE = 1.1, 2.0, 0.05
+# How long behind the first signal a second one ends a recorder whose reader stands still.
+STUCK_AFTER = 1.0
 # After a full disk: how long until there may be a next recording, which doubles with each failure in a row up to so
 # many, and how often the room is looked at.
 RETRY_AFTER, MOST_DOUBLINGS, ROOM_PAUSE = 0.5, 7, 1.0
@@ -38,6 +41,7 @@ class Machine:
         self.captured: Optional[int] = None if plan.has_interfaces else 0
         self.recorded = self.audited_by = 0
         self.begun, self.unanswered, self.failures, self.next_try = 0.0, 0, 0, 0.0
+        self.told_at: Optional[float] = None
         self.hurry_at: Optional[float] = None
         self.give_up_at: Optional[float] = None
 
@@ -70,6 +74,11 @@ class Machine:
     def told_to_end(self, time: float) -> None:
         """A signal came that ends the run, the first or a later one."""
         self.is_ending = True
+        if self.is_stuck(time):
+            self.give_up()
+            return
+        if self.told_at is None:
+            self.told_at = time
         if not self.plan.has_interfaces and self.is_open(self.now):
             # It waits for a feed of its own, and has recorded nothing.
             self.hands.say("live: it was ended before anything was recorded")
@@ -128,7 +137,8 @@ class Machine:
             self.capture_ready()
         self.hands.end_lines(self.now)
         if not self.now.has_ended():
-            self.give_up_at = time + GIVE_UP_AFTER if self.now.has_failed else None
+            may_hang = self.now.has_failed or self.waits_for_reader(self.now)
+            self.give_up_at = time + GIVE_UP_AFTER if may_hang else None
             if self.now.phase is Phase.OPENING:
                 self.hands.let_go(self.now)
             else:
@@ -159,7 +169,7 @@ class Machine:
             self.end_feeding(time)
         if self.give_up_at is not None and time >= self.give_up_at:
             self.give_up_at = None
-            self.hands.kill_recorder(self.now)
+            self.give_up()
         if self.is_letting_go():
             self.hands.let_go(self.now)
         if self.is_waiting_for_room():
@@ -170,6 +180,16 @@ class Machine:
         elif self.is_due(time):
             self.failures = 0
             self.hand_over(time)
+
+    def is_stuck(self, time: float) -> bool:
+        """Whether a recorder goes on a second behind the first signal, though it gets no more frames: the reader of its
+        pipe stands still. One that writes a file is left to its disk."""
+        is_late = self.told_at is not None and time >= self.told_at + STUCK_AFTER
+        return is_late and self.captured is not None and not self.now.has_ended() and self.store.is_special(self.now)
+
+    def waits_for_reader(self, recording: Recording) -> bool:
+        """Whether a recorder runs that may wait for a reader of OUT."""
+        return self.is_open(recording) and self.store.is_special(recording)
 
     def is_letting_go(self) -> bool:
         """Whether a recorder waits for pipes that nobody will open any more."""
@@ -227,8 +247,9 @@ class Machine:
         """Ends what brings frames: the capture, or without interfaces the lines that change filters."""
         if self.captured is None:
             self.hands.signal_capture(signal.SIGTERM)
-            # A recorder that has ended reads no pipe, which the capture may wait for.
-            self.hurry_at = time + HURRY_AFTER if self.now.has_ended() else None
+            # A recorder that has ended, or waits itself, reads no pipe, which the capture may wait for.
+            is_read = not self.now.has_ended() and not self.waits_for_reader(self.now)
+            self.hurry_at = None if is_read else time + HURRY_AFTER
         elif not self.plan.has_interfaces:
             self.hands.end_lines(self.now)
 
@@ -245,6 +266,15 @@ class Machine:
         self.hands.signal_capture(signal.SIGUSR1)
         if self.old.has_ended():
             self.tell(self.old)
+
+    def give_up(self) -> None:
+        """Ends a recorder that doesn't end by itself."""
+        if not self.is_open(self.now):
+            self.hands.kill_recorder(self.now)
+            return
+        self.hands.say(f"live: nobody reads {self.now.out}: nothing was recorded")
+        self.recorded = self.recorded or FILE_FAULT
+        self.refuse()
 
     def refuse(self) -> None:
         """Ends a run of which nothing was begun: the recorder waits for its pipes still, and has created nothing."""

@@ -8,7 +8,7 @@ from typing import Callable, Optional
 
 from bpfrec_host.live import system
 from bpfrec_host.live.life import Phase, Recording
-from bpfrec_host.live.names import remove
+from bpfrec_host.live.names import is_special, remove
 from bpfrec_host.live.recorder import Recorded
 from bpfrec_host.live.watches import Watches
 
@@ -35,11 +35,19 @@ class Outputs:
     def watch(self, it: Recorded) -> None:
         """Watches OUT: until the recorder has opened it for that, and then for where it is, and its size."""
         if it.descriptor is None or not it.is_created:
+            self.watch_special(it)
             return
         events = system.OPENED if it.recording.phase is Phase.OPENING else system.RENAMED | system.CHANGED
         if self.has_size and self.look_at is None and it.recording.phase is Phase.GOING:
             events |= system.MODIFIED
         it.watch = self.watches.add(f"/proc/self/fd/{it.descriptor}", events, lambda: self.look(it))
+
+    def watch_special(self, it: Recorded) -> None:
+        """Watches a pipe or a device until the recorder has opened it."""
+        if it.recording.phase is not Phase.OPENING:
+            self.end(it)
+        elif it.descriptor is None and is_special(it.about.out):
+            it.watch = self.watches.add(it.about.out, system.OPENED, lambda: self.look(it))
 
     def end(self, it: Recorded) -> None:
         """Watches OUT no more."""

@@ -64,14 +64,18 @@ class Recordings:
     def create(self, recording: Recording) -> bool:
         """Creates OUT, which nobody has: whether it is there now."""
         it = self.of(recording)
-        if not is_special(it.about.out):
+        if not self.is_special(recording):
             try:
                 it.take_output(self.files.create(it.about.out))
             except OSError:
                 self.say(f"file {it.about.out}")
                 return False
-            self.watched.watch(it)
+        self.watched.watch(it)
         return True
+
+    def is_special(self, recording: Recording) -> bool:
+        """Whether OUT is a pipe or a device, which may have to wait for a reader."""
+        return is_special(recording.out)
 
     def following(self, before: Recording) -> Optional[Recording]:
         """Makes the next recording, with OUT and pipes; None, which is told, where that can't be done."""
