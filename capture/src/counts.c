@@ -112,12 +112,9 @@ int tell_lost(const struct interface *interface) {
         return 0;
     if (missed > 0)
         snprintf(missed_text, sizeof missed_text, " %" PRIu64 " missed", missed);
-    if (has_events()) {
-        print_json_name(interface->name, name);
-        tell_event("{\"lost_in_all\": \"%s LOST %" PRIu64 " dropped %" PRIu64 " skipped%s\"}", name, dropped, skipped,
-                   missed_text);
-    } else {
+    print_json_name(interface->name, name);
+    if (!tell_event("{\"lost_in_all\": \"%s LOST %" PRIu64 " dropped %" PRIu64 " skipped%s\"}", name, dropped, skipped,
+                    missed_text))
         tell("%s LOST %" PRIu64 " dropped %" PRIu64 " skipped%s", interface->name, dropped, skipped, missed_text);
-    }
     return 1;
 }

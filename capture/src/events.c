@@ -5,6 +5,7 @@
 #include <errno.h>
 #include <fcntl.h>
 #include <stdarg.h>
+#include <stdatomic.h>
 #include <stdio.h>
 #include <string.h>
 #include <unistd.h>
@@ -12,6 +13,7 @@
 enum { EVENT_LEN = 512, ESCAPE_LEN = 6 };
 
 static int events = -1;
+static atomic_flag has_failed = ATOMIC_FLAG_INIT;
 
 int open_events(const char *path) {
     events = open(path, O_WRONLY | O_APPEND | O_CREAT | O_CLOEXEC, 0666);
@@ -24,18 +26,22 @@ int has_events(void) {
     return events >= 0;
 }
 
-void tell_event(const char *format, ...) {
+int tell_event(const char *format, ...) {
     char line[EVENT_LEN];
     va_list values;
     if (events < 0)
-        return;
+        return 0;
     va_start(values, format);
     int len = vsnprintf(line, sizeof line, format, values);
     va_end(values);
     if (len < 0 || len >= EVENT_LEN)
-        return;
+        return 0;
     line[len] = '\n';
-    (void)!write(events, line, (size_t)len + 1);
+    if (write(events, line, (size_t)len + 1) == len + 1)
+        return 1;
+    if (!atomic_flag_test_and_set(&has_failed))
+        tell("events can't be written: the facts beside the recording lack losses");
+    return 0;
 }
 
 void print_json_name(const char *name, char text[JSON_NAME_LEN]) {

@@ -10,8 +10,9 @@ int open_events(const char *path);
 /* Whether events are noted. */
 int has_events(void);
 
-/* Notes an event, where events are noted. It is put behind the others at once. */
-void tell_event(const char *format, ...) __attribute__((format(printf, 1, 2)));
+/* Notes an event, where events are noted: whether it was. It is put behind the others at once; where that fails, a line
+ * says so, once. */
+int tell_event(const char *format, ...) __attribute__((format(printf, 1, 2)));
 
 /* An interface's name as JSON has it, without the quotation marks. Bytes that are no ASCII stay as they are. */
 void print_json_name(const char *name, char text[JSON_NAME_LEN]);

@@ -43,7 +43,7 @@ class World:
         self.is_capturing = self.is_capture_ready = False
         self.asked_to_end = 0
         self.has_space = self.can_start = True
-        self.is_pipe = False
+        self.is_pipe, self.killed_audits = False, 0
         self.played: dict[int, Played] = {}
         self.machine = Machine(plan, self, self, self.made(1), NAMES)
 
@@ -94,6 +94,9 @@ class World:
     def kill_recorder(self, recording: Recording) -> None:
         it = self.played[recording.number]
         self.consequences.append(lambda: self.end_recorder(it, KILLED))
+
+    def kill_audit(self, recording: Recording) -> None:
+        self.killed_audits += 1
 
     def let_go(self, recording: Recording) -> None:
         """It opens one pipe each time."""

@@ -67,12 +67,12 @@ def columns(field_of_channel: str) -> list[str]:
     return ["-o", "eth.check_fcs:TRUE", "-Y", "eth", "-o", f"gui.column.format:{named}"]
 
 
-def judge_frames(what: str, lines: list[str], first: int, wanted: list[list[str]]) -> None:
-    """Each line begins with its channel, the first of which has this number; each has its frames, in order and once."""
+def judge_frames(what: str, lines: list[str], wanted: list[list[str]]) -> None:
+    """Each line begins with its channel, or the name of its interface; each has its frames, in order and once."""
     found: list[list[str]] = [[] for _ in wanted]
     for line in lines:
-        channel, *rest = line.split()
-        found[int(channel) - first].append(" ".join(rest))
+        channel, *rest = line.removeprefix("channel ").split()
+        found[int(channel) - 1].append(" ".join(rest))
     counts = [len(it) for it in found]
     judge_quietly(f"{what}: {counts} frames", counts == [COUNT] * CHANNELS)
     differing = [next((it for it in zip(*both) if it[0] != it[1]), None) for both in zip(found, wanted)]
@@ -82,11 +82,11 @@ def judge_frames(what: str, lines: list[str], first: int, wanted: list[list[str]
 def test_export(made: Made) -> None:
     out = made.recording.with_suffix(".pcapng")
     run(BPFREC, "export", made.recording, out, seconds=PATIENCE)
-    lines = run("tshark", "-n", "-r", out, *columns("frame.interface_id"), seconds=PATIENCE).splitlines()
+    lines = run("tshark", "-n", "-r", out, *columns("frame.interface_name"), seconds=PATIENCE).splitlines()
     out.unlink()
-    judge_frames("exported", lines, 0, made.wanted)
+    judge_frames("exported", lines, made.wanted)
 
 
 def test_plugin(work: Path, made: Made) -> None:
     lines = printed(work, "-r", made.recording, *columns("ch11.channel"), seconds=PATIENCE)
-    judge_frames("by the plugin", lines, 1, made.wanted)
+    judge_frames("by the plugin", lines, made.wanted)

@@ -147,3 +147,32 @@ def test_blows(work: Path) -> None:
     traffic.end()
     counts = {it: done.count(it) for it in sorted(set(done))}
     judge(f"{TURNS} blows: {counts}", counts.get("none struck", 0) < TURNS // 3)
+
+
+@pytest.mark.parametrize("role", ["capture", "recorder", "audit"])
+def test_second_signal(work: Path, role: str) -> None:
+    """A process that stands still holds nobody up for long: a second signal, a second behind the first, ends all."""
+    here = folder_of(work, role)
+    out, settings = here / "out.ch11", settings_of(here)
+    adds = {RUN: str(out), **({"BPFREC": str(slow_audits(here))} if role == "audit" else {})}
+    running = Running(here, LIVE, "--quiet", "--buffer", 4, settings, out, "rx0=1", "rx1=2", adds=adds)
+    wait_for("it records", out.exists)
+    blow = Blow(0, role, signal.SIGSTOP, 0, False)
+    first = running.process.pid
+    if role == "audit":
+        os.kill(first, signal.SIGTERM)
+    wait_for(f"{role} runs", lambda: found(blow, out, first))
+    stopped = found(blow, out, first)[0]
+    os.kill(stopped, signal.SIGSTOP)
+    if role != "audit":
+        os.kill(first, signal.SIGTERM)
+    time.sleep(1.5)
+    judge("a first signal waits", running.process.poll() is None)
+    begun = time.monotonic()
+    os.kill(first, signal.SIGTERM)
+    status, told = running.ended()[0], running.told()
+    judge("a second one ends all", time.monotonic() - begun < PATIENCE and not processes_of(out), told)
+    judge("it says what was ended", status != 0 and re.search(r"live: \S+.* was ended by signal 9\b", told), told)
+    listed = outcome(BPFREC, "list", out)
+    is_read = listed.returncode == 0 or "read 1 Truncated" in listed.stdout + listed.stderr
+    judge("nothing is left, and what is recorded is read", nothing_left(here) and is_read, listed)

@@ -265,24 +265,52 @@ def test_unread_pipe() -> None:
     judge("and the reason is told", world.said == ["live: nobody reads out_1: nothing was recorded"], world.said)
 
 
-def test_stuck_reader() -> None:
-    """A recorder whose reader stands still is ended by a second signal a second later, and by none before."""
+def test_second_signal() -> None:
+    """What stands still is killed four seconds behind a signal that comes a second behind the first: the capture, and
+    four seconds later the recorder."""
     world = World(SINGLE)
-    world.is_pipe = True
     world.machine.begin(0)
     while_going(world)
     it = world.now()
-    it.has_opened = False
     world.machine.told_to_end(world.time)
-    world.settle()
+    world.consequences.clear()
+    it.has_opened = False
     world.wait(0.9)
     world.machine.told_to_end(world.time)
-    world.settle()
-    judge("not at once", not world.is_capturing and it.is_running)
-    world.wait(0.2)
+    world.consequences.clear()
+    world.wait(8)
+    judge("a second one at once hurries nothing", world.is_capturing and it.is_running)
     world.machine.told_to_end(world.time)
+    world.consequences.clear()
+    world.wait(3.9)
     world.settle()
-    judge("a second later", not it.is_running and world.machine.status(False) == KILLED and it.audits == 0)
+    judge("a later one gives four seconds", world.is_capturing)
+    world.wait(0.2)
+    world.settle()
+    judge("then the capture is killed", not world.is_capturing and it.is_running)
+    world.wait(3.9)
+    world.settle()
+    judge("the recorder has four more", it.is_running)
+    world.wait(0.2)
+    world.settle()
+    judge("and is killed then", not it.is_running and world.machine.is_done() and it.audits == 0)
+
+
+def test_second_signal_in_audit() -> None:
+    """An audit that takes long is ended in the same way."""
+    world = World(SINGLE)
+    world.machine.begin(0)
+    while_going(world)
+    world.machine.told_to_end(world.time)
+    while not world.now().audits:
+        world.consequences.pop(0)()
+    world.consequences.clear()
+    world.wait(5)
+    judge("a first signal waits for it", world.killed_audits == 0)
+    world.machine.told_to_end(world.time)
+    world.consequences.clear()
+    world.wait(4.1)
+    judge("a second one doesn't", world.killed_audits == 1)
 
 
 def test_room() -> None:

@@ -16,6 +16,7 @@ from bpfrec_host.live.arguments import Arguments
 from bpfrec_host.live.folder import Folder, listing_in
 from bpfrec_host.live.names import Files, facts_path, remove
 from bpfrec_host.live.synchronisation import synchronisation
+from bpfrec_host.streams import force_folder
 
 Entry = dict[str, Any]
 # Where a run was killed, as shells have it.
@@ -137,6 +138,7 @@ def replace(path: str, following: str, files: Files, data: bytes) -> None:
         file.flush()
         os.fdatasync(descriptor)
     os.replace(following, path)
+    force_folder(os.path.dirname(path) or ".")
 
 
 def lines_of(path: Path) -> Optional[list[str]]:

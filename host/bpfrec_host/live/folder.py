@@ -7,8 +7,8 @@ Its files, below `top`:
     now             a link to the folder of the recording that goes on; to `gate` until OUT is there
     given/          the filters that the arguments give channels
     filters/        of recordings that follow one another: the filter that each channel has by now
-    <number>/       a recording: <channel>.pipe, settings.toml, answers, report, audit, audit_errors, and what `guard`
-                    needs: about.json
+    <number>/       a recording: <channel>.pipe, settings.toml, answers, report, audit, audit_errors, each of the last
+                    three `.room` until it is printed into, and what `guard` needs: about.json
 """
 
 from __future__ import annotations
@@ -17,15 +17,22 @@ import os
 import secrets
 import stat
 from pathlib import Path
-from typing import Any, Optional
+from typing import Any, BinaryIO, Optional
 
 from bpfrec_host.formats.limits import MAX_LISTING_LEN
 from bpfrec_host.formats.settings import NoReader, NoToml, Settings, settings_of
 from bpfrec_host.formats.settings_text import text_of
+from bpfrec_host.live import system
 from bpfrec_host.live.arguments import Arguments
 from bpfrec_host.live.expressions import listing_of, settings_text
 from bpfrec_host.live.names import Refusal
 from bpfrec_host.live.words import Way
+
+
+# What programs print into files of a recording's folder, and how much room each of these and the events are sure to
+# have, also where the disk of TMPDIR is full by then.
+PRINTED = ("report", "audit", "audit_errors")
+PRINTED_ROOM, EVENTS_ROOM = 1 << 16, 1 << 20
 
 
 def read_settings(path: str) -> tuple[str, Settings]:
@@ -100,7 +107,7 @@ class Folder:
         (self.top / "given").mkdir()
         for channel, listing in self.listings.items():
             self.given_filter(channel).write_text(listing, encoding="utf-8")
-        self.events.touch()
+        write_room(self.events, EVENTS_ROOM)
         self.make_pipes("gate")
         self.point_to("gate")
         if self.keeps_filters:
@@ -124,6 +131,8 @@ class Folder:
         self.make_pipes(str(number))
         made = self.of(number)
         os.mkfifo(made / "answers")
+        for name in PRINTED:
+            write_room(room_of(made, name), PRINTED_ROOM)
         (made / "settings.toml").write_text(text_of(self.document(made)), encoding="utf-8", errors="surrogateescape")
         return made
 
@@ -248,3 +257,20 @@ def listing_in(path: str, most: int) -> Optional[bytes]:
             return file.read(most) if stat.S_ISREG(os.fstat(descriptor).st_mode) else None
     except (OSError, ValueError):
         return None
+
+
+def write_room(path: Path, length: int) -> None:
+    """Creates an empty file that has room for so many bytes."""
+    with open(path, "wb") as file:
+        system.reserve(file.fileno(), length)
+
+
+def room_of(made: Path, name: str) -> Path:
+    """The file in a recording's folder that has the room for what is to be printed."""
+    return made / f"{name}.room"
+
+
+def open_printed(made: Path, name: str) -> BinaryIO:
+    """Opens a file of a recording's folder for what a program prints, with the room that was kept for it."""
+    os.replace(room_of(made, name), made / name)
+    return open(made / name, "r+b")

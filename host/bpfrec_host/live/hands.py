@@ -26,6 +26,9 @@ class Hands(Protocol):
     def kill_recorder(self, recording: Recording) -> None:
         """Kills a recorder."""
 
+    def kill_audit(self, recording: Recording) -> None:
+        """Kills an audit, where one runs."""
+
     def let_go(self, recording: Recording) -> None:
         """Lets a recorder go on that waits for the writer of a pipe."""
 

@@ -21,8 +21,8 @@ KILLED = 128
 # failed, or waits for a reader of OUT, and what feeds it has ended, until it is killed; and how often one that still
 # opens its pipes is let go.
 HURRY_AFTER, GIVE_UP_AFTER, LET_GO_PAUSE = 1.1, 2.0, 0.05
-# How long behind the first signal a second one ends a recorder whose reader stands still.
-STUCK_AFTER = 1.0
+# A signal so long behind the first one hurries the run: what still runs is killed so much later, the capture first.
+HURRIES_AFTER, KILL_AFTER = 1.0, 4.0
 # After a full disk: how long until there may be a next recording, which doubles with each failure in a row up to so
 # many, and how often the room is looked at.
 RETRY_AFTER, MOST_DOUBLINGS, ROOM_PAUSE = 0.5, 7, 1.0
@@ -35,7 +35,7 @@ class Machine:
         self.plan, self.hands, self.store, self.now = plan, hands, store, first
         self.capture_name, self.recorder_name = names
         self.old: Optional[Recording] = None
-        self.is_ending = self.is_concluding = self.is_refused = False
+        self.is_ending = self.is_hurried = self.is_concluding = self.is_refused = False
         self.is_ready = not plan.has_interfaces
         # The capture's status, and the first of the recorders' and of the audits' that isn't 0.
         self.captured: Optional[int] = None if plan.has_interfaces else 0
@@ -74,11 +74,11 @@ class Machine:
     def told_to_end(self, time: float) -> None:
         """A signal came that ends the run, the first or a later one."""
         self.is_ending = True
-        if self.is_stuck(time):
-            self.give_up()
-            return
         if self.told_at is None:
             self.told_at = time
+        elif not self.is_hurried and time >= self.told_at + HURRIES_AFTER:
+            self.is_hurried = True
+            self.give_up_at = time + KILL_AFTER
         if not self.plan.has_interfaces and self.is_open(self.now):
             # It waits for a feed of its own, and has recorded nothing.
             self.hands.say("live: it was ended before anything was recorded")
@@ -137,8 +137,9 @@ class Machine:
             self.capture_ready()
         self.hands.end_lines(self.now)
         if not self.now.has_ended():
-            may_hang = self.now.has_failed or self.waits_for_reader(self.now)
-            self.give_up_at = time + GIVE_UP_AFTER if may_hang else None
+            if not self.is_hurried:
+                may_hang = self.now.has_failed or self.waits_for_reader(self.now)
+                self.give_up_at = time + GIVE_UP_AFTER if may_hang else None
             if self.now.phase is Phase.OPENING:
                 self.hands.let_go(self.now)
             else:
@@ -168,7 +169,7 @@ class Machine:
         if self.hurry_at is not None and time >= self.hurry_at:
             self.end_feeding(time)
         if self.give_up_at is not None and time >= self.give_up_at:
-            self.give_up_at = None
+            self.give_up_at = time + KILL_AFTER if self.is_hurried else None
             self.give_up()
         if self.is_letting_go():
             self.hands.let_go(self.now)
@@ -180,12 +181,6 @@ class Machine:
         elif self.is_due(time):
             self.failures = 0
             self.hand_over(time)
-
-    def is_stuck(self, time: float) -> bool:
-        """Whether a recorder goes on a second behind the first signal, though it gets no more frames: the reader of its
-        pipe stands still. One that writes a file is left to its disk."""
-        is_late = self.told_at is not None and time >= self.told_at + STUCK_AFTER
-        return is_late and self.captured is not None and not self.now.has_ended() and self.store.is_special(self.now)
 
     def waits_for_reader(self, recording: Recording) -> bool:
         """Whether a recorder runs that may wait for a reader of OUT."""
@@ -268,13 +263,18 @@ class Machine:
             self.tell(self.old)
 
     def give_up(self) -> None:
-        """Ends a recorder that doesn't end by itself."""
-        if not self.is_open(self.now):
-            self.hands.kill_recorder(self.now)
-            return
-        self.hands.say(f"live: nobody reads {self.now.out}: nothing was recorded")
-        self.recorded = self.recorded or FILE_FAULT
-        self.refuse()
+        """Kills what doesn't end by itself: the capture, else the recorders, else the audits."""
+        if self.captured is None:
+            self.hands.signal_capture(signal.SIGKILL)
+        elif self.waits_for_reader(self.now):
+            self.hands.say(f"live: nobody reads {self.now.out}: nothing was recorded")
+            self.recorded = self.recorded or FILE_FAULT
+            self.refuse()
+        else:
+            for it in (self.old, self.now):
+                if it:
+                    self.hands.kill_recorder(it)
+                    self.hands.kill_audit(it)
 
     def refuse(self) -> None:
         """Ends a run of which nothing was begun: the recorder waits for its pipes still, and has created nothing."""

@@ -50,15 +50,19 @@ class Files(NamedTuple):
     def create(self, path: str) -> int:
         """Creates a file, or with --force opens a regular one that is there, without emptying it: a descriptor."""
         flags = os.O_RDWR | os.O_NOFOLLOW | os.O_CLOEXEC | os.O_NOCTTY | os.O_NONBLOCK
-        if self.is_forced:
-            try:
-                return checked(os.open(path, flags), path)
-            except FileNotFoundError:
-                pass
-        descriptor = os.open(path, flags | os.O_CREAT | os.O_EXCL, USUAL_MODE)
+        descriptor = self.open_there(path, flags) if self.is_forced else None
+        if descriptor is None:
+            descriptor = os.open(path, flags | os.O_CREAT | os.O_EXCL, USUAL_MODE)
         if self.mode is not None:
             os.fchmod(descriptor, self.mode)
         return descriptor
+
+    def open_there(self, path: str, flags: int) -> Optional[int]:
+        """Opens a regular file that is there; None where there is none."""
+        try:
+            return checked(os.open(path, flags), path)
+        except FileNotFoundError:
+            return None
 
     def refuse_overwriting(self, out: str) -> None:
         """Refuses an OUT that is there, which is another flight's, and so are the facts beside it."""

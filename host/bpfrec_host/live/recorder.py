@@ -9,6 +9,7 @@ from typing import Optional
 from bpfrec_host.live import children
 from bpfrec_host.live.changes import Pipe
 from bpfrec_host.live.facts import About
+from bpfrec_host.live.folder import open_printed
 from bpfrec_host.live.keeper import Keeper
 from bpfrec_host.live.life import Recording
 
@@ -24,6 +25,7 @@ class Recorded:
         self.place = about.out
         self.is_created = self.is_moved = self.is_told = False
         self.child: Optional[children.Child] = None
+        self.auditor: Optional[children.Child] = None
         self.lines = Pipe()
         # Both ways, so that the recorder always has a reader, also where live has died.
         self.answers = os.open(made / "answers", os.O_RDWR | os.O_NONBLOCK | os.O_CLOEXEC)
@@ -91,7 +93,7 @@ class Recorded:
         if self.is_inherited() and self.descriptor is not None:
             kept.append(self.descriptor)
         words = [bpfrec, "record", str(self.made / "settings.toml"), self.place]
-        with open(self.made / "report", "wb") as report:
+        with open_printed(self.made, "report") as report:
             streams = (self.lines.reader, report, self.answers)
             self.child = children.start(words, streams, children.RECORDER._replace(kept=kept))
         os.close(self.lines.reader)

@@ -14,7 +14,7 @@ from bpfrec_host.live.changes import Change
 from bpfrec_host.live.events import Events
 from bpfrec_host.live.facts import Writer
 from bpfrec_host.live.flush import Flush
-from bpfrec_host.live.folder import Folder
+from bpfrec_host.live.folder import Folder, open_printed
 from bpfrec_host.live.guard import Guard, open_and_close
 from bpfrec_host.live.life import Plan, Recording
 from bpfrec_host.live.line_flow import LineFlow
@@ -225,6 +225,12 @@ class Run:
         if child:
             child.send(signal.SIGKILL)
 
+    def kill_audit(self, recording: Recording) -> None:
+        """Kills an audit, where one runs."""
+        auditor = self.recordings.of(recording).auditor
+        if auditor:
+            auditor.send(signal.SIGKILL)
+
     # ---- the capture
 
     def start_capture(self) -> None:
@@ -288,14 +294,14 @@ class Run:
         words, manner = [self.programs.bpfrec, "audit", "-"], children.AUDIT._replace(kept=[self.guard.all])
         try:
             # By standard input, so that the file may have any name, and another one by now.
-            with open(f"/proc/self/fd/{it.descriptor}", "rb") as read, open(it.made / "audit", "wb") as answer:
-                with open(it.made / "audit_errors", "wb") as errors:
-                    auditor = children.start(words, (read, answer, errors), manner)
+            with open(f"/proc/self/fd/{it.descriptor}", "rb") as read, open_printed(it.made, "audit") as answer:
+                with open_printed(it.made, "audit_errors") as errors:
+                    it.auditor = children.start(words, (read, answer, errors), manner)
         except OSError as error:
             self.say(f"live: {it.about.out} can't be audited: {error.strerror}")
             self.loop.call_soon(lambda: self.end_audit(it, FILE_FAULT))
             return True
-        self.loop.follow(auditor, lambda status: self.end_audit(it, status))
+        self.loop.follow(it.auditor, lambda status: self.end_audit(it, status))
         return True
 
     def end_audit(self, it: Recorded, status: int) -> None:

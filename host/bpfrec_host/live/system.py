@@ -14,6 +14,7 @@ try:
 except (ImportError, MemoryError, OSError):
     LIBC = None
 
+FALLOC_FL_KEEP_SIZE = 1
 PR_SET_PDEATHSIG, PR_CAP_AMBIENT, PR_CAP_AMBIENT_CLEAR_ALL = 1, 47, 4
 # The version of capset(2) that has two words of each set, and this process.
 CAPABILITIES = struct.pack("Ii", 0x20080522, 0)
@@ -59,6 +60,12 @@ def checked(result: int) -> int:
         number = ctypes.get_errno()
         raise OSError(number, os.strerror(number))
     return result
+
+
+def reserve(descriptor: int, length: int) -> None:
+    """Has the disk keep so many bytes of room for a file, whose size stays; without, where that can't be done."""
+    if LIBC:
+        LIBC.fallocate(descriptor, FALLOC_FL_KEEP_SIZE, ctypes.c_long(0), ctypes.c_long(length))
 
 
 def open_watches() -> int:
