@@ -28,6 +28,7 @@ from support import BPFREC, LIVE, Running, judge, judge_quietly, outcome, run, w
 
 WANTED = {"bin/bpfrec": "make build", "bin/capture": "make build", "ip": "iproute2", "mount": "mount"}
 pytestmark = [pytest.mark.timed, pytest.mark.usefixtures("namespace")]
+MOST_VERSIONS = 1_024
 REMOVED = re.compile(r"live: (\S+) was removed: (.*)\n")
 
 # ---- a ring
@@ -159,6 +160,24 @@ def test_flush_of_silent(work: Path) -> None:
     judge("channel 2 got its filter once more", "channel 2 versions 2 offered 0 kept 0 " in printed, printed)
 
 
+def test_flush_without_versions(work: Path) -> None:
+    """A channel that has had all its programs isn't flushed any more, which is told once, and goes on."""
+    out = work / "full.ch11"
+    running = begin(work, out, "--quiet", "--flush", 1)
+    for _ in range(MOST_VERSIONS - 1):
+        running.type_in(f"set 1 {work}/all")
+    running.wait_until_told(f"installed 1 {MOST_VERSIONS - 1} 0\n")
+    running.wait_until_told(f"live: channel 1 has had {MOST_VERSIONS} programs: ")
+    time.sleep(1.5)
+    send_numbered("tx0", 0, 10)
+    time.sleep(0.3)
+    running.interrupt()
+    (status, printed), told = running.ended(), running.told()
+    judge("it is told once", told.count("live: channel 1 has had ") == 1 and "refused" not in told, told[-500:])
+    wanted = f"channel 1 versions {MOST_VERSIONS} offered 10 kept 10 "
+    judge("and the channel is recorded", status == 0 and wanted in printed and YES in printed, printed)
+
+
 # ---- files
 
 
@@ -177,6 +196,17 @@ def test_mode(work: Path, umask: int, words: list, wanted: int) -> None:
     judge_quietly("it records", running.ended()[0] == 0)
     modes = {oct(mode_of(it)) for it in work.glob("mode_*")}
     judge(f"mode {oct(wanted)}", modes == {oct(wanted)} and len(list(work.glob("mode_*.json"))) >= 2, modes)
+
+
+def test_mode_of_overwritten(work: Path) -> None:
+    """--mode holds for a file that --force overwrites too."""
+    out = work / "there.ch11"
+    out.write_bytes(b"lost")
+    out.chmod(0o666)
+    running = begin(work, out, "--quiet", "--force", "--mode", "0600")
+    running.interrupt()
+    judge("it is recorded", running.ended()[0] == 0, running.told())
+    judge("with its mode", [mode_of(it) for it in (out, work / "there.ch11.json")] == [0o600] * 2)
 
 
 @pytest.mark.parametrize("words", [[], ["--force"]], ids=["plain", "force"])

@@ -28,7 +28,6 @@ from bpfrec_host.live.expressions import listing_of, settings_text
 from bpfrec_host.live.names import Refusal
 from bpfrec_host.live.words import Way
 
-
 # What programs print into files of a recording's folder, and how much room each of these and the events are sure to
 # have, also where the disk of TMPDIR is full by then.
 PRINTED = ("report", "audit", "audit_errors")
