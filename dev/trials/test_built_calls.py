@@ -1,4 +1,5 @@
-"""Tries that calls of the kernel which bin/capture has no use for are forbidden, among them the start of a program."""
+"""Tries that calls of the kernel which bin/capture has no use for are forbidden, among them the start of a program. Builds
+under sanitizers are others, so they are not tried by this."""
 
 import re
 from pathlib import Path
