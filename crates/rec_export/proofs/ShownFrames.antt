@@ -18,13 +18,15 @@ use Rattle.rec_reader.specs.Packets.{PacketData}
 use Rattle.rec_reader.specs.ChannelFrames.{channel_frames, packet_frames, frames_held}
 use Rattle.rec_reader.specs.Channels.{Saying, saying_of, saying_in, stored_program}
 use Rattle.rec_reader.specs.Channels.Saying.{OfFrames, OfProgram, OfEnd}
-use Rattle.rec_export.specs.declared.interface.FilterVersion.{FilterVersion}
+use Rattle.rec_export.specs.declared.version.FilterVersion.{FilterVersion}
+use Rattle.rec_export.specs.declared.version.LaterVersions.{LaterVersions}
 use Rattle.rec_export.specs.declared.interface.Interface.{Interface}
 use Rattle.rec_export.specs.Frames.{comment_options, flag_options, frame_blocks}
-use Rattle.rec_export.specs.Interfaces.{version_text, filter_version, interface_block, channel_name, description_options, number_of}
+use Rattle.rec_export.specs.Versions.{version_text, later_text, filter_version}
+use Rattle.rec_export.specs.Interfaces.{interface_block, channel_name, description_options, number_of}
 use Rattle.rec_export.specs.Interfaces.{is_described, later_of, with_interface}
 use Rattle.rec_export.specs.Export.{ExportState, description, blocks_said, state_said, packet_blocks, state_behind, packets_blocks}
-use Rattle.rec_export.specs.Export.{state_behind_all, later_behind}
+use Rattle.rec_export.specs.Export.{state_behind_all, later_behind, later_with}
 use Rattle.rec_export.specs.Shown.{FrameShown, packets_on, uncommented, packet_shown, frame_shown, frames_on, name_in, names_in, interface_name}
 use Rattle.rec_export.proofs.Numbering.{Keeps, no_interface, stands_at, one_channel, takes_number, keeps_all}
 
@@ -115,7 +117,7 @@ frames_of_packet : (n channel other : ℕ) (state : ExportState) (what : What) (
     → frames_on n (blocks_said state (saying_in other what bytes)) ≡ map frame_shown (cond (other == channel) (frames_held what bytes) [])
 frames_of_packet n channel other state (Frames count) bytes is =
     frames_on-append n (description state other None) _
-    ∙ ap (λ l. l ++ frames_on n (frame_blocks (number_of other state.interfaces) (option_map version_text (later_of other state.interfaces)) (frames_held
+    ∙ ap (λ l. l ++ frames_on n (frame_blocks (number_of other state.interfaces) (option_map later_text (later_of other state.interfaces)) (frames_held
     (Frames count) bytes)))
     (no_frames_described n state other None)
     ∙ frames_of_one n channel other state (frames_held (Frames count) bytes) _ (is.own other (frames_held (Frames count) bytes) refl)
@@ -220,7 +222,7 @@ frames_have_none n comment [] = refl
 frames_have_none n comment (frame ∷ frames) = frames_have_none n None frames
 
 -- the names so far, and that of the interface that is described
-names_described : (state : ExportState) (channel : ℕ) (version later : Option FilterVersion)
+names_described : (state : ExportState) (channel : ℕ) (version : Option FilterVersion) (later : Option LaterVersions)
     → map interface_name state.interfaces ++ names_in (description state channel version)
     ≡ map interface_name (with_interface channel later state.interfaces)
 names_described state channel version later = by_cases (cases_Bool (is_described channel state.interfaces))
@@ -247,7 +249,7 @@ names_said state (Some (channel, OfFrames frames)) =
     ∙ ap (λ l. names_in (description state channel None) ++ l) (frames_have_none _ _ frames) ∙ append-nil (names_in (description state channel None)))
     ∙ names_described state channel None (later_behind frames (later_of channel state.interfaces))
 names_said state (Some (channel, OfProgram program)) =
-    names_described state channel (Some (filter_version program)) (cond (is_described channel state.interfaces) (Some (filter_version program)) None)
+    names_described state channel (Some (filter_version program)) (later_with channel (filter_version program) state.interfaces)
 names_said state (Some (channel, OfEnd end)) = append-nil (map interface_name state.interfaces)
 names_said state None = append-nil (map interface_name state.interfaces)
 

@@ -1,4 +1,5 @@
 pub mod Frames
+pub mod Versions
 pub mod Interfaces
 pub mod Export
 pub mod Shown

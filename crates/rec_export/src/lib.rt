@@ -7,6 +7,7 @@ mod frame;
 mod interface;
 mod laws;
 mod recording;
+mod version;
 
 pub use exporter::Exporter;
 pub use fault::{ExportEnd, ExportFault};
