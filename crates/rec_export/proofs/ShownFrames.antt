@@ -43,7 +43,7 @@ packets_on-append n (OfSection ∷ blocks) more = packets_on-append n blocks mor
 packets_on-append n (OfInterface i ∷ blocks) more = packets_on-append n blocks more
 packets_on-append n (OfPacket p ∷ blocks) more = one_first (p.interface == n) p _ _ _ (packets_on-append n blocks more)
 
-frames_on-append : (n : ℕ) (blocks more : List BlockData) → frames_on n (blocks ++ more) ≡ frames_on n blocks ++ frames_on n more
+pub frames_on-append : (n : ℕ) (blocks more : List BlockData) → frames_on n (blocks ++ more) ≡ frames_on n blocks ++ frames_on n more
 frames_on-append n blocks more =
     ap (map packet_shown) (packets_on-append n blocks more) ∙ map-append packet_shown (packets_on n blocks) (packets_on n more)
 
@@ -70,7 +70,7 @@ frames_there n comment (frame ∷ frames) =
     ∙ ap (λ l. frame_shown frame ∷ l) (frames_there n None frames)
 
 -- and on no other
-frames_elsewhere : (n other : ℕ) (comment : Option (List ℕ)) (frames : List ReadFrameData) → (other == n) ≡ false
+pub frames_elsewhere : (n other : ℕ) (comment : Option (List ℕ)) (frames : List ReadFrameData) → (other == n) ≡ false
     → frames_on n (frame_blocks other comment frames) ≡ []
 frames_elsewhere n other comment [] differ = refl
 frames_elsewhere n other comment (frame ∷ frames) differ =
@@ -80,7 +80,7 @@ none_on : (n : ℕ) (b : Bool) (block : BlockData) → frames_on n (block ∷ []
 none_on n true block e = refl
 none_on n false block e = e
 
-no_frames_described : (n : ℕ) (state : ExportState) (channel : ℕ) (version : Option FilterVersion) → frames_on n (description state channel version) ≡ []
+pub no_frames_described : (n : ℕ) (state : ExportState) (channel : ℕ) (version : Option FilterVersion) → frames_on n (description state channel version) ≡ []
 no_frames_described n state channel version = none_on n (is_described channel state.interfaces) (interface_block state.origin channel version) refl
 
 -- ---- one packet

@@ -3,5 +3,6 @@ pub mod Versions
 pub mod Interfaces
 pub mod Export
 pub mod Shown
+pub mod Found
 pub mod Ends
 pub mod Exported
