@@ -22,21 +22,38 @@ class Shown(NamedTuple):
     comment: str
 
 
+class Version(NamedTuple):
+    """A version of a filter."""
+
+    number: int
+    insns: int
+
+
+def text_of(versions: list[Version]) -> str:
+    """What a comment says of versions that have no frame between them."""
+    if not versions:
+        return ""
+    last = versions[-1]
+    if len(versions) == 1:
+        return f"filter version {last.number}, {last.insns} instructions"
+    return f"filter versions {versions[0].number} to {last.number}, the last of {last.insns} instructions"
+
+
 class Export:
     """What an export of packets is to be, by docs/user/FORMATS.md: its frames, and its bytes."""
 
     def __init__(self, origin: int | None = None) -> None:
         self.origin = origin
         self.numbers: dict[int, int] = {}
-        self.later: dict[int, str] = {}
+        self.later: dict[int, list[Version]] = {}
         self.frames: list[Shown] = []
         self.bytes = section("<")
 
     def take(self, it) -> None:
         if isinstance(it.what, ch11.Program):
-            text = f"filter version {it.what.version}, {len(it.what.insns) // INSN_LEN} instructions"
-            if not self.describe(it.what.channel, text):
-                self.later[it.what.channel] = text
+            version = Version(it.what.version, len(it.what.insns) // INSN_LEN)
+            if not self.describe(it.what.channel, text_of([version])):
+                self.later.setdefault(it.what.channel, []).append(version)
         elif isinstance(it.what, ch11.Frames):
             self.describe(it.header.channel)
             for frame in frames_in(it):
@@ -56,7 +73,7 @@ class Export:
         return True
 
     def show(self, channel: int, frame) -> None:
-        marks, number, comment = frame.word >> 30, self.numbers[channel], self.later.pop(channel, "")
+        marks, number, comment = frame.word >> 30, self.numbers[channel], text_of(self.later.pop(channel, []))
         self.frames.append(Shown(number, channel, frame.counter, frame.bytes, marks, comment))
         options = [option("<", COMMENT, comment.encode())] if comment else []
         if marks:

@@ -128,9 +128,11 @@ def frames_packet(frames: Iterable[tuple[int, int, bytes]], sequence: int, count
     return packet_of(1, body_of(frames), sequence, FRAMES, counter, is_summed)
 
 
-def program_packet(channel: int, version: int, insn: tuple = (6, 0, 0, 1), is_summed: bool = True) -> bytes:
-    """The packet of a program of one instruction, from frame 0 on."""
-    data = struct.pack("<I4sHHIQHH", 0, b"CBPR", 1, channel, version, 0, 1, 0) + struct.pack("<HBBI", *insn)
+def program_packet(
+    channel: int, version: int, insn: tuple = (6, 0, 0, 1), is_summed: bool = True, count: int = 1
+) -> bytes:
+    """The packet of a program of one instruction, as often as `count` says, from frame 0 on."""
+    data = struct.pack("<I4sHHIQHH", 0, b"CBPR", 1, channel, version, 0, count, 0) + struct.pack("<HBBI", *insn) * count
     return packet_of(0, data, 0, COMPUTER, 0, is_summed)
 
 

@@ -10,7 +10,7 @@ import pytest
 from captures import fields_of
 from damage import damaged
 from exports import Shown, wanted_of
-from frames import with_check_sequence
+from frames import FRAMES, body_of, packet_of, program_packet, with_check_sequence
 from reading import SAMPLES, SEED, recording_of_three
 from recorder import RECORDINGS, extracted
 from rows import AS_ROOT, drawn_recording, flight_of, seconds_of
@@ -67,6 +67,22 @@ def three(place: Path) -> Path:
     return recording_of_three(place)
 
 
+def drawn_versions(draw: random.Random) -> bytes:
+    """Packets of frames of three channels, some without a frame, each behind any number of versions.
+
+    The versions' numbers rise, fall or stay, and each has up to 3 instructions.
+    """
+    parts = []
+    for turn in range(30):
+        channel = draw.randint(1, 3)
+        for _ in range(draw.choice([0, 1, 2, 3, 7])):
+            number = draw.choice([turn, draw.randrange(3), draw.randrange(2**32)])
+            parts.append(program_packet(channel, number, count=draw.randint(1, 3)))
+        frames = [(turn, 0, draw.randbytes(60)) for _ in range(draw.randrange(4))]
+        parts.append(packet_of(channel, body_of(frames), 0, FRAMES, turn, True))
+    return b"".join(parts)
+
+
 # ---- whole recordings
 
 
@@ -82,6 +98,19 @@ def test_drawn(work: Path) -> None:
         (work / "drawn.ch11").write_bytes(drawn_recording(draw, turn % 2 == 0))
         judge_export(work, work / "drawn.ch11")
     judge(f"and those of {DRAWN} drawn ones of both profiles", True)
+
+
+def test_versions(work: Path) -> None:
+    """Of several versions without a frame between them the comment has the first and the last."""
+    draw, comments = random.Random(SEED), set()
+    for _ in range(DRAWN):
+        data = drawn_versions(draw)
+        (work / "versions.ch11").write_bytes(data)
+        judge_export(work, work / "versions.ch11")
+        comments |= {it.comment for it in wanted_of(data).frames}
+    several = [it for it in comments if re.fullmatch(r"filter versions \d+ to \d+, the last of [123] instructions", it)]
+    one = [it for it in comments if re.fullmatch(r"filter version \d+, [123] instructions", it)]
+    judge(f"{len(one)} comments on one version, {len(several)} on several", one and several and "" in comments)
 
 
 def test_feeds(work: Path, three: Path) -> None:

@@ -5,3 +5,5 @@ pub mod Sayings
 pub mod Numbering
 pub mod ShownFrames
 pub mod Whole
+pub mod Widths
+pub mod ShownChannels

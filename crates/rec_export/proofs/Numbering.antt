@@ -9,7 +9,7 @@ use Rattle.std.proofs.lemmas.List.Folds.{position_or_len-set, position_or_len_pu
 use Rattle.rec_reader.specs.Packets.{PacketData}
 use Rattle.rec_reader.specs.Channels.{Saying, saying_of}
 use Rattle.rec_reader.specs.Channels.Saying.{OfFrames, OfProgram, OfEnd}
-use Rattle.rec_export.specs.declared.interface.FilterVersion.{FilterVersion}
+use Rattle.rec_export.specs.declared.version.LaterVersions.{LaterVersions}
 use Rattle.rec_export.specs.declared.interface.Interface.{Interface}
 use Rattle.rec_export.specs.Interfaces.{number_of, is_described, with_interface}
 use Rattle.rec_export.specs.Export.{ExportState, state_said, state_behind, state_behind_all}
@@ -41,7 +41,7 @@ pub record Keeps (channel : ℕ) (old new : List Interface) : Type 0 where
   pub number : number_of channel new ≡ number_of channel old
   pub described : is_described channel new ≡ true
 
-length-put : (channel : ℕ) (later : Option FilterVersion) (interfaces : List Interface) → length interfaces ≤ length (with_interface channel later interfaces)
+length-put : (channel : ℕ) (later : Option LaterVersions) (interfaces : List Interface) → length interfaces ≤ length (with_interface channel later interfaces)
 length-put channel later interfaces = put (is_described channel interfaces) (cases_Bool (is_described channel interfaces))
   where
     put : (b : Bool) → (b ≡ true) ⊎ (b ≡ false)
@@ -51,7 +51,7 @@ length-put channel later interfaces = put (is_described channel interfaces) (cas
     put false is = let more = length-append interfaces (record { channel = channel; later = later } ∷ []) in omega (arith, more)
 
 -- the interface of a channel that has one is put in its place
-number_in_place : (channel other : ℕ) (later : Option FilterVersion) (interfaces : List Interface) → is_described other interfaces ≡ true
+number_in_place : (channel other : ℕ) (later : Option LaterVersions) (interfaces : List Interface) → is_described other interfaces ≡ true
     → number_of channel (with_interface other later interfaces) ≡ number_of channel interfaces
 number_in_place channel other later interfaces is =
     ap (number_of channel) (cond-true (is_described other interfaces) _ _ is)
@@ -59,7 +59,7 @@ number_in_place channel other later interfaces is =
     (ap (λ c. c == channel) (sym (stands_at other interfaces is)))
 
 -- the interface of one that has none is put behind all
-number_behind : (channel other : ℕ) (later : Option FilterVersion) (interfaces : List Interface) → is_described other interfaces ≡ false
+number_behind : (channel other : ℕ) (later : Option LaterVersions) (interfaces : List Interface) → is_described other interfaces ≡ false
     → number_of channel (with_interface other later interfaces)
     ≡ cond (number_of channel interfaces == length interfaces) (length interfaces + cond (other == channel) 0 1) (number_of channel interfaces)
 number_behind channel other later interfaces isnt =
@@ -67,7 +67,7 @@ number_behind channel other later interfaces isnt =
     ∙ position_or_len_push (λ (interface : Interface). interface.channel == channel) interfaces (record { channel = other; later = later })
 
 -- a channel with an interface keeps its number
-pub keeps_number : (channel other : ℕ) (later : Option FilterVersion) (interfaces : List Interface) → is_described channel interfaces ≡ true
+pub keeps_number : (channel other : ℕ) (later : Option LaterVersions) (interfaces : List Interface) → is_described channel interfaces ≡ true
     → Keeps channel interfaces (with_interface other later interfaces)
 keeps_number channel other later interfaces is =
     let within = ltb-true (number_of channel interfaces) (length interfaces) is in
@@ -88,7 +88,7 @@ plus_none : (n : ℕ) → n + 0 ≡ n
 plus_none n = omega arith
 
 -- a channel whose interface is put has the number that it had, or that of the next one
-pub takes_number : (channel : ℕ) (later : Option FilterVersion) (interfaces : List Interface)
+pub takes_number : (channel : ℕ) (later : Option LaterVersions) (interfaces : List Interface)
     → Keeps channel interfaces (with_interface channel later interfaces)
 takes_number channel later interfaces = by_cases (cases_Bool (is_described channel interfaces))
   where

@@ -10,7 +10,7 @@ use Rattle.rec_reader.specs.Channels.Saying.{OfFrames, OfProgram}
 use Rattle.ch11_packet.specs.declared.records.record.ProgramRecord.{ProgramRecord}
 use Rattle.ch11_packet.proofs.StoredInsns.{length-stored_insns}
 use Rattle.rec_reader.specs.Views.{program_data}
-use Rattle.rec_export.specs.Interfaces.{version_with, filter_version}
+use Rattle.rec_export.specs.Versions.{version_with, filter_version}
 use Rattle.rec_export.specs.Export.{ExportState, blocks_of_frames, state_behind_frames, blocks_of_version, state_behind_version, blocks_said}
 use Rattle.rec_export.specs.Export.{state_said, packet_blocks, state_behind}
 

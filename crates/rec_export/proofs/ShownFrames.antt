@@ -18,13 +18,15 @@ use Rattle.rec_reader.specs.Packets.{PacketData}
 use Rattle.rec_reader.specs.ChannelFrames.{channel_frames, packet_frames, frames_held}
 use Rattle.rec_reader.specs.Channels.{Saying, saying_of, saying_in, stored_program}
 use Rattle.rec_reader.specs.Channels.Saying.{OfFrames, OfProgram, OfEnd}
-use Rattle.rec_export.specs.declared.interface.FilterVersion.{FilterVersion}
+use Rattle.rec_export.specs.declared.version.FilterVersion.{FilterVersion}
+use Rattle.rec_export.specs.declared.version.LaterVersions.{LaterVersions}
 use Rattle.rec_export.specs.declared.interface.Interface.{Interface}
 use Rattle.rec_export.specs.Frames.{comment_options, flag_options, frame_blocks}
-use Rattle.rec_export.specs.Interfaces.{version_text, filter_version, interface_block, channel_name, description_options, number_of}
+use Rattle.rec_export.specs.Versions.{version_text, later_text, filter_version}
+use Rattle.rec_export.specs.Interfaces.{interface_block, channel_name, description_options, number_of}
 use Rattle.rec_export.specs.Interfaces.{is_described, later_of, with_interface}
 use Rattle.rec_export.specs.Export.{ExportState, description, blocks_said, state_said, packet_blocks, state_behind, packets_blocks}
-use Rattle.rec_export.specs.Export.{state_behind_all, later_behind}
+use Rattle.rec_export.specs.Export.{state_behind_all, later_behind, later_with}
 use Rattle.rec_export.specs.Shown.{FrameShown, packets_on, uncommented, packet_shown, frame_shown, frames_on, name_in, names_in, interface_name}
 use Rattle.rec_export.proofs.Numbering.{Keeps, no_interface, stands_at, one_channel, takes_number, keeps_all}
 
@@ -41,7 +43,7 @@ packets_on-append n (OfSection ∷ blocks) more = packets_on-append n blocks mor
 packets_on-append n (OfInterface i ∷ blocks) more = packets_on-append n blocks more
 packets_on-append n (OfPacket p ∷ blocks) more = one_first (p.interface == n) p _ _ _ (packets_on-append n blocks more)
 
-frames_on-append : (n : ℕ) (blocks more : List BlockData) → frames_on n (blocks ++ more) ≡ frames_on n blocks ++ frames_on n more
+pub frames_on-append : (n : ℕ) (blocks more : List BlockData) → frames_on n (blocks ++ more) ≡ frames_on n blocks ++ frames_on n more
 frames_on-append n blocks more =
     ap (map packet_shown) (packets_on-append n blocks more) ∙ map-append packet_shown (packets_on n blocks) (packets_on n more)
 
@@ -68,7 +70,7 @@ frames_there n comment (frame ∷ frames) =
     ∙ ap (λ l. frame_shown frame ∷ l) (frames_there n None frames)
 
 -- and on no other
-frames_elsewhere : (n other : ℕ) (comment : Option (List ℕ)) (frames : List ReadFrameData) → (other == n) ≡ false
+pub frames_elsewhere : (n other : ℕ) (comment : Option (List ℕ)) (frames : List ReadFrameData) → (other == n) ≡ false
     → frames_on n (frame_blocks other comment frames) ≡ []
 frames_elsewhere n other comment [] differ = refl
 frames_elsewhere n other comment (frame ∷ frames) differ =
@@ -78,7 +80,7 @@ none_on : (n : ℕ) (b : Bool) (block : BlockData) → frames_on n (block ∷ []
 none_on n true block e = refl
 none_on n false block e = e
 
-no_frames_described : (n : ℕ) (state : ExportState) (channel : ℕ) (version : Option FilterVersion) → frames_on n (description state channel version) ≡ []
+pub no_frames_described : (n : ℕ) (state : ExportState) (channel : ℕ) (version : Option FilterVersion) → frames_on n (description state channel version) ≡ []
 no_frames_described n state channel version = none_on n (is_described channel state.interfaces) (interface_block state.origin channel version) refl
 
 -- ---- one packet
@@ -115,7 +117,7 @@ frames_of_packet : (n channel other : ℕ) (state : ExportState) (what : What) (
     → frames_on n (blocks_said state (saying_in other what bytes)) ≡ map frame_shown (cond (other == channel) (frames_held what bytes) [])
 frames_of_packet n channel other state (Frames count) bytes is =
     frames_on-append n (description state other None) _
-    ∙ ap (λ l. l ++ frames_on n (frame_blocks (number_of other state.interfaces) (option_map version_text (later_of other state.interfaces)) (frames_held
+    ∙ ap (λ l. l ++ frames_on n (frame_blocks (number_of other state.interfaces) (option_map later_text (later_of other state.interfaces)) (frames_held
     (Frames count) bytes)))
     (no_frames_described n state other None)
     ∙ frames_of_one n channel other state (frames_held (Frames count) bytes) _ (is.own other (frames_held (Frames count) bytes) refl)
@@ -220,7 +222,7 @@ frames_have_none n comment [] = refl
 frames_have_none n comment (frame ∷ frames) = frames_have_none n None frames
 
 -- the names so far, and that of the interface that is described
-names_described : (state : ExportState) (channel : ℕ) (version later : Option FilterVersion)
+names_described : (state : ExportState) (channel : ℕ) (version : Option FilterVersion) (later : Option LaterVersions)
     → map interface_name state.interfaces ++ names_in (description state channel version)
     ≡ map interface_name (with_interface channel later state.interfaces)
 names_described state channel version later = by_cases (cases_Bool (is_described channel state.interfaces))
@@ -247,7 +249,7 @@ names_said state (Some (channel, OfFrames frames)) =
     ∙ ap (λ l. names_in (description state channel None) ++ l) (frames_have_none _ _ frames) ∙ append-nil (names_in (description state channel None)))
     ∙ names_described state channel None (later_behind frames (later_of channel state.interfaces))
 names_said state (Some (channel, OfProgram program)) =
-    names_described state channel (Some (filter_version program)) (cond (is_described channel state.interfaces) (Some (filter_version program)) None)
+    names_described state channel (Some (filter_version program)) (later_with channel (filter_version program) state.interfaces)
 names_said state (Some (channel, OfEnd end)) = append-nil (map interface_name state.interfaces)
 names_said state None = append-nil (map interface_name state.interfaces)
 

@@ -7,10 +7,12 @@ use Rattle.ch11_packet.specs.FramesRead.{ReadFrameData}
 use Rattle.rec_reader.specs.Packets.{PacketData}
 use Rattle.rec_reader.specs.Channels.{Saying, saying_of}
 use Rattle.rec_reader.specs.Channels.Saying.{OfFrames, OfProgram, OfEnd}
-use Rattle.rec_export.specs.declared.interface.FilterVersion.{FilterVersion}
+use Rattle.rec_export.specs.declared.version.FilterVersion.{FilterVersion}
+use Rattle.rec_export.specs.declared.version.LaterVersions.{LaterVersions}
 use Rattle.rec_export.specs.declared.interface.Interface.{Interface}
 use Rattle.rec_export.specs.Frames.{frame_blocks}
-use Rattle.rec_export.specs.Interfaces.{filter_version, version_text, interface_block, number_of, is_described, later_of, with_interface}
+use Rattle.rec_export.specs.Versions.{filter_version, later_text, joined_by}
+use Rattle.rec_export.specs.Interfaces.{interface_block, number_of, is_described, later_of, with_interface}
 
 -- what is kept of an export: the origin of times in seconds, if one is given, and the interfaces
 pub record ExportState : Type 0 where
@@ -28,20 +30,20 @@ description state channel version =
     if is_described channel state.interfaces then []
     else interface_block state.origin channel version ∷ []
 
--- the filter's version that is still to be shown behind these frames
-abbrev pub later_behind : List ReadFrameData → Option FilterVersion → Option FilterVersion
+-- the filter's later versions that are still to be shown behind these frames
+abbrev pub later_behind : List ReadFrameData → Option LaterVersions → Option LaterVersions
 later_behind [] later = later
 later_behind (frame ∷ frames) later = None
 
 -- ---- frames of a channel
 
 -- their blocks: the description of the interface, if it has none, and the frames, with the filter's
--- later version as a comment on the first
+-- later versions as a comment on the first
 abbrev pub blocks_of_frames : ExportState → (channel : ℕ) → List ReadFrameData → List BlockData
 blocks_of_frames state channel frames =
     description state channel None
     ++ frame_blocks (number_of channel state.interfaces)
-    (option_map version_text (later_of channel state.interfaces)) frames
+    (option_map later_text (later_of channel state.interfaces)) frames
 
 -- what is kept behind them
 abbrev pub state_behind_frames : ExportState → (channel : ℕ) → List ReadFrameData → ExportState
@@ -55,11 +57,20 @@ state_behind_frames state channel frames =
 abbrev pub blocks_of_version : ExportState → (channel : ℕ) → FilterVersion → List BlockData
 blocks_of_version state channel version = description state channel (Some version)
 
--- what is kept behind it: the version, if it isn't the comment of the interface
+-- the filter's later versions that are still to be shown behind it: it is one of them, if it isn't the
+-- comment of the interface
+abbrev pub later_with :
+    (channel : ℕ) → FilterVersion → List Interface → Option LaterVersions
+later_with channel version interfaces =
+    if is_described channel interfaces
+    then Some (joined_by (later_of channel interfaces) version)
+    else None
+
+-- what is kept behind it
 abbrev pub state_behind_version : ExportState → (channel : ℕ) → FilterVersion → ExportState
 state_behind_version state channel version =
     export_state state.origin (with_interface channel
-    (if is_described channel state.interfaces then Some version else None) state.interfaces)
+    (later_with channel version state.interfaces) state.interfaces)
 
 -- ---- one packet
 

@@ -6,32 +6,17 @@ use Rattle.std.specs.Fmt.{decimal}
 use Rattle.pcapng_blocks.specs.Options.{OptionData, name_option, resolution_option, fcs_len_option, offset_option}
 use Rattle.pcapng_blocks.specs.Blocks.{BlockData}
 use Rattle.pcapng_blocks.specs.Blocks.BlockData.{OfInterface}
-use Rattle.rec_reader.specs.declared.audits.channel.ChannelProgram.{ChannelProgram}
-use Rattle.rec_export.specs.declared.interface.FilterVersion.{FilterVersion}
+use Rattle.rec_export.specs.declared.version.FilterVersion.{FilterVersion}
+use Rattle.rec_export.specs.declared.version.LaterVersions.{LaterVersions}
 use Rattle.rec_export.specs.declared.interface.Interface.{Interface}
 use Rattle.rec_export.specs.Frames.{comment_options}
+use Rattle.rec_export.specs.Versions.{version_text}
 
--- ---- texts
-
--- the version with this number and as many instructions
-abbrev pub version_with : (number insns : ℕ) → FilterVersion
-version_with number insns = record { number = number; insns = insns }
-
--- the version of a filter, by its program
-abbrev pub filter_version : ChannelProgram → FilterVersion
-filter_version program = version_with program.version (length program.insns)
-
--- what is said of a filter's version
-abbrev pub version_text : FilterVersion → List ℕ
-version_text version =
-    codes "filter version " ++ (decimal version.number
-    ++ (codes ", " ++ (decimal version.insns ++ codes " instructions")))
+-- ---- the description of an interface
 
 -- the name of a channel
 abbrev pub channel_name : (channel : ℕ) → List ℕ
 channel_name channel = codes "channel " ++ decimal channel
-
--- ---- the description of an interface
 
 -- what is added to its times, if anything is
 abbrev pub offset_options : (origin : Option ℕ) → List OptionData
@@ -67,15 +52,15 @@ number_of channel interfaces =
 abbrev pub is_described : (channel : ℕ) → List Interface → Bool
 is_described channel interfaces = nat_lt (number_of channel interfaces) (length interfaces)
 
--- the filter's version that no frame was shown of
-abbrev pub later_of : (channel : ℕ) → List Interface → Option FilterVersion
+-- the filter's later versions that no frame was shown of
+abbrev pub later_of : (channel : ℕ) → List Interface → Option LaterVersions
 later_of channel interfaces =
     option_and_then (λ (interface : Interface). interface.later)
     (slice_get interfaces (number_of channel interfaces))
 
 -- the interfaces with this one of the channel, in the place of the one that it had, or behind all
 abbrev pub with_interface :
-    (channel : ℕ) (later : Option FilterVersion) → List Interface → List Interface
+    (channel : ℕ) (later : Option LaterVersions) → List Interface → List Interface
 with_interface channel later interfaces =
     let interface : Interface = record { channel = channel; later = later } in
     if is_described channel interfaces

@@ -8,9 +8,8 @@ ghost use Rattle.rec_export.specs.Export.{blocks_of_frames, blocks_of_version, l
 
 use crate::fault::ExportFault;
 use crate::frame::write_frames;
-use crate::interface::{
-    FilterVersion, Interface, comment_of, describe, later_of, number_of, put_interface, text_in,
-};
+use crate::interface::{Interface, describe, later_of, later_with, number_of, put_interface};
+use crate::version::{FilterVersion, LaterVersions, later_comment, text_in};
 use ch11_packet::Frames;
 use pcapng_blocks::{Block, write_block};
 use rec_reader::Packet;
@@ -147,15 +146,15 @@ fn export_frames<W: Write>(
         return Err(ExportFault::Memory);
     };
     let later = later_of(interfaces.as_slice(), channel);
-    let comment = comment_of(alloc, later)?;
+    let comment = later_comment(alloc, later)?;
     describe(alloc, out, origin, interfaces.as_slice(), channel, None)?;
     put_interface(interfaces, channel, later_behind(frames, later))?;
     write_frames(out, interface, text_in(&comment), frames)?;
     Ok(())
 }
 
-/// The filter's version that is still to be shown behind frames.
-fn later_behind(frames: &Frames<'_>, later: Option<FilterVersion>) -> Option<FilterVersion>
+/// The filter's later versions that are still to be shown behind frames.
+fn later_behind(frames: &Frames<'_>, later: Option<LaterVersions>) -> Option<LaterVersions>
     ensures { result ≡ later_behind frames.now later }
 {
     if frames.count() == 0 { later } else { None }
@@ -185,8 +184,7 @@ fn export_version<W: Write>(
         channel,
         Some(version),
     )?;
-    let is_described = number_of(interfaces.as_slice(), channel) < interfaces.len();
-    let later = if is_described { Some(version) } else { None };
+    let later = later_with(interfaces.as_slice(), channel, version);
     put_interface(interfaces, channel, later)?;
     Ok(())
 }

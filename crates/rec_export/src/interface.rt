@@ -1,17 +1,17 @@
 //! The channels of a recording as interfaces.
 
 ghost use Rattle.std.specs.Prelude.{◌≡◌, ◌<◌, ◌^◌, length, IfOk, OnOk, OnErr};
-ghost use Rattle.std.specs.Option.{option_map};
 ghost use Rattle.std.specs.Io.KnownBytes.{Appends};
 ghost use Rattle.pcapng_blocks.specs.Blocks.{block_bytes, blocks_bytes};
 ghost use Rattle.pcapng_blocks.specs.Outputs.{TakesStart};
 ghost use Rattle.pcapng_blocks.specs.Views.{options_data};
-ghost use Rattle.rec_export.specs.Frames.{IsShort, text_of};
-ghost use Rattle.rec_export.specs.Export.{description, export_state};
-ghost use Rattle.rec_export.specs.Interfaces.{channel_name, description_options, interface_block, later_of, number_of, version_text, version_with, with_interface};
+ghost use Rattle.rec_export.specs.Frames.{text_of};
+ghost use Rattle.rec_export.specs.Export.{description, export_state, later_with};
+ghost use Rattle.rec_export.specs.Interfaces.{channel_name, description_options, interface_block, later_of, number_of, with_interface};
 
 use crate::fault::ExportFault;
 use crate::frame::FCS_LEN;
+use crate::version::{FilterVersion, LaterVersions, comment_of, joined_by, text_in};
 use pcapng_blocks::{Block, BlockOption, LINK_TYPE_ETHERNET, write_block};
 use std::alloc::{AllocError, Global};
 use std::io::Write;
@@ -19,23 +19,13 @@ use std::io::Write;
 /// The unit of times: the relative time counter goes on every 10^-7 seconds.
 const TIME_RESOLUTION: u8 = 7;
 
-/// A version of a channel's filter.
-#[derive(Clone, Copy, Debug, PartialEq, Eq)]
-pub(crate) struct FilterVersion {
-    /// The number of versions before it.
-    pub(crate) number: u32,
-    /// The number of its instructions.
-    pub(crate) insns: u16,
-}
-
 /// A channel that has an interface.
 #[derive(Clone, Copy, Debug, PartialEq, Eq)]
 pub(crate) struct Interface {
     /// The channel.
     pub(crate) channel: u16,
-    /// The filter's version that came into force behind the last frame, and isn't in the
-    /// interface's description.
-    pub(crate) later: Option<FilterVersion>,
+    /// The versions that the channel's next frame is to show, if there are some.
+    pub(crate) later: Option<LaterVersions>,
 }
 
 /// The number of a channel's interface; that of the next one, if the channel has none.
@@ -52,8 +42,8 @@ pub(crate) fn number_of(interfaces: &[Interface], channel: u16) -> usize
     number
 }
 
-/// The filter's version of a channel that no frame was shown of.
-pub(crate) fn later_of(interfaces: &[Interface], channel: u16) -> Option<FilterVersion>
+/// The filter's later versions of a channel that no frame was shown of.
+pub(crate) fn later_of(interfaces: &[Interface], channel: u16) -> Option<LaterVersions>
     ensures { result ≡ later_of channel interfaces.now }
 {
     match interfaces.get(number_of(interfaces, channel)) {
@@ -62,11 +52,27 @@ pub(crate) fn later_of(interfaces: &[Interface], channel: u16) -> Option<FilterV
     }
 }
 
+/// The filter's later versions of a channel behind one more version: with it, if the channel has an
+/// interface, which else has it as its comment.
+pub(crate) fn later_with(
+    interfaces: &[Interface],
+    channel: u16,
+    version: FilterVersion,
+) -> Option<LaterVersions>
+    ensures { result ≡ later_with channel version interfaces.now }
+{
+    if number_of(interfaces, channel) < interfaces.len() {
+        Some(joined_by(later_of(interfaces, channel), version))
+    } else {
+        None
+    }
+}
+
 /// Puts an interface in the place of the one that its channel had, or behind all.
 pub(crate) fn put_interface(
     interfaces: &mut Vec<Interface>,
     channel: u16,
-    later: Option<FilterVersion>,
+    later: Option<LaterVersions>,
 ) -> Result<(), AllocError>
     ensures { OnOk result (interfaces.new.items
         ≡ with_interface channel later interfaces.old.items) }
@@ -147,43 +153,6 @@ fn description_options<'a>(
         options.push(BlockOption::TimeOffset(seconds))?;
     }
     Ok(options)
-}
-
-/// The text on a filter's version, if there is one.
-pub(crate) fn comment_of(
-    alloc: Global,
-    version: Option<FilterVersion>,
-) -> Result<Option<Vec<u8>>, ExportFault>
-    ensures text { IfOk result (λ comment. option_map (λ text. text.items) comment
-        ≡ option_map version_text version) }
-    ensures short { IfOk result (λ comment. IsShort (option_map (λ text. text.items) comment)) }
-{
-    match version {
-        Some(FilterVersion { number, insns }) => Ok(Some(version_text(alloc, number, insns)?)),
-        None => Ok(None),
-    }
-}
-
-/// A comment's text.
-pub(crate) fn text_in(comment: &Option<Vec<u8>>) -> Option<&[u8]>
-    ensures { text_of result ≡ option_map (λ text. text.items) comment.now }
-{
-    match comment {
-        Some(text) => Some(text.as_slice()),
-        None => None,
-    }
-}
-
-/// The text on a filter's version, by its number and the number of its instructions.
-fn version_text(alloc: Global, number: u32, insns: u16) -> Result<Vec<u8>, ExportFault>
-    ensures text { IfOk result (λ text. text.items ≡ version_text (version_with number insns)) }
-    ensures short { IfOk result (λ text. length text.items < 2 ^ 16) }
-{
-    let mut text = Vec::new(alloc);
-    match write!(&mut text, "filter version {number}, {insns} instructions") {
-        Ok(()) => Ok(text),
-        Err(_) => Err(ExportFault::Memory),
-    }
 }
 
 /// The name of a channel.

@@ -4,7 +4,8 @@ use Rattle.pcapng_blocks.specs.Views.{options_data}
 use Rattle.pcapng_blocks.specs.Options.{OptionData}
 use Rattle.pcapng_blocks.specs.Blocks.{block_bytes}
 use Rattle.pcapng_blocks.specs.Blocks.BlockData.{OfInterface}
-use Rattle.rec_export.specs.Interfaces.{description_options, version_text}
+use Rattle.rec_export.specs.Versions.{version_text}
+use Rattle.rec_export.specs.Interfaces.{description_options}
 use Rattle.std.specs.Option.{option_map}
 use Rattle.rec_export.proofs.Parts.{nothing_fails}
 use Rattle.rec_export.proofs.interface.write_description.Goals as goal

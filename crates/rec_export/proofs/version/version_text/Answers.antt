@@ -1,7 +1,7 @@
 use Rattle.std.proofs.Common.{List, ℕ, ◌++◌, ap, length, arith}
-use Rattle.rec_export.specs.Interfaces.{version_text, version_with}
+use Rattle.rec_export.specs.Versions.{version_text, version_with}
 use Rattle.rec_export.proofs.Texts.{short_version}
-use Rattle.rec_export.proofs.interface.version_text.Goals as goal
+use Rattle.rec_export.proofs.version.version_text.Goals as goal
 
 pub returns-in-Ok-clause-short : goal.returns-in-Ok-clause-short
 returns-in-Ok-clause-short c =
