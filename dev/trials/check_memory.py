@@ -7,6 +7,8 @@ By a malloc that is preloaded (dev/trials/failing_malloc.c, with cc):
   where each growth would be refused
 - nor do its worker and its writer while its filter is changed a hundred times: what they have in hand does;
   `list`, `audit` and `extract` find what was fed, from the file and from standard input
+- nor do those of a recording at full size, at both limits of packets: 64 channels from pipes with long paths, the
+  longest frames, and 1,024 programs of one channel, each met by a frame
 - a hundred changes that are installed take memory as often as a hundred for a channel that there isn't
 - a line of standard input that gets no memory ends the lines, and the recording goes on to its end
 - recordings of 1,000 and of 100,000 frames take memory equally often
@@ -14,14 +16,13 @@ By a malloc that is preloaded (dev/trials/failing_malloc.c, with cc):
   processor's time of its audit, which runs the filter once on each frame (0.8 to 1.1 as measured, and twice
   that where it ran twice), by the least of three rounds or more
 - each further place of a ring takes one growth, its buffer's; each further channel takes as many as another
-- 64 channels are recorded from pipes whose paths have over 90 bytes
 - where a thread can't be started, whichever, those that run are stopped, no line of standard input is read,
   nothing is written, and the program ends as out of memory
 
 And under a limit of addresses: `list`, `audit` and `extract` of a header that claims four gigabytes, which
 ask for 65,536 bytes at once at most.
 
-It takes some seconds, and dev/build/test.py and dev/build/gate.py run it. The status is 1 where something else happens.
+It takes half a minute, and dev/build/test.py and dev/build/gate.py run it. The status is 1 where something else happens.
 """
 import argparse
 import os
@@ -34,11 +35,11 @@ import threading
 from pathlib import Path
 
 from feeding import feed_on, feed_once, frames_of, pipe_to, seconds_of_children
+from full_size import CHANNELS, LIMITS, LONG, MOST_INSNS, feed_by_pipes, feed_path, report_of, write_all
+from recorder import begin
 from support import BPFREC, DROPS_ALL, KEEPS_ALL, TRIALS, shared_library
 
 FRAMES, FEW, CHANGES = 100_000, 1_000, 100
-MOST_CHANNELS = 64
-MOST_INSNS = 4_096
 # The growths of a channel whose ring has one place: 30 as measured, beside those of lists that double.
 MOST_A_CHANNEL = 32
 FILTERED, FEWEST_ROUNDS, MOST_ROUNDS, MOST_RATIO = 20_000, 3, 10, 1.4
@@ -85,9 +86,18 @@ class Checks:
 
     def start(self, out, stdin, **more):
         """Starts a recording under the preloaded library."""
-        env = {"LD_PRELOAD": str(self.library), "GROWTHS": str(self.counts), **more}
         words = [self.program, "record", str(self.work / "settings.toml"), str(self.work / out)]
-        running = subprocess.Popen(words, stdin=stdin, stdout=subprocess.PIPE, stderr=subprocess.PIPE, env=env)
+        env = self.preloads(**more)
+        return self.in_time(
+            subprocess.Popen(words, stdin=stdin, stdout=subprocess.PIPE, stderr=subprocess.PIPE, env=env)
+        )
+
+    def preloads(self, **more):
+        """The environment in which the library is preloaded."""
+        return {"LD_PRELOAD": str(self.library), "GROWTHS": str(self.counts), **more}
+
+    def in_time(self, running):
+        """The same program, which is killed where it doesn't end."""
         limit = threading.Timer(SECONDS, running.kill)
         limit.daemon = True
         limit.start()
@@ -251,19 +261,21 @@ class Checks:
         )
         return seconds_of_children() - before
 
-    def channels(self):
-        """Records as many channels as there may be, each from a pipe of its own."""
-        self.settings(MOST_CHANNELS)
-        frames = frames_of(FEW)
-        for channel in range(1, MOST_CHANNELS + 1):
-            threading.Thread(target=feed_once, args=(self.work / f"feed_{channel}", frames), daemon=True).start()
-        output, errors = self.start("channels.ch11", subprocess.DEVNULL).communicate(timeout=SECONDS)
-        want = [
-            f"channel {channel} versions 1 offered {FEW} kept {FEW} SourceEnd"
-            for channel in range(1, MOST_CHANNELS + 1)
-        ]
-        seen = output.decode().splitlines()[:-1]
-        self.judge(f"{MOST_CHANNELS} channels are recorded", (seen, errors) == (want, b""), (seen[:3], errors))
+    def full_size(self):
+        """A recording as large as its parts may get, from pipes; the control alone may take memory."""
+        for limit in LIMITS:
+            settings, feeds = write_all(self.work / f"limit {limit}", limit, range(1, CHANNELS + 1))
+            out = self.work / "full.ch11"
+            out.unlink(missing_ok=True)
+            env = self.preloads(REFUSED_FROM=str(feed_path(settings.parent, LONG)), SPARED_INPUT="1")
+            streams = dict.fromkeys(("stdin", "stderr"), subprocess.PIPE)
+            with self.in_time(begin(settings, out, self.program, env=env, **streams)) as running:
+                feed_by_pipes(running, settings, out, feeds)
+                output, errors = running.communicate(timeout=SECONDS)
+            printed = output.splitlines()[:-1]
+            self.judge(f"all is recorded at full size, with limit {limit}", printed == report_of(feeds), errors)
+            counts = self.counted()
+            self.judge("and the control alone asked for growths", counts["refused"] == 0 < counts["late"], counts)
 
     def same_number(self):
         counts = []
@@ -346,7 +358,7 @@ class Checks:
             ["export", "claim.pcapng"],
         ):
             words = [self.program, words[0], "claim.ch11", *words[1:]]
-            env = {"LD_PRELOAD": str(self.library), "GROWTHS": str(self.counts)}
+            env = self.preloads()
             ran = subprocess.run(words, cwd=self.work, env=env, capture_output=True, preexec_fn=limit, timeout=SECONDS)
             seen = (ran.returncode, ran.stdout, ran.stderr, self.counted()["largest"])
             holds = seen[0] == 1 and b"read 1 Truncated 0" in seen[1] + seen[2] and seen[3] <= MOST_AT_ONCE
@@ -368,14 +380,14 @@ def main():
             checks.installs,
             checks.same_number,
             checks.once,
-            checks.channels,
+            checks.full_size,
             checks.shapes,
             checks.threads,
             checks.claims,
         ):
             try:
                 check()
-            except (OSError, LookupError, ValueError, subprocess.SubprocessError) as error:
+            except (AssertionError, OSError, LookupError, ValueError, subprocess.SubprocessError) as error:
                 checks.judge(f"{check.__name__} goes to its end", False, repr(error))
     return 1 if checks.wrong else 0
 

@@ -47,10 +47,10 @@ def record(settings: Path, out: object, **more) -> subprocess.CompletedProcess:
     return outcome(BPFREC, "record", settings, out, **{"stdin": subprocess.DEVNULL, "seconds": 120, **more})
 
 
-def begin(settings: Path, out: object, **more) -> subprocess.Popen:
+def begin(settings: Path, out: object, program: object = BPFREC, **more) -> subprocess.Popen:
     """A recorder that runs, with its report in a pipe."""
     streams: dict = {"stdin": subprocess.DEVNULL, "stdout": subprocess.PIPE, "text": True}
-    return subprocess.Popen([str(BPFREC), "record", str(settings), str(out)], **{**streams, **more})
+    return subprocess.Popen([str(program), "record", str(settings), str(out)], **{**streams, **more})
 
 
 def extracted(recording: Path, channel: int, feed: Path) -> bytes:

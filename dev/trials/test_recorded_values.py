@@ -1,5 +1,5 @@
-"""Tries that the numbers of settings, scripts and feeds stand in a recording as docs/user/FORMATS.md has them: each at both
-ends, and marks one by one. What is compared with is written by hand (dev/trials/frames.py), with no reader of packets."""
+"""Tries that the numbers of settings, scripts and feeds stand in a recording as docs/user/FORMATS.md has them: all at both
+ends, each between them, and marks one by one; each at its ends is in crates/test_cases/src/values.rt. What is compared with is written by hand (dev/trials/frames.py), with no reader of packets."""
 
 from __future__ import annotations
 
@@ -28,16 +28,16 @@ class Values(NamedTuple):
     ring: int = 4
 
 
-# Each number at both ends, and between them, alone and all together.
+# All numbers at both ends, and each between them.
 ALL = {
     "least": Values(1, 0, 0, 16_424, 0, 1),
     "greatest": Values(65_535, 255, 15, 524_284, 255, 4_096),
-    **{f"channel_{it}": Values(channel=it) for it in (255, 256, 65_535)},
-    **{f"net_{it}": Values(net=it) for it in (1, 127, 128, 201, 255)},
-    **{f"speed_{it}": Values(speed=it) for it in (1, 7, 8, 15)},
-    **{f"limit_{it}": Values(limit=it) for it in (16_425, 65_535, 524_283, 524_284)},
-    **{f"version_{it}": Values(version=it) for it in (0, 1, 127, 128, 255)},
-    **{f"ring_{it}": Values(ring=it) for it in (1, 2, 4_096)},
+    **{f"channel_{it}": Values(channel=it) for it in (255, 256)},
+    **{f"net_{it}": Values(net=it) for it in (1, 127, 128, 201)},
+    **{f"speed_{it}": Values(speed=it) for it in (1, 7, 8)},
+    **{f"limit_{it}": Values(limit=it) for it in (16_425, 65_535, 524_283)},
+    **{f"version_{it}": Values(version=it) for it in (1, 127, 128)},
+    "ring_2": Values(ring=2),
 }
 
 

@@ -13,6 +13,7 @@ mod run;
 mod scripts;
 mod texts;
 mod upgrades;
+mod values;
 
 use audits::show_audits;
 use cases::{CHECKED, HELP, PROGRAMS, RECORDINGS, REFUSED};
@@ -28,6 +29,7 @@ use std::thread::Threads;
 use std::{fs, io};
 use texts::{FILTERS, TEXTS, TextCase};
 use upgrades::{UPGRADES, UpgradeCase};
+use values::show_values;
 
 /// The number of packets of a long recording, of 52 bytes each.
 const LONG: u64 = 40_000;
@@ -48,7 +50,8 @@ fn main(rt: HostRuntime) -> io::Result<()> {
     show_closed_output(&rt)?;
     show_records(&rt)?;
     show_audits(&rt)?;
-    show_scripts(&rt)
+    show_scripts(&rt)?;
+    show_values(&rt)
 }
 
 /// Each table has a function of its own, since its check takes time and memory for each row.

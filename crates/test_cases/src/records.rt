@@ -97,7 +97,7 @@ where
 }
 
 /// A recording: what is printed, and then its bytes, if it was created.
-fn show_record<R: AllocGlobal + Files + Print + Threads + Wait + Sync>(
+pub(crate) fn show_record<R: AllocGlobal + Files + Print + Threads + Wait + Sync>(
     rt: &R,
     settings: &str,
     out: &str,

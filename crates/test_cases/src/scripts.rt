@@ -105,7 +105,7 @@ where
 }
 
 /// A script, after what is told of it.
-fn show_script<R: AllocGlobal + Files + Print + Threads + Wait + Sync>(
+pub(crate) fn show_script<R: AllocGlobal + Files + Print + Threads + Wait + Sync>(
     rt: &R,
     told: &str,
     script: &str,
@@ -151,25 +151,42 @@ where
     for _ in 0..ROUNDS {
         script.push_str(ROUND)?;
     }
+    println!(rt; "# {} events", ROUNDS.wrapping_mul(5))?;
+    show_counts(
+        rt,
+        script.as_str(),
+        &[
+            "took",
+            "installed",
+            "sent",
+            "wrote",
+            "refused 4",
+            "refused 5",
+            "refused 6",
+        ],
+    )
+}
+
+/// How many lines answer a script, of each kind.
+pub(crate) fn show_counts<R: AllocGlobal + Files + Print + Threads + Wait + Sync>(
+    rt: &R,
+    script: &str,
+    kinds: &[&str],
+) -> io::Result<()>
+where
+    R::File: Send + LockFile,
+    R::Dir: Send,
+{
     let words = ["simulate", "-"];
     let run = run_program(rt, &words, Input::Bytes(script.as_bytes()))?;
-    println!(rt; "# {} events", ROUNDS.wrapping_mul(5))?;
     title(rt, &words)?;
-    for word in [
-        "took",
-        "installed",
-        "sent",
-        "wrote",
-        "refused 4",
-        "refused 5",
-        "refused 6",
-    ] {
+    for kind in kinds {
         let count = run
             .output()
             .lines()
-            .filter(|line| line.starts_with(word))
+            .filter(|line| line.starts_with(kind))
             .count();
-        println!(rt; "{count} {word}")?;
+        println!(rt; "{count} {kind}")?;
     }
     println!(rt; "= {}, {} bytes of errors", run.status, run.errors().len())
 }
