@@ -62,15 +62,25 @@ def synced(notes: Path) -> list[float]:
     return [it[1] for it in told]
 
 
+def judge_facts(number: int, facts: Path, copied: Path, age: float) -> None:
+    """The facts that were written a second before a cut, or earlier, are there, whole: `copied` is the cut disk."""
+    if age > 1:
+        found = json.loads((copied / facts.name).read_bytes()) if (copied / facts.name).exists() else None
+        judge_quietly(f"cut {number}: the facts are there, {age:.1f} s old", found and found["origins"], found)
+
+
 def judge_cut(work: Path, image: Path, out: Path, growth: Growth, number: int) -> float:
     """What is on the disk if the power goes now: by how many seconds it is behind."""
     done = synced(work / "notes")
     wanted, now = growth.at(done[-1]) if done else 0, time.monotonic()
+    facts = Path(f"{out}.json")
+    age = time.time() - facts.stat().st_mtime if facts.exists() else 0.0
     shutil.copy(image, work / "copy")
     with mounted(["-o", "loop", work / "copy"], work / "copied"):
         copied = work / "copied" / out.name
         size = copied.stat().st_size if copied.exists() else 0
         judge_quietly(f"cut {number}: {size} bytes are there of {wanted} that were synced", size >= wanted)
+        judge_facts(number, facts, work / "copied", age)
         (work / "front").write_bytes(copied.read_bytes()[:wanted] if copied.exists() else b"")
     judge_quietly(f"cut {number}: they are those", (work / "front").read_bytes() == out.read_bytes()[:wanted])
     listed = outcome(BPFREC, "list", work / "front")
