@@ -7,10 +7,11 @@ import time
 from pathlib import Path
 
 import pytest
+from service import Manager
 from support import ROOT, judge, judge_quietly, wait_for
 
 sys.path.insert(0, str(ROOT / "host"))
-from bpfrec_host.live import arguments, expressions, names, words
+from bpfrec_host.live import arguments, expressions, names, notify, words
 from bpfrec_host.live.events import Events
 from bpfrec_host.live.keeper import Keeper
 from bpfrec_host.live.names import Files, Names, Refusal
@@ -195,3 +196,22 @@ def test_keeper_that_fails(work: Path, monkeypatch: pytest.MonkeyPatch) -> None:
         keeper.join(5)
     judge("nothing is told of it", told == [] and not keeper.is_alive())
     os.close(descriptor)
+
+
+# ---- the service manager
+
+
+def test_more_time(work: Path, monkeypatch: pytest.MonkeyPatch) -> None:
+    """More time is asked for audits alone: a recorder that is stuck has what the unit gives."""
+    manager = Manager(str(work / "notify"))
+    monkeypatch.setenv("NOTIFY_SOCKET", manager.adds["NOTIFY_SOCKET"])
+    notifier = notify.Notifier()
+    for now, is_auditing in ((0.0, False), (30.0, False), (31.0, True), (32.0, True), (42.0, True)):
+        notifier.stopping(now, is_auditing)
+        notifier.tick(now)
+        notifier.send(f"X={now}")
+    wait_for("all is told", lambda: manager.times("X=42.0"))
+    told = [line for _, lines in manager.told for line in lines if not line.startswith("STATUS")]
+    plea = "EXTEND_TIMEOUT_USEC=60000000"
+    wanted = ["STOPPING=1", "X=0.0", "X=30.0", plea, "X=31.0", "X=32.0", plea, "X=42.0"]
+    judge("each ten seconds", told == wanted, told)

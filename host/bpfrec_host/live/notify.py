@@ -24,7 +24,7 @@ class Notifier:
         # Twice in the time after which live would be taken for stuck.
         self.pause: Optional[float] = int(pause) / MICROSECONDS / 2 if has_pause else None
         self.next_sign = self.next_plea = 0.0
-        self.is_ready = self.is_stopping = False
+        self.is_ready = self.is_stopping = self.is_auditing = False
 
     def send(self, *lines: str) -> None:
         """Tells lines; a manager that takes none is left alone."""
@@ -40,8 +40,9 @@ class Notifier:
         self.send(*([] if self.is_ready else ["READY=1"]), status)
         self.is_ready = True
 
-    def stopping(self, now: float) -> None:
-        """All is to end."""
+    def stopping(self, now: float, is_auditing: bool) -> None:
+        """All is to end; `is_auditing` says whether all but the last audits has ended."""
+        self.is_auditing = is_auditing
         if not self.is_stopping:
             self.is_stopping, self.next_plea = True, now
             self.send("STOPPING=1", "STATUS=ending")
@@ -51,15 +52,15 @@ class Notifier:
     def deadline(self) -> Optional[float]:
         """When something is told next; None where nothing is."""
         moments = [self.next_sign] * (self.pause is not None)
-        moments += [self.next_plea] * (self.is_stopping and self.socket is not None)
+        moments += [self.next_plea] * (self.is_auditing and self.socket is not None)
         return min(moments, default=None)
 
     def tick(self, now: float) -> None:
-        """Tells that live is alive, and at its end that it needs more time."""
+        """Tells that live is alive, and for its last audits that it needs more time."""
         if self.pause is not None and now >= self.next_sign:
             self.next_sign = now + self.pause
             self.send("WATCHDOG=1")
-        if self.is_stopping and now >= self.next_plea:
+        if self.is_auditing and now >= self.next_plea:
             self.next_plea = now + MORE_TIME_PAUSE
             self.send(f"EXTEND_TIMEOUT_USEC={MORE_TIME * MICROSECONDS}")
 

@@ -113,7 +113,7 @@ class Run:
         self.loop.turn(None if next_moment is None else max(0.0, next_moment - now))
         now = time.monotonic()
         if self.machine.is_ending or self.machine.is_concluding:
-            self.notifier.stopping(now)
+            self.notifier.stopping(now, self.machine.is_concluding)
         for it in self.timed:
             it.tick(now)
         self.machine.unanswered = len(self.now().lines.unanswered)
