@@ -52,8 +52,8 @@ pub(crate) fn later_of(interfaces: &[Interface], channel: u16) -> Option<LaterVe
     }
 }
 
-/// The filter's later versions of a channel behind one more version: with it, if the channel has an
-/// interface, which else has it as its comment.
+/// The filter's later versions of a channel once one more came into force. A channel without an
+/// interface has none: the version is the comment of its interface.
 pub(crate) fn later_with(
     interfaces: &[Interface],
     channel: u16,

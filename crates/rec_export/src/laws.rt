@@ -2,11 +2,11 @@
 
 ghost use Rattle.std.specs.Prelude.{ℕ, ◌≡◌, true, false, List, [], map, Option};
 ghost use Rattle.pcapng_blocks.specs.Blocks.{blocks_bytes};
+ghost use Rattle.rec_reader.specs.declared.fault.ReadEnd.{ReadEnd};
 ghost use Rattle.rec_reader.specs.Packets.{BeginSomeBytes, PacketData};
 ghost use Rattle.rec_reader.specs.ChannelFrames.{channel_frames};
 ghost use Rattle.rec_export.specs.Interfaces.{is_described, number_of};
 ghost use Rattle.rec_export.specs.Export.{export_blocks, first_state, state_behind_all};
-ghost use Rattle.rec_reader.specs.declared.fault.ReadEnd.{ReadEnd};
 ghost use Rattle.rec_export.specs.Exported.{IsExported, StopsExport};
 ghost use Rattle.rec_export.specs.Found.{AreReadAs, ShowsPackets};
 ghost use Rattle.rec_export.specs.Shown.{frame_shown, frames_on, interface_name, names_in};
