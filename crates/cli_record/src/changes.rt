@@ -22,7 +22,7 @@ pub(crate) struct LineControl<'r, R: Sync, I: Send + Drop, E: Send + Drop> {
 }
 
 impl<'r, R: AllocGlobal + Sync, I: Read + Send + Drop, E: Send + Drop> LineControl<'r, R, I, E> {
-    ghost use Rattle.std.specs.Prelude.{◌≡◌, ◌↔◌, [], false, IfOk, IsOk};
+    ghost use Rattle.std.specs.Prelude.{◌≡◌, ◌↔◌, [], false, IfOk, IfErr, IsOk};
 
     /// A control that has read nothing.
     pub(crate) fn new(
@@ -45,7 +45,8 @@ impl<'r, R: AllocGlobal + Sync, I: Read + Send + Drop, E: Send + Drop> LineContr
 
     /// How it ended: at its last line, or since there was no memory.
     pub(crate) fn outcome(&self) -> Result<(), CommandEnding<'static>>
-        ensures { IsOk result ↔ (self.now.lacks_memory ≡ false) }
+        ensures well { IsOk result ↔ (self.now.lacks_memory ≡ false) }
+        ensures memory { IfErr result (λ ending. ending ≡ CommandEnding.Memory) }
     {
         if self.lacks_memory {
             return Err(CommandEnding::Memory);
