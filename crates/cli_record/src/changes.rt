@@ -1,5 +1,8 @@
 //! Changes of filters from lines of an input, and what is answered to them.
 
+ghost use Rattle.std.specs.Prelude.{ℕ, ◌≡◌};
+ghost use Rattle.cli_record_streams.specs.declared.asked.Reply.TheVariants.{Refused};
+
 use cli_record_streams::{Asked, Lines, Refusal, Reply, next_asked, print_error};
 use cli_streams::CommandEnding;
 use rec_run::{Answer, Change, Control, ControlLog, Told};
@@ -19,7 +22,7 @@ pub(crate) struct LineControl<'r, R: Sync, I: Send + Drop, E: Send + Drop> {
 }
 
 impl<'r, R: AllocGlobal + Sync, I: Read + Send + Drop, E: Send + Drop> LineControl<'r, R, I, E> {
-    ghost use Rattle.std.specs.Prelude.{◌≡◌, [], false, IfOk};
+    ghost use Rattle.std.specs.Prelude.{◌≡◌, ◌↔◌, [], false, IfOk, IfErr, IsOk};
 
     /// A control that has read nothing.
     pub(crate) fn new(
@@ -41,7 +44,10 @@ impl<'r, R: AllocGlobal + Sync, I: Read + Send + Drop, E: Send + Drop> LineContr
     }
 
     /// How it ended: at its last line, or since there was no memory.
-    pub(crate) fn outcome(&self) -> Result<(), CommandEnding<'static>> {
+    pub(crate) fn outcome(&self) -> Result<(), CommandEnding<'static>>
+        ensures well { IsOk result ↔ (self.now.lacks_memory ≡ false) }
+        ensures memory { IfErr result (λ ending. ending ≡ CommandEnding.Memory) }
+    {
         if self.lacks_memory {
             return Err(CommandEnding::Memory);
         }
@@ -79,7 +85,14 @@ impl<
 }
 
 /// What is answered to a change that was asked for.
-fn reply_to(told: Told) -> Reply {
+fn reply_to(told: Told) -> Reply
+    ensures installed { (version mark : ℕ) → told.answer ≡ Answer.Installed version mark
+        → result ≡ Reply.Installed told.channel version mark }
+    ensures full { told.answer ≡ Answer.VersionsFull
+        → result ≡ Refused told.channel Refusal.VersionsFull }
+    ensures none { told.answer ≡ Answer.NoChannel
+        → result ≡ Refused told.channel Refusal.NoChannel }
+{
     let Told { channel, answer } = told;
     match answer {
         Answer::Installed { version, mark } => Reply::Installed {

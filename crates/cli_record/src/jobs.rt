@@ -1,5 +1,8 @@
 //! What is to be recorded, by the settings.
 
+ghost use Rattle.std.specs.Prelude.{◌≡◌, map, IfOk};
+ghost use Rattle.cli_record.specs.Jobs.{asked_numbers, job_numbers, numbers_of_jobs};
+
 use ch11_packet::Limit;
 use cli_record_streams::{Source, open_feed, read_filter};
 use cli_streams::{CommandEnding, Inputs};
@@ -16,7 +19,10 @@ pub(crate) fn jobs_of<'a, R: AllocGlobal + Files>(
     limit: Limit,
     channels: Vec<ChannelSettings>,
     inputs: &mut Inputs,
-) -> Result<Vec<Job<Source<R::File>>>, CommandEnding<'a>> {
+) -> Result<Vec<Job<Source<R::File>>>, CommandEnding<'a>>
+    ensures asked { IfOk result (λ jobs.
+        numbers_of_jobs jobs.items ≡ map (asked_numbers limit) channels.items) }
+{
     let mut jobs = Vec::with_capacity(rt.alloc(), channels.len())?;
     let mut feeds = Inputs::new(rt.alloc());
     'channels: for channel in channels {
@@ -32,7 +38,9 @@ fn job_of<'a, R: AllocGlobal + Files>(
     channel: ChannelSettings,
     inputs: &mut Inputs,
     feeds: &mut Inputs,
-) -> Result<Job<Source<R::File>>, CommandEnding<'a>> {
+) -> Result<Job<Source<R::File>>, CommandEnding<'a>>
+    ensures asked { IfOk result (λ job. job_numbers job ≡ asked_numbers limit channel) }
+{
     let ChannelSettings {
         id,
         feed,

@@ -1,0 +1,9 @@
+use Rattle.std.proofs.Common.{◌≡◌, ◌++◌, map}
+use Rattle.std.specs.Vec.Iter.{into_iter_items}
+use Rattle.cli_record.specs.Jobs.{asked_numbers, numbers_of_jobs}
+use Rattle.cli_record.proofs.jobs.jobs_of.Given as goal
+
+abbrev pub invariant-channels : goal.invariant-channels
+invariant-channels g l =
+    map (asked_numbers l.fn.limit) l.fn.channels.items
+    ≡ numbers_of_jobs l.jobs.items ++ map (asked_numbers l.fn.limit) (into_iter_items l.channel-iterator)
