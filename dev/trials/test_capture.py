@@ -235,7 +235,10 @@ def test_permission(work: Path) -> None:
     for path in [work, *work.rglob("*")]:
         path.chmod(path.stat().st_mode | 0o555)
     (work / "private").chmod(0o777)
-    line = r"capture: rx0: no permission to capture: be root, or once setcap \S+ \S+\n"
+    line = (
+        r"capture: rx0: no permission to capture: be root, or have a group capture, as USING.md says: "
+        r"chgrp recorder F && chmod 750 F && setcap cap_net_raw=ep F, where F is \S+/capture\n"
+    )
     for words in [
         [open_to_all / "bin/capture", "rx0=-"],
         [open_to_all / "host/bin/live", settings, "/tmp/none.ch11", "rx0=1"],

@@ -26,6 +26,8 @@ MEBIBYTE = 1 << 20
 # What capture asks for of each interface, in MiB, and how much of the memory all have at most; the kernel makes up to
 # twice as much.
 USUAL_BUFFER, BUFFERS_IN_MEMORY, BUFFER_FOLD = 256, 4, 2
+# How a group gets the permission, as capture itself says it.
+BY_GROUP = "as USING.md says: chgrp recorder F && chmod 750 F && setcap cap_net_raw=ep F, where F is"
 # Stands for the pipes of live's: nothing is ever there.
 NOWHERE = "/dev/null"
 SIOCGIFFLAGS, UP, RUNNING = 0x8913, 0x1, 0x40
@@ -147,7 +149,7 @@ def judge_permission(report: Report) -> None:
     try:
         os.getxattr(capture, "security.capability")
     except OSError:
-        report.fault("capture", f"no permission to capture: be root, or once setcap cap_net_raw=ep {capture}")
+        report.fault("capture", f"no permission to capture: be root, or have a group capture, {BY_GROUP} {capture}")
 
 
 def judge_buffers(given: Arguments, report: Report) -> None:
