@@ -120,6 +120,29 @@ def shown(name, is_required):
     return name if is_required == "true" else f"[{name}]"
 
 
+def capture_text():
+    """What capture --help prints, as its source has it."""
+    literals = re.search(r'static const char USAGE\[\] =\s*((?:"(?:[^"\\]|\\.)*"\s*)+);', CAPTURE.read_text())
+    return string_of("".join(re.findall(r'"((?:[^"\\]|\\.)*)"', literals[1])))
+
+
+def parser_texts(parser):
+    """The help of a parser and of each of its commands: what it is called by, and its texts."""
+    texts = [parser.description, parser.epilog, *(it.help for it in parser._actions)]
+    yield f"{parser.prog} --help", "\n\n".join(it for it in texts if it)
+    for action in parser._actions:
+        if isinstance(action.choices, dict):
+            for command in action.choices.values():
+                yield from parser_texts(command)
+
+
+def tool_texts():
+    """The help of all tools and of their commands: what it is called by, and its texts."""
+    yield "capture --help", capture_text().partition("\n\n")[2]
+    for tool in PYTHON_TOOLS.values():
+        yield from parser_texts(importlib.import_module(tool.module).parser())
+
+
 class Help:
     """The texts of the program's help."""
 
