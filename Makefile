@@ -58,15 +58,15 @@ fuzz: build ## drawn and damaged inputs for an hour; SECONDS=60 for a minute, SE
 	dev/trials/fuzz.py --seed $(or $(SEED),1) --seconds $(or $(SECONDS),3600)
 
 bench: build bin/pcap_filter bin/record_feed ## times the filter machine and the whole recorder beside libpcap's
-	@command -v python3 || { echo "make bench wants libpcap-dev, python3 and cc: python3 is missing"; exit 1; }
+	@command -v python3 || { echo "make bench needs libpcap-dev, python3 and cc: python3 is missing"; exit 1; }
 	dev/build/build.py bench
 	bench/compare.py bin/bench bin/pcap_filter bin/bench_work bin/bpfrec
 	bench/record.py bin/bpfrec bin/record_feed
 
 bin/pcap_filter bin/record_feed: bin/%: bench/%.c
-	@command -v $(CC) || { echo "make bench wants libpcap-dev, python3 and cc: $(CC) is missing"; exit 1; }
+	@command -v $(CC) || { echo "make bench needs libpcap-dev, python3 and cc: $(CC) is missing"; exit 1; }
 	@test -f /usr/include/pcap/bpf.h || \
-		{ echo "make bench wants libpcap-dev, python3 and cc: libpcap-dev is missing"; exit 1; }
+		{ echo "make bench needs libpcap-dev, python3 and cc: libpcap-dev is missing"; exit 1; }
 	@mkdir -p bin
 	$(CC) $(C_FLAGS) -o $@ $< -lpcap -lpthread
 

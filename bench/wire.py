@@ -12,7 +12,7 @@ capture of as many frames, by host/bin/convert and by `capture -r`.
 With --part syncs it records by host/bin/live alone, forced to the disk each second (the default), and only at the end
 (`--sync 0`, told as before), in turn: what the syncs cost.
 
-It prints tables for RESULTS.md, with the machine's load. It wants root, bin/bpfrec and bin/capture (make
+It prints tables for RESULTS.md, with the machine's load. It needs root, bin/bpfrec and bin/capture (make
 build), bin/send_frames (make bin/send_frames), and Debian's iproute2, tcpdump and wireshark-common. Files go
 to TMPDIR: in memory (TMPDIR=/dev/shm) no disk is measured with it.
 """
@@ -275,7 +275,7 @@ def main():
     words = parser.parse_args()
     if not os.environ.get(INSIDE):
         if missing():
-            print(f"bench/wire.py wants {', '.join(missing())}", file=sys.stderr)
+            print(f"bench/wire.py needs {', '.join(missing())}", file=sys.stderr)
             return 2
         name = f"bpfrec_wire_{os.getpid()}"
         run("ip", "netns", "add", name)

@@ -31,10 +31,10 @@ def pytest_configure(config: pytest.Config) -> None:
 
 @pytest.fixture(autouse=True, scope="module")
 def at_hand(request: pytest.FixtureRequest) -> None:
-    """Leaves a trial out that wants what isn't here, by the table WANTED of its file."""
+    """Leaves a trial out that needs what isn't here, by the table WANTED of its file."""
     lacking = support.missing(getattr(request.module, "WANTED", {}))
     if lacking:
-        pytest.skip(f"it wants {', '.join(lacking)}")
+        pytest.skip(f"it needs {', '.join(lacking)}")
 
 
 def made_folder() -> Iterator[Path]:
@@ -63,9 +63,9 @@ def long_feed(place: Path) -> Path:
 
 @contextlib.contextmanager
 def entered() -> Iterator[None]:
-    """A network namespace while it lasts; what wants it is left out where none can be made."""
+    """A network namespace while it lasts; what needs it is left out where none can be made."""
     if os.geteuid() != 0:
-        pytest.skip("it wants root, for a network namespace")
+        pytest.skip("it needs root, for a network namespace")
     with contextlib.ExitStack() as stack:
         try:
             stack.enter_context(namespaces.own_namespace())

@@ -275,7 +275,7 @@ def test_installed_names(work: Path, package: Path) -> None:
 
 def test_dpkg(request: pytest.FixtureRequest) -> None:
     if not os.environ.get("DEBIAN_ROOT"):
-        pytest.skip("an installation by dpkg wants a clean Debian in DEBIAN_ROOT")
+        pytest.skip("an installation by dpkg needs a clean Debian in DEBIAN_ROOT")
     root, package = Path(os.environ["DEBIAN_ROOT"]), request.getfixturevalue("package")
     inside = root / "root/field"
     inside.mkdir(exist_ok=True)

@@ -130,7 +130,7 @@ def interfaces(entering: Callable) -> Iterator[None]:
 def shell(entering: Callable) -> Shell:
     """All commands that can be run here, in a namespace where one can be made."""
     lacking = {kind: support.missing(wanted) for kind, wanted in WANTED_BY.items()}
-    left_out = {kind: f"it wants {', '.join(it)}" for kind, it in lacking.items() if it}
+    left_out = {kind: f"it needs {', '.join(it)}" for kind, it in lacking.items() if it}
     with contextlib.ExitStack() as stack:
         try:
             stack.enter_context(interfaces(entering) if "live" not in left_out else contextlib.nullcontext())

@@ -120,7 +120,7 @@ def add_make(commands: "Commands[Parser]") -> None:
 
 def run_make(given: argparse.Namespace) -> None:
     """Runs make."""
-    # Here, since no other command wants what draws.
+    # Here, since no other command needs what draws.
     from bpfrec_host.convert.samples import make
 
     make(given.seed, given.count, given.output)

@@ -1,4 +1,4 @@
-"""What is in a recording, as a page of HTML that wants nothing from outside."""
+"""What is in a recording, as a page of HTML that loads nothing from elsewhere."""
 
 from __future__ import annotations
 

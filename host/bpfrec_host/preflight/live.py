@@ -92,7 +92,7 @@ def judge_live_out(given: Arguments, settings: Optional[Settings], report: Repor
         report.fault(out, without_name(refusal))
         return
     if given.is_rotating() and is_special(given.out):
-        report.fault(given.out, "--every and --size make files, and it is none")
+        report.fault(given.out, "--every and --size make files, and it is not a file")
     channels = [] if settings is None else settings.channels
     inputs = [it for it in channels if os.path.dirname(it.path("feed") or "") != NOWHERE]
     judge_out(out, given.settings or os.devnull, inputs, report)

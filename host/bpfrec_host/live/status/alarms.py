@@ -66,8 +66,10 @@ def of_whole(view: View) -> Iterator[Alarm]:
         text = f"{view.recording.name}: {view.recording.fault}: the recording's file isn't what the recorder writes"
         yield Alarm("damaged", ALARM, None, "damaged", text)
     if view.recording and view.recording.unread > UNREAD_BYTES:
-        text = f"{view.recording.name}: {size(view.recording.unread)} weren't looked at yet: kept frames are told late"
-        yield Alarm("unread", WARNING, None, "told late", text)
+        text = (
+            f"{view.recording.name}: {size(view.recording.unread)} weren't looked at yet: kept frames are counted late"
+        )
+        yield Alarm("unread", WARNING, None, "counts late", text)
     if view.audits.no:
         refused = [f"{it.name}: {it.audit}" for it in view.recordings if it.is_refused()][-1:]
         text = (
