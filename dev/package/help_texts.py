@@ -43,6 +43,16 @@ OTHER_TOOLS = {
 WORD_KINDS = {"SETTINGS": "toml", "OUT": "ch11", "RECORDING": "ch11", "DAMAGED": "ch11"}
 
 
+def usages():
+    """What each tool takes, as its help begins: a list of uses, each without the tool's name."""
+    names = {name: importlib.import_module(tool.module).parser() for name, tool in PYTHON_TOOLS.items()}
+    found = {name: (parser.prog, parser.format_usage()) for name, parser in names.items()}
+    found["capture"] = "capture", capture_text()
+    for name, (prog, text) in found.items():
+        first = text.partition("\n\n")[0].removeprefix("usage: ")
+        yield name, [" ".join(it.split()) for it in re.split(rf"(?:^|\n +){re.escape(prog)} ", first) if it]
+
+
 def tools():
     """The tools by their names: those in Python as their parsers have them."""
     found = {

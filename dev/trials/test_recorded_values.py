@@ -62,7 +62,7 @@ def expected(values: Values, frames: list[tuple[int, int, bytes]]) -> bytes:
         size = len(body_of([*held, (0, 0, frame)]))
         if held and HEADER_LENGTH + size + -size % 4 > values.limit:
             close()
-        # Bit 31 of a frame's word is that of a wrong check sequence, mark 1, and bit 30 of another fault, mark 2.
+        # Bit 31 of a frame's word is that of a wrong check sequence, mark 1, and bit 30 of a frame error, mark 2.
         held.append((counter, word | (marks & 1) << 31 | (marks >> 1) << 30, frame))
     close()
     end = struct.pack("<I4sHHQQ", 0, b"CBPR", 2, channel, len(frames), len(frames))

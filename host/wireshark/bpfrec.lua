@@ -1020,7 +1020,7 @@ local field = {
   speed = ProtoField.uint8("ch11.speed", "Ethernet speed"),
   content = ProtoField.uint8("ch11.content", "Content"),
   wrong_fcs = ProtoField.bool("ch11.wrong_fcs", "Recorded with a wrong check sequence"),
-  other_error = ProtoField.bool("ch11.other_error", "Recorded with another fault"),
+  other_error = ProtoField.bool("ch11.other_error", "Recorded with a frame error"),
   computed_fcs = ProtoField.uint32("ch11.computed_fcs", "Check sequence by these bytes", base.HEX),
   bad_fcs = ProtoField.bool("ch11.bad_fcs", "Check sequence is not that of these bytes"),
   -- of a packet
@@ -1126,7 +1126,7 @@ local function add_frame(tree, row, wrong, other, content)
   local item = tree:add(ch11)
   if item.visible then
     item:set_text(format("Channel %d, frame %.0f, counter %.0f%s%s", row.channel, row.number, row.counter,
-      wrong and ", wrong check sequence" or "", other and ", another fault" or ""))
+      wrong and ", wrong check sequence" or "", other and ", frame error" or ""))
   end
   add_asked(item, field.channel, row.channel)
   if row.version then
@@ -1139,7 +1139,7 @@ local function add_frame(tree, row, wrong, other, content)
   add_asked(item, field.speed, row.top % 16)
   add_asked(item, field.content, content)
   add_fault(item, field.wrong_fcs, wrong, told_wrong, "Recorded with a wrong check sequence")
-  add_fault(item, field.other_error, other, told_error, "Recorded with another fault than its check sequence")
+  add_fault(item, field.other_error, other, told_error, "Recorded with a frame error")
   add_asked(item, field.length, row.length)
   add_long(item, field.place, row.place)
   add_long(item, field.packet, row.packet)

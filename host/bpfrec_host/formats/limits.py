@@ -23,7 +23,7 @@ MIN_FRAME_LEN, MAX_FRAME_LEN = 18, 16_383
 CHECK_SEQUENCE_LEN = 4
 # What a record of a feed has before its frame.
 RECORD_HEAD_LEN = 9
-# The marks of a frame: its check sequence is wrong; it has another fault.
+# The marks of a frame: its check sequence is wrong; it has a frame error.
 MARK_CHECK_SEQUENCE, MARK_OTHER_FAULT = 1, 2
 MAX_MARKS = MARK_CHECK_SEQUENCE | MARK_OTHER_FAULT
 

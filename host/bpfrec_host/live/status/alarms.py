@@ -113,7 +113,7 @@ def of_channel(channel: ChannelView, state: str, limit: int) -> Iterator[Alarm]:
     yield from of_pipe(channel)
     unknown = channel.seconds if channel.counts_age is None else channel.counts_age
     if unknown > COUNTS_SECONDS:
-        yield of(channel, "no_counts", ALARM, "no counts", f"the capture has counted nothing for {duration(unknown)}")
+        yield of(channel, "no_counts", ALARM, "no counts", f"capture has counted nothing for {duration(unknown)}")
         return
     silent = channel.seconds if channel.frame_age is None else channel.frame_age
     if silent > SILENT_SECONDS:
