@@ -2,6 +2,7 @@
 
 import contextlib
 import os
+import shutil
 import signal
 import sys
 import tempfile
@@ -56,9 +57,31 @@ def place() -> Iterator[Path]:
 
 
 @pytest.fixture(scope="module")
+def seen_calls(place: Path) -> Path:
+    """The library of dev/trials/seen_calls.c."""
+    return support.shared_library(support.TRIALS / "seen_calls.c", place / "seen_calls.so")
+
+
+@pytest.fixture
+def sample(work: Path) -> Path:
+    """A recording of one frame, whose counter is 32."""
+    return Path(shutil.copy(recorder.RECORDINGS / "two_versions_checked.ch11", work / "x.ch11"))
+
+
+@pytest.fixture(scope="module")
 def long_feed(place: Path) -> Path:
     """A feed of a million frames."""
     return recorder.make_feed(place / "long.feed", recorder.MANY)
+
+
+@pytest.fixture
+def flight(work: Path) -> Iterator[object]:
+    """A run whose status is served: a Flight of dev/trials/scripted.py."""
+    # Here, since other trials need none of the status.
+    from asking import served
+
+    with served(work) as made:
+        yield made
 
 
 @contextlib.contextmanager

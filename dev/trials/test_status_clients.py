@@ -9,23 +9,15 @@ import subprocess
 import sys
 import threading
 import time
-from collections.abc import Iterator
 from pathlib import Path
 
 import pytest
-from asking import asked, connection, place_of, raw, served
+from asking import asked, connection, place_of, raw
 from scripted import Flight, endpoint_in, server, wires_of
 from support import ROOT, judge, judge_quietly, run, wait_for
 
 PATHS = ("/", "/status.json", "/metrics")
 pytestmark = pytest.mark.timed
-
-
-@pytest.fixture
-def flight(work: Path) -> Iterator[Flight]:
-    """A run that is served."""
-    with served(work) as made:
-        yield made
 
 
 def test_half_a_request(flight: Flight, monkeypatch: pytest.MonkeyPatch) -> None:

@@ -10,11 +10,10 @@ import socket
 import sys
 import threading
 import time
-from collections.abc import Iterator
 from pathlib import Path
 
 import pytest
-from asking import asked, connection, parts_of, place_of, raw, served
+from asking import asked, connection, parts_of, place_of, raw
 from scripted import Flight, Wire, as_json, status
 from support import ROOT, judge, judge_quietly, run, wait_for
 
@@ -27,13 +26,6 @@ SAFE = {
     "cross-origin-resource-policy": "same-origin",
     "connection": "close",
 }
-
-
-@pytest.fixture
-def flight(work: Path) -> Iterator[Flight]:
-    """A run that is served."""
-    with served(work) as made:
-        yield made
 
 
 # ---- what is answered

@@ -79,6 +79,12 @@ CHANNEL_KEYS = {
     "max": Range(0, MAX_NUMBER, MAX_NUMBER),
 }
 
+# ---- the kernel's buffers, as capture asks for them
+
+# Of each interface in MiB, and the part of the memory that all have at most; the kernel makes up to so many times as
+# much of what is asked for.
+USUAL_BUFFER, BUFFERS_IN_MEMORY, BUFFER_FOLD = 256, 4, 2
+
 # ---- the facts beside a recording
 
 MAX_FACTS_LEN = 64 << 20

@@ -11,6 +11,7 @@ import struct
 from typing import Callable, Optional
 
 from bpfrec_host import program
+from bpfrec_host.formats.limits import BUFFER_FOLD, BUFFERS_IN_MEMORY, USUAL_BUFFER
 from bpfrec_host.formats.settings import Settings
 from bpfrec_host.live.adapters import asked
 from bpfrec_host.live.arguments import Arguments, read
@@ -23,9 +24,6 @@ from bpfrec_host.preflight.output import available_memory, judge_out
 from bpfrec_host.preflight.report import Report
 
 MEBIBYTE = 1 << 20
-# What capture asks for of each interface, in MiB, and how much of the memory all have at most; the kernel makes up to
-# twice as much.
-USUAL_BUFFER, BUFFERS_IN_MEMORY, BUFFER_FOLD = 256, 4, 2
 # How a group gets the permission, as capture itself says it.
 BY_GROUP = "as USING.md says: chgrp recorder F && chmod 750 F && setcap cap_net_raw=ep F, where F is"
 # Stands for the pipes of live's: nothing is ever there.
