@@ -12,7 +12,7 @@ share/bpfrec/, with a link in the folder of plugins that tshark names, or else i
 if it is set, is put ahead of PREFIX. With --uninstall all of it is removed, and the folders that only it has. ZSH
 names another folder than share/zsh/site-functions, and WIRESHARK another folder of plugins.
 
-Status: 0 done, 2 wrong words, 3 something to install is missing or not proved, else that of the command that
+Status: 0 done, 2 wrong arguments, 3 something to install is missing or not proved, else that of the command that
 failed.'
 
 cd "$(dirname "$0")/../.." || exit 3
@@ -134,12 +134,13 @@ install_all() {
 install_names() {
     local file tool
     for file in "$to"/share/doc/bpfrec/*.md; do
-        sed -Ei "s#(^sudo .*|cap_net_raw=ep )bin/capture#\\1$PREFIX/libexec/bpfrec/bpfrec-capture#g" "$file"
+        sed -i '/^<!-- source tree -->$/,/^<!-- end -->$/d; s| (`bench/RESULTS.md`)||g' "$file"
+        sed -i "/^sudo /s#bin/capture#$PREFIX/libexec/bpfrec/bpfrec-capture#g" "$file"
         for tool in "${tools[@]}"; do
             sed -i "s|host/bin/$tool\\b|bpfrec-$tool|g" "$file"
         done
         sed -Ei "s#(^|[^/[:alnum:]])bin/(bpfrec)([^-_/[:alnum:]]|\$)#\\1\\2\\3#g; s#\\bbin/capture\\b#bpfrec-capture#g" "$file"
-        sed -i "s|host/wireshark/bpfrec.lua|$PREFIX/share/bpfrec/bpfrec.lua|g; s|docs/user/\\([A-Za-z]*\\.[a-z]*\\)|\\1|g" "$file"
+        sed -i "s|host/wireshark/bpfrec.lua|$PREFIX/share/bpfrec/bpfrec.lua|g; s|/usr/local/libexec/|$PREFIX/libexec/|g; s|examples/bpfrec.service|$PREFIX/lib/systemd/system/bpfrec.service|g; s|docs/user/\\([A-Za-z]*\\.[a-z]*\\)|\\1|g" "$file"
         sed -i "s|at the top of the repository after \`make build\`,|in a folder with \`examples\`, a copy of $PREFIX/share/doc/bpfrec/examples, and an empty \`bin\`,|" "$file"
     done
 }
