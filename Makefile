@@ -7,7 +7,8 @@ DESTDIR ?=
 C_FLAGS := -std=gnu11 -O2 -Wall -Wextra -Wconversion -Wshadow -Werror
 export PREFIX DESTDIR
 
-.PHONY: help try demo build capture quick crate test trials lint gate install uninstall deb refused-growth fuzz bench clean
+.PHONY: help try demo build capture quick crate test trials covered lint gate install uninstall deb \
+	refused-growth fuzz bench clean
 
 help: ## lists the targets
 	@grep -E '^[a-z-]+:.*## ' Makefile | sed -E 's/:[^#]*## /\t/' | expand -t 18
@@ -33,6 +34,9 @@ crate: ## one crate: its proof, its edits that must fail, its tests: make crate 
 
 trials: ## what runs the built program, its tools, interfaces and disks; one alone: pytest dev/trials -k NAME
 	@dev/trials/run.py
+
+covered: build ## which lines of host/bin/live the trials run, by its own trials once more: 90 of 100 at least
+	@dev/trials/covered.py
 
 test: ## all proofs, all tests and stored runs, over kept work, and the edits of what changed
 	@dev/build/test.py $(if $(EDITS_WITHIN),--edits-within $(EDITS_WITHIN))

@@ -2,8 +2,8 @@
 """Compares docs/user/COMMANDS.md with the program's help, the tools and the exit statuses.
 
 Each command must have a row with its arguments, each tool that is installed a row with those that are no options, and
-each exit status of the help a row; the page must have no other commands. The pages for users must name no tool of host/bin that isn't there. The
-status is 1 where something differs.
+each exit status of the help a row; the page must have no other commands. The pages for users must name no tool of
+host/bin that isn't there. The status is 1 where something differs.
 """
 import argparse
 import re

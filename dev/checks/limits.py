@@ -2,8 +2,8 @@
 """Compares the numbers of host/bpfrec_host/formats/limits.py with those of the program.
 
 Each number there must be that of the crates' constant or of the capture's, of the table of docs/user/FORMATS.md and of
-the program's help that are named here, and none may be left out. All are read as text, so nothing need be built. It prints each that
-differs, and the status is 1 where there is one.
+the program's help that are named here, and none may be left out. All are read as text, so nothing need be built. It
+prints each that differs, and the status is 1 where there is one.
 """
 import argparse
 import ast

@@ -4,10 +4,10 @@ average, none of the words that STYLE refuses.
 
 It reads README.md, CONTRIBUTING.md, CHANGELOG.md, the pages of docs/, examples/, bench/ and of each crate, the page
 bpfrec(1), which has each line of the program's help, and the help of all tools and of their commands. A word in
-backticks counts as one word, and blocks of code are left out. A sentence ends at a full stop, a question mark, an exclamation
-mark, or a colon at the end of a line; in a table, where cells have notes, at a semicolon too. The average is of what is
-no table and no title. Each row of STYLE's table of words says what stands in place of a refused one. It prints
-FILE:LINE: TEXT for each, and the status is 1 where there is one.
+backticks counts as one word, and blocks of code are left out. A sentence ends at a full stop, a question mark, an
+exclamation mark, or a colon at the end of a line; in a table, where cells have notes, at a semicolon too. The average
+is of what is no table and no title. Each row of STYLE's table of words says what stands in place of a refused one. It
+prints FILE:LINE: TEXT for each, and the status is 1 where there is one.
 """
 import argparse
 import re

@@ -4,8 +4,8 @@
 black and isort (layout) and flake8 (faults) read all Python, mypy (strict) the package of host/, shellcheck the shell
 scripts, clang-format and clang-tidy the C, and gcc -fanalyzer that of the capture. Their settings stand in
 pyproject.toml, .flake8, .clang-format and .clang-tidy; for editors .editorconfig says the same. A NAME runs that tool
-alone; "prose" is dev/checks/prose.py, which reads the English, and "printed" dev/checks/printed.py, which reads the lines
-that programs print. A tool that isn't there is said as left out.
+alone; "prose" is dev/checks/prose.py, which reads the English, and "printed" dev/checks/printed.py, which reads the
+lines that programs print. A tool that isn't there is said as left out.
 Status: 0 nothing is found, 1 something is, 2 a tool is missing.
 """
 import argparse

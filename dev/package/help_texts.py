@@ -169,7 +169,8 @@ class Help:
         table = source[source.index("const COMMANDS:") :]
         self.about, self.statuses, self.version = texts["ABOUT"], texts["STATUSES"], texts["VERSION"]
         self.commands = []
-        row = rf"CommandTexts \{{\s*name: {quoted},\s*usage: {quoted},\s*about: {quoted},\s*help: HelpText::(\w+),\s*words: &\[(.*?)\],\s*\}},"
+        texts_of_row = rf"name: {quoted},\s*usage: {quoted},\s*about: {quoted},\s*help: HelpText::(\w+)"
+        row = rf"CommandTexts \{{\s*{texts_of_row},\s*words: &\[(.*?)\],\s*\}},"
         for name, _, about, help_name, given in re.findall(row, table, re.DOTALL):
             found = []
             for it in re.finditer(rf"{word}|\b([A-Z_]+)\b(?=\s*[,\]]|\s*$)", given):

@@ -1,6 +1,6 @@
-"""Tries what bin/capture may do at all, as it is built: its capabilities, also where the kernel refuses to take them, the
-calls of the kernel that it has left, how it is laid out, and a thread that it can't start. Builds under sanitizers are
-others, so they aren't tried by this.
+"""Tries what bin/capture may do at all, as it is built: its capabilities, also where the kernel refuses to take them,
+the calls of the kernel that it has left, how it is laid out, and a thread that it can't start. Builds under sanitizers
+are others, so they aren't tried by this.
 """
 
 import os

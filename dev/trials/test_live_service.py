@@ -1,4 +1,5 @@
-"""Tries host/bin/live as a service: what it tells the service manager, by a socket that is played, and with which rights."""
+"""Tries host/bin/live as a service: what it tells the service manager, by a socket that is played, and with which
+rights."""
 
 import os
 import re

@@ -1,4 +1,5 @@
-"""Runs the first recording of README.md, and compares what it prints: the second command, by the program that is tried."""
+"""Runs the first recording of README.md, and compares what it prints: the second command, by the program that is
+tried."""
 
 import re
 from pathlib import Path

@@ -1,5 +1,6 @@
-"""Tries that the numbers of settings, scripts and feeds stand in a recording as docs/user/FORMATS.md has them: each at both
-ends, and marks one by one. What is compared with is written by hand (dev/trials/frames.py), with no reader of packets."""
+"""Tries that the numbers of settings, scripts and feeds stand in a recording as docs/user/FORMATS.md has them: each at
+both ends, and marks one by one. What is compared with is written by hand (dev/trials/frames.py), with no reader of
+packets."""
 
 from __future__ import annotations
 

@@ -1,4 +1,5 @@
-"""Tries the order of what commands do to files, call by call, by a library that is preloaded (dev/trials/seen_calls.c)."""
+"""Tries the order of what commands do to files, call by call, by a library that is preloaded
+(dev/trials/seen_calls.c)."""
 
 import os
 import re
@@ -88,8 +89,8 @@ def calls_of(command: Command, out: Path, seen_calls: Path) -> list[Call]:
 @pytest.mark.parametrize("is_there", [False, True], ids=["new", "there"])
 @pytest.mark.parametrize("name", LOCKING)
 def test_order(work: Path, seen_calls: Path, name: str, is_there: bool) -> None:
-    """OUT is opened, locked, emptied, of a new one the folder is forced, it is written and forced to its disk, and then the
-    report is printed."""
+    """OUT is opened, locked, emptied, of a new one the folder is forced, it is written and forced to its disk, and then
+    the report is printed."""
     command, out = commands(work)[name], work / "out"
     if is_there:
         out.write_bytes(b"older")

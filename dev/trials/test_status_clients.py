@@ -195,7 +195,8 @@ from bpfrec_host.live import status
 it = status.Status(endpoint=status.endpoint_in("0"))
 it.start()
 it.tick(time.monotonic())
-for request in (b"x\\r\\n\\r\\n", b"GET / HTTP/1.1\\r\\n\\r\\n", b"POST / HTTP/1.0\\r\\n\\r\\n", b"GET /status.json HTTP/1.0\\r\\n\\r\\n", b"half"):
+for line in (b"x", b"GET / HTTP/1.1", b"POST / HTTP/1.0", b"GET /status.json HTTP/1.0", None):
+    request = b"half" if line is None else line + b"\\r\\n\\r\\n"
     one = socket.create_connection((str(it.server.endpoint.address), it.server.endpoint.port))
     one.setsockopt(socket.SOL_SOCKET, socket.SO_LINGER, struct.pack("ii", 1, 0))
     one.sendall(request)

@@ -1,4 +1,5 @@
-"""Tries the server of the status: what it answers, where it serves, and that no word of a client gets into an answer."""
+"""Tries the server of the status: what it answers, where it serves, and that no word of a client gets into an
+answer."""
 
 from __future__ import annotations
 

@@ -2,7 +2,8 @@
 
 Blocks that begin with ```sh live want root and bin/capture: then all runs in a network namespace, with interfaces eth0
 and eth1 at which the frames of examples/feeds/one.feed arrive, and the numbers that such a block prints are not
-compared. Those that begin with ```sh tcpdump or ```sh tshark want these. Where something is missing these blocks are left out.
+compared. Those that begin with ```sh tcpdump or ```sh tshark want these. Where something is missing these blocks are
+left out.
 """
 
 import contextlib

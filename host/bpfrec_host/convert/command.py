@@ -24,17 +24,17 @@ error, as one that is too long or too short.
 As a file, `-` is standard input or output. It needs Python 3.9 or later, and nothing beside it.
 Nothing of this tool is proved; bpfrec itself reads no captures and computes no check sequence.
 """
-FROM_PCAP = f"""Makes a feed from a capture of Ethernet: a classic pcap file (both byte orders, micro- and nanoseconds) or a
-    pcapng file, of which each section and interface is read. Frames of less than {MIN_WIRE_LEN} bytes are padded as on
+FROM_PCAP = f"""Makes a feed from a capture of Ethernet: a classic pcap file (both byte orders, micro- and nanoseconds)
+    or a pcapng file, of which each section and interface is read. Frames of less than {MIN_WIRE_LEN} bytes are padded as on
     the wire, a frame check sequence (FCS) that the capture lacks is computed, and a frame with a wrong one gets error
     flag bit 0. From a pipe each frame is written before the next one is waited for. Prints `frames <n> skipped <m>`,
     on standard error if the feed is standard output: m frames were cut short by the capture, or have fewer bytes than a
     frame or more than {MAX_FRAME_LEN - CHECK_SEQUENCE_LEN:,}. A file that is damaged or ends in the middle is refused,
     and then OUT.feed has the frames before."""
-TO_PCAP = """Makes a classic pcap file (nanoseconds, little-endian) from a feed, such as `bpfrec extract` writes. It has no
-    place for error flags. Prints `frames <n>`, on standard error if the capture is standard output. A frame whose time
-    is before 1970, or past 2106-02-07, is refused. The status is 3 if the FILE of --facts can't be read, and 1 if it has
-    no facts of a recording."""
+TO_PCAP = """Makes a classic pcap file (nanoseconds, little-endian) from a feed, such as `bpfrec extract` writes. It has
+    no place for error flags. Prints `frames <n>`, on standard error if the capture is standard output. A frame whose time
+    is before 1970, or past 2106-02-07, is refused. The status is 3 if the FILE of --facts can't be read, and 1 if it
+    has no facts of a recording."""
 SHOW = f"""Prints a line for each frame of a feed: the counter, the error flags, the length of the frame with its FCS, and
     the frame's first {SHOWN_BYTES} bytes."""
 MAKE = "Makes a feed of COUNT sample frames, the same for the same SEED."

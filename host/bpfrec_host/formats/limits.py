@@ -43,7 +43,8 @@ MAX_ETHERNET_PACKET_LEN = 524_288
 ETHERNET_DATA, COMPUTER_GENERATED_DATA = 0x68, 0x00
 # The word that a body of frames begins with, and what stands before each frame.
 BODY_WORD_LEN, FRAME_HEADER_LEN = 4, 12
-# The channel ID of records; their heads, up to the channel; a program's record before its instructions; an end's record.
+# The channel ID of records; their heads, up to the channel; a program's record before its instructions; an end's
+# record.
 RECORD_CHANNEL = 0
 RECORD_TAG = b"CBPR"
 PROGRAM_RECORD, END_RECORD = 1, 2

@@ -34,7 +34,8 @@ MORE = """\
 TIME is seconds since counter 0, as 12.5, or UTC as 2025-12-01T12:00:00.25Z, which needs facts.
 
 As OUT, `-` is standard output. It prints `frames <n> skipped <m>`, on standard error if OUT is standard output: m
-frames have another content, or fewer than 18 bytes, and no capture can have them. When that is printed, OUT is on its disk.
+frames have another content, or fewer than 18 bytes, and no capture can have them. When that is printed, OUT is on its
+disk.
 A damaged place is reported on standard error, and what is behind it is read.
 
 It runs bpfrec for the text of filters: what BPFREC names, or the one beside it; without it they are listings.

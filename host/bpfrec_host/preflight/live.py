@@ -1,4 +1,5 @@
-"""What `bpfrec-live` would refuse or lose with the same arguments: interfaces, permission, offloads, buffers and OUT."""
+"""What `bpfrec-live` would refuse or lose with the same arguments: interfaces, permission, offloads, buffers and
+OUT."""
 
 from __future__ import annotations
 

@@ -1,10 +1,13 @@
 -- ---- the protocol ch11
 
 local ch11 = Proto("ch11", "Recording of bpfrec (IRIG 106-17 Chapter 11)")
-ch11.prefs.facts = Pref.string("Facts", "", "The file of facts by which times are absolute, where it isn't the one beside "
-  .. "the recording or can't be found there")
+ch11.prefs.facts = Pref.string("Facts", "", "The file of facts by which times are absolute, where it isn't the one "
+  .. "beside the recording or can't be found there")
 
-local DATA_TYPES = { [ETHERNET_DATA] = "Ethernet data, Format 0", [COMPUTER_DATA] = "computer-generated data, Format 0" }
+local DATA_TYPES = {
+  [ETHERNET_DATA] = "Ethernet data, Format 0",
+  [COMPUTER_DATA] = "computer-generated data, Format 0",
+}
 local field = {
   place = ProtoField.uint64("ch11.place", "Place in the recording"),
   time = ProtoField.string("ch11.time", "Time"),
@@ -42,9 +45,10 @@ local field = {
   damaged_len = ProtoField.uint64("ch11.damaged_length", "Bytes that are no packet"),
 }
 ch11.fields = field
-local told_damage = ProtoExpert.new("ch11.damage.expert", "Damaged place", expert.group.MALFORMED, expert.severity.ERROR)
-local told_wrong = ProtoExpert.new("ch11.wrong_fcs.expert", "Wrong check sequence", expert.group.CHECKSUM, expert.severity.ERROR)
-local told_error = ProtoExpert.new("ch11.other_error.expert", "Faulty frame", expert.group.MALFORMED, expert.severity.WARN)
+local groups, levels = expert.group, expert.severity
+local told_damage = ProtoExpert.new("ch11.damage.expert", "Damaged place", groups.MALFORMED, levels.ERROR)
+local told_wrong = ProtoExpert.new("ch11.wrong_fcs.expert", "Wrong check sequence", groups.CHECKSUM, levels.ERROR)
+local told_error = ProtoExpert.new("ch11.other_error.expert", "Faulty frame", groups.MALFORMED, levels.WARN)
 ch11.experts = { told_damage, told_wrong, told_error }
 
 local ethernet, plain_data = Dissector.get("eth_withfcs"), Dissector.get("data")
@@ -182,8 +186,9 @@ end
 -- Adds a program: its numbers, and a line for each instruction. Of a channel it is the filter from a frame on.
 local function add_program(item, tvb, data)
   local channel, version, count = number16(data, 34), number32(data, 36), number16(data, 48)
-  local insns = insns_in(data, HEADER_LEN + PROGRAM_HEAD_LEN, min(count, floor((#data - HEADER_LEN - PROGRAM_HEAD_LEN) / INSN_LEN)))
-  local text = format("filter version %.0f of channel %d, %d instruction%s", version, channel, count, count == 1 and "" or "s")
+  local begin, plural = HEADER_LEN + PROGRAM_HEAD_LEN, count == 1 and "" or "s"
+  local insns = insns_in(data, begin, min(count, floor((#data - begin) / INSN_LEN)))
+  local text = format("filter version %.0f of channel %d, %d instruction%s", version, channel, count, plural)
   item:add_le(field.channel, tvb(34, 2))
   item:add_le(field.version, tvb(36, 4))
   item:add_le(field.first, tvb(40, 8))
