@@ -7,7 +7,8 @@ DESTDIR ?=
 C_FLAGS := -std=gnu11 -O2 -Wall -Wextra -Wconversion -Wshadow -Werror
 export PREFIX DESTDIR
 
-.PHONY: help try demo build capture quick crate test trials lint gate install uninstall deb refused-growth fuzz bench clean
+.PHONY: help try demo build capture quick crate test trials covered lint gate install uninstall deb \
+	refused-growth fuzz bench clean
 
 help: ## lists the targets
 	@grep -E '^[a-z-]+:.*## ' Makefile | sed -E 's/:[^#]*## /\t/' | expand -t 18
@@ -34,6 +35,9 @@ crate: ## one crate: its proof, its edits that must fail, its tests: make crate 
 trials: ## what runs the built program, its tools, interfaces and disks; one alone: pytest dev/trials -k NAME
 	@dev/trials/run.py
 
+covered: build ## which lines of host/bin/live the trials run, by its own trials once more: 90 of 100 at least
+	@dev/trials/covered.py
+
 test: ## all proofs, all tests and stored runs, over kept work, and the edits of what changed
 	@dev/build/test.py $(if $(EDITS_WITHIN),--edits-within $(EDITS_WITHIN))
 
@@ -58,15 +62,15 @@ fuzz: build ## drawn and damaged inputs for an hour; SECONDS=60 for a minute, SE
 	dev/trials/fuzz.py --seed $(or $(SEED),1) --seconds $(or $(SECONDS),3600)
 
 bench: build bin/pcap_filter bin/record_feed ## times the filter machine and the whole recorder beside libpcap's
-	@command -v python3 || { echo "make bench wants libpcap-dev, python3 and cc: python3 is missing"; exit 1; }
+	@command -v python3 || { echo "make bench needs libpcap-dev, python3 and cc: python3 is missing"; exit 1; }
 	dev/build/build.py bench
 	bench/compare.py bin/bench bin/pcap_filter bin/bench_work bin/bpfrec
 	bench/record.py bin/bpfrec bin/record_feed
 
 bin/pcap_filter bin/record_feed: bin/%: bench/%.c
-	@command -v $(CC) || { echo "make bench wants libpcap-dev, python3 and cc: $(CC) is missing"; exit 1; }
+	@command -v $(CC) || { echo "make bench needs libpcap-dev, python3 and cc: $(CC) is missing"; exit 1; }
 	@test -f /usr/include/pcap/bpf.h || \
-		{ echo "make bench wants libpcap-dev, python3 and cc: libpcap-dev is missing"; exit 1; }
+		{ echo "make bench needs libpcap-dev, python3 and cc: libpcap-dev is missing"; exit 1; }
 	@mkdir -p bin
 	$(CC) $(C_FLAGS) -o $@ $< -lpcap -lpthread
 

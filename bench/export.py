@@ -4,7 +4,7 @@
 BPFREC is the program that `make build` leaves in bin/. The recording has MEGABYTES (1,024) of packets that are full
 of frames of LENGTH bytes (1,518), with data checksums, in a temporary folder (TMPDIR). `cp --reflink=never`, since a
 shared copy reads and writes nothing, with `sync` of the copy, since `export` forces its file to the disk, `extract`
-and `export` run ROUNDS times each, in turn, and what they wrote is removed in between. It prints the median of each
+and `export` run five times each, in turn, and what they wrote is removed in between. It prints the median of each
 with the least and the greatest time, how many times as long `export` takes as the others, and the most memory that it
 takes, beside that of one packet alone. The status is 1 if it takes over 1.6 times as long as `cp`, longer than
 `extract`, or over a megabyte more than for one packet.
@@ -18,9 +18,7 @@ from pathlib import Path
 
 sys.path.insert(0, str(Path(__file__).resolve().parent.parent / "dev/trials"))
 from frames import frames_packet
-from upgrade import memory_of, seconds_of
-
-ROUNDS = 5
+from upgrade import copying, memory_of, show, times_of, write_packets
 
 # what `export` may take: times as long as `cp`, and megabytes more than for one packet
 MOST_TIMES = 1.6
@@ -48,20 +46,12 @@ def main():
         one, whole, out = (f"{work}/{it}" for it in ("one.ch11", "whole.ch11", "out"))
         content = packet(words.length)
         count = megabytes * 2**20 // len(content)
-        for path, packets in [(one, 1), (whole, count)]:
-            with open(path, "wb") as recording:
-                for _ in range(packets):
-                    recording.write(content)
-        copy = ["sh", "-c", 'cp --reflink=never "$0" "$1" && sync "$1"', whole, out]
-        runs = {"cp": copy, "extract": [bpfrec, "extract", whole, "1", out], "export": [bpfrec, "export", whole, out]}
-        times = {name: [] for name in runs}
-        for _ in range(ROUNDS):
-            for name, command in runs.items():
-                times[name].append(seconds_of(command, out))
+        write_packets(one, content, 1)
+        write_packets(whole, content, count)
+        export, extract = [bpfrec, "export", whole, out], [bpfrec, "extract", whole, "1", out]
+        times = times_of({"cp": copying(whole, out), "extract": extract, "export": export}, out)
         memory = [memory_of([bpfrec, "export", it, out]) for it in (one, whole)]
-    print(f"{megabytes} MiB, {count} packets of {len(content)} bytes")
-    for name, spent in times.items():
-        print(f"{name:8} {statistics.median(spent):.2f} s ({min(spent):.2f} to {max(spent):.2f})")
+    show(times, megabytes, count, content)
     medians = {name: statistics.median(spent) for name, spent in times.items()}
     longer, beside = medians["export"] / medians["cp"], medians["export"] / medians["extract"]
     print(f"export takes {longer:.2f} times as long as cp and {beside:.2f} times as long as extract,")

@@ -6,7 +6,7 @@ usage: bench/info.py [--megabytes N] [--rounds N]
 It makes feeds of 64, 60 to 80, 300 and 1,500 bytes a frame, records them with a filter that keeps all, and reads each
 recording by host/bin/info with the audit (of which data checksums need no summing) and without a program, and by
 host/bin/salvage into /dev/null. It prints a table for RESULTS.md: megabytes a second by the clock and of processor time
-(the audit's included), medians, and the most memory. It wants bin/bpfrec (make build); files go to TMPDIR: in memory
+(the audit's included), medians, and the most memory. It needs bin/bpfrec (make build); files go to TMPDIR: in memory
 (TMPDIR=/dev/shm) no disk is measured with it.
 """
 import argparse

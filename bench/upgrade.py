@@ -56,6 +56,34 @@ def memory_of(words):
     return int(ran.stderr.split()[-1]) * 1024 / 1e6
 
 
+def write_packets(path, content, count):
+    """Writes a recording of so many packets."""
+    with open(path, "wb") as recording:
+        for _ in range(count):
+            recording.write(content)
+
+
+def times_of(runs, out):
+    """The seconds that each of some runs takes that write a file, in turn."""
+    times = {name: [] for name in runs}
+    for _ in range(ROUNDS):
+        for name, command in runs.items():
+            times[name].append(seconds_of(command, out))
+    return times
+
+
+def show(times, megabytes, count, content):
+    """Prints what was measured, of so many packets."""
+    print(f"{megabytes} MiB, {count} packets of {len(content)} bytes")
+    for name, spent in times.items():
+        print(f"{name:8} {statistics.median(spent):.2f} s ({min(spent):.2f} to {max(spent):.2f})")
+
+
+def copying(whole, out):
+    """The copy of a file that is forced to its disk."""
+    return ["sh", "-c", 'cp --reflink=never "$0" "$1" && sync "$1"', whole, out]
+
+
 def main():
     parser = argparse.ArgumentParser(description=__doc__, formatter_class=argparse.RawDescriptionHelpFormatter)
     parser.add_argument("bpfrec", type=os.path.abspath, metavar="BPFREC")
@@ -66,20 +94,11 @@ def main():
         one, old, out = (f"{work}/{it}" for it in ("one.ch11", "old.ch11", "out"))
         content = packet()
         count = megabytes * 2**20 // len(content)
-        for path, packets in [(one, 1), (old, count)]:
-            with open(path, "wb") as recording:
-                for _ in range(packets):
-                    recording.write(content)
-        copy = ["sh", "-c", 'cp --reflink=never "$0" "$1" && sync "$1"', old, out]
-        runs = {"cp": copy, "upgrade": [bpfrec, "upgrade", old, out]}
-        times = {name: [] for name in runs}
-        for _ in range(ROUNDS):
-            for name, words in runs.items():
-                times[name].append(seconds_of(words, out))
+        write_packets(one, content, 1)
+        write_packets(old, content, count)
+        times = times_of({"cp": copying(old, out), "upgrade": [bpfrec, "upgrade", old, out]}, out)
         memory = [memory_of([bpfrec, "upgrade", it, out]) for it in (one, old)]
-    print(f"{megabytes} MiB, {count} packets of {len(content)} bytes")
-    for name, spent in times.items():
-        print(f"{name:8} {statistics.median(spent):.2f} s ({min(spent):.2f} to {max(spent):.2f})")
+    show(times, megabytes, count, content)
     longer = statistics.median(times["upgrade"]) / statistics.median(times["cp"])
     print(f"upgrade takes {longer:.2f} times as long as cp, and {memory[1]:.1f} MB, for one packet {memory[0]:.1f} MB")
     return 0 if longer <= MOST_TIMES and memory[1] - memory[0] <= MOST_MORE else 1

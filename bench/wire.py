@@ -5,14 +5,14 @@ usage: bench/wire.py [--frames N] [--rounds N] [--part wire|files|syncs] [--befo
 
 It makes a network namespace with a pair of virtual interfaces, sends frames of 64, 300 and 1,500 bytes into
 one of them as fast as bin/send_frames can, and records what the other receives: by host/bin/live, with a filter
-that keeps all and one that keeps a 32nd, which the kernel runs too with --prefilter, and by `dumpcap -w` and `tcpdump -w`, which take all or have the
-kernel drop what the same filter drops. Each has 256 MiB of the kernel's buffer. Then it makes a feed of a
-capture of as many frames, by host/bin/convert and by `capture -r`.
+that keeps all and one that keeps a 32nd, which the kernel runs too with --prefilter; and by `dumpcap -w` and
+`tcpdump -w`, which take all or have the kernel drop what the same filter drops. Each has 256 MiB of the kernel's
+buffer. Then it makes a feed of a capture of as many frames, by host/bin/convert and by `capture -r`.
 
 With --part syncs it records by host/bin/live alone, forced to the disk each second (the default), and only at the end
 (`--sync 0`, told as before), in turn: what the syncs cost.
 
-It prints tables for RESULTS.md, with the machine's load. It wants root, bin/bpfrec and bin/capture (make
+It prints tables for RESULTS.md, with the machine's load. It needs root, bin/bpfrec and bin/capture (make
 build), bin/send_frames (make bin/send_frames), and Debian's iproute2, tcpdump and wireshark-common. Files go
 to TMPDIR: in memory (TMPDIR=/dev/shm) no disk is measured with it.
 """
@@ -201,8 +201,8 @@ def time_wire(work, words, made):
             drops = [it[4] for it in done]
             processors = statistics.median(1e9 * (it[2] - empty[program, name]) / frames for it in done)
             print(
-                f"| {length} | {program} | {KEPT_SHARE[name]} | {sent:,.0f} | {taken:,.0f} | {statistics.median(drops):,.0f} "
-                f"| {min(drops):,}, {max(drops):,} | {processors:,.0f} |",
+                f"| {length} | {program} | {KEPT_SHARE[name]} | {sent:,.0f} | {taken:,.0f} "
+                f"| {statistics.median(drops):,.0f} | {min(drops):,}, {max(drops):,} | {processors:,.0f} |",
                 flush=True,
             )
         tell_changes(length, runs, frames)
@@ -275,7 +275,7 @@ def main():
     words = parser.parse_args()
     if not os.environ.get(INSIDE):
         if missing():
-            print(f"bench/wire.py wants {', '.join(missing())}", file=sys.stderr)
+            print(f"bench/wire.py needs {', '.join(missing())}", file=sys.stderr)
             return 2
         name = f"bpfrec_wire_{os.getpid()}"
         run("ip", "netns", "add", name)

@@ -4,9 +4,9 @@
 usage: bench/wireshark.py [--megabytes N] [--rounds N]
 
 It makes recordings of frames of 64, 300 and 1,500 bytes, captures of them by host/bin/pcapng, which it times too, and
-reads each by tshark: as a list, by statistics of all rows (io,stat), and with a filter on a field. It prints a table for
-RESULTS.md: frames a second of processor time, medians, and the most memory of tshark. It needs bin/bpfrec (make build)
-and tshark; files go to TMPDIR: in memory (TMPDIR=/dev/shm) no disk is measured with it.
+reads each by tshark: as a list, by statistics of all rows (io,stat), and with a filter on a field. It prints a table
+for RESULTS.md: frames a second of processor time, medians, and the most memory of tshark. It needs bin/bpfrec (make
+build) and tshark; files go to TMPDIR: in memory (TMPDIR=/dev/shm) no disk is measured with it.
 """
 import argparse
 import os
@@ -51,7 +51,8 @@ def main():
     parser.add_argument("--rounds", type=int, default=3)
     words = parser.parse_args()
     print(
-        "| Bytes of a frame | Program | Frames a second, of the recording | of the capture | Memory, KiB |\n|---|---|---|---|---|"
+        "| Bytes of a frame | Program | Frames a second, of the recording | of the capture | Memory, KiB |\n"
+        "|---|---|---|---|---|"
     )
     for name, length in LENGTHS.items():
         with tempfile.TemporaryDirectory() as folder:

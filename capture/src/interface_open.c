@@ -23,13 +23,15 @@ static int refused(const char *name, const char *why) {
     return 0;
 }
 
-/* Says how the permission is given, to this program by its path. */
+/* Says how a group gets the permission, for this program by its path. */
 static int refused_permission(const char *name) {
     char path[PATH_MAX] = "bin/capture";
     ssize_t len = readlink("/proc/self/exe", path, sizeof path - 1);
     if (len > 0)
         path[len] = 0;
-    tell("%s: no permission to capture: be root, or once setcap cap_net_raw=ep %s", name, path);
+    tell("%s: no permission to capture: be root, or have a group capture, as USING.md says: "
+         "chgrp recorder F && chmod 750 F && setcap cap_net_raw=ep F, where F is %s",
+         name, path);
     return 0;
 }
 
@@ -104,7 +106,7 @@ static void note_adapter(struct interface *interface) {
     interface->has_check_sequences = asked == AS_THE_ADAPTER_SAYS ? adapter.gives_check_sequences : asked == GIVEN;
     interface->clock_number = adapter.clock;
     if (adapter.joining[0] != 0)
-        tell("%s: the kernel may join frames (%s), and a joined frame is none of the wire: ethtool -K %s gro off lro "
+        tell("%s: the kernel may join frames (%s), and a joined frame was never on the wire: ethtool -K %s gro off lro "
              "off gso off tso off",
              interface->name, adapter.joining, interface->name);
 }

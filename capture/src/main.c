@@ -155,12 +155,13 @@ static void follow_parent(pid_t parent) {
     follow_process(parent);
 }
 
-/* Begins what interfaces want beside their frames: facts, counters, no privileges. Whether it could. */
+/* Begins what interfaces need beside their frames: facts, counters, no privileges. Whether it could. */
 static int begin_live(const struct work *works, const struct arguments *arguments) {
     char text[SECONDS_TEXT_LEN];
     for (int i = 0; i < arguments->count; i++)
         tell_opened(&works[i].interface);
-    drop_privileges();
+    if (!drop_privileges())
+        return 0;
     forbid_other_calls();
     follow_parent(arguments->parent);
     if (arguments->events != NULL && !open_events(arguments->events))
@@ -183,7 +184,8 @@ static int run_live(struct work *works, const struct arguments *arguments) {
 
 /* Converts files, whose bytes may be anybody's. The status. */
 static int run_files(struct work *works, const struct arguments *arguments) {
-    drop_privileges_but_files();
+    if (!drop_privileges_but_files())
+        return NOT_BEGUN;
     forbid_other_calls();
     return run_all(works, arguments->count, NULL);
 }

@@ -2,14 +2,14 @@
 #ifndef PRIVILEGES_H
 #define PRIVILEGES_H
 
-/* Gives up all capabilities, and all that a program could give. Only the one to open an interface is kept, out of
- * force, for one that comes back. */
-void drop_privileges(void);
+/* Gives up all capabilities, and all that a program could give. Only cap_net_raw is kept where it was had, out of
+ * force, for an interface that comes back. Whether that could be done; else a line has said why not. */
+int drop_privileges(void);
 
 /* The same of a program that captures nothing: only those are kept by which root reads the files of others. */
-void drop_privileges_but_files(void);
+int drop_privileges_but_files(void);
 
-/* Puts the one to open an interface in force for this thread, and out of force again. */
+/* Puts cap_net_raw in force for this thread, and out of force again; a line says where that can't be done. */
 void begin_to_open(void);
 void end_to_open(void);
 

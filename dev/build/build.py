@@ -5,9 +5,9 @@ Takes the crates below crates/bpfrec (or below CRATE, another program) from crat
 depend on each other are proved side by side, the one with the longest way to the end behind it by the
 processors that the others leave: an interrupted build goes on with the crates that it hadn't finished.
 It says about how many functions are proved, and how long the rest is likely to take by dev/build/costs.txt, which
---keep-costs, or KEEP_COSTS=1 for make, writes anew. After the program itself it builds bin/capture, where that can be built
-(capture/Makefile); the recorder doesn't need it. What a step prints goes to bin/steps/, and is shown where it fails.
-RT names another command than `rt`.
+--keep-costs, or KEEP_COSTS=1 for make, writes anew. After the program itself it builds bin/capture, where that can be
+built (capture/Makefile); the recorder doesn't need it. What a step prints goes to bin/steps/, and is shown where it
+fails. RT names another command than `rt`.
 """
 import argparse
 import shutil

@@ -142,7 +142,8 @@ def refused_names(lines, name):
 
 
 def refusals(lines, name, group):
-    """The edits of a group that a check refuses, each with the goal that is false; none where something else is wrong."""
+    """The edits of a group that a check refuses, each with the goal that is false; none where something else is
+    wrong."""
     refused = refused_names(lines, name)
     if not refused <= {body.name for _, body in group}:
         return {}

@@ -30,7 +30,9 @@ CHECKED = (
     "python39",
     "plugin",
     "commands",
+    "figures",
     "prose",
+    "printed",
 )
 CHECKS = tuple(f"dev/checks/{it}.py" for it in CHECKED)
 # What is checked of the program once it is built, and where it stands then.

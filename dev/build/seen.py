@@ -1,4 +1,5 @@
-"""Which crates' edits were all seen refused, by the sums of what they depend on, and in which order the others are tried.
+"""Which crates' edits were all seen refused, by the sums of what they depend on, and the order in which the others are
+tried.
 
 An edit is refused because a search for a proof fails, so it depends on the files of its crate, on what the crates
 below state, on the prover, and on the libraries of the toolchain that the crate reaches. A toolchain that differs in

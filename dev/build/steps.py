@@ -174,5 +174,6 @@ def keep_costs(steps):
     for it in steps:
         if it.spent and it.status == 0:
             rows[it.key] = [f"{it.spent.seconds:.0f}", str(it.spent.megabytes), str(it.spent.functions)]
-    head = "# written by dev/build/build.py and dev/build/test.py with --keep-costs: processor seconds, megabytes, functions\n"
+    head = "# written by dev/build/build.py and dev/build/test.py with --keep-costs: "
+    head += "processor seconds, megabytes, functions\n"
     COSTS.write_text(head + "".join(f"{key} {' '.join(rows[key])}\n" for key in sorted(rows)))

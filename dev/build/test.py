@@ -5,8 +5,8 @@ Over the work that each crate's out/ keeps, so on a fresh checkout it proves all
 A crate's edits are tried where dev/build/edits_seen.txt doesn't have the sum of all that they depend on: each must be
 refused by the prover, and then the sum is written there, to be committed; a run that is interrupted writes those that
 were refused by then. Edits come after proofs and tests, those of crates whose own files changed first. The crates that
-promise nothing are left out. At the end dev/trials/check_memory.py refuses memory and threads to the program that was built.
-The last line is `N passed, M failed`, of all that was proved, run and tried.
+promise nothing are left out. At the end dev/trials/check_memory.py refuses memory and threads to the program that was
+built. The last line is `N passed, M failed`, of all that was proved, run and tried.
 """
 import argparse
 import subprocess
@@ -67,9 +67,8 @@ def tell_left(left):
     """Names the crates whose edits were left."""
     known = seen()
     for it in left:
-        print(
-            f"LEFT: edits of {it}, whose own files are as {known[it].kit} refused them: dev/build/test.py --edits tries them"
-        )
+        what = f"edits of {it}, whose own files are as {known[it].kit} refused them"
+        print(f"LEFT: {what}: dev/build/test.py --edits tries them")
     write_left(left)
 
 

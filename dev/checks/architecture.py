@@ -27,8 +27,9 @@ WIDTH, MARGIN, BOX_HEIGHT, ROW, TOP = 1180, 20, 34, 74, 150
 PLACES = {
     "bpf_dis": 90, "bpf_asm": 90, "bpf_insn": 160, "bpf_machine": 240, "bpf_verify": 240,
     "bpfrec": 440, "rec_cli": 440, "cli_filters": 360, "cli_reading": 490, "cli_simulate": 580, "cli_streams": 580,
-    "cli_record_streams": 690, "cli_record": 740, "rec_words": 500, "rec_reader": 760, "ch11_packet": 760, "eth_frame": 760,
-    "rec_channel": 1010, "rec_lane": 1010, "rec_writer": 1010, "rec_core": 1010, "rec_run": 1010, "rec_theorem": 1010,
+    "cli_record_streams": 690, "cli_record": 740, "rec_words": 500, "rec_reader": 760, "ch11_packet": 760,
+    "eth_frame": 760, "rec_channel": 1010, "rec_lane": 1010, "rec_writer": 1010, "rec_core": 1010, "rec_run": 1010,
+    "rec_theorem": 1010,
 }  # fmt: skip
 STYLE = """\
 text { font: 13px sans-serif; text-anchor: middle; fill: #1b1b1b }

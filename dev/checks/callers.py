@@ -34,9 +34,8 @@ def main():
     proved, found, status = callers(), list(blocks()), 0
     for page, block in found:
         if block not in proved.values() and block not in MAIN.read_text():
-            print(
-                f"{page.relative_to(ROOT)}: its caller of {len(block.splitlines())} lines is no file of crates/test_callers/src"
-            )
+            what = f"its caller of {len(block.splitlines())} lines"
+            print(f"{page.relative_to(ROOT)}: {what} is no file of crates/test_callers/src")
             status = 1
     for file, text in proved.items():
         if text not in [block for _, block in found]:

@@ -1,9 +1,9 @@
 #!/usr/bin/env python3
 """Compares docs/user/COMMANDS.md with the program's help, the tools and the exit statuses.
 
-Each command must have a row with its arguments, each tool that is installed a row, and each exit status of the help a
-row; the page must have no other commands. The pages for users must name no tool of host/bin that isn't there. The
-status is 1 where something differs.
+Each command must have a row with its arguments, each tool that is installed a row with those that are no options, and
+each exit status of the help a row; the page must have no other commands. The pages for users must name no tool of
+host/bin that isn't there. The status is 1 where something differs.
 """
 import argparse
 import re
@@ -26,14 +26,33 @@ def differing(page):
     shown = set(re.findall(r"`(bpfrec [a-z]+[] A-Z[]*)`", page))
     yield from (f"no row `{it}`" for it in sorted(usages - shown))
     yield from (f"`{it}` is no command of the help" for it in sorted(shown - usages))
-    for name in help_texts.tools():
-        place = f"bin/{name}" if name == "capture" else f"host/bin/{name}"
-        if f"| `{place} " not in page:
-            yield f"no row `{place} ..`"
+    for name, uses in help_texts.usages():
+        yield from differing_uses(name, uses, page)
     statuses = re.search(r"Exit status: (.*)", " ".join(texts.statuses.split()))[1]
     for status in re.findall(r"(?:^|; )(\d) ", statuses):
         if f"\n| {status} | " not in page:
             yield f"no row of the exit status {status}"
+
+
+def arguments_of(use):
+    """The arguments of a use that are no options; of a choice between commands these."""
+    use = re.sub(r"\[OPTION\.\.\]|\[-[^]]*\](\.\.)?", "", use.replace("...", ".."))
+    use = re.sub(r"(\w+) \[\1 \.\.\]", r"\1..", use)
+    choice = re.match(r" *{(.*)} \.\.$", use)
+    return choice[1].split(",") if choice else [" ".join(use.split())]
+
+
+def differing_uses(name, uses, page):
+    """Where a tool's row doesn't have the arguments of its help."""
+    place = f"bin/{name}" if name == "capture" else f"host/bin/{name}"
+    row = re.search(rf"^\| (`{place} .*?`) \| ", page, re.MULTILINE)
+    if not row:
+        yield f"no row `{place} ..`"
+        return
+    shown = [arguments_of(it.removeprefix(f"{place} "))[0] for it in re.findall(r"`([^`]*)`", row[1])]
+    known = [it for use in uses for it in arguments_of(use)]
+    if shown != known:
+        yield f"{place} takes {', '.join(known)}, and its row has {', '.join(shown)}"
 
 
 def unknown_tools():

@@ -16,6 +16,7 @@ COPIES = {
     EXAMPLES / "arp.txt": DATA / "arp",
     EXAMPLES / "arp_frame.txt": ROOT / "crates" / "bpfrec" / "stdin",
     EXAMPLES / "jump_out.txt": DATA / "jump_out",
+    EXAMPLES / "old.ch11": DATA / "recordings" / "two_versions.ch11",
     EXAMPLES / "changed_filter.script": DATA / "scripts" / "changed_filter.script",
     EXAMPLES / "full_ring.script": DATA / "scripts" / "full_ring.script",
 }

@@ -1,5 +1,6 @@
 #!/usr/bin/env python3
-"""Checks the files of definitions and proofs: their lines have 160 columns at most, and a file of lemmas has a name of its own.
+"""Checks the files of definitions and proofs: their lines have 160 columns at most, and a file of lemmas has a name of
+its own.
 
 A name of a file of lemmas that stands in two crates says of neither what it serves. The status is 1 where a line is too
 long or a name stands twice.

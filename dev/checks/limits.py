@@ -1,9 +1,9 @@
 #!/usr/bin/env python3
 """Compares the numbers of host/bpfrec_host/formats/limits.py with those of the program.
 
-Each number there must be that of the crates' constant, of the table of docs/user/FORMATS.md and of the program's help
-that are named here, and none may be left out. All are read as text, so nothing need be built. It prints each that
-differs, and the status is 1 where there is one.
+Each number there must be that of the crates' constant or of the capture's, of the table of docs/user/FORMATS.md and of
+the program's help that are named here, and none may be left out. All are read as text, so nothing need be built. It
+prints each that differs, and the status is 1 where there is one.
 """
 import argparse
 import ast
@@ -55,6 +55,9 @@ CONSTANTS = {
     # Beside those of a full ring the packet that is being filled.
     "BUFFERS_BESIDE_RING": ("rec_run/src/threads/setup.rt", "SPARE_BUFFERS + 1"),
 }
+# What each is in the capture, by the name of its constant.
+CAPTURE = ROOT / "capture/src/arguments.c"
+BUFFERS = ("USUAL_BUFFER", "BUFFERS_IN_MEMORY", "BUFFER_FOLD")
 SETTINGS = ROOT / "crates/rec_words/src/settings/reading.rt"
 # The document's keys and the units of time follow from others, or stand in the document alone.
 OTHERS = {"TOP_KEYS", "CHANNEL_KEYS", "MIN_NUMBER", "NANOSECONDS_A_SECOND", "NANOSECONDS_A_TICK", "TICKS_A_SECOND"}
@@ -120,6 +123,17 @@ def differing_constants():
         mine, theirs = getattr(limits, name), value_of(text, file)
         if mine != theirs:
             yield f"{name} is {mine}, and {text} of crates/{path} {theirs}"
+
+
+def differing_buffers():
+    """The numbers that aren't the capture's, or not those of its help."""
+    text = CAPTURE.read_text()
+    for name in BUFFERS:
+        mine, theirs = getattr(limits, name), re.findall(rf"^    {name} = (\d+),$", text, re.MULTILINE)
+        if theirs != [str(mine)]:
+            yield f"{name} is {mine}, and in {CAPTURE.relative_to(ROOT)} {', '.join(theirs) or 'missing'}"
+    if f"(default {limits.USUAL_BUFFER}," not in text:
+        yield f"capture --help doesn't say of --buffer: default {limits.USUAL_BUFFER}"
 
 
 def differing_settings():
@@ -269,17 +283,17 @@ def uncompared():
     """The numbers that no table here has."""
     used = set(re.findall(r"\b(?:it|limits)\.([A-Z][A-Z_]+)", Path(__file__).read_text()))
     for name in vars(limits):
-        if re.fullmatch(r"[A-Z][A-Z_]+", name) and name not in {*CONSTANTS, *OTHERS, *used}:
+        if re.fullmatch(r"[A-Z][A-Z_]+", name) and name not in {*CONSTANTS, *BUFFERS, *OTHERS, *used}:
             yield f"{name} is compared with nothing"
 
 
 def main():
     argparse.ArgumentParser(description=__doc__, formatter_class=argparse.RawDescriptionHelpFormatter).parse_args()
-    found = [*differing_constants(), *differing_settings(), *differing_texts(), *uncompared()]
+    found = [*differing_constants(), *differing_buffers(), *differing_settings(), *differing_texts(), *uncompared()]
     for it in found:
         print(f"{FILE}: {it}")
     if not found:
-        print(f"the numbers of {FILE} are those of the crates, of docs/user/FORMATS.md and of the help")
+        print(f"the numbers of {FILE} are those of the crates, of the capture, of docs/user/FORMATS.md and of the help")
     return 1 if found else 0
 
 

@@ -11,7 +11,12 @@ from pathlib import Path
 ROOT = Path(__file__).resolve().parents[2]
 LIST, PAGE = ROOT / "dev" / "package" / "packages.txt", ROOT / "docs" / "dev" / "BUILDING.md"
 BEGIN, END = "<!-- dev/package/packages.txt -->\n", "<!-- end -->\n"
-PARTS = {"build": "to build", "use": "to record interfaces", "trials": "for `make trials` alone"}
+PARTS = {
+    "build": "to build",
+    "use": "to record interfaces",
+    "trials": "for `make trials` alone",
+    "covered": "for `make covered` alone",
+}
 
 
 def listed():
@@ -44,13 +49,8 @@ def main():
     if writes:
         PAGE.write_text(right)
         return 0
-    faults = (
-        []
-        if right == text
-        else [
-            "docs/dev/BUILDING.md: its packages aren't those of dev/package/packages.txt: dev/checks/packages.py --write"
-        ]
-    )
+    differing = f"docs/dev/BUILDING.md: its packages aren't those of {LIST.relative_to(ROOT)}"
+    faults = [] if right == text else [f"{differing}: dev/checks/packages.py --write"]
     names = {name for name, _, _ in packages}
     faults += [f"{script}: {it} isn't in dev/package/packages.txt" for it, script in wanted() if it not in names]
     print("\n".join(faults) or f"{len(packages)} packages, as docs/dev/BUILDING.md and the trials have them")

@@ -1,25 +1,27 @@
 #!/usr/bin/env python3
-"""Checks the English of what users and engineers read: no sentence over 40 words, none of the words that STYLE refuses.
+"""Checks the English of what users and engineers read: no sentence over 40 words, no page over 25 a sentence on
+average, none of the words that STYLE refuses.
 
 It reads README.md, CONTRIBUTING.md, CHANGELOG.md, the pages of docs/, examples/, bench/ and of each crate, the page
-bpfrec(1), which is made of the program's help, and the help of the tools in Python. A word in backticks counts as one
-word, and blocks of code are left out. A sentence ends at a full stop, a question mark, an exclamation mark, or a colon
-at the end of a line; in a table, where cells have notes, at a semicolon too. Each row of STYLE's table of words says
-what stands in place of a refused one. It prints FILE:LINE: TEXT for each, and the status is 1 where there is one.
+bpfrec(1), which has each line of the program's help, and the help of all tools and of their commands. A word in
+backticks counts as one word, and blocks of code are left out. A sentence ends at a full stop, a question mark, an
+exclamation mark, or a colon at the end of a line; in a table, where cells have notes, at a semicolon too. The average
+is of what is no table and no title. Each row of STYLE's table of words says what stands in place of a refused one. It
+prints FILE:LINE: TEXT for each, and the status is 1 where there is one.
 """
 import argparse
-import importlib
 import re
 import sys
 from pathlib import Path
 
 sys.dont_write_bytecode = True
 ROOT = Path(__file__).resolve().parents[2]
+sys.path.insert(0, str(ROOT / "dev" / "package"))
+import help_texts
+
 STYLE = ROOT / "docs" / "dev" / "STYLE.md"
 MAN = ROOT / "man" / "bpfrec.1"
-MOST = 40
-# Tools whose help is not mended yet.
-NOT_YET: set[str] = set()
+MOST, MOST_ON_AVERAGE = 40, 25
 # The rows of STYLE's table of words: what is refused, as a pattern, and what to write.
 ROW = re.compile(r"^\| `([^`]+)` \| (.+) \|$", re.MULTILINE)
 
@@ -76,14 +78,25 @@ def words_in(sentence):
 
 def faults_in(text, patterns):
     """Each fault of a page: the line's number and what it is."""
+    lines, counts = text.split("\n"), []
     for number, block in blocks_of(text):
         shown = plain(block)
-        for sentence in sentences_of(shown):
+        found = [it for it in sentences_of(shown) if words_in(it)]
+        if not lines[number - 1].startswith(("|", "#")):
+            counts += map(words_in, found)
+        for sentence in found:
             if words_in(sentence) > MOST:
                 yield number, f"{words_in(sentence)} words: {' '.join(sentence.split()[:8])} .."
-        for pattern, better in patterns:
-            for found in pattern.finditer(re.sub(r"\s+", " ", shown)):
-                yield number, f'"{found[0]}": write {better}'
+        yield from ((number, it) for it in refused_in(shown, patterns))
+    if counts and sum(counts) > MOST_ON_AVERAGE * len(counts):
+        yield 1, f"{sum(counts) / len(counts):.1f} words a sentence on average: {MOST_ON_AVERAGE} at most"
+
+
+def refused_in(text, patterns):
+    """The words of a text that are refused, each with what to write."""
+    for pattern, better in patterns:
+        for found in pattern.finditer(re.sub(r"\s+", " ", text)):
+            yield f'"{found[0]}": write {better}'
 
 
 def man_text():
@@ -95,24 +108,12 @@ def man_text():
     return re.sub(r"(?m)^\..*$", "", text).replace("\\", "")
 
 
-def help_texts():
-    """What the tools in Python print as help, each with its name."""
-    sys.path.insert(0, str(ROOT / "host"))
-    tools = importlib.import_module("bpfrec_host.__main__").TOOLS
-    for name, tool in tools.items():
-        if name in NOT_YET:
-            continue
-        parser = importlib.import_module(tool.module).parser()
-        parts = [parser.description, parser.epilog, *(it.help for it in parser._actions)]
-        # An indented line is an example, or a row of what is printed.
-        yield f"{name} --help", re.sub(r"(?m)^(?=  \S)", "\n", "\n\n".join(it for it in parts if it))
-
-
 def texts():
     """Each text that is read, with what it is called."""
     yield from ((str(it.relative_to(ROOT)), it.read_text()) for it in pages() if it != STYLE)
     yield "man/bpfrec.1", man_text()
-    yield from help_texts()
+    # An indented line is an example, or a row of what is printed.
+    yield from ((name, re.sub(r"(?m)^(?=  \S)", "\n", text)) for name, text in help_texts.tool_texts())
 
 
 def main():

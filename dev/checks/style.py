@@ -4,7 +4,8 @@
 black and isort (layout) and flake8 (faults) read all Python, mypy (strict) the package of host/, shellcheck the shell
 scripts, clang-format and clang-tidy the C, and gcc -fanalyzer that of the capture. Their settings stand in
 pyproject.toml, .flake8, .clang-format and .clang-tidy; for editors .editorconfig says the same. A NAME runs that tool
-alone; "prose" is dev/checks/prose.py, which reads the English. A tool that isn't there is said as left out.
+alone; "prose" is dev/checks/prose.py, which reads the English, and "printed" dev/checks/printed.py, which reads the
+lines that programs print. A tool that isn't there is said as left out.
 Status: 0 nothing is found, 1 something is, 2 a tool is missing.
 """
 import argparse
@@ -25,8 +26,10 @@ WANTED = {
     "clang-format": "clang-format",
     "clang-tidy": "clang-tidy",
 }
+# The checks that read English.
+ENGLISH = ["prose", "printed"]
 # The names of all that is run: the tools, and the reading of English.
-NAMES = [*WANTED, "prose"]
+NAMES = [*WANTED, *ENGLISH]
 # What shellcheck says of calls by name, and of quotes that are meant.
 SHELLCHECK = ["--exclude=SC2016,SC2317"]
 
@@ -65,7 +68,7 @@ def tools():
     yield Tool("shellcheck", [*SHELLCHECK, *shell])
     yield Tool("clang-format", ["--dry-run", "--Werror", *c])
     yield Tool("clang-tidy", [])
-    yield Tool("prose", [])
+    yield from (Tool(name, []) for name in ENGLISH)
 
 
 def run(tool):
@@ -73,7 +76,8 @@ def run(tool):
     if tool.name in WANTED and not shutil.which(tool.name):
         print(f"left out: {tool.name} is missing: apt-get install {WANTED[tool.name]}")
         return None
-    own = {"clang-tidy": ["make", "-s", "-C", "capture", "lint"], "prose": [sys.executable, "dev/checks/prose.py"]}
+    own = {name: [sys.executable, f"dev/checks/{name}.py"] for name in ENGLISH}
+    own["clang-tidy"] = ["make", "-s", "-C", "capture", "lint"]
     arguments = own.get(tool.name, [tool.name, *tool.arguments])
     done = subprocess.run(arguments, cwd=ROOT, text=True, stdout=subprocess.PIPE, stderr=subprocess.STDOUT)
     print(f"{'ok' if done.returncode == 0 else 'WRONG'}: {tool.name}", flush=True)

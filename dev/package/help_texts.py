@@ -43,6 +43,16 @@ OTHER_TOOLS = {
 WORD_KINDS = {"SETTINGS": "toml", "OUT": "ch11", "RECORDING": "ch11", "DAMAGED": "ch11"}
 
 
+def usages():
+    """What each tool takes, as its help begins: a list of uses, each without the tool's name."""
+    names = {name: importlib.import_module(tool.module).parser() for name, tool in PYTHON_TOOLS.items()}
+    found = {name: (parser.prog, parser.format_usage()) for name, parser in names.items()}
+    found["capture"] = "capture", capture_text()
+    for name, (prog, text) in found.items():
+        first = text.partition("\n\n")[0].removeprefix("usage: ")
+        yield name, [" ".join(it.split()) for it in re.split(rf"(?:^|\n +){re.escape(prog)} ", first) if it]
+
+
 def tools():
     """The tools by their names: those in Python as their parsers have them."""
     found = {
@@ -120,6 +130,29 @@ def shown(name, is_required):
     return name if is_required == "true" else f"[{name}]"
 
 
+def capture_text():
+    """What capture --help prints, as its source has it."""
+    literals = re.search(r'static const char USAGE\[\] =\s*((?:"(?:[^"\\]|\\.)*"\s*)+);', CAPTURE.read_text())
+    return string_of("".join(re.findall(r'"((?:[^"\\]|\\.)*)"', literals[1])))
+
+
+def parser_texts(parser):
+    """The help of a parser and of each of its commands: what it is called by, and its texts."""
+    texts = [parser.description, parser.epilog, *(it.help for it in parser._actions)]
+    yield f"{parser.prog} --help", "\n\n".join(it for it in texts if it)
+    for action in parser._actions:
+        if isinstance(action.choices, dict):
+            for command in action.choices.values():
+                yield from parser_texts(command)
+
+
+def tool_texts():
+    """The help of all tools and of their commands: what it is called by, and its texts."""
+    yield "capture --help", capture_text().partition("\n\n")[2]
+    for tool in PYTHON_TOOLS.values():
+        yield from parser_texts(importlib.import_module(tool.module).parser())
+
+
 class Help:
     """The texts of the program's help."""
 
@@ -136,7 +169,8 @@ class Help:
         table = source[source.index("const COMMANDS:") :]
         self.about, self.statuses, self.version = texts["ABOUT"], texts["STATUSES"], texts["VERSION"]
         self.commands = []
-        row = rf"CommandTexts \{{\s*name: {quoted},\s*usage: {quoted},\s*about: {quoted},\s*help: HelpText::(\w+),\s*words: &\[(.*?)\],\s*\}},"
+        texts_of_row = rf"name: {quoted},\s*usage: {quoted},\s*about: {quoted},\s*help: HelpText::(\w+)"
+        row = rf"CommandTexts \{{\s*{texts_of_row},\s*words: &\[(.*?)\],\s*\}},"
         for name, _, about, help_name, given in re.findall(row, table, re.DOTALL):
             found = []
             for it in re.finditer(rf"{word}|\b([A-Z_]+)\b(?=\s*[,\]]|\s*$)", given):

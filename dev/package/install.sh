@@ -12,7 +12,7 @@ share/bpfrec/, with a link in the folder of plugins that tshark names, or else i
 if it is set, is put ahead of PREFIX. With --uninstall all of it is removed, and the folders that only it has. ZSH
 names another folder than share/zsh/site-functions, and WIRESHARK another folder of plugins.
 
-Status: 0 done, 2 wrong words, 3 something to install is missing or not proved, else that of the command that
+Status: 0 done, 2 wrong arguments, 3 something to install is missing or not proved, else that of the command that
 failed.'
 
 cd "$(dirname "$0")/../.." || exit 3
@@ -69,8 +69,10 @@ plugins() {
 install_plugin() {
     local folder plugin=$to/share/bpfrec/bpfrec.lua
     folder=$DESTDIR$(plugins)
-    if ! { { [[ -d $folder ]] || install -d "$folder"; } && ln -sfn "$(realpath -m --relative-to="$folder" "$plugin")" "$folder/bpfrec.lua"; } 2> /dev/null; then
-        echo "$folder can't be written, so Wireshark finds no recordings: link $plugin into ~/.local/lib/wireshark/plugins"
+    [[ -d $folder ]] || install -d "$folder" 2> /dev/null || true
+    if ! ln -sfn "$(realpath -m --relative-to="$folder" "$plugin")" "$folder/bpfrec.lua" 2> /dev/null; then
+        echo "$folder can't be written, so Wireshark finds no recordings:" \
+            "link $plugin into ~/.local/lib/wireshark/plugins"
     fi
 }
 
@@ -121,7 +123,8 @@ install_all() {
         fi
     done < <(files)
     # The unit runs what is installed.
-    sed -i "s|/opt/bpfrec/host/bin/live|$PREFIX/bin/bpfrec-live|; s|^# It takes the repository at .* and settings at|# It takes settings at|" \
+    sed -i -e "s|/opt/bpfrec/host/bin/live|$PREFIX/bin/bpfrec-live|" \
+        -e 's|^# It takes the repository at .* and settings at|# It takes settings at|' \
         "$to/lib/systemd/system/bpfrec.service"
     while read -r from at; do
         [[ $from == */libexec/* && ! -e $to/bin/$from ]] || ln -sfn "$from" "$to/$at"
@@ -132,15 +135,20 @@ install_all() {
 
 # The installed documents name the installed commands and folders.
 install_names() {
-    local file tool
+    local file tool work
+    work="in a folder with \`examples\`, a copy of $PREFIX/share/doc/bpfrec/examples, and an empty \`bin\`"
     for file in "$to"/share/doc/bpfrec/*.md; do
-        sed -Ei "s#(^sudo .*|cap_net_raw=ep )bin/capture#\\1$PREFIX/libexec/bpfrec/bpfrec-capture#g" "$file"
+        sed -i '/^<!-- source tree -->$/,/^<!-- end -->$/d; s| (`bench/RESULTS.md`)||g' "$file"
+        sed -i "/^sudo /s#bin/capture#$PREFIX/libexec/bpfrec/bpfrec-capture#g" "$file"
         for tool in "${tools[@]}"; do
             sed -i "s|host/bin/$tool\\b|bpfrec-$tool|g" "$file"
         done
-        sed -Ei "s#(^|[^/[:alnum:]])bin/(bpfrec)([^-_/[:alnum:]]|\$)#\\1\\2\\3#g; s#\\bbin/capture\\b#bpfrec-capture#g" "$file"
-        sed -i "s|host/wireshark/bpfrec.lua|$PREFIX/share/bpfrec/bpfrec.lua|g; s|docs/user/\\([A-Za-z]*\\.[a-z]*\\)|\\1|g" "$file"
-        sed -i "s|at the top of the repository after \`make build\`,|in a folder with \`examples\`, a copy of $PREFIX/share/doc/bpfrec/examples, and an empty \`bin\`,|" "$file"
+        sed -Ei -e "s#(^|[^/[:alnum:]])bin/(bpfrec)([^-_/[:alnum:]]|\$)#\\1\\2\\3#g" \
+            -e 's#\bbin/capture\b#bpfrec-capture#g' -e 's#docs/user/([A-Za-z]*\.[a-z]*)#\1#g' "$file"
+        sed -i -e "s|host/wireshark/bpfrec.lua|$PREFIX/share/bpfrec/bpfrec.lua|g" \
+            -e "s|examples/bpfrec.service|$PREFIX/lib/systemd/system/bpfrec.service|g" \
+            -e "s|/usr/local/libexec/|$PREFIX/libexec/|g" \
+            -e "s|at the top of the repository after \`make build\`,|$work,|" "$file"
     done
 }
 
@@ -155,7 +163,8 @@ uninstall_all() {
     done < <(links)
     at=$DESTDIR$(plugins)/bpfrec.lua
     [[ ! -L $at ]] || rm -f "$at"
-    for at in share/doc/bpfrec/examples/{filters,feeds} share/doc/bpfrec/examples share/doc/bpfrec share/bpfrec libexec/bpfrec; do
+    for at in share/doc/bpfrec/examples/{filters,feeds} share/doc/bpfrec/examples share/doc/bpfrec share/bpfrec \
+        libexec/bpfrec; do
         [[ ! -d $to/$at ]] || rmdir --ignore-fail-on-non-empty "$to/$at"
     done
 }

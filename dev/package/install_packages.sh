@@ -5,7 +5,7 @@ set -uo pipefail
 usage='usage: dev/package/install_packages.sh
 
 Installs what dev/package/packages.txt lists, by apt-get, as root. Status: 0 all is there, 1 something could not be
-installed: the trials that want it say so.'
+installed: the trials that need it say so.'
 
 if [[ $# == 1 && ( $1 == -h || $1 == --help ) ]]; then
     echo "$usage"

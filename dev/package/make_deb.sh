@@ -5,12 +5,12 @@ set -euo pipefail
 usage='usage: dev/package/make_deb.sh
 
 Makes bin/bpfrec_<version>_<architecture>.deb by dpkg-deb, of what dev/package/install.sh installs. It needs bin/bpfrec
-(make build) and Debian'"'"'s dpkg and binutils; bin/capture is in it where it is built. The recorder needs the C library
-alone; the tools recommend python3, and bpfrec-capture the package that libpcap is of here. Programs are stripped. The
+(make build) and Debian'"'"'s dpkg and binutils; bin/capture is in it where it is built. The recorder needs the C
+library alone; the tools recommend python3, and bpfrec-capture the package that libpcap is of here. Programs are stripped. The
 same sources and programs make the same bytes: all times are SOURCE_DATE_EPOCH, by default that of the last commit.
 MAINTAINER names another maintainer.
 
-Status: 0 made, 2 wrong words, 3 something is missing.'
+Status: 0 made, 2 wrong arguments, 3 something is missing.'
 
 case ${*:-} in
     '') ;;

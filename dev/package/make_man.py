@@ -1,8 +1,8 @@
 #!/usr/bin/env python3
 """Writes man/bpfrec.1 and the completions of shells, of the program's help and the tables of docs/user/FORMATS.md.
 
-The help is read where it stands in the program's source, crates/rec_words/src/command_line.rt and below, so nothing need be
-built. dev/checks/man.py compares what is written with what would be.
+The help is read where it stands in the program's source, crates/rec_words/src/command_line.rt and below, so nothing
+need be built. dev/checks/man.py compares what is written with what would be.
 """
 import argparse
 import sys

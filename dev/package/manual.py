@@ -1,5 +1,5 @@
-"""The page bpfrec(1) and the completions of shells, by their paths. dev/package/make_man.py writes them, dev/checks/man.py
-compares them."""
+"""The page bpfrec(1) and the completions of shells, by their paths. dev/package/make_man.py writes them,
+dev/checks/man.py compares them."""
 from pathlib import Path
 
 from help_texts import FORMATS, ROOT, TOOLS, Help

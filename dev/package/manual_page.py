@@ -136,7 +136,8 @@ def page(texts):
     found += [
         ".SH FORMATS",
         *filled(
-            "The tables of the project's document of formats, by its sections. A number of several bytes has its lowest byte first."
+            "The tables of the project's document of formats, by its sections. "
+            "A number of several bytes has its lowest byte first."
         ),
     ]
     last = ""

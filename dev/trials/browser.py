@@ -1,4 +1,5 @@
-"""Chromium without a window, driven through two pipes by its DevTools protocol: opens pages, asks them, takes pictures."""
+"""Chromium without a window, driven through two pipes by its DevTools protocol: opens pages, asks them, takes
+pictures."""
 
 from __future__ import annotations
 

@@ -2,6 +2,7 @@
 
 import contextlib
 import os
+import shutil
 import signal
 import sys
 import tempfile
@@ -31,10 +32,10 @@ def pytest_configure(config: pytest.Config) -> None:
 
 @pytest.fixture(autouse=True, scope="module")
 def at_hand(request: pytest.FixtureRequest) -> None:
-    """Leaves a trial out that wants what isn't here, by the table WANTED of its file."""
+    """Leaves a trial out that needs what isn't here, by the table WANTED of its file."""
     lacking = support.missing(getattr(request.module, "WANTED", {}))
     if lacking:
-        pytest.skip(f"it wants {', '.join(lacking)}")
+        pytest.skip(f"it needs {', '.join(lacking)}")
 
 
 def made_folder() -> Iterator[Path]:
@@ -56,16 +57,38 @@ def place() -> Iterator[Path]:
 
 
 @pytest.fixture(scope="module")
+def seen_calls(place: Path) -> Path:
+    """The library of dev/trials/seen_calls.c."""
+    return support.shared_library(support.TRIALS / "seen_calls.c", place / "seen_calls.so")
+
+
+@pytest.fixture
+def sample(work: Path) -> Path:
+    """A recording of one frame, whose counter is 32."""
+    return Path(shutil.copy(recorder.RECORDINGS / "two_versions_checked.ch11", work / "x.ch11"))
+
+
+@pytest.fixture(scope="module")
 def long_feed(place: Path) -> Path:
     """A feed of a million frames."""
     return recorder.make_feed(place / "long.feed", recorder.MANY)
 
 
+@pytest.fixture
+def flight(work: Path) -> Iterator[object]:
+    """A run whose status is served: a Flight of dev/trials/scripted.py."""
+    # Here, since other trials need none of the status.
+    from asking import served
+
+    with served(work) as made:
+        yield made
+
+
 @contextlib.contextmanager
 def entered() -> Iterator[None]:
-    """A network namespace while it lasts; what wants it is left out where none can be made."""
+    """A network namespace while it lasts; what needs it is left out where none can be made."""
     if os.geteuid() != 0:
-        pytest.skip("it wants root, for a network namespace")
+        pytest.skip("it needs root, for a network namespace")
     with contextlib.ExitStack() as stack:
         try:
             stack.enter_context(namespaces.own_namespace())

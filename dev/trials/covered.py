@@ -1,5 +1,6 @@
 #!/usr/bin/env python3
-"""Measures which lines of host/bin/live its trials run, by Debian's python3-coverage: all processes of all trials count.
+"""Measures which lines of host/bin/live its trials run, by Debian's python3-coverage: all processes of all trials
+count.
 
 FILE names other trials than those of live. It prints a line for each module with the lines that no trial runs, and at
 last the part that is run; the status is 1 where that is less than --least says. A trial that counts the lines of

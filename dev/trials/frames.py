@@ -1,4 +1,5 @@
-"""The one writer of frames, of a feed's records and of a recording's packets, by docs/user/FORMATS.md, for trials and benches.
+"""The one writer of frames, of a feed's records and of a recording's packets, by docs/user/FORMATS.md, for trials and
+benches.
 
 Nothing here is the program's own: what it reads and writes is compared with this.
 """

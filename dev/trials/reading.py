@@ -60,7 +60,8 @@ def packets_of(data: bytes) -> list:
 
 
 def odd_feed(draw: random.Random) -> bytes:
-    """A feed whose counters step back and leave gaps, with frames that are marked since their check sequence is wrong."""
+    """A feed whose counters step back and leave gaps, with frames that are marked since their check sequence is
+    wrong."""
     counter, found = 5_000, []
     for number in range(2_000):
         is_wrong = number % 50 == 7

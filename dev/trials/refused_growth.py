@@ -99,7 +99,8 @@ def is_recorded(words, got, whole):
 
 
 def is_begun(words, got, whole):
-    """Whether a script, a list, an audit, an extraction, an export or an upgrade ended for want of memory after a part of it."""
+    """Whether a script, a list, an audit, an extraction, an export or an upgrade ended for want of memory after a part
+    of it."""
     status, output, errors, feed = got
     begun = whole[1].startswith(output) and (words[:1] == ["export"] or not output or output.endswith(b"\n"))
     written = feed is None or (whole[3] is not None and whole[3].startswith(feed))
@@ -168,10 +169,13 @@ def main():
         return 1
     growths, passed = (sum(column) for column in zip(*of_tests))
     print(
-        f"{growths} growths of {len(of_tests)} tests were refused, one a run: {passed} of calls, which were made again with the right answer, and {growths - passed} of what the tests make beside them, which ended the run"
+        f"{growths} growths of {len(of_tests)} tests were refused, one a run: {passed} of calls, which were made again "
+        f"with the right answer, and {growths - passed} of what the tests make beside them, which ended the run"
     )
     print(
-        f"{sum(counts)} growths of {len(counts)} runs were refused, one a run: each run ended with `memory`, status 4 and no feed, or with its answer; a recording of which only lines lacked memory, with its lines and `memory`; a script, a list or an extraction in part with `memory`"
+        f"{sum(counts)} growths of {len(counts)} runs were refused, one a run: each run ended with `memory`, status 4 "
+        "and no feed, or with its answer; a recording of which only lines lacked memory, with its lines and `memory`; "
+        "a script, a list or an extraction in part with `memory`"
     )
     return 0
 

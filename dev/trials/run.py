@@ -166,7 +166,7 @@ def parse_words() -> argparse.Namespace:
 def main() -> int:
     names = parse_words().names
     if subprocess.run([PYTHON, "-c", "import pytest"], stderr=subprocess.DEVNULL).returncode != 0:
-        sys.exit(f"dev/trials/run.py wants apt-get install {WANTED['pytest']}")
+        sys.exit(f"dev/trials/run.py needs apt-get install {WANTED['pytest']}")
     # A shell that starts this in the background ignores INT, and so would all that is tried.
     signal.signal(signal.SIGINT, signal.default_int_handler)
     signal.signal(signal.SIGTERM, lambda *_: sys.exit(1))

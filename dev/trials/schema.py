@@ -59,7 +59,7 @@ def judge_type(value: Any, schema: dict, _: dict, place: str) -> Iterator[str]:
 def judge_listed(value: Any, schema: dict, _: dict, place: str) -> Iterator[str]:
     allowed = schema["enum"] if "enum" in schema else [schema["const"]]
     if not any(value == it and type(value) is type(it) for it in allowed):
-        yield f"{place}: {value!r} is none of {allowed}"
+        yield f"{place}: {value!r} is not one of {allowed}"
 
 
 def judge_range(value: Any, schema: dict, _: dict, place: str) -> Iterator[str]:

@@ -1,7 +1,7 @@
 #!/usr/bin/env python3
 """Records 64 channels from pipes for an hour, with a filter changed each second, and judges what is left.
 
-It wants bin/bpfrec (`make build`), and is no part of the gate. Each channel's pipe gets some frames a
+It needs bin/bpfrec (`make build`), and is no part of the gate. Each channel's pipe gets some frames a
 second; the feeds end at drawn moments, every fourth of them with a damaged record. Meanwhile the memory
 and the open descriptors of the process are read each second. At the end each line of the report must
 say of its channel how many frames were fed to it and how its feed ended, each change must have been
@@ -162,7 +162,7 @@ def judge_all(work, feeds, changes, report, status, memory, descriptors):
 def is_flat(memory, first):
     """Whether memory didn't grow after the first of these looks, where there are more."""
     if len(memory) <= first:
-        print(f"left out: whether memory is flat, which wants more than {first} seconds")
+        print(f"left out: whether memory is flat, which needs more than {first} seconds")
         return True
     return judge("memory is flat", max(memory[first:]) <= max(memory[:first]) + MOST_GROWTH_KIB)
 

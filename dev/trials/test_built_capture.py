@@ -1,5 +1,6 @@
-"""Tries what bin/capture may do at all, as it is built: its capabilities, the calls of the kernel that it has left, how it
-is laid out, and a thread that it can't start. Builds under sanitizers are others, so they aren't tried by this.
+"""Tries what bin/capture may do at all, as it is built: its capabilities, also where the kernel refuses to take them,
+the calls of the kernel that it has left, how it is laid out, and a thread that it can't start. Builds under sanitizers
+are others, so they aren't tried by this.
 """
 
 import os
@@ -7,9 +8,13 @@ import re
 from pathlib import Path
 
 import pytest
+from frames import records
+from namespace import make_pair, take_away
 from support import (
     BPFREC,
     CAPTURE,
+    CONVERT,
+    NOBODY,
     TRIALS,
     Reader,
     Running,
@@ -25,6 +30,9 @@ WANTED = {"bin/bpfrec": "make build", "bin/capture": "make build", "ip": "iprout
 pytestmark = [pytest.mark.timed, pytest.mark.usefixtures("namespace")]
 # Capabilities, as bits: CAP_NET_RAW; CAP_DAC_OVERRIDE and CAP_DAC_READ_SEARCH.
 NET_RAW, READ_FILES = 1 << 13, 1 << 1 | 1 << 2
+# By which rights are given up, as dev/trials/failing_rights.c names it: capset, PR_SET_NO_NEW_PRIVS and PR_CAP_AMBIENT.
+GIVING_UP = ["capset", 38, 47]
+NOT_GIVEN_UP = "capture: privileges can't be given up: Operation not permitted\n"
 
 
 def test_no_thread(work: Path) -> None:
@@ -69,6 +77,56 @@ def test_privileges_of_files(work: Path) -> None:
     running = Running(work, CAPTURE, "-r", f"{pipe_at(work, 'in.pipe')}={work}/made.feed")
     wait_for("its thread runs", lambda: len(os.listdir(f"/proc/{running.process.pid}/task")) > 1)
     judge_limits(running.process.pid, READ_FILES, READ_FILES)
+    running.interrupt()
+    running.ended()
+
+
+def refusing(work: Path, call: object, spared: int = 0) -> dict[str, str]:
+    """What has the kernel refuse a call by which rights are given up, from one on."""
+    library = shared_library(TRIALS / "failing_rights.c", work / "failing_rights.so")
+    return {"LD_PRELOAD": str(library), "FAILING_RIGHTS": str(call), "SPARED": str(spared)}
+
+
+@pytest.mark.parametrize("call", GIVING_UP)
+def test_privileges_that_stay(work: Path, call: object) -> None:
+    """Nothing begins with privileges that can't be given up: neither a capture nor a conversion."""
+    run(CONVERT, "make", 1, 3, work / "three.feed")
+    run(CONVERT, "to-pcap", work / "three.feed", work / "three.pcap")
+    for words in (["rx0=-"], ["-r", f"{work}/three.pcap={work}/made.feed"]):
+        running = Running(work, CAPTURE, *words, adds=refusing(work, call))
+        ended = running.ended()
+        told = running.told()
+        judge(f"it ends by status 3 and says why: {words[0]}", ended == (3, "") and told.endswith(NOT_GIVEN_UP), told)
+        judge("it hasn't begun", "origin" not in told and not (work / "made.feed").exists(), told)
+
+
+def test_no_privileges(work: Path) -> None:
+    """Who has none has none to give up: files are converted also where the kernel refuses each such call."""
+    run(CONVERT, "make", 1, 3, work / "three.feed")
+    run(CONVERT, "to-pcap", work / "three.feed", work / "three.pcap")
+    adds = refusing(work, "capset")
+    for path in (work, *work.iterdir()):
+        path.chmod(0o777)
+    words = ["-r", f"{work}/three.pcap={work}/made.feed"]
+    running = Running(work, CAPTURE, *words, adds=adds, user=NOBODY, group=NOBODY, extra_groups=[])
+    status = running.ended()[0]
+    judge("it converts", status == 0 and len(records((work / "made.feed").read_bytes())) == 3, running.told())
+
+
+@pytest.mark.parametrize(
+    "spared, line",
+    [(1, "capture: cap_net_raw can't be put in force: "), (2, "capture: cap_net_raw stays in force: ")],
+)
+def test_privilege_to_open_again(work: Path, spared: int, line: str) -> None:
+    """Where the permission can't be taken for an interface that comes back, or not given up, a line says so."""
+    reader = Reader(pipe_at(work, "one.pipe"))
+    running = Running(work, CAPTURE, f"rx0={reader.path}", adds=refusing(work, "capset", spared))
+    running.wait_until_told("origin")
+    take_away("rx0")
+    running.wait_until_told("is taken again once it is back")
+    make_pair(0)
+    running.wait_until_told(line)
+    judge("and the capture goes on", running.process.poll() is None and line in running.told(), running.told())
     running.interrupt()
     running.ended()
 

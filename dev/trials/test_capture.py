@@ -131,7 +131,8 @@ def test_end_by_itself(work: Path) -> None:
 
 
 def test_prefilter(work: Path) -> None:
-    """What the kernel drops isn't offered, what it passes is whole whatever the program returns, and no line is read."""
+    """What the kernel drops isn't offered, what it passes is whole whatever the program returns, and no line is
+    read."""
     # the lowest byte of the frame's number, as a constant where it is over 9 and, one instruction a line, as A
     (work / "constant").write_text("4,48 0 0 21,37 0 1 9,6 0 0 1,6 0 0 0,")
     (work / "itself").write_text("2\n48 0 0 21\n22 0 0 0\n")
@@ -235,7 +236,10 @@ def test_permission(work: Path) -> None:
     for path in [work, *work.rglob("*")]:
         path.chmod(path.stat().st_mode | 0o555)
     (work / "private").chmod(0o777)
-    line = r"capture: rx0: no permission to capture: be root, or once setcap \S+ \S+\n"
+    line = (
+        r"capture: rx0: no permission to capture: be root, or have a group capture, as USING.md says: "
+        r"chgrp recorder F && chmod 750 F && setcap cap_net_raw=ep F, where F is \S+/capture\n"
+    )
     for words in [
         [open_to_all / "bin/capture", "rx0=-"],
         [open_to_all / "host/bin/live", settings, "/tmp/none.ch11", "rx0=1"],

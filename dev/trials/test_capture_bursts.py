@@ -77,7 +77,8 @@ def test_bursts_at_small_buffer(work: Path) -> None:
 
 
 def test_bursts_of_unsteady_interface(work: Path) -> None:
-    """An interface that goes down and up between its bursts: no frame twice, and none before one that was sent first."""
+    """An interface that goes down and up between its bursts: no frame twice, and none before one that was sent
+    first."""
     reader = Reader(pipe_at(work, "one.pipe"))
     running = Running(work, CAPTURE, "--quiet", f"rx0={reader.path}")
     running.wait_until_told("origin")

@@ -1,4 +1,5 @@
-"""Tries what becomes of the frames that bin/capture takes: pipes that are full, interfaces that come and go, check sequences."""
+"""Tries what becomes of the frames that bin/capture takes: pipes that are full, interfaces that come and go, check
+sequences."""
 
 import os
 import re

@@ -153,7 +153,7 @@ def refusals(work: Path, settings: Path, out: Path) -> list[tuple]:
     own = work / "own.toml"
     tables = [f'[[channel]]\nid = {channel}\nfilter = "{work}/all"\n' for channel in (1, 5)]
     own.write_text("".join(tables) + 'feed = "own"\n')
-    needs = "live: --every and --size want an interface"
+    needs = "live: --every and --size need an interface"
     return [
         (["--every", 1, own, out, "rx0=1"], 2, f"{needs} for each channel, and 5 of {own} has none"),
         (["--every", 0, settings, out, "rx0=1", "rx1=2"], 2, "live: --every needs a number from 1 to 999999999"),
@@ -162,7 +162,7 @@ def refusals(work: Path, settings: Path, out: Path) -> list[tuple]:
         (
             ["--size", 5, settings, "/dev/null", "rx0=1", "rx1=2"],
             2,
-            "live: --every and --size make files, and /dev/null is none",
+            "live: --every and --size make files, and /dev/null is not a file",
         ),
         (["--size", 5, settings, work / "no/x.ch11", "rx0=1", "rx1=2"], 3, f"file {work}/no/x_00001.ch11"),
         (["--quiet", "--size", 5, settings, out, "rx0=1", "nowhere0=2"], 3, "capture: nowhere0: no such interface"),

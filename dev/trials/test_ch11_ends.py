@@ -1,5 +1,5 @@
-"""Tries the two readers of recordings, bpfrec's and that of host/, at both ends of each length and number, and with bytes
-set that neither judges. What each case is, is known by docs/user/FORMATS.md."""
+"""Tries the two readers of recordings, bpfrec's and that of host/, at both ends of each length and number, and with
+bytes set that neither judges. What each case is, is known by docs/user/FORMATS.md."""
 
 from __future__ import annotations
 

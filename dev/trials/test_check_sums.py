@@ -1,4 +1,5 @@
-"""Tries host/bin/check_sums: bodies of all lengths around its pieces, changed bytes, packets far behind, and its memory."""
+"""Tries host/bin/check_sums: bodies of all lengths around its pieces, changed bytes, packets far behind, and its
+memory."""
 
 from __future__ import annotations
 

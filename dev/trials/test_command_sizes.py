@@ -65,7 +65,8 @@ def test_control_lines(work: Path, more: int) -> None:
 
 @pytest.mark.parametrize("length", [70_000, 600_000, LISTING_BYTES])
 def test_settings(work: Path, length: int) -> None:
-    """Settings whose channel stands behind so many bytes, and paths with blanks; one byte more than may be is refused."""
+    """Settings whose channel stands behind so many bytes, and paths with blanks; one byte more than may be is
+    refused."""
     folder = work / "a folder of  its own"
     folder.mkdir()
     (folder / "one.feed").write_bytes(ONE_FRAME * 3)

@@ -1,5 +1,6 @@
-"""Tries host/bin/convert and `capture -r` on captures by hand at both ends of lengths and units of time, in both byte orders,
-and through pipes that are slow at either end. dev/trials/test_sanitized.py runs this under the address sanitizer too."""
+"""Tries host/bin/convert and `capture -r` on captures by hand at both ends of lengths and units of time, in both byte
+orders, and through pipes that are slow at either end. dev/trials/test_sanitized.py runs this under the address
+sanitizer too."""
 
 from __future__ import annotations
 

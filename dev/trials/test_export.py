@@ -1,4 +1,5 @@
-"""Tries `bpfrec export` by programs that nobody here wrote: tshark, capinfos, editcap, mergecap, reordercap and tcpdump."""
+"""Tries `bpfrec export` by programs that nobody here wrote: tshark, capinfos, editcap, mergecap, reordercap and
+tcpdump."""
 
 import hashlib
 import os

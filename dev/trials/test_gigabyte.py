@@ -50,7 +50,7 @@ def write_channel(path: Path, channel: int) -> list[str]:
 @pytest.fixture(scope="module")
 def made(place: Path) -> Made:
     if shutil.disk_usage(place).free < ROOM:
-        pytest.skip("it wants six gigabytes of disk")
+        pytest.skip("it needs six gigabytes of disk")
     feeds = [f"{channel}.feed" for channel in range(1, CHANNELS + 1)]
     wanted = [write_channel(place / feed, channel) for channel, feed in enumerate(feeds, 1)]
     recording = place / "large.ch11"

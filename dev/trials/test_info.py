@@ -95,7 +95,7 @@ def test_packets(recording: Path, facts: dict) -> None:
     ends = {it[1]: (int(it[2]), int(it[2]) - int(it[3])) for it in listed if it[0] == "end"}
     judge(
         "its offered and dropped frames are those of the ends",
-        ends == {it: (said["offered"], said["dropped"]) for it, said in facts["channels"].items()},
+        ends == {it: (said["offered"], said["dropped_by_filter"]) for it, said in facts["channels"].items()},
     )
 
 

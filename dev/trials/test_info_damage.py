@@ -102,7 +102,7 @@ def test_drawn_damage(work: Path) -> None:
     draw = random.Random(SEED)
     sums = sum(judge_draw(work, turn, damaged_sample(draw, turn, samples)) for turn in range(DAMAGED))
     judge(
-        f"{DAMAGED} damaged recordings: each place is list's, checksums are audit's ({sums}), and what salvage keeps is whole",
+        f"{DAMAGED} damaged recordings: each place is list's, checksums are audit's ({sums}), and salvage keeps whole ones",
         sums > 50,
     )
 
@@ -193,7 +193,8 @@ def test_lines(work: Path) -> None:
     (work / "lines.ch11").write_bytes(data[: -len(parts[-1])] + b"\0\0\0")
     done = outcome(SALVAGE, work / "lines.ch11", work / "kept.ch11")
     wanted = (
-        f"lost {len(parts[2])} at {second} after read 8 DataChecksum\nmissing 1 of 1 from 1 at {second + len(parts[2])}\n"
+        f"lost {len(parts[2])} at {second} after read 8 DataChecksum\n"
+        f"missing 1 of 1 from 1 at {second + len(parts[2])}\n"
         f"lost 3 at {len(data) - len(parts[-1])} after read 1 Truncated\nno end of 1\naudit: no 5 NoEnd 1\n"
         f"kept 4 packets {sum(map(len, (*parts[:2], *parts[3:5])))} bytes, lost {len(parts[2]) + 3} bytes at 2 places\n"
     )

@@ -5,7 +5,6 @@ import io
 import json
 import os
 import random
-import shutil
 from pathlib import Path
 
 import pytest
@@ -19,7 +18,7 @@ from expected_facts import (
     time_by,
     value_of,
 )
-from reading import SAMPLES, SEED, as_json, facts_of, info, recording_of_three, time_of
+from reading import SEED, as_json, facts_of, info, recording_of_three, time_of
 from support import INFO, judge, judge_quietly, outcome, run
 
 WANTED = {"bin/bpfrec": "make build"}
@@ -65,13 +64,6 @@ frames lost                1,120 dropped, 3 skipped
   first time                 2025-12-01T11:00:00.2500033Z
   last time                  2025-12-01T11:00:00.2500033Z
 """
-
-
-@pytest.fixture
-def sample(work: Path) -> Path:
-    """A recording of one frame, whose counter is 32."""
-    shutil.copy(SAMPLES[1], work / "x.ch11")
-    return work / "x.ch11"
 
 
 def put_beside(recording: Path, facts: dict) -> Path:

@@ -1,4 +1,5 @@
-"""Tries host/bin/info and host/bin/salvage on a recording of a gigabyte: its memory is that of one packet, and its speed."""
+"""Tries host/bin/info and host/bin/salvage on a recording of a gigabyte: its memory is that of one packet, and its
+speed."""
 
 import os
 import struct

@@ -2,12 +2,10 @@
 
 import json
 import os
-import shutil
 from pathlib import Path
 
 import pytest
 from expected_facts import THREE_ORIGINS, are_facts, facts_of_run
-from reading import SAMPLES
 from support import INFO, MEBIBYTE, judge, outcome, run
 
 WANTED = {"bin/bpfrec": "make build"}
@@ -57,12 +55,6 @@ CASES = {
         f"loss 1 of 1: skipped {NO_LOSS}",
     ),
 }
-
-
-@pytest.fixture
-def sample(work: Path) -> Path:
-    shutil.copy(SAMPLES[1], work / "x.ch11")
-    return work / "x.ch11"
 
 
 @pytest.fixture

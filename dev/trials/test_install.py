@@ -253,6 +253,14 @@ def test_package_is_whole(package: Path) -> None:
         judge(f"it has {name}", f"./usr/share/doc/bpfrec/{name}\n" in listed, listed)
 
 
+def test_copyright() -> None:
+    """Each library that the capture is linked with is named, with its licence."""
+    text = (ROOT / "dev/package/copyright").read_text()
+    for name in set(re.findall(r"^\s*lib(pcap|deflate|z|seccomp)\.", ran("ldd", ROOT / "bin/capture")[1], re.M)):
+        known = "zlib" if name == "z" else f"lib{name}"
+        judge(f"the licence of {known} is named", re.search(rf"\b{known}\s+\([-\w.]+\)", text), text)
+
+
 def test_package_again(package: Path) -> None:
     before = package.read_bytes()
     status, told = ran("make", "-s", "-C", ROOT, "deb")
@@ -268,14 +276,23 @@ def test_lintian(package: Path) -> None:
 
 def test_installed_names(work: Path, package: Path) -> None:
     ran("dpkg-deb", "-x", package, work)
-    using = (work / "usr/share/doc/bpfrec/USING.md").read_text()
-    others = re.findall(r"host/bin/(?!check_sums)\w+|(?<![\w/])bin/(?:bpfrec|capture)\b(?![-.\w])", using)
+    documents = work / "usr/share/doc/bpfrec"
+    using = (documents / "USING.md").read_text()
+    others = re.findall(r"(?<![\w/.-])(?:host|dev|crates|bench|capture|docs|man)/[\w./]+|\bmake build\b", using)
+    others += re.findall(r"(?<![\w/])bin/(?:bpfrec|capture)\b(?![-.\w])", using)
     judge("the installed USING names installed commands", others == [] and "bpfrec-live" in using, others)
+    files = set(re.findall(r"(?<![\w/.-])examples/[\w./]*\w|(?<![\w/.-])[A-Z]+\.md", using))
+    # The last is misspelled, and refused.
+    missing = [it for it in files - {"examples/apr.txt"} if not (documents / it).exists()]
+    judge("and files that are there", missing == [] and "examples/flight.toml" in files, missing)
+    programs = set(re.findall(r"(?<!\w)/usr/(?:lib|libexec|share)/[\w./-]*\w", using))
+    missing = [it for it in programs if not (work / it[1:]).exists()]
+    judge("also where paths are whole", missing == [] and len(programs) > 1, missing)
 
 
 def test_dpkg(request: pytest.FixtureRequest) -> None:
     if not os.environ.get("DEBIAN_ROOT"):
-        pytest.skip("an installation by dpkg wants a clean Debian in DEBIAN_ROOT")
+        pytest.skip("an installation by dpkg needs a clean Debian in DEBIAN_ROOT")
     root, package = Path(os.environ["DEBIAN_ROOT"]), request.getfixturevalue("package")
     inside = root / "root/field"
     inside.mkdir(exist_ok=True)

@@ -29,7 +29,7 @@ from recordings import (
     recordings,
     settings_of,
 )
-from support import LIVE, TRIALS, Running, judge, judge_quietly, shared_library, wait_for
+from support import LIVE, Running, judge, judge_quietly, wait_for
 
 WANTED = {"bin/bpfrec": "make build", "bin/capture": "make build", "ip": "iproute2", "cc": "gcc"}
 pytestmark = [pytest.mark.timed, pytest.mark.usefixtures("namespace")]
@@ -148,29 +148,23 @@ def test_there(work: Path, name: str) -> None:
     judge("it is kept", path.read_bytes() == b"kept" and not (facts if path == out else out).exists())
 
 
-@pytest.fixture(scope="module")
-def library(place: Path) -> Path:
-    """The library of dev/trials/seen_calls.c."""
-    return shared_library(TRIALS / "seen_calls.c", place / "seen_calls.so")
-
-
 @pytest.mark.parametrize("name", ["there.ch11", "there.ch11.json"])
-def test_there_is_not_opened(work: Path, library: Path, name: str) -> None:
+def test_there_is_not_opened(work: Path, seen_calls: Path, name: str) -> None:
     """A name that is there is never opened."""
     (work / name).write_bytes(b"kept")
     (work / "calls").write_text("")
-    adds = {"LD_PRELOAD": str(library), "CALLS": str(work / "calls")}
+    adds = {"LD_PRELOAD": str(seen_calls), "CALLS": str(work / "calls")}
     running = Running(work, LIVE, "--quiet", settings_of(work), work / "there.ch11", "rx0=1", "rx1=2", adds=adds)
     judge("it is refused", running.ended()[0] == 3, running.told())
     calls = (work / "calls").read_text()
     judge("and was not opened", "/run.py 0\n" in calls and "there.ch11" not in calls, calls[-300:])
 
 
-def test_that_comes(work: Path, library: Path) -> None:
+def test_that_comes(work: Path, seen_calls: Path) -> None:
     """A file that takes the name of OUT just before OUT is created is another's, and is kept."""
     out = work / "comes.ch11"
     (work / "another").write_bytes(b"kept")
-    adds = {"LD_PRELOAD": str(library), "EXCHANGED": str(out), "EXCHANGED_BY": str(work / "another")}
+    adds = {"LD_PRELOAD": str(seen_calls), "EXCHANGED": str(out), "EXCHANGED_BY": str(work / "another")}
     running = Running(work, LIVE, "--quiet", settings_of(work), out, "rx0=1", "rx1=2", adds=adds)
     status = running.ended()[0]
     judge("it is refused", status == 3 and running.told().endswith(f"file {out}\n"), running.told())

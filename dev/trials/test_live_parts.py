@@ -1,4 +1,5 @@
-"""Tries recordings of host/bin/live that are moved or removed, follow one another under a set clock, or change filters."""
+"""Tries recordings of host/bin/live that are moved or removed, follow one another under a set clock, or change
+filters."""
 
 import re
 import time

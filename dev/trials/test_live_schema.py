@@ -1,4 +1,5 @@
-"""Tries the facts beside a recording against the schema of docs/user/FORMATS.md, with a chrony and a PTP that are played."""
+"""Tries the facts beside a recording against the schema of docs/user/FORMATS.md, with a chrony and a PTP that are
+played."""
 
 import contextlib
 import json

@@ -1,4 +1,5 @@
-"""Tries host/bin/live as a service: what it tells the service manager, by a socket that is played, and with which rights."""
+"""Tries host/bin/live as a service: what it tells the service manager, by a socket that is played, and with which
+rights."""
 
 import os
 import re
@@ -111,7 +112,7 @@ def test_rights(work: Path, namespace: None) -> None:
 def test_unit() -> None:
     """The unit that stands in examples/ is a tight one, by systemd's own measure."""
     if not shutil.which("systemd-analyze"):
-        pytest.skip("it wants systemd-analyze (systemd)")
+        pytest.skip("it needs systemd-analyze (systemd)")
     done = outcome("systemd-analyze", "security", "--offline=true", UNIT)
     found = re.search(r"exposure level for \S+: ([0-9.]+)", done.stdout)
     if not found:

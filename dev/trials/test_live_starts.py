@@ -1,14 +1,9 @@
 """Tries ways to start host/bin/live: however it is started it records, and INT and TERM end it with status 0."""
 
 import contextlib
-import fcntl
 import os
-import pty
 import re
 import signal
-import subprocess
-import termios
-import threading
 import time
 from pathlib import Path
 
@@ -17,6 +12,7 @@ from frames import numbers
 from namespace import send_together
 from recordings import RUN, YES, extracted, folder_of, is_recording, nothing_left, settings_of
 from support import LIVE, Running, judge, wait_for
+from terminal import Terminal
 
 WANTED = {"bin/bpfrec": "make build", "bin/capture": "make build", "ip": "iproute2"}
 pytestmark = [pytest.mark.timed, pytest.mark.usefixtures("namespace")]
@@ -72,45 +68,22 @@ class AtTerminal(Start):
     """In the background of an interactive bash with job control, at a terminal of its own."""
 
     def begin(self, settings: Path) -> None:
-        self.master, slave = pty.openpty()
-        self.shell = subprocess.Popen(
-            ["bash", "--norc", "--noprofile", "-i"],
-            stdin=slave,
-            stdout=slave,
-            stderr=slave,
-            start_new_session=True,
-            env={**os.environ, "TMPDIR": str(self.here / "private"), RUN: str(self.out)},
-            preexec_fn=lambda: fcntl.ioctl(0, termios.TIOCSCTTY, 0),
-        )
-        os.close(slave)
-        self.shown = b""
-        threading.Thread(target=self.read, daemon=True).start()
+        self.terminal = Terminal(self.here, self.out)
         words = " ".join(map(str, ["--quiet", "--buffer", 4, *self.options, settings, self.out]))
-        self.type_in(
-            f"cd {self.here}; {LIVE} {words} rx0=1 rx1=2 > printed 2> told & echo $! > number && mv number pid"
-        )
-
-    def read(self) -> None:
-        with contextlib.suppress(OSError):
-            while part := os.read(self.master, 4096):
-                self.shown += part
-
-    def type_in(self, line: str) -> None:
-        os.write(self.master, line.encode() + b"\n")
+        self.terminal.type_in(f"{LIVE} {words} rx0=1 rx1=2 > printed 2> told & echo $! > number && mv number pid")
 
     def tell(self) -> None:
         os.kill(int((self.here / "pid").read_text()), self.number)
-        self.type_in("wait $(cat pid); echo $? > ended && mv ended status")
+        self.terminal.type_in("wait $(cat pid); echo $? > ended && mv ended status")
 
     def ended(self) -> tuple[int, str]:
         wait_for(lambda: f"{self.name}: {self.number.name} ends it: {self.told()}", (self.here / "status").exists)
-        self.shell.kill()
-        self.shell.wait()
+        self.terminal.end()
         return int((self.here / "status").read_text()), (self.here / "printed").read_text()
 
     def told(self) -> str:
         told = self.here / "told"
-        return f"{told.read_text() if told.exists() else ''} {self.shown.decode(errors='replace')}"
+        return f"{told.read_text() if told.exists() else ''} {self.terminal.shown.decode(errors='replace')}"
 
 
 WAYS = {

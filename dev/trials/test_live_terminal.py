@@ -1,63 +1,18 @@
 """Tries host/bin/live in the foreground of a terminal with job control: typed lines, Ctrl-Z, fg and Ctrl-C."""
 
-import contextlib
-import fcntl
-import os
-import pty
-import subprocess
-import termios
-import threading
 import time
 from pathlib import Path
 
 import pytest
 from frames import numbers
 from namespace import send_together
-from recordings import RUN, YES, extracted, is_recording, nothing_left, process_of, processes_of, settings_of
+from recordings import YES, extracted, is_recording, nothing_left, process_of, processes_of, settings_of
 from support import BPFREC, CAPTURE, LIVE, judge, judge_quietly, wait_for
+from terminal import Terminal
 
 WANTED = {"bin/bpfrec": "make build", "bin/capture": "make build", "ip": "iproute2"}
 pytestmark = [pytest.mark.timed, pytest.mark.usefixtures("namespace")]
 CTRL_C, CTRL_Z = b"\x03", b"\x1a"
-
-
-class Terminal:
-    """An interactive bash at a terminal of its own."""
-
-    def __init__(self, work: Path, out: Path) -> None:
-        self.master, slave = pty.openpty()
-        self.shell = subprocess.Popen(
-            ["bash", "--norc", "--noprofile", "-i"],
-            stdin=slave,
-            stdout=slave,
-            stderr=slave,
-            start_new_session=True,
-            cwd=work,
-            env={**os.environ, "TMPDIR": str(work / "private"), RUN: str(out)},
-            preexec_fn=lambda: fcntl.ioctl(0, termios.TIOCSCTTY, 0),
-        )
-        os.close(slave)
-        self.shown = b""
-        threading.Thread(target=self.read, daemon=True).start()
-
-    def read(self) -> None:
-        with contextlib.suppress(OSError):
-            while part := os.read(self.master, 4_096):
-                self.shown += part
-
-    def type_in(self, line: str) -> None:
-        os.write(self.master, line.encode() + b"\n")
-
-    def press(self, key: bytes) -> None:
-        os.write(self.master, key)
-
-    def wait_until_shown(self, what: bytes, seconds: float = 10) -> None:
-        wait_for(lambda: f"{what!r} is shown: {self.shown!r}", lambda: what in self.shown, seconds)
-
-    def end(self) -> None:
-        self.shell.kill()
-        self.shell.wait()
-        os.close(self.master)
 
 
 def state_of(pid: int) -> str:

@@ -1,4 +1,5 @@
-"""Tries host/bin/pcapng by programs that nobody here wrote: capinfos, editcap, mergecap, reordercap, tshark and tcpdump."""
+"""Tries host/bin/pcapng by programs that nobody here wrote: capinfos, editcap, mergecap, reordercap, tshark and
+tcpdump."""
 
 import json
 import os

@@ -93,7 +93,8 @@ def test_notes(folder: Path) -> None:
         "s.toml:14: channel 3: note: filter live.feed is a pipe and was not opened",
         "s.toml:13: channel 3: note: feed head.feed: 1 frames",
         "s.toml:13: channel 3: note: feed head.feed: Truncated at byte 27, past the frames that are taken",
-        "s.toml: note: buffers of at most 786432 bytes (channels 3, of each 4, of 65536 bytes), and <n> bytes are available",
+        "s.toml: note: buffers of at most 786432 bytes (channels 3, of each 4, of 65536 bytes), "
+        "and <n> bytes are available",
         "none.txt: channel 2: file none.txt: the output is this channel's filter, none.txt",
         "three.feed: note: feed three.feed: 3 frames",
         "s.toml:5: channel 1: note: filter arp.txt keeps 2 of 3 frames of three.feed",

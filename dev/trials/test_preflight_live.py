@@ -101,5 +101,5 @@ def test_permission(work: Path) -> None:
         text=True,
         env={**os.environ, "TMPDIR": str(work)},
     )
-    line = "capture: no permission to capture: be root, or once setcap cap_net_raw=ep "
+    line = "capture: no permission to capture: be root, or have a group capture, as USING.md says: chgrp recorder F && "
     judge("no permission", done.returncode == 1 and line in done.stdout, done.stdout + done.stderr)

@@ -1,5 +1,5 @@
-"""Runs the first recordings of README.md, by the program that is tried: the second command, what looks at its recording, and
-those of an interface. What they print is compared."""
+"""Runs the first recordings of README.md, by the program that is tried: the second command, what looks at its recording,
+and those of an interface. What they print is compared."""
 
 import os
 import re

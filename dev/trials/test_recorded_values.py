@@ -1,5 +1,6 @@
 """Tries that the numbers of settings, scripts and feeds stand in a recording as docs/user/FORMATS.md has them: all at both
-ends, each between them, and marks one by one; each at its ends is in crates/test_cases/src/values.rt. What is compared with is written by hand (dev/trials/frames.py), with no reader of packets."""
+ends, each between them, and marks one by one; each at its ends is in crates/test_cases/src/values.rt. What is compared
+with is written by hand (dev/trials/frames.py), with no reader of packets."""
 
 from __future__ import annotations
 
@@ -62,7 +63,7 @@ def expected(values: Values, frames: list[tuple[int, int, bytes]]) -> bytes:
         size = len(body_of([*held, (0, 0, frame)]))
         if held and HEADER_LENGTH + size + -size % 4 > values.limit:
             close()
-        # Bit 31 of a frame's word is that of a wrong check sequence, mark 1, and bit 30 of another fault, mark 2.
+        # Bit 31 of a frame's word is that of a wrong check sequence, mark 1, and bit 30 of a frame error, mark 2.
         held.append((counter, word | (marks & 1) << 31 | (marks >> 1) << 30, frame))
     close()
     end = struct.pack("<I4sHHQQ", 0, b"CBPR", 2, channel, len(frames), len(frames))

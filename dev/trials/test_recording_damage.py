@@ -1,4 +1,5 @@
-"""Tries recordings that are killed at any moment, damaged, or changed between the two times that a command reads them."""
+"""Tries recordings that are killed at any moment, damaged, or changed between the two times that a command reads
+them."""
 
 import fcntl
 import os

@@ -1,4 +1,5 @@
-"""Tries the order of what commands do to files, call by call, by a library that is preloaded (dev/trials/seen_calls.c)."""
+"""Tries the order of what commands do to files, call by call, by a library that is preloaded
+(dev/trials/seen_calls.c)."""
 
 import os
 import re
@@ -10,7 +11,7 @@ import pytest
 from disks import memory_disk
 from frames import counted_feed
 from recorder import RECORD_LENGTH, RECORDINGS, begin, make_feed, record, write_settings
-from support import BPFREC, CONVERT, PCAPNG, SALVAGE, TRIALS, judge, judge_quietly, outcome, run, shared_library
+from support import BPFREC, CONVERT, PCAPNG, SALVAGE, judge, judge_quietly, outcome, run
 
 WANTED = {"bin/bpfrec": "make build", "cc": "gcc"}
 SAMPLE = RECORDINGS / "two_versions.ch11"
@@ -45,11 +46,6 @@ class Command(NamedTuple):
             return outcome(*words, stdin=stream, env={**os.environ, **adds}, seconds=60)
 
 
-@pytest.fixture(scope="module")
-def library(place: Path) -> Path:
-    return shared_library(TRIALS / "seen_calls.c", place / "seen_calls.so")
-
-
 def commands(work: Path) -> dict[str, Command]:
     """Each command and tool that writes a file."""
     feed = make_feed(work / "own.feed", FRAMES)
@@ -79,11 +75,11 @@ def test_longer_out(work: Path, name: str) -> None:
     judge(f"{name} leaves nothing", done.returncode == 0 and out.read_bytes() == made, done)
 
 
-def calls_of(command: Command, out: Path, library: Path) -> list[Call]:
+def calls_of(command: Command, out: Path, seen_calls: Path) -> list[Call]:
     """The calls of a command on OUT, on its folder and on standard output."""
     told = out.with_name("calls")
     told.write_text("")
-    done = command.into(out, LD_PRELOAD=library, CALLS=told)
+    done = command.into(out, LD_PRELOAD=seen_calls, CALLS=told)
     judge_quietly("it ends well", done.returncode == 0, done)
     lines = [re.fullmatch(r"(\w+) (.*) (-?\d+)\n", it).groups() for it in told.open()]
     calls = [Call(what, file, int(number)) for what, file, number in lines]
@@ -92,13 +88,13 @@ def calls_of(command: Command, out: Path, library: Path) -> list[Call]:
 
 @pytest.mark.parametrize("is_there", [False, True], ids=["new", "there"])
 @pytest.mark.parametrize("name", LOCKING)
-def test_order(work: Path, library: Path, name: str, is_there: bool) -> None:
-    """OUT is opened, locked, emptied, of a new one the folder is forced, it is written and forced to its disk, and then the
-    report is printed."""
+def test_order(work: Path, seen_calls: Path, name: str, is_there: bool) -> None:
+    """OUT is opened, locked, emptied, of a new one the folder is forced, it is written and forced to its disk, and then
+    the report is printed."""
     command, out = commands(work)[name], work / "out"
     if is_there:
         out.write_bytes(b"older")
-    calls = calls_of(command, out, library)
+    calls = calls_of(command, out, seen_calls)
     begin = [Call("open", str(out), TO_WRITE), Call("lock", str(out), AT_ONCE), Call("empty", str(out), 0)]
     begin += [] if is_there else [Call("open", str(out.parent), 0), Call("force", str(out.parent), 0)]
     many, writes = len(begin), sum(it.what == "write" and it.file == str(out) for it in calls)
@@ -113,12 +109,12 @@ def test_order(work: Path, library: Path, name: str, is_there: bool) -> None:
 
 @pytest.mark.parametrize("is_there", [False, True], ids=["new", "there"])
 @pytest.mark.parametrize("name", TOOLS)
-def test_order_of_tools(work: Path, library: Path, name: str, is_there: bool) -> None:
+def test_order_of_tools(work: Path, seen_calls: Path, name: str, is_there: bool) -> None:
     """OUT is forced to its disk behind its last byte, its folder where OUT is new, and then the report is printed."""
     command, out = commands(work)[name], work / "out"
     if is_there:
         out.write_bytes(b"older")
-    calls = calls_of(command, out, library)
+    calls = calls_of(command, out, seen_calls)
     printed = max(at for at, it in enumerate(calls) if it.what == "write" and it.file == "1")
     forced = [it.file for it in calls if it.what == "force"]
     last = max(at for at, it in enumerate(calls) if it.what == "force")
@@ -140,7 +136,7 @@ def test_order_of_tools(work: Path, library: Path, name: str, is_there: bool) ->
     ("extract_of_input", "sample"),
     ("upgrade_of_input", "sample"),
 ])  # fmt: skip
-def test_exchanged(work: Path, library: Path, name: str, source: str) -> None:
+def test_exchanged(work: Path, seen_calls: Path, name: str, source: str) -> None:
     """An OUT that becomes an input between two looks at its name is refused, and keeps its bytes."""
     command, out = commands(work)[name], work / "out"
     (work / "sample").write_bytes(SAMPLE.read_bytes())
@@ -149,7 +145,7 @@ def test_exchanged(work: Path, library: Path, name: str, source: str) -> None:
     before = (work / source).read_bytes()
     out.write_bytes(b"another file")
     os.link(work / source, work / "spare")
-    done = command.into(out, LD_PRELOAD=library, EXCHANGED=out, EXCHANGED_BY=work / "spare")
+    done = command.into(out, LD_PRELOAD=seen_calls, EXCHANGED=out, EXCHANGED_BY=work / "spare")
     judge("it was exchanged", os.path.samefile(out, work / source))
     refused = (done.returncode, done.stdout, done.stderr) == (3, "", f"file {out}\n")
     judge(f"{name} into {source} is refused", refused and (work / source).read_bytes() == before, done)
@@ -188,13 +184,13 @@ LONGEST, PACKETS = 16_383, 65_600
 PROGRAM_LENGTH, PACKET_LENGTH = 64, 16_428
 
 
-def test_many_whole(work: Path, library: Path) -> None:
+def test_many_whole(work: Path, seen_calls: Path) -> None:
     """The numbers of an output that fails behind more packets than 16 bits count."""
     os.mkfifo(work / "own.feed")
     settings = write_settings(work, ["own.feed"], ["all"])
     settings.write_text("limit = 16424\n" + settings.read_text())
     room = PROGRAM_LENGTH + (PACKETS - 1) * PACKET_LENGTH + 100
-    env = {**os.environ, "LD_PRELOAD": str(library), "FAILING": "/dev/null", "FAILS_AFTER": str(room)}
+    env = {**os.environ, "LD_PRELOAD": str(seen_calls), "FAILING": "/dev/null", "FAILS_AFTER": str(room)}
     running = begin(settings, "/dev/null", stderr=subprocess.PIPE, env=env)
     part = counted_feed([bytes(LONGEST)] * 100)
     with open(work / "own.feed", "wb", buffering=0) as feed:
@@ -208,12 +204,12 @@ def test_many_whole(work: Path, library: Path) -> None:
 
 
 @pytest.mark.parametrize("more", [0, 1, 65_536, 300_000])
-def test_many_bytes(work: Path, library: Path, more: int) -> None:
+def test_many_bytes(work: Path, seen_calls: Path, more: int) -> None:
     """The numbers of an output that fails within a long packet."""
     make_feed(work / "own.feed", 500_000 // RECORD_LENGTH)
     settings = write_settings(work, ["own.feed"], ["all"])
     settings.write_text("limit = 524284\n" + settings.read_text())
-    env = {**os.environ, "LD_PRELOAD": str(library), "FAILING": str(work / "out"), "FAILS_AFTER": str(64 + more)}
+    env = {**os.environ, "LD_PRELOAD": str(seen_calls), "FAILING": str(work / "out"), "FAILS_AFTER": str(64 + more)}
     done = record(settings, work / "out", env=env)
     told = (done.returncode, done.stdout, done.stderr)
     judge(f"{more} bytes", told == (1, "", f"run 2 Output 1 {more}\n"), told)

@@ -1,4 +1,5 @@
-"""Tries the OUT of `record`, `extract` and `upgrade`: full and failing disks, names of an input, and standard streams."""
+"""Tries the OUT of `record`, `extract` and `upgrade`: full and failing disks, names of an input, and standard
+streams."""
 
 import errno
 import os
@@ -126,8 +127,8 @@ def forced_run(work: Path, command: str, given: Path) -> tuple[list, str, bytes]
     ids=["record", *(it + end for end in ("", "_of_input") for it in ("extract", "export", "upgrade"))],
 )
 def test_forced(work: Path, failing_fsync: Path, command: str, from_input: bool) -> None:
-    """What a command made is forced to its disk before it prints, and of a new OUT its folder; where that fails it prints
-    nothing else."""
+    """What a command made is forced to its disk before it prints, and of a new OUT its folder; where that fails it
+    prints nothing else."""
     given, out = RECORDINGS / "two_versions.ch11" if from_input else Path("/dev/null"), work / "forced.out"
     words, line, made = forced_run(work, command, given)
     # the whole of OUT, and nothing is printed yet
@@ -247,7 +248,8 @@ def test_out_is_own_pipe(work: Path, own: Path) -> None:
 
 @pytest.mark.parametrize("link", [os.symlink, os.link], ids=["symlink", "link"])
 def test_into_itself(work: Path, own: Path, link: Callable) -> None:
-    """A recording isn't extracted, exported or upgraded into itself by another name, and settings aren't recorded into."""
+    """A recording isn't extracted, exported or upgraded into itself by another name, and settings aren't recorded
+    into."""
     same, other = work / "same.ch11", work / "other.ch11"
     recording = (RECORDINGS / "two_versions.ch11").read_bytes()
     same.write_bytes(recording)

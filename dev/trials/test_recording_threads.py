@@ -1,4 +1,5 @@
-"""Tries how the threads of `bpfrec record` wait for one another: what that takes, how soon they go on, and when they end."""
+"""Tries how the threads of `bpfrec record` wait for one another: what that takes, how soon they go on, and when they
+end."""
 
 import os
 import subprocess
@@ -45,7 +46,8 @@ def test_unread_output(work: Path) -> None:
 
 
 def test_writer_wakes(work: Path) -> None:
-    """Behind a silence, for which its sleeps have grown to ten milliseconds, the writer takes packet after packet quickly."""
+    """Behind a silence, for which its sleeps have grown to ten milliseconds, the writer takes packet after packet
+    quickly."""
     os.mkfifo(work / "own.feed")
     settings = write_settings(work, ["own.feed"], ["all"])
     settings.write_text("limit = 16424\nring = 1\n" + settings.read_text())

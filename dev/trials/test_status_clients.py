@@ -9,23 +9,15 @@ import subprocess
 import sys
 import threading
 import time
-from collections.abc import Iterator
 from pathlib import Path
 
 import pytest
-from asking import asked, connection, place_of, raw, served
+from asking import asked, connection, place_of, raw
 from scripted import Flight, endpoint_in, server, wires_of
 from support import ROOT, judge, judge_quietly, run, wait_for
 
 PATHS = ("/", "/status.json", "/metrics")
 pytestmark = pytest.mark.timed
-
-
-@pytest.fixture
-def flight(work: Path) -> Iterator[Flight]:
-    """A run that is served."""
-    with served(work) as made:
-        yield made
 
 
 def test_half_a_request(flight: Flight, monkeypatch: pytest.MonkeyPatch) -> None:
@@ -203,7 +195,8 @@ from bpfrec_host.live import status
 it = status.Status(endpoint=status.endpoint_in("0"))
 it.start()
 it.tick(time.monotonic())
-for request in (b"x\\r\\n\\r\\n", b"GET / HTTP/1.1\\r\\n\\r\\n", b"POST / HTTP/1.0\\r\\n\\r\\n", b"GET /status.json HTTP/1.0\\r\\n\\r\\n", b"half"):
+for line in (b"x", b"GET / HTTP/1.1", b"POST / HTTP/1.0", b"GET /status.json HTTP/1.0", None):
+    request = b"half" if line is None else line + b"\\r\\n\\r\\n"
     one = socket.create_connection((str(it.server.endpoint.address), it.server.endpoint.port))
     one.setsockopt(socket.SOL_SOCKET, socket.SO_LINGER, struct.pack("ii", 1, 0))
     one.sendall(request)

@@ -1,4 +1,5 @@
-"""Tries what the status knows of a run: a minute by a script, filters, recordings that follow one another, what it keeps.
+"""Tries what the status knows of a run: a minute by a script, filters, recordings that follow one another, what it
+keeps.
 
 Its moments are the script's, so nothing waits here.
 """

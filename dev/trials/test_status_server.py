@@ -1,4 +1,5 @@
-"""Tries the server of the status: what it answers, where it serves, and that no word of a client gets into an answer."""
+"""Tries the server of the status: what it answers, where it serves, and that no word of a client gets into an
+answer."""
 
 from __future__ import annotations
 
@@ -10,11 +11,10 @@ import socket
 import sys
 import threading
 import time
-from collections.abc import Iterator
 from pathlib import Path
 
 import pytest
-from asking import asked, connection, parts_of, place_of, raw, served
+from asking import asked, connection, parts_of, place_of, raw
 from scripted import Flight, Wire, as_json, status
 from support import ROOT, judge, judge_quietly, run, wait_for
 
@@ -27,13 +27,6 @@ SAFE = {
     "cross-origin-resource-policy": "same-origin",
     "connection": "close",
 }
-
-
-@pytest.fixture
-def flight(work: Path) -> Iterator[Flight]:
-    """A run that is served."""
-    with served(work) as made:
-        yield made
 
 
 # ---- what is answered

@@ -1,4 +1,5 @@
-"""Tries how each tool of host/ ends where its output is full or closed, at Ctrl-C, and out of memory: by a line and a status."""
+"""Tries how each tool of host/ ends where its output is full or closed, at Ctrl-C, and out of memory: by a line and a
+status."""
 
 from __future__ import annotations
 

@@ -2,7 +2,8 @@
 
 Blocks that begin with ```sh live want root and bin/capture: then all runs in a network namespace, with interfaces eth0
 and eth1 at which the frames of examples/feeds/one.feed arrive, and the numbers that such a block prints are not
-compared. Those that begin with ```sh tcpdump or ```sh tshark want these. Where something is missing these blocks are left out.
+compared. Those that begin with ```sh tcpdump or ```sh tshark want these. Where something is missing these blocks are
+left out.
 """
 
 import contextlib
@@ -130,7 +131,7 @@ def interfaces(entering: Callable) -> Iterator[None]:
 def shell(entering: Callable) -> Shell:
     """All commands that can be run here, in a namespace where one can be made."""
     lacking = {kind: support.missing(wanted) for kind, wanted in WANTED_BY.items()}
-    left_out = {kind: f"it wants {', '.join(it)}" for kind, it in lacking.items() if it}
+    left_out = {kind: f"it needs {', '.join(it)}" for kind, it in lacking.items() if it}
     with contextlib.ExitStack() as stack:
         try:
             stack.enter_context(interfaces(entering) if "live" not in left_out else contextlib.nullcontext())

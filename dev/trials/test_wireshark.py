@@ -40,7 +40,9 @@ local function file_of(path)
   local opened = io.open(path, "rb")
   return {seek = function(_, ...) return opened:seek(...) end, read = function(_, count) return opened:read(count) end}
 end
-local function told(it) return it.data .. "|" .. tostring(it.time) .. "|" .. tostring(it.original_length) .. "|" .. it.flags end
+local function told(it)
+  return it.data .. "|" .. tostring(it.time) .. "|" .. tostring(it.original_length) .. "|" .. it.flags
+end
 local capture, first, second = {}, file_of(os.getenv("RECORDING")), file_of(os.getenv("RECORDING"))
 assert(handlers[1].read_open(first, capture))
 local places, rows = {}, {}

@@ -19,7 +19,7 @@ class Tool(NamedTuple):
 
 TOOLS = {
     "live": Tool("bpfrec_host.live.command", "records network interfaces, and audits the recording"),
-    "convert": Tool("bpfrec_host.convert.command", "makes feeds from captures and back, and shows their records"),
+    "convert": Tool("bpfrec_host.convert.command", "makes feeds from captures and back, and shows their frames"),
     "info": Tool("bpfrec_host.info.command", "tells what is in a recording, as a text, as JSON or as a page"),
     "pcapng": Tool("bpfrec_host.pcapng.command", "makes one capture of recordings, of a slice of time or of channels"),
     "salvage": Tool("bpfrec_host.salvage", "copies what is left of a damaged recording"),

@@ -33,8 +33,8 @@ local WRONG_LENGTH, WRONG_BODY, WRONG_SUM = { 4, "Length" }, { 5, "Body" }, { 8,
 
 -- ---- limits of this reader
 
--- How many bytes are read at once where fewer are needed; how long a packet may be in a search, and the part of a longer
--- one that is held; how many bytes of a packet a row has.
+-- How many bytes are read at once where fewer are needed; how long a packet may be in a search, and the part of a
+-- longer one that is held; how many bytes of a packet a row has.
 local PIECE, MOST_HELD, MOST_IN_ROW = 65536, 1048576, 65536
 -- Wireshark has no greater length of a row.
 local MOST_LENGTH = 2147483647
@@ -307,8 +307,8 @@ local function goes_on(window, at)
   return #head == HEADER_LEN and not header_fault(head)
 end
 
--- Whether packets that begin at a place follow one another beyond `stop`, or to the file's end. The places of those that
--- don't are put into `broken`.
+-- Whether packets that begin at a place follow one another beyond `stop`, or to the file's end. The places of those
+-- that don't are put into `broken`.
 local function leads_to(search, at, stop)
   local passed = {}
   while at < stop do
@@ -366,8 +366,8 @@ local function search_from(window, begin)
   return { window = window, begin = begin, inside = inside, at = begin + 1, broken = {}, judged = 0 }
 end
 
--- Goes on with a search up to the next packet, to the file's end, to a place, or until many bytes were judged: whether it
--- is over.
+-- Goes on with a search up to the next packet, to the file's end, to a place, or until many bytes were judged: whether
+-- it is over.
 local function go_on(search, sequences, stop)
   local window = search.window
   search.judged = 0
@@ -538,8 +538,8 @@ end
 
 local CONSTANTS = { ["true"] = "true", ["false"] = "false", ["null"] = "null" }
 
--- The value at a place, and the place behind it: an object or a list as {members = .., is_list = ..}, a text, a number as
--- {digits = ..}, a number that isn't whole as false, and a constant as {constant = ..}.
+-- The value at a place, and the place behind it: an object or a list as {members = .., is_list = ..}, a text, a number
+-- as {digits = ..}, a number that isn't whole as false, and a constant as {constant = ..}.
 function Json.value(text, at, depth)
   at = beyond_blanks(text, at)
   local sign = sub(text, at, at)
@@ -701,8 +701,8 @@ local function begins_with(path, bytes)
   return read == bytes
 end
 
--- The facts of the recording that begins with these bytes, and the file that has them: the one that the preference names,
--- or the one beside the recording.
+-- The facts of the recording that begins with these bytes, and the file that has them: the one that the preference
+-- names, or the one beside the recording.
 local function path_of_facts(bytes, named)
   if named ~= "" then
     return named
@@ -758,8 +758,9 @@ local ENCAPSULATION = wtap_encaps.USER11
 -- Past all places of a file.
 local FAILURE_PLACE = 2 ^ 52
 
--- What the recording says of the row that was read last. Wireshark dissects a row as soon as it has read it, also where it
--- goes back to one, so the dissector finds it here: in the bytes it would be counted in the lengths of all statistics.
+-- What the recording says of the row that was read last. Wireshark dissects a row as soon as it has read it, also where
+-- it goes back to one, so the dissector finds it here: in the bytes it would be counted in the lengths of all
+-- statistics.
 local last = {}
 
 -- A recording that is open: the rows as they come, and what leads back to each.
@@ -956,8 +957,8 @@ local function insns_in(data, at, count)
   return found
 end
 
--- Where an instruction jumps, as numbers of instructions from 0 on: where its test holds or it always goes, and where the
--- test fails; nothing where it doesn't jump.
+-- Where an instruction jumps, as numbers of instructions from 0 on: where its test holds or it always goes, and where
+-- the test fails; nothing where it doesn't jump.
 local function targets_of(insn, at)
   if insn.code == 0x05 then
     return at + 1 + insn.k
@@ -1002,10 +1003,13 @@ end
 -- ---- the protocol ch11
 
 local ch11 = Proto("ch11", "Recording of bpfrec (IRIG 106-17 Chapter 11)")
-ch11.prefs.facts = Pref.string("Facts", "", "The file of facts by which times are absolute, where it isn't the one beside "
-  .. "the recording or can't be found there")
+ch11.prefs.facts = Pref.string("Facts", "", "The file of facts by which times are absolute, where it isn't the one "
+  .. "beside the recording or can't be found there")
 
-local DATA_TYPES = { [ETHERNET_DATA] = "Ethernet data, Format 0", [COMPUTER_DATA] = "computer-generated data, Format 0" }
+local DATA_TYPES = {
+  [ETHERNET_DATA] = "Ethernet data, Format 0",
+  [COMPUTER_DATA] = "computer-generated data, Format 0",
+}
 local field = {
   place = ProtoField.uint64("ch11.place", "Place in the recording"),
   time = ProtoField.string("ch11.time", "Time"),
@@ -1020,7 +1024,7 @@ local field = {
   speed = ProtoField.uint8("ch11.speed", "Ethernet speed"),
   content = ProtoField.uint8("ch11.content", "Content"),
   wrong_fcs = ProtoField.bool("ch11.wrong_fcs", "Recorded with a wrong check sequence"),
-  other_error = ProtoField.bool("ch11.other_error", "Recorded with another fault"),
+  other_error = ProtoField.bool("ch11.other_error", "Recorded with a frame error"),
   computed_fcs = ProtoField.uint32("ch11.computed_fcs", "Check sequence by these bytes", base.HEX),
   bad_fcs = ProtoField.bool("ch11.bad_fcs", "Check sequence is not that of these bytes"),
   -- of a packet
@@ -1043,9 +1047,10 @@ local field = {
   damaged_len = ProtoField.uint64("ch11.damaged_length", "Bytes that are no packet"),
 }
 ch11.fields = field
-local told_damage = ProtoExpert.new("ch11.damage.expert", "Damaged place", expert.group.MALFORMED, expert.severity.ERROR)
-local told_wrong = ProtoExpert.new("ch11.wrong_fcs.expert", "Wrong check sequence", expert.group.CHECKSUM, expert.severity.ERROR)
-local told_error = ProtoExpert.new("ch11.other_error.expert", "Faulty frame", expert.group.MALFORMED, expert.severity.WARN)
+local groups, levels = expert.group, expert.severity
+local told_damage = ProtoExpert.new("ch11.damage.expert", "Damaged place", groups.MALFORMED, levels.ERROR)
+local told_wrong = ProtoExpert.new("ch11.wrong_fcs.expert", "Wrong check sequence", groups.CHECKSUM, levels.ERROR)
+local told_error = ProtoExpert.new("ch11.other_error.expert", "Faulty frame", groups.MALFORMED, levels.WARN)
 ch11.experts = { told_damage, told_wrong, told_error }
 
 local ethernet, plain_data = Dissector.get("eth_withfcs"), Dissector.get("data")
@@ -1126,7 +1131,7 @@ local function add_frame(tree, row, wrong, other, content)
   local item = tree:add(ch11)
   if item.visible then
     item:set_text(format("Channel %d, frame %.0f, counter %.0f%s%s", row.channel, row.number, row.counter,
-      wrong and ", wrong check sequence" or "", other and ", another fault" or ""))
+      wrong and ", wrong check sequence" or "", other and ", frame error" or ""))
   end
   add_asked(item, field.channel, row.channel)
   if row.version then
@@ -1139,7 +1144,7 @@ local function add_frame(tree, row, wrong, other, content)
   add_asked(item, field.speed, row.top % 16)
   add_asked(item, field.content, content)
   add_fault(item, field.wrong_fcs, wrong, told_wrong, "Recorded with a wrong check sequence")
-  add_fault(item, field.other_error, other, told_error, "Recorded with another fault than its check sequence")
+  add_fault(item, field.other_error, other, told_error, "Recorded with a frame error")
   add_asked(item, field.length, row.length)
   add_long(item, field.place, row.place)
   add_long(item, field.packet, row.packet)
@@ -1183,8 +1188,9 @@ end
 -- Adds a program: its numbers, and a line for each instruction. Of a channel it is the filter from a frame on.
 local function add_program(item, tvb, data)
   local channel, version, count = number16(data, 34), number32(data, 36), number16(data, 48)
-  local insns = insns_in(data, HEADER_LEN + PROGRAM_HEAD_LEN, min(count, floor((#data - HEADER_LEN - PROGRAM_HEAD_LEN) / INSN_LEN)))
-  local text = format("filter version %.0f of channel %d, %d instruction%s", version, channel, count, count == 1 and "" or "s")
+  local begin, plural = HEADER_LEN + PROGRAM_HEAD_LEN, count == 1 and "" or "s"
+  local insns = insns_in(data, begin, min(count, floor((#data - begin) / INSN_LEN)))
+  local text = format("filter version %.0f of channel %d, %d instruction%s", version, channel, count, plural)
   item:add_le(field.channel, tvb(34, 2))
   item:add_le(field.version, tvb(36, 4))
   item:add_le(field.first, tvb(40, 8))

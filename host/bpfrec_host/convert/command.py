@@ -15,27 +15,27 @@ from bpfrec_host.words import Parser, natural
 ABOUT = f"""\
 Makes feeds for bpfrec from captures, captures from feeds, and sample feeds; shows what a feed has.
 
-A feed has a record for each Ethernet frame, one after the other. A record has a counter (6 bytes, ticks of the
+A feed has a feed record for each Ethernet frame, one after the other. It has a counter (6 bytes, ticks of the
 10 MHz relative time counter (RTC) of IRIG 106) and link-layer error flags (`marks`, 1 byte). Then come the frame's
 length (2 bytes, {MIN_FRAME_LEN} to {MAX_FRAME_LEN:,}), and the frame with its frame check sequence (FCS, {CHECK_SEQUENCE_LEN} bytes).
-Numbers are little-endian. Bit 0 of the flags says that the FCS is wrong, bit 1 that the frame has another
-link-layer error.
+Numbers are little-endian. Bit 0 of the flags says that the FCS is wrong, bit 1 that the frame came with a frame
+error, as one that is too long or too short.
 
 As a file, `-` is standard input or output. It needs Python 3.9 or later, and nothing beside it.
 Nothing of this tool is proved; bpfrec itself reads no captures and computes no check sequence.
 """
-FROM_PCAP = f"""Makes a feed from a capture of Ethernet: a classic pcap file (both byte orders, micro- and nanoseconds) or a
-    pcapng file, of which each section and interface is read. Frames of less than {MIN_WIRE_LEN} bytes are padded as on
+FROM_PCAP = f"""Makes a feed from a capture of Ethernet: a classic pcap file (both byte orders, micro- and nanoseconds)
+    or a pcapng file, of which each section and interface is read. Frames of less than {MIN_WIRE_LEN} bytes are padded as on
     the wire, a frame check sequence (FCS) that the capture lacks is computed, and a frame with a wrong one gets error
     flag bit 0. From a pipe each frame is written before the next one is waited for. Prints `frames <n> skipped <m>`,
     on standard error if the feed is standard output: m frames were cut short by the capture, or have fewer bytes than a
     frame or more than {MAX_FRAME_LEN - CHECK_SEQUENCE_LEN:,}. A file that is damaged or ends in the middle is refused,
     and then OUT.feed has the frames before."""
-TO_PCAP = """Makes a classic pcap file (nanoseconds, little-endian) from a feed, such as `bpfrec extract` writes. It has no
-    place for error flags. Prints `frames <n>`, on standard error if the capture is standard output. A frame whose time
-    is before 1970, or past 2106-02-07, is refused. The status is 3 if the FILE of --facts can't be read, and 1 if it has
-    no facts of a recording."""
-SHOW = f"""Prints a line for each record of a feed: the counter, the error flags, the length of the frame with its FCS, and
+TO_PCAP = """Makes a classic pcap file (nanoseconds, little-endian) from a feed, such as `bpfrec extract` writes. It has
+    no place for error flags. Prints `frames <n>`, on standard error if the capture is standard output. A frame whose time
+    is before 1970, or past 2106-02-07, is refused. The status is 3 if the FILE of --facts can't be read, and 1 if it
+    has no facts of a recording."""
+SHOW = f"""Prints a line for each frame of a feed: the counter, the error flags, the length of the frame with its FCS, and
     the frame's first {SHOWN_BYTES} bytes."""
 MAKE = "Makes a feed of COUNT sample frames, the same for the same SEED."
 
@@ -104,7 +104,7 @@ def add_to_pcap(commands: "Commands[Parser]") -> None:
 
 def add_show(commands: "Commands[Parser]") -> None:
     """The arguments of show."""
-    made = add(commands, "show", "prints a line for each record of a feed", SHOW)
+    made = add(commands, "show", "prints a line for each frame of a feed", SHOW)
     made.add_argument("feed", metavar="FEED")
     made.set_defaults(run=lambda given: show(given.feed))
 
@@ -120,7 +120,7 @@ def add_make(commands: "Commands[Parser]") -> None:
 
 def run_make(given: argparse.Namespace) -> None:
     """Runs make."""
-    # Here, since no other command wants what draws.
+    # Here, since no other command needs what draws.
     from bpfrec_host.convert.samples import make
 
     make(given.seed, given.count, given.output)

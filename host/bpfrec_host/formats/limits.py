@@ -23,7 +23,7 @@ MIN_FRAME_LEN, MAX_FRAME_LEN = 18, 16_383
 CHECK_SEQUENCE_LEN = 4
 # What a record of a feed has before its frame.
 RECORD_HEAD_LEN = 9
-# The marks of a frame: its check sequence is wrong; it has another fault.
+# The marks of a frame: its check sequence is wrong; it has a frame error.
 MARK_CHECK_SEQUENCE, MARK_OTHER_FAULT = 1, 2
 MAX_MARKS = MARK_CHECK_SEQUENCE | MARK_OTHER_FAULT
 
@@ -43,7 +43,8 @@ MAX_ETHERNET_PACKET_LEN = 524_288
 ETHERNET_DATA, COMPUTER_GENERATED_DATA = 0x68, 0x00
 # The word that a body of frames begins with, and what stands before each frame.
 BODY_WORD_LEN, FRAME_HEADER_LEN = 4, 12
-# The channel ID of records; their heads, up to the channel; a program's record before its instructions; an end's record.
+# The channel ID of records; their heads, up to the channel; a program's record before its instructions; an end's
+# record.
 RECORD_CHANNEL = 0
 RECORD_TAG = b"CBPR"
 PROGRAM_RECORD, END_RECORD = 1, 2
@@ -78,6 +79,12 @@ CHANNEL_KEYS = {
     "speed": Range(0, 15, 0),
     "max": Range(0, MAX_NUMBER, MAX_NUMBER),
 }
+
+# ---- the kernel's buffers, as capture asks for them
+
+# Of each interface in MiB, and the part of the memory that all have at most; the kernel makes up to so many times as
+# much of what is asked for.
+USUAL_BUFFER, BUFFERS_IN_MEMORY, BUFFER_FOLD = 256, 4, 2
 
 # ---- the facts beside a recording
 

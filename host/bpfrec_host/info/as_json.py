@@ -46,7 +46,7 @@ def channel_object(channel: Channel, beside: Optional[Beside]) -> dict[str, Any]
         "frames": channel.frames,
         "bytes": channel.bytes,
         "offered": channel.offered(),
-        "dropped": channel.dropped(),
+        "dropped_by_filter": channel.dropped(),
         "first_counter": first,
         "last_counter": last,
         "first_time": time_of(first, beside),

@@ -1,4 +1,4 @@
-"""What is in a recording, as a page of HTML that wants nothing from outside."""
+"""What is in a recording, as a page of HTML that loads nothing from elsewhere."""
 
 from __future__ import annotations
 
@@ -36,7 +36,8 @@ svg { width: 100%; height: 7.5rem; display: block; }
 .even { background: var(--even); } .odd { background: var(--odd); }
 .filter { display: grid; grid-template-columns: minmax(11rem, 1fr) 3fr; gap: 1rem; margin: 1rem 0; }
 .filter > div { border-left: .4rem solid; padding-left: .6rem; font-variant-numeric: tabular-nums; }
-.filter .even { border-color: var(--even); background: none; } .filter .odd { border-color: var(--odd); background: none; }
+.filter .even { border-color: var(--even); background: none; }
+.filter .odd { border-color: var(--odd); background: none; }
 pre { background: var(--box); padding: .6rem; margin: 0; overflow-x: auto; font-size: .85rem; }
 @media (max-width: 40rem) { .filter { grid-template-columns: minmax(0, 1fr); gap: .4rem; } }
 @media print { body { max-width: none; padding: 0; font-size: 11pt; } * { print-color-adjust: exact;

@@ -8,6 +8,7 @@ from typing import Callable, NamedTuple, NoReturn, Optional
 
 from bpfrec_host.ending import full_name, tell
 from bpfrec_host.live.help import ABOUT, MORE
+from bpfrec_host.live.life import are_rotating
 from bpfrec_host.live.words import Way, words_of
 from bpfrec_host.words import Parser
 
@@ -47,7 +48,7 @@ class Arguments(NamedTuple):
 
     def is_rotating(self) -> bool:
         """Whether recordings follow one another."""
-        return self.every is not None or self.size is not None
+        return are_rotating(self.every, self.size)
 
     def keeps_filters(self) -> bool:
         """Whether filters are kept, which may be given to a recorder once more."""

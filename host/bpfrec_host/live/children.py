@@ -8,6 +8,7 @@ import subprocess
 from typing import IO, NamedTuple, Optional, Sequence, Union
 
 from bpfrec_host.live import system
+from bpfrec_host.live.descriptors import Holder
 
 # What ends live, and what it sends the capture.
 ENDING = (signal.SIGINT, signal.SIGTERM, signal.SIGHUP)
@@ -36,12 +37,13 @@ CAPTURE = Manner(ignored=(signal.SIGTTOU,), blocked=HELD, has_capabilities=True)
 AUDIT = Manner(ignored=(*ENDING, signal.SIGTTOU), ends_by=signal.SIGKILL)
 
 
-class Child:
-    """A program that was started. Its status is as shells have it: 128 and the number of the signal that ended it."""
+class Child(Holder):
+    """A program that was started, with the descriptor by which its end is told. Its status is as shells have it: 128 and
+    the number of the signal that ended it."""
 
     def __init__(self, process: subprocess.Popen[bytes]) -> None:
+        super().__init__(opened(process.pid))
         self.process, self.pid = process, process.pid
-        self.descriptor = opened(process.pid)
 
     def status(self) -> Optional[int]:
         """The status; None while it runs."""
@@ -52,12 +54,6 @@ class Child:
         """Sends a signal; a program that has ended gets none."""
         if self.process.poll() is None:
             self.process.send_signal(number)
-
-    def close(self) -> None:
-        """Closes the descriptor by which its end is told."""
-        if self.descriptor is not None:
-            os.close(self.descriptor)
-            self.descriptor = None
 
 
 def status_of(code: int) -> int:

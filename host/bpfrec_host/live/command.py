@@ -103,9 +103,9 @@ def look_ahead(given: Arguments) -> None:
             refuse_folder(given.out)
         return
     if not given.ways:
-        raise Refusal(2, "live: --every and --size want an interface")
+        raise Refusal(2, "live: --every and --size need an interface")
     if os.path.exists(given.out) and not os.path.isfile(given.out):
-        raise Refusal(2, f"live: --every and --size make files, and {given.out} is none")
+        raise Refusal(2, f"live: --every and --size make files, and {given.out} is not a file")
     refuse_folder(Names(given.out).next()[1])
 
 

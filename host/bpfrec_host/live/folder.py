@@ -65,7 +65,7 @@ def judge_settings(settings: Settings, given: Arguments) -> None:
         named = channel.table.get("id")
         if given.is_rotating() and not (isinstance(named, int) and named in wanted):
             told = "one without a line id" if named is None else named
-            what = "live: --every and --size want an interface for each channel"
+            what = "live: --every and --size need an interface for each channel"
             raise Refusal(2, f"{what}, and {told} of {given.settings} has none")
     for way in given.ways:
         tables = [it for it in settings.channels if is_channel(it.table, way.channel)]
@@ -73,7 +73,7 @@ def judge_settings(settings: Settings, given: Arguments) -> None:
             raise Refusal(2, f"live: {given.settings} has no table [[channel]] with a line id = {way.channel}")
         has_filter = way.expression or given.settings is None or any(it.path("filter") for it in tables)
         if given.is_prefiltered and not has_filter:
-            what = f'live: --prefilter wants a line filter = ".." of channel {way.channel}'
+            what = f'live: --prefilter needs a line filter = ".." of channel {way.channel}'
             raise Refusal(2, f"{what} in {given.settings}")
 
 

@@ -10,6 +10,7 @@ from pathlib import Path
 from typing import Optional
 
 from bpfrec_host.live.children import ENDING, opened, status_of
+from bpfrec_host.live.descriptors import Holder, close
 from bpfrec_host.live.events import Events
 from bpfrec_host.live.facts import KILLED_STATUS, About, Writer
 from bpfrec_host.live.names import facts_path
@@ -18,8 +19,9 @@ from bpfrec_host.live.names import facts_path
 PAUSE = 0.05
 
 
-class Guard:
-    """The guard, as live has it. Live ends it by `dismiss`; else it acts once live has died.
+class Guard(Holder):
+    """The guard, as live has it, with the descriptor by which its end is told. Live ends it by `dismiss`; else it acts
+    once live has died.
 
     Two pipes tell it of ends: one that live alone has open, and one that each program that live starts has open too.
     """
@@ -42,7 +44,7 @@ class Guard:
                 os._exit(0)
         os.close(own_reader)
         os.close(all_reader)
-        self.descriptor = opened(self.pid)
+        super().__init__(opened(self.pid))
         self.code: Optional[int] = None
 
     def status(self) -> Optional[int]:
@@ -51,12 +53,6 @@ class Guard:
             found, code = os.waitpid(self.pid, os.WNOHANG)
             self.code = status_of(os.waitstatus_to_exitcode(code)) if found else None
         return self.code
-
-    def close(self) -> None:
-        """Closes the descriptor by which its end is told."""
-        if self.descriptor is not None:
-            os.close(self.descriptor)
-            self.descriptor = None
 
     def dismiss(self) -> None:
         """Ends the guard, since live has ended all itself."""
@@ -85,14 +81,6 @@ def watch(writer: Writer, own: int, everybody: int) -> None:
     for about in sorted(writer.folder.top.glob("*/about.json")):
         write_facts(writer, about.parent)
     writer.folder.remove_all()
-
-
-def close(descriptor: int) -> None:
-    """Closes a descriptor that may be closed."""
-    try:
-        os.close(descriptor)
-    except OSError:
-        pass
 
 
 def end_rest(top: Path, everybody: int) -> None:

@@ -6,6 +6,11 @@ from enum import Enum
 from typing import NamedTuple, Optional
 
 
+def are_rotating(every: Optional[int], size: Optional[int]) -> bool:
+    """Whether recordings follow one another, by the seconds and the bytes after which they do."""
+    return every is not None or size is not None
+
+
 class Phase(Enum):
     """Where a recording is in its life."""
 
@@ -28,7 +33,7 @@ class Plan(NamedTuple):
 
     def is_rotating(self) -> bool:
         """Whether recordings follow one another."""
-        return self.every is not None or self.size is not None
+        return are_rotating(self.every, self.size)
 
 
 class Recording:

@@ -2,24 +2,25 @@
 
 from __future__ import annotations
 
-import os
 from typing import Callable, Optional
 
 from bpfrec_host.live import system
+from bpfrec_host.live.descriptors import Holder
 
 # How often files are looked at where the kernel has no watches left, in seconds.
 LOOKING_PAUSE = 0.1
 Look = Callable[[], None]
 
 
-class Watches:
-    """Watched files, each with what looks at it. A look may come more often than something happens."""
+class Watches(Holder):
+    """Watched files, each with what looks at it, and the descriptor of the watches, with which all end. A look may come
+    more often than something happens."""
 
     def __init__(self) -> None:
+        super().__init__(None)
         self.looks: dict[int, Look] = {}
         self.looked_at: dict[int, Look] = {}
         self.next_key, self.next_look = -1, 0.0
-        self.descriptor: Optional[int] = None
         try:
             self.descriptor = system.open_watches()
         except OSError:
@@ -69,9 +70,3 @@ class Watches:
         """Calls what looks at the files of which the kernel tells nothing."""
         for look in list(self.looked_at.values()):
             look()
-
-    def close(self) -> None:
-        """Ends all watches."""
-        if self.descriptor is not None:
-            os.close(self.descriptor)
-            self.descriptor = None

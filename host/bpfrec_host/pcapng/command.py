@@ -4,7 +4,7 @@ from __future__ import annotations
 
 import argparse
 import os
-from typing import Optional
+from typing import BinaryIO, Optional
 
 from bpfrec_host.ending import full_name, say, short_name, tell
 from bpfrec_host.formats import facts
@@ -34,7 +34,8 @@ MORE = """\
 TIME is seconds since counter 0, as 12.5, or UTC as 2025-12-01T12:00:00.25Z, which needs facts.
 
 As OUT, `-` is standard output. It prints `frames <n> skipped <m>`, on standard error if OUT is standard output: m
-frames have another content, or fewer than 18 bytes, and no capture can have them. When that is printed, OUT is on its disk.
+frames have another content, or fewer than 18 bytes, and no capture can have them. When that is printed, OUT is on its
+disk.
 A damaged place is reported on standard error, and what is behind it is read.
 
 It runs bpfrec for the text of filters: what BPFREC names, or the one beside it; without it they are listings.
@@ -116,17 +117,24 @@ def interfaces_of(recordings: list[Recording], chosen: Optional[list[int]]) -> l
     return [Interface(number, channel, recordings) for number, channel in enumerate(channels)]
 
 
-def write(path: str, recordings: list[Recording], interfaces: list[Interface], is_quiet: bool) -> int:
-    """Writes the capture: how many frames it has."""
+def write_blocks(out: BinaryIO, recordings: list[Recording], interfaces: list[Interface], is_quiet: bool) -> int:
+    """Writes the capture's blocks: how many frames they have."""
     slices = [each for it in interfaces for each in it.slices]
     count = -1 - len(interfaces)
+    with Progress("pcapng", sum(it.size() for it in slices), is_quiet) as progress:
+        for block in blocks(recordings, interfaces):
+            out.write(block)
+            count += 1
+            if count % FRAMES_A_LOOK == 0:
+                progress.at(sum(it.done for it in slices))
+    return count
+
+
+def write(path: str, recordings: list[Recording], interfaces: list[Interface], is_quiet: bool) -> int:
+    """Writes the capture: how many frames it has."""
     try:
-        with output.create(path) as out, Progress("pcapng", sum(it.size() for it in slices), is_quiet) as progress:
-            for block in blocks(recordings, interfaces):
-                out.write(block)
-                count += 1
-                if count % FRAMES_A_LOOK == 0:
-                    progress.at(sum(it.done for it in slices))
+        with output.create(path) as out:
+            count = write_blocks(out, recordings, interfaces, is_quiet)
             force(out)
     except OSError as error:
         error.filename = error.filename or path

@@ -1,4 +1,5 @@
-"""What `bpfrec-live` would refuse or lose with the same arguments: interfaces, permission, offloads, buffers and OUT."""
+"""What `bpfrec-live` would refuse or lose with the same arguments: interfaces, permission, offloads, buffers and
+OUT."""
 
 from __future__ import annotations
 
@@ -11,6 +12,7 @@ import struct
 from typing import Callable, Optional
 
 from bpfrec_host import program
+from bpfrec_host.formats.limits import BUFFER_FOLD, BUFFERS_IN_MEMORY, USUAL_BUFFER
 from bpfrec_host.formats.settings import Settings
 from bpfrec_host.live.adapters import asked
 from bpfrec_host.live.arguments import Arguments, read
@@ -23,9 +25,8 @@ from bpfrec_host.preflight.output import available_memory, judge_out
 from bpfrec_host.preflight.report import Report
 
 MEBIBYTE = 1 << 20
-# What capture asks for of each interface, in MiB, and how much of the memory all have at most; the kernel makes up to
-# twice as much.
-USUAL_BUFFER, BUFFERS_IN_MEMORY, BUFFER_FOLD = 256, 4, 2
+# How a group gets the permission, as capture itself says it.
+BY_GROUP = "as USING.md says: chgrp recorder F && chmod 750 F && setcap cap_net_raw=ep F, where F is"
 # Stands for the pipes of live's: nothing is ever there.
 NOWHERE = "/dev/null"
 SIOCGIFFLAGS, UP, RUNNING = 0x8913, 0x1, 0x40
@@ -90,7 +91,7 @@ def judge_live_out(given: Arguments, settings: Optional[Settings], report: Repor
         report.fault(out, without_name(refusal))
         return
     if given.is_rotating() and is_special(given.out):
-        report.fault(given.out, "--every and --size make files, and it is none")
+        report.fault(given.out, "--every and --size make files, and it is not a file")
     channels = [] if settings is None else settings.channels
     inputs = [it for it in channels if os.path.dirname(it.path("feed") or "") != NOWHERE]
     judge_out(out, given.settings or os.devnull, inputs, report)
@@ -147,7 +148,7 @@ def judge_permission(report: Report) -> None:
     try:
         os.getxattr(capture, "security.capability")
     except OSError:
-        report.fault("capture", f"no permission to capture: be root, or once setcap cap_net_raw=ep {capture}")
+        report.fault("capture", f"no permission to capture: be root, or have a group capture, {BY_GROUP} {capture}")
 
 
 def judge_buffers(given: Arguments, report: Report) -> None:

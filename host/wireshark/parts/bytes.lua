@@ -31,8 +31,8 @@ local WRONG_LENGTH, WRONG_BODY, WRONG_SUM = { 4, "Length" }, { 5, "Body" }, { 8,
 
 -- ---- limits of this reader
 
--- How many bytes are read at once where fewer are needed; how long a packet may be in a search, and the part of a longer
--- one that is held; how many bytes of a packet a row has.
+-- How many bytes are read at once where fewer are needed; how long a packet may be in a search, and the part of a
+-- longer one that is held; how many bytes of a packet a row has.
 local PIECE, MOST_HELD, MOST_IN_ROW = 65536, 1048576, 65536
 -- Wireshark has no greater length of a row.
 local MOST_LENGTH = 2147483647

@@ -131,8 +131,8 @@ local function begins_with(path, bytes)
   return read == bytes
 end
 
--- The facts of the recording that begins with these bytes, and the file that has them: the one that the preference names,
--- or the one beside the recording.
+-- The facts of the recording that begins with these bytes, and the file that has them: the one that the preference
+-- names, or the one beside the recording.
 local function path_of_facts(bytes, named)
   if named ~= "" then
     return named

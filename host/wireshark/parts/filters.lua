@@ -32,8 +32,8 @@ local function insns_in(data, at, count)
   return found
 end
 
--- Where an instruction jumps, as numbers of instructions from 0 on: where its test holds or it always goes, and where the
--- test fails; nothing where it doesn't jump.
+-- Where an instruction jumps, as numbers of instructions from 0 on: where its test holds or it always goes, and where
+-- the test fails; nothing where it doesn't jump.
 local function targets_of(insn, at)
   if insn.code == 0x05 then
     return at + 1 + insn.k

@@ -86,8 +86,8 @@ end
 
 local CONSTANTS = { ["true"] = "true", ["false"] = "false", ["null"] = "null" }
 
--- The value at a place, and the place behind it: an object or a list as {members = .., is_list = ..}, a text, a number as
--- {digits = ..}, a number that isn't whole as false, and a constant as {constant = ..}.
+-- The value at a place, and the place behind it: an object or a list as {members = .., is_list = ..}, a text, a number
+-- as {digits = ..}, a number that isn't whole as false, and a constant as {constant = ..}.
 function Json.value(text, at, depth)
   at = beyond_blanks(text, at)
   local sign = sub(text, at, at)

@@ -1,10 +1,13 @@
 -- ---- the protocol ch11
 
 local ch11 = Proto("ch11", "Recording of bpfrec (IRIG 106-17 Chapter 11)")
-ch11.prefs.facts = Pref.string("Facts", "", "The file of facts by which times are absolute, where it isn't the one beside "
-  .. "the recording or can't be found there")
+ch11.prefs.facts = Pref.string("Facts", "", "The file of facts by which times are absolute, where it isn't the one "
+  .. "beside the recording or can't be found there")
 
-local DATA_TYPES = { [ETHERNET_DATA] = "Ethernet data, Format 0", [COMPUTER_DATA] = "computer-generated data, Format 0" }
+local DATA_TYPES = {
+  [ETHERNET_DATA] = "Ethernet data, Format 0",
+  [COMPUTER_DATA] = "computer-generated data, Format 0",
+}
 local field = {
   place = ProtoField.uint64("ch11.place", "Place in the recording"),
   time = ProtoField.string("ch11.time", "Time"),
@@ -19,7 +22,7 @@ local field = {
   speed = ProtoField.uint8("ch11.speed", "Ethernet speed"),
   content = ProtoField.uint8("ch11.content", "Content"),
   wrong_fcs = ProtoField.bool("ch11.wrong_fcs", "Recorded with a wrong check sequence"),
-  other_error = ProtoField.bool("ch11.other_error", "Recorded with another fault"),
+  other_error = ProtoField.bool("ch11.other_error", "Recorded with a frame error"),
   computed_fcs = ProtoField.uint32("ch11.computed_fcs", "Check sequence by these bytes", base.HEX),
   bad_fcs = ProtoField.bool("ch11.bad_fcs", "Check sequence is not that of these bytes"),
   -- of a packet
@@ -42,9 +45,10 @@ local field = {
   damaged_len = ProtoField.uint64("ch11.damaged_length", "Bytes that are no packet"),
 }
 ch11.fields = field
-local told_damage = ProtoExpert.new("ch11.damage.expert", "Damaged place", expert.group.MALFORMED, expert.severity.ERROR)
-local told_wrong = ProtoExpert.new("ch11.wrong_fcs.expert", "Wrong check sequence", expert.group.CHECKSUM, expert.severity.ERROR)
-local told_error = ProtoExpert.new("ch11.other_error.expert", "Faulty frame", expert.group.MALFORMED, expert.severity.WARN)
+local groups, levels = expert.group, expert.severity
+local told_damage = ProtoExpert.new("ch11.damage.expert", "Damaged place", groups.MALFORMED, levels.ERROR)
+local told_wrong = ProtoExpert.new("ch11.wrong_fcs.expert", "Wrong check sequence", groups.CHECKSUM, levels.ERROR)
+local told_error = ProtoExpert.new("ch11.other_error.expert", "Faulty frame", groups.MALFORMED, levels.WARN)
 ch11.experts = { told_damage, told_wrong, told_error }
 
 local ethernet, plain_data = Dissector.get("eth_withfcs"), Dissector.get("data")
@@ -125,7 +129,7 @@ local function add_frame(tree, row, wrong, other, content)
   local item = tree:add(ch11)
   if item.visible then
     item:set_text(format("Channel %d, frame %.0f, counter %.0f%s%s", row.channel, row.number, row.counter,
-      wrong and ", wrong check sequence" or "", other and ", another fault" or ""))
+      wrong and ", wrong check sequence" or "", other and ", frame error" or ""))
   end
   add_asked(item, field.channel, row.channel)
   if row.version then
@@ -138,7 +142,7 @@ local function add_frame(tree, row, wrong, other, content)
   add_asked(item, field.speed, row.top % 16)
   add_asked(item, field.content, content)
   add_fault(item, field.wrong_fcs, wrong, told_wrong, "Recorded with a wrong check sequence")
-  add_fault(item, field.other_error, other, told_error, "Recorded with another fault than its check sequence")
+  add_fault(item, field.other_error, other, told_error, "Recorded with a frame error")
   add_asked(item, field.length, row.length)
   add_long(item, field.place, row.place)
   add_long(item, field.packet, row.packet)
@@ -182,8 +186,9 @@ end
 -- Adds a program: its numbers, and a line for each instruction. Of a channel it is the filter from a frame on.
 local function add_program(item, tvb, data)
   local channel, version, count = number16(data, 34), number32(data, 36), number16(data, 48)
-  local insns = insns_in(data, HEADER_LEN + PROGRAM_HEAD_LEN, min(count, floor((#data - HEADER_LEN - PROGRAM_HEAD_LEN) / INSN_LEN)))
-  local text = format("filter version %.0f of channel %d, %d instruction%s", version, channel, count, count == 1 and "" or "s")
+  local begin, plural = HEADER_LEN + PROGRAM_HEAD_LEN, count == 1 and "" or "s"
+  local insns = insns_in(data, begin, min(count, floor((#data - begin) / INSN_LEN)))
+  local text = format("filter version %.0f of channel %d, %d instruction%s", version, channel, count, plural)
   item:add_le(field.channel, tvb(34, 2))
   item:add_le(field.version, tvb(36, 4))
   item:add_le(field.first, tvb(40, 8))

@@ -27,8 +27,8 @@ local function goes_on(window, at)
   return #head == HEADER_LEN and not header_fault(head)
 end
 
--- Whether packets that begin at a place follow one another beyond `stop`, or to the file's end. The places of those that
--- don't are put into `broken`.
+-- Whether packets that begin at a place follow one another beyond `stop`, or to the file's end. The places of those
+-- that don't are put into `broken`.
 local function leads_to(search, at, stop)
   local passed = {}
   while at < stop do
@@ -86,8 +86,8 @@ local function search_from(window, begin)
   return { window = window, begin = begin, inside = inside, at = begin + 1, broken = {}, judged = 0 }
 end
 
--- Goes on with a search up to the next packet, to the file's end, to a place, or until many bytes were judged: whether it
--- is over.
+-- Goes on with a search up to the next packet, to the file's end, to a place, or until many bytes were judged: whether
+-- it is over.
 local function go_on(search, sequences, stop)
   local window = search.window
   search.judged = 0

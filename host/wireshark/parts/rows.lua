@@ -4,8 +4,9 @@ local ENCAPSULATION = wtap_encaps.USER11
 -- Past all places of a file.
 local FAILURE_PLACE = 2 ^ 52
 
--- What the recording says of the row that was read last. Wireshark dissects a row as soon as it has read it, also where it
--- goes back to one, so the dissector finds it here: in the bytes it would be counted in the lengths of all statistics.
+-- What the recording says of the row that was read last. Wireshark dissects a row as soon as it has read it, also where
+-- it goes back to one, so the dissector finds it here: in the bytes it would be counted in the lengths of all
+-- statistics.
 local last = {}
 
 -- A recording that is open: the rows as they come, and what leads back to each.

@@ -21,7 +21,8 @@ class BlockSums:
         self.totals: list[list[int]] = [[0] for _ in range(WORD_LEN)]
 
     def of_part(self, held: memoryview, at: int, begin: int, end: int) -> int:
-        """The sum of the bytes from one place up to another, which are whole words; those that are held begin at `at`."""
+        """The sum of the bytes from one place up to another, which are whole words; those that are held begin at
+        `at`."""
         turn = begin % WORD_LEN
         low, high = -(-(begin - turn) // BLOCK), (end - turn) // BLOCK
         if low >= high:

@@ -66,8 +66,10 @@ def of_whole(view: View) -> Iterator[Alarm]:
         text = f"{view.recording.name}: {view.recording.fault}: the recording's file isn't what the recorder writes"
         yield Alarm("damaged", ALARM, None, "damaged", text)
     if view.recording and view.recording.unread > UNREAD_BYTES:
-        text = f"{view.recording.name}: {size(view.recording.unread)} weren't looked at yet: kept frames are told late"
-        yield Alarm("unread", WARNING, None, "told late", text)
+        text = (
+            f"{view.recording.name}: {size(view.recording.unread)} weren't looked at yet: kept frames are counted late"
+        )
+        yield Alarm("unread", WARNING, None, "counts late", text)
     if view.audits.no:
         refused = [f"{it.name}: {it.audit}" for it in view.recordings if it.is_refused()][-1:]
         text = (
@@ -111,7 +113,7 @@ def of_channel(channel: ChannelView, state: str, limit: int) -> Iterator[Alarm]:
     yield from of_pipe(channel)
     unknown = channel.seconds if channel.counts_age is None else channel.counts_age
     if unknown > COUNTS_SECONDS:
-        yield of(channel, "no_counts", ALARM, "no counts", f"the capture has counted nothing for {duration(unknown)}")
+        yield of(channel, "no_counts", ALARM, "no counts", f"capture has counted nothing for {duration(unknown)}")
         return
     silent = channel.seconds if channel.frame_age is None else channel.frame_age
     if silent > SILENT_SECONDS:
