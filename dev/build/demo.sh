@@ -6,7 +6,7 @@ set -euo pipefail
 usage='usage: dev/build/demo.sh
 
 Shows a recording of the samples in examples/, from two filters to extracted frames; each command is
-shown ahead of its output. It wants bin/bpfrec (make build), and leaves its files in bin/.'
+shown ahead of its output. It needs bin/bpfrec (make build), and leaves its files in bin/.'
 
 if [[ $# == 1 && ( $1 == -h || $1 == --help ) ]]; then
     echo "$usage"

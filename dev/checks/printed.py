@@ -1,9 +1,9 @@
 #!/usr/bin/env python3
 """Checks the words of the lines that programs print: none of those that STYLE refuses.
 
-It reads the strings of the Python files of host/, but for those that document, the strings of capture/src/, what
-trials say as they are left out (pytest.skip), and what the Makefiles print. It prints FILE:LINE: TEXT for each refused
-word, and the status is 1 where there is one.
+It reads the strings of the Python files and scripts of host/, but for those that document, the strings of capture/src/,
+what trials say as they are left out (pytest.skip), and what the Makefiles print. It prints FILE:LINE: TEXT for each
+refused word, and the status is 1 where there is one.
 """
 import argparse
 import ast
@@ -38,7 +38,7 @@ def strings_of(tree):
 
 def python_strings():
     """The strings of host/, each with its file and its line."""
-    for file in sorted((ROOT / "host").rglob("*.py")):
+    for file in sorted([*(ROOT / "host").rglob("*.py"), *(ROOT / "host" / "bin").iterdir()]):
         yield from ((file, *it) for it in strings_of(ast.parse(file.read_text())))
 
 

@@ -1,4 +1,5 @@
 """What the program's help and the arguments of the tools say, as they stand in their sources."""
+import ast
 import importlib
 import re
 import sys
@@ -11,7 +12,7 @@ from bpfrec_host.__main__ import TOOLS as PYTHON_TOOLS
 
 COMMANDS, HELP = ROOT / "crates/rec_words/src/command_line.rt", ROOT / "crates/rec_words/src/command_line/help.rt"
 FORMATS = ROOT / "docs/user/FORMATS.md"
-CAPTURE = ROOT / "capture/src/arguments.c"
+CAPTURE, CHECK_SUMS = ROOT / "capture/src/arguments.c", ROOT / "host/bin/check_sums"
 
 
 class Word(NamedTuple):
@@ -149,6 +150,7 @@ def parser_texts(parser):
 def tool_texts():
     """The help of all tools and of their commands: what it is called by, and its texts."""
     yield "capture --help", capture_text().partition("\n\n")[2]
+    yield "host/bin/check_sums --help", ast.get_docstring(ast.parse(CHECK_SUMS.read_text()))
     for tool in PYTHON_TOOLS.values():
         yield from parser_texts(importlib.import_module(tool.module).parser())
 

@@ -62,7 +62,8 @@ def main():
         print("python3-coverage is missing: apt-get install python3-coverage", file=sys.stderr)
         return 2
     names = [f"dev/trials/test_{it}.py" for it in TRIALS]
-    files = given.files or [*names, *sorted(str(it) for it in (ROOT / "dev/trials").glob("test_live_*.py"))]
+    found = [it for kind in ("live", "status") for it in (ROOT / "dev/trials").glob(f"test_{kind}_*.py")]
+    files = given.files or [*names, *sorted(str(it) for it in found)]
     with tempfile.TemporaryDirectory(prefix="bpfrec_covered_") as folder:
         place = Path(folder)
         if not measure(place, files):

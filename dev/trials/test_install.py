@@ -288,6 +288,8 @@ def test_installed_names(work: Path, package: Path) -> None:
     programs = set(re.findall(r"(?<!\w)/usr/(?:lib|libexec|share)/[\w./-]*\w", using))
     missing = [it for it in programs if not (work / it[1:]).exists()]
     judge("also where paths are whole", missing == [] and len(programs) > 1, missing)
+    bare = re.findall(r"^sudo .* bpfrec-capture\b.*", using, re.M)
+    judge("the permission is given to the file, not to a name", bare == [], bare)
 
 
 def test_dpkg(request: pytest.FixtureRequest) -> None:

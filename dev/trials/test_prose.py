@@ -51,7 +51,7 @@ def test_wrong(text: str, line: int) -> None:
 def test_helps() -> None:
     """Each tool's help is read, and that of each of its commands."""
     names = [name for name, _ in prose.texts()]
-    for name in ("capture", "convert", "convert from-pcap", "convert make", "live", "preflight"):
+    for name in ("capture", "check_sums", "convert", "convert from-pcap", "convert make", "live", "preflight"):
         judge(f"{name} --help", any(it.endswith(f"{name} --help") for it in names), names)
 
 

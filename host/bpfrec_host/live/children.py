@@ -1,4 +1,5 @@
-"""Programs that live starts: each in a process group of its own, so that no signal reaches it that was meant for live."""
+"""Programs that live starts: each in a process group of its own, so that no signal reaches it that was meant for
+live."""
 
 from __future__ import annotations
 
@@ -38,8 +39,8 @@ AUDIT = Manner(ignored=(*ENDING, signal.SIGTTOU), ends_by=signal.SIGKILL)
 
 
 class Child(Holder):
-    """A program that was started, with the descriptor by which its end is told. Its status is as shells have it: 128 and
-    the number of the signal that ended it."""
+    """A program that was started, with the descriptor by which its end is told. Its status is as shells have it: 128
+    and the number of the signal that ended it."""
 
     def __init__(self, process: subprocess.Popen[bytes]) -> None:
         super().__init__(opened(process.pid))

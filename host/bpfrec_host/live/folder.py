@@ -96,7 +96,8 @@ class Folder:
         self.events = self.top / "events"
 
     def make_all(self) -> None:
-        """Makes the folder and what all recordings share, once there is somebody who removes it where live is killed."""
+        """Makes the folder and what all recordings share, once there is somebody who removes it where live is
+        killed."""
         try:
             self.top.mkdir(mode=0o700)
         except OSError as error:

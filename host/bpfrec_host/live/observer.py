@@ -16,8 +16,8 @@ class Setup(NamedTuple):
 
 
 class Counts(NamedTuple):
-    """What the capture has counted of an interface since the run began. `skipped` frames were cut short, or of no length
-    that a feed takes; `waited` is for how many milliseconds the interface's pipe was full."""
+    """What the capture has counted of an interface since the run began. `skipped` frames were cut short, or of no
+    length that a feed takes; `waited` is for how many milliseconds the interface's pipe was full."""
 
     frames: int
     bytes: int

@@ -2,8 +2,9 @@
 
 How `live` joins it; all calls are made by one thread, and moments are seconds of `time.monotonic()`:
 
-    status = Status(endpoint_in(word), Terminal(2, is_quiet), sync, limit, has_ring)  # before anything is recorded; 1 ms
-        # Raises BadEndpoint (its status is 2) and NoServer (3), each with its one line; `status.address()` is what is told
+    # Before anything is recorded; 1 ms. It raises BadEndpoint (its status is 2) and NoServer (3), each with its line;
+    # `status.address()` is what is printed.
+    status = Status(endpoint_in(word), Terminal(2, is_quiet), sync, limit, has_ring)
     status.start()  # begins to serve, once nothing is forked any more that isn't a program of its own; 1 ms
     status.recording_begun(number, path, [Setup(1, "eth0")], now)  # once the recorder has OUT open; 0.1 ms
     status.capture_counted(*counted_in(line), now)  # each line of counts, also with --quiet; 10 us

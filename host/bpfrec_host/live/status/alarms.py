@@ -156,8 +156,8 @@ def of_filter(channel: ChannelView, limit: int) -> Iterator[Alarm]:
     ):
         return
     text = (
-        f"the filter keeps nothing, or too little to fill a packet of {limit:,} bytes: none of the {it.frames:,} frames "
-        f"that were offered in {duration(it.seconds)} is in the recording"
+        f"the filter keeps nothing, or too little to fill a packet of {limit:,} bytes: none of the {it.frames:,} "
+        f"frames that were offered in {duration(it.seconds)} is in the recording"
     )
     yield of(channel, "keeps_nothing", ALARM, "keeps nothing", text)
 

@@ -27,7 +27,8 @@ from bpfrec_host.formats.limits import (
     RECORD_CHANNEL,
 )
 
-# How much a call looks at, at most: packets; damaged places, bytes behind each, and places in these that look like packets.
+# How much a call looks at, at most: packets; damaged places, bytes behind each, and places in these that look like
+# packets.
 MOST_PACKETS, MOST_FAULTS, MOST_SEARCHED, MOST_PLACES = 4_096, 4, 1 << 20, 1_024
 # What is read of a packet at once, and the longest record, which is read whole: that of a program.
 FRONT_LEN = HEADER_LEN + END_RECORD_LEN

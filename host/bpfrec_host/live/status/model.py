@@ -1,5 +1,5 @@
-"""What is known of a run while it goes on. It has no clock: each call gets the moment, in seconds of a clock that nobody
-sets. What is kept doesn't grow with the run."""
+"""What is known of a run while it goes on. It has no clock: each call gets the moment, in seconds of a clock that
+nobody sets. What is kept doesn't grow with the run."""
 
 from __future__ import annotations
 

@@ -23,7 +23,8 @@ MOST_PIECES = 16
 
 
 class Status(Observer):
-    """The observer of a run, by which it is watched. Moments are those of `time.monotonic`; all calls come from one thread."""
+    """The observer of a run, by which it is watched. Moments are those of `time.monotonic`; all calls come from one
+    thread."""
 
     def __init__(
         self,
