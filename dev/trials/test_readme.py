@@ -49,7 +49,7 @@ def test_first_recording(place: Path) -> None:
 
 def test_plugin(place: Path) -> None:
     if missing({"tshark": "tshark"}):
-        pytest.skip("it wants tshark")
+        pytest.skip("it needs tshark")
     run("bash", "-c", first_recording()[0], cwd=place)
     command = re.search(r"^- `(tshark .*?)`", README, re.MULTILINE)
     env = {**os.environ, "HOME": str(place)}
@@ -60,7 +60,7 @@ def test_plugin(place: Path) -> None:
 def test_interface(place: Path, namespace: None) -> None:
     """As root: `sudo` is left out."""
     if missing({"bin/capture": "make build", "ip": "iproute2"}) or os.geteuid() != 0:
-        pytest.skip("it wants root, iproute2 and bin/capture")
+        pytest.skip("it needs root, iproute2 and bin/capture")
     found = re.search(r"```sh\nmake capture\nsudo (BPFREC=.*)\n(.*)\n(.*)\n```", README)
     judge("README goes on to an interface", found is not None)
     live, *others = found.groups() if found else ("", "", "")
