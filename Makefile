@@ -35,7 +35,7 @@ crate: ## one crate: its proof, its edits that must fail, its tests: make crate 
 trials: ## what runs the built program, its tools, interfaces and disks; one alone: pytest dev/trials -k NAME
 	@dev/trials/run.py
 
-covered: build ## which lines of host/bin/live the trials run, by its own trials once more: 90 of 100 at least
+covered: build ## which lines of host/bin/live its trials run, 90 of 100 at least: ten minutes, in no other target
 	@dev/trials/covered.py
 
 test: ## all proofs, all tests and stored runs, over kept work, and the edits of what changed

@@ -2,9 +2,10 @@
 """Measures which lines of host/bin/live its trials run, by Debian's python3-coverage: all processes of all trials
 count.
 
-FILE names other trials than those of live. It prints a line for each module with the lines that no trial runs, and at
-last the part that is run; the status is 1 where that is less than --least says. A trial that counts the lines of
-standard error of a user without rights fails beside it, since the measurement can't write there; that is told.
+FILE names other trials than those of live and of its status. It prints a line for each module with the lines that no
+trial runs, and at last the part that is run; the status is 1 where that is less than --least says. A trial that counts
+the lines of standard error of a program without rights or descriptors fails beside it, since the measurement can't be
+written there; that is told.
 
 Status: 0 as much is run, 1 less, 2 python3-coverage is missing.
 """
