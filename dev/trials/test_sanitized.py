@@ -1,7 +1,7 @@
 """Tries bin/capture under the sanitizers of gcc and clang, and its readers of capture files with drawn bytes.
 
-Under the sanitizers of addresses and of undefined behaviour it goes through the trials test_capture*.py and
-test_convert*.py; under that of threads two interfaces go over to other feeds again and again, and a file is converted;
+Under the sanitizers of addresses and of undefined behaviour it goes through the trials whose names begin with one of
+TOPICS; under that of threads two interfaces go over to other feeds again and again, and a file is converted;
 and for a minute libFuzzer gives the readers of capture files what it draws from capture/fuzz/corpus/. A report of any
 of them is wrong.
 """
@@ -30,7 +30,8 @@ WANTED = {
 pytestmark = pytest.mark.timed
 CORPUS = ROOT / "capture/fuzz/corpus"
 FUZZ_SECONDS = int(os.environ.get("FUZZ_SECONDS", "60"))
-FILES = sorted(it.name for topic in ("capture", "convert") for it in TRIALS.glob(f"test_{topic}*.py"))
+TOPICS = ("capture", "convert", "prefilter", "live_losses", "live_private")
+FILES = sorted(it.name for topic in TOPICS for it in TRIALS.glob(f"test_{topic}*.py"))
 SWITCHES = 50
 PATIENCE = 500
 
