@@ -119,9 +119,9 @@ def free_on(folder: Path) -> int:
 def test_notes_of_room(folder: Path) -> None:
     """The numbers of notes are those of statvfs and of /proc/meminfo, before and behind."""
     (folder / "s.toml").write_text("limit = 16424\nring = 4096\n" + GOOD)
-    with memory_disk(folder / "disk", "size=3m") as disk:
+    with memory_disk(folder / "disk", "size=3m") as disk, memory_disk(folder / "other", "size=5m") as other:
         (disk / "old.ch11").write_bytes(bytes(1_000_000))
-        for out in (disk / "new.ch11", disk / "old.ch11", folder / "new.ch11"):
+        for out in (disk / "new.ch11", disk / "old.ch11", other / "new.ch11"):
             before = free_on(out.parent), available()
             done = preflight(folder, "s.toml", "--out", str(out))
             behind = free_on(out.parent), available()
