@@ -35,20 +35,24 @@ from support import BPFREC, ROOT
 KINDS = [texts, listings, recordings, feeds, scripts, settings]
 
 
+def kinds_in_turn(words, draw, runner):
+    """The fixed inputs, unless inputs are counted; then drawn kinds, until the time is over or as many inputs as are wanted
+    were run."""
+    if not words.files:
+        yield fixed
+    end = time.monotonic() + words.seconds
+    while len(runner.inputs) < words.files if words.files else time.monotonic() < end:
+        yield draw.choice(KINDS)
+
+
 def search(words):
-    """Draws cases until the time is over, or as many inputs as are wanted were run; how many runs of each
-    kind, and how many cases were kept."""
-    corpus, draw = Corpus(), random.Random(words.seed)
-    first = [] if words.files else [fixed]
-    runs, kept, end = (
-        dict.fromkeys((kind.__name__ for kind in [*first, *KINDS]), 0),
-        0,
-        time.monotonic() + words.seconds,
-    )
+    """Tries cases: how many runs of each kind, and how many cases were kept."""
+    corpus, draw, kept = Corpus(), random.Random(words.seed), 0
+    runs = dict.fromkeys((kind.__name__ for kind in ([] if words.files else [fixed]) + list(KINDS)), 0)
     with tempfile.TemporaryDirectory() as name:
         runner = Runner(str(Path(words.program).resolve()), Path(name))
-        while len(runner.inputs) < words.files if words.files else time.monotonic() < end:
-            kind, last = first.pop() if first else draw.choice(KINDS), []
+        for kind in kinds_in_turn(words, draw, runner):
+            last = []
 
             def run(case):
                 last[:] = [case]

@@ -1,4 +1,4 @@
-"""Runs dev/trials/fuzz.py for a minute, which may be over with the inputs that are always the same, and on drawn inputs
+"""Runs dev/trials/fuzz.py on the inputs that are always the same and for a minute on drawn ones, and on so many drawn ones
 alone; `make fuzz` takes an hour."""
 
 import sys
@@ -10,7 +10,7 @@ SECONDS, DRAWN = 60, 600
 
 
 def test_minute() -> None:
-    done = outcome(sys.executable, TRIALS / "fuzz.py", "--seconds", SECONDS, BPFREC, seconds=SECONDS + 240)
+    done = outcome(sys.executable, TRIALS / "fuzz.py", "--seconds", SECONDS, BPFREC, seconds=SECONDS + 540)
     print(done.stdout)
     judge(
         f"inputs are drawn for {SECONDS} seconds, and no case is kept", done.returncode == 0, done.stdout + done.stderr
