@@ -1,5 +1,5 @@
-/* Preloaded before a program: once it has limited its calls of the kernel, some are tried, and standard error says how each
- * ended: by an error, or done. */
+/* Preloaded before a program: once it has limited its calls of the kernel, some are tried, and standard error says how
+ * each ended: by an error, or done. */
 #define _GNU_SOURCE
 #include <dlfcn.h>
 #include <errno.h>
@@ -12,9 +12,17 @@ static const struct {
     const char *name;
     long number;
 } TRIED[] = {
-    {"execve", SYS_execve}, {"execveat", SYS_execveat}, {"ptrace", SYS_ptrace},     {"mount", SYS_mount},
-    {"bpf", SYS_bpf},       {"unlinkat", SYS_unlinkat}, {"setns", SYS_setns},       {"unshare", SYS_unshare},
-    {"listen", SYS_listen}, {"connect", SYS_connect},   {"io_uring_setup", SYS_io_uring_setup},
+    {"execve", SYS_execve},
+    {"execveat", SYS_execveat},
+    {"ptrace", SYS_ptrace},
+    {"mount", SYS_mount},
+    {"bpf", SYS_bpf},
+    {"unlinkat", SYS_unlinkat},
+    {"setns", SYS_setns},
+    {"unshare", SYS_unshare},
+    {"listen", SYS_listen},
+    {"connect", SYS_connect},
+    {"io_uring_setup", SYS_io_uring_setup},
 };
 
 int seccomp_load(const void *filter) {
