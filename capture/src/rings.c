@@ -35,6 +35,12 @@ static void pass_over(unsigned char *it, const struct pcap_pkthdr *head, const u
     (void)bytes;
 }
 
+/* Passes over what a ring has had so far, and what it lost. */
+static void begin_anew(struct ring *ring) {
+    take_rest(ring, pass_over, NULL);
+    look_at_losses(ring);
+}
+
 int group_rings(struct rings *rings) {
     struct ring *quiet = &rings->each[QUIET_RING], *burst = &rings->each[BURST_RING];
     unsigned new_group = PACKET_FANOUT_CBPF | PACKET_FANOUT_FLAG_UNIQUEID;
@@ -45,11 +51,13 @@ int group_rings(struct rings *rings) {
     if (!join(quiet, (int)(new_group << GROUP_TYPE_SHIFT)) || !fill(rings, QUIET_RING) ||
         getsockopt(pcap_fileno(quiet->pcap), SOL_PACKET, PACKET_FANOUT, &group, &len) != 0 || !join(burst, group))
         return 0;
-    /* Until it joined it had each frame that the quiet one has, and one may still be on its way. */
+    /* Until it joined the burst ring had each frame that the quiet one has, and one may still be on its way. Between
+     * what the quiet one had alone and what it has from the group the kernel may have left a frame out, which is in no
+     * count. */
     if (!fill(rings, QUIET_RING))
         return 0;
-    take_rest(burst, pass_over, NULL);
-    look_at_losses(burst);
+    begin_anew(burst);
+    begin_anew(quiet);
     return 1;
 }
 

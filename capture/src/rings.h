@@ -20,8 +20,8 @@ struct rings {
     unsigned frames;       /* that came since then */
 };
 
-/* Makes a group of two rings that are active, of which the quiet one gets all frames. Whether it could; else `errno`
- * says why not. */
+/* Makes a group of two rings that are active, of which the quiet one gets all frames. Those that came before are passed
+ * over. Whether it could; else `errno` says why not. */
 int group_rings(struct rings *rings);
 
 struct ring *ring_in_use(struct rings *rings);

@@ -131,7 +131,9 @@ def test_begin_and_end_in_flood(work: Path) -> None:
             frames, dropped = map(int, COUNTS.findall(told)[-1])
             judge_quietly("status", status == 0 and frames == len(found) > 0, told)
             judge("each once and in order", found == sorted(set(found)), told)
-            judge("and none is missing", found[-1] - found[0] + 1 <= frames + dropped, (found[0], found[-1], told))
+            holes = [pair for pair in zip(found, found[1:]) if pair[1] != pair[0] + 1]
+            is_whole = found[-1] - found[0] + 1 <= frames + dropped
+            judge("and none is missing", is_whole, (found[0], found[-1], holes, told))
 
 
 def test_end_in_burst(work: Path) -> None:
