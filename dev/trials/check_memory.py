@@ -20,7 +20,7 @@ By a malloc that is preloaded (dev/trials/failing_malloc.c, with cc):
   nothing is written, and the program ends as out of memory
 
 And under a limit of addresses: `list`, `audit` and `extract` of a header that claims four gigabytes, which
-ask for 262,144 bytes at once at most.
+ask for 65,536 bytes at once at most.
 
 It takes half a minute, and dev/build/test.py and dev/build/gate.py run it. The status is 1 where something else happens.
 """
@@ -47,7 +47,7 @@ SECONDS = 100
 # A header that claims a packet of four gigabytes, and how much memory its readers may have.
 CLAIM = bytes.fromhex("25eb0100 fcffffff 00000000 08000001 00000000 000029ec")
 ADDRESSES = 64_000_000
-MOST_AT_ONCE = 262_144
+MOST_AT_ONCE = 65_536
 # A line that is answered at once: whoever gets the answer knows that the control waits for lines.
 NO_LINE, NO_LINE_ANSWER = b"x\n", b"refused 0 Line\n"
 COUNTS = ("growths", "recording", "late", "refused", "largest", "started", "running", "left")

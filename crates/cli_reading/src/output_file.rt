@@ -11,7 +11,7 @@ use std::io::{BufWriter, ErrorKind, Write};
 use std::rt::Files;
 
 /// How many bytes of an output are written at once.
-pub(crate) const PIECE: usize = 262_144;
+pub(crate) const PIECE: usize = 65_536;
 
 /// An output's file. It is created after the buffer before it, so that there is none if there is no
 /// memory for the buffer.
