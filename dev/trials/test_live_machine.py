@@ -296,6 +296,26 @@ def test_second_signal() -> None:
     judge("and is killed then", not it.is_running and world.machine.is_done() and it.audits == 0)
 
 
+def test_failed_beside_audit() -> None:
+    """A recorder whose output failed is killed, and the audit of the recording before goes on."""
+    world = World(ROTATING)
+    world.machine.begin(0)
+    while_going(world)
+    world.wait(11)
+    while not world.played[1].audits:
+        world.consequences.pop(0)()
+    second = world.now()
+    world.open(second)
+    second.has_opened, world.consequences = False, []
+    second.recording.has_failed = True
+    world.machine.told_to_end(world.time)
+    world.settle()
+    world.wait(2.1)
+    world.settle()
+    judge("the recorder is killed", not second.is_running, world.said)
+    judge("and the audit isn't", world.killed_audits == 0 and world.machine.old is world.played[1].recording)
+
+
 def test_second_signal_in_audit() -> None:
     """An audit that takes long is ended in the same way."""
     world = World(SINGLE)

@@ -263,18 +263,19 @@ class Machine:
             self.tell(self.old)
 
     def give_up(self) -> None:
-        """Kills what doesn't end by itself: the capture, else the recorders, else the audits."""
+        """Kills what doesn't end by itself: the capture, else the recorder; in a hurry that before and audits too."""
         if self.captured is None:
             self.hands.signal_capture(signal.SIGKILL)
         elif self.waits_for_reader(self.now):
             self.hands.say(f"live: nobody reads {self.now.out}: nothing was recorded")
             self.recorded = self.recorded or FILE_FAULT
             self.refuse()
+        elif not self.is_hurried:
+            self.hands.kill_recorder(self.now)
         else:
-            for it in (self.old, self.now):
-                if it:
-                    self.hands.kill_recorder(it)
-                    self.hands.kill_audit(it)
+            for it in filter(None, (self.old, self.now)):
+                self.hands.kill_recorder(it)
+                self.hands.kill_audit(it)
 
     def refuse(self) -> None:
         """Ends a run of which nothing was begun: the recorder waits for its pipes still, and has created nothing."""
