@@ -47,7 +47,11 @@ class Export:
         self.numbers: dict[int, int] = {}
         self.later: dict[int, list[Version]] = {}
         self.frames: list[Shown] = []
-        self.bytes = section("<")
+        self.parts = [section("<")]
+
+    @property
+    def bytes(self) -> bytes:
+        return b"".join(self.parts)
 
     def take(self, it) -> None:
         if isinstance(it.what, ch11.Program):
@@ -69,7 +73,7 @@ class Export:
         options.append(option("<", CHECK_SEQUENCE_LEN, b"\x04"))
         if self.origin is not None:
             options.append(option("<", OFFSET, self.origin.to_bytes(8, "little")))
-        self.bytes += interface("<", *options, END)
+        self.parts.append(interface("<", *options, END))
         return True
 
     def show(self, channel: int, frame) -> None:
@@ -79,7 +83,7 @@ class Export:
         if marks:
             value = 4 << 5 | (1 << 24 if marks & 2 else 0) | (1 << 31 if marks & 1 else 0)
             options.append(option("<", FLAGS, value.to_bytes(4, "little")))
-        self.bytes += packet("<", number, frame.counter, frame.bytes, *options, *[END][: len(options)])
+        self.parts.append(packet("<", number, frame.counter, frame.bytes, *options, *[END][: len(options)]))
 
 
 def wanted_of(data: bytes, origin: int | None = None) -> Export:

@@ -5,13 +5,14 @@ import hashlib
 import os
 import random
 import re
+import resource
 from pathlib import Path
 
 import pytest
 from captures import fields_of
 from damage import damaged
 from exports import Shown, wanted_of
-from frames import FRAMES, body_of, packet_of, program_packet, with_check_sequence
+from frames import FRAMES, HEAD, body_of, packet_of, program_packet, with_check_sequence
 from reading import SAMPLES, SEED, recording_of_three
 from recorder import RECORDINGS, extracted
 from rows import AS_ROOT, drawn_recording, flight_of, seconds_of
@@ -181,6 +182,22 @@ def test_clients(work: Path, three: Path) -> None:
     judge("reordercap of one channel", outcome("reordercap", one, work / "one.pcapng").returncode == 0)
     lines = outcome("tcpdump", "-nr", exported(work, three))
     judge("tcpdump", lines.returncode == 0 and len(re.findall(r"^\d\d:", lines.stdout, re.MULTILINE)) == count, lines)
+
+
+@pytest.mark.timed
+def test_a_channel_more_costs_no_look_at_the_others(work: Path) -> None:
+    """All 65,536 channels, each met twice. A search through those before took over ten seconds for so many."""
+    packets = {
+        channel: packet_of(channel, body_of([(channel, 0, with_check_sequence(HEAD))]), 0, FRAMES, channel, True)
+        for channel in range(65_536)
+    }
+    recording, out = work / "channels.ch11", work / "channels.pcapng"
+    recording.write_bytes(b"".join([*packets.values(), *reversed(packets.values())]))
+    before = resource.getrusage(resource.RUSAGE_CHILDREN).ru_utime
+    run(BPFREC, "export", recording, out, seconds=120)
+    took = resource.getrusage(resource.RUSAGE_CHILDREN).ru_utime - before
+    judge_quietly("the bytes", out.read_bytes() == wanted_of(recording.read_bytes()).bytes)
+    judge(f"{took:.1f} s for 131,072 packets of 65,536 channels", took < 4)
 
 
 # ---- damaged recordings, and outputs that fail

@@ -224,6 +224,30 @@ def test_out_is_stream(work: Path, own: Path, command: str, how: str, out: str) 
     judge(f"OUT {out} with {how} is refused", (told.returncode, told.stderr, lines.read_bytes()) == wanted, told)
 
 
+@pytest.mark.parametrize("out", ["/dev/stdin", "/dev/fd/0", "/proc/self/fd/0"])
+@pytest.mark.parametrize("command", ["extract - 1", "upgrade -", "export -"])
+def test_a_pipe_that_is_read_is_no_out(command: str, out: str) -> None:
+    """What went into it would come out of it again: an export had no end, and an extraction kept nothing."""
+    piped = f"cat {RECORDINGS / 'two_versions.ch11'} | timeout 5 {BPFREC} {command} {out}"
+    done = outcome("sh", "-c", piped)
+    judge(f"{command} {out}", (done.returncode, done.stdout, done.stderr) == (3, "", f"file {out}\n"), done)
+
+
+@pytest.mark.parametrize("by", ["{} >> own.ch11", "- < own.ch11 >> own.ch11"], ids=["by_name", "by_input"])
+@pytest.mark.parametrize(
+    "command", ["list {}", "audit {}", "export {} -", "export {} other", "extract {} 1 other", "upgrade {} other"]
+)
+def test_standard_output_is_not_the_recording_that_is_read(work: Path, command: str, by: str) -> None:
+    """What is printed would go into the recording, and an export of it would never end."""
+    own, (file, streams) = work / "own.ch11", by.split(" ", 1)
+    own.write_bytes((RECORDINGS / "two_versions.ch11").read_bytes())
+    before = own.read_bytes()
+    words = command.format(file.format("own.ch11"))
+    done = outcome("sh", "-c", f"timeout 5 {BPFREC} {words} {streams}", cwd=work)
+    is_refused = (done.returncode, done.stderr) == (3, "file -\n")
+    judge(f"{words} {streams}", is_refused and own.read_bytes() == before and not (work / "other").exists(), done)
+
+
 def test_out_of_extract_is_stream(work: Path, own: Path) -> None:
     judge_quietly("it records", record(own, work / "new.ch11").returncode == 0)
     recording = (work / "new.ch11").read_bytes()

@@ -1,7 +1,7 @@
 //! The command that judges a recording by itself.
 
 use crate::reading::{next_packet, reader_of, reader_over};
-use cli_streams::{CommandEnding, STREAM, print_line};
+use cli_streams::{CommandEnding, STREAM, print_line, refuse_output_into_input};
 use rec_reader::{Audit, AuditLine, Auditor, Reader};
 use std::alloc::Global;
 use std::io::{Read, Write};
@@ -17,6 +17,7 @@ pub fn audit_recording<'a, R: AllocGlobal + Files, I: Read, O: Write>(
 ) -> Result<(), CommandEnding<'a>> {
     let alloc = rt.alloc();
     let audited = if file == STREAM {
+        refuse_output_into_input(rt)?;
         audit_packets(alloc, file, &mut reader_over(alloc, input)?)?
     } else {
         audit_packets(alloc, file, &mut reader_of(rt, file)?)?

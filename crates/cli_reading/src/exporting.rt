@@ -5,7 +5,7 @@ ghost use Rattle.rec_export.specs.Exported.{IsExported};
 
 use crate::output_file::{PIECE, buffered_output};
 use crate::reading::{open, reader_over};
-use cli_streams::{CommandEnding, Inputs, LockFile, STREAM};
+use cli_streams::{CommandEnding, Inputs, LockFile, STREAM, refuse_output_into_input};
 use rec_export::{ExportEnd, export_recording};
 use std::alloc::Global;
 use std::io::{BufWriter, Read, Write};
@@ -32,6 +32,8 @@ where
     let mut inputs = Inputs::new(rt.alloc());
     inputs.add_streams(rt)?;
     if file == STREAM {
+        refuse_output_into_input(rt)?;
+        inputs.add_standard_input(rt)?;
         return export_into(rt, file, &inputs, out, origin, input, output);
     }
     let mut recording = open(rt, file)?;

@@ -4,7 +4,7 @@ use crate::reading::{
     Counts, begin_again, counts_of, is_read_twice, next_packet, open, packet_again, reader_over,
 };
 use ch11_packet::{Header, What};
-use cli_streams::{CommandEnding, STREAM, print_line};
+use cli_streams::{CommandEnding, STREAM, print_line, refuse_output_into_input};
 use rec_reader::{Packet, Reader};
 use std::alloc::Global;
 use std::io;
@@ -22,6 +22,7 @@ pub fn list_packets<'a, R: AllocGlobal + Files, I: Read, O: Write>(
 ) -> Result<(), CommandEnding<'a>> {
     let alloc = rt.alloc();
     if file == STREAM {
+        refuse_output_into_input(rt)?;
         return list_held(alloc, file, &mut reader_over(alloc, input)?, output);
     }
     let mut recording = open(rt, file)?;

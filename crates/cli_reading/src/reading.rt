@@ -6,7 +6,7 @@ ghost use Rattle.cli_reading.specs.Counts.{CountsRecording};
 ghost use Rattle.cli_reading.specs.Written.{GivesNext};
 
 use ch11_packet::What;
-use cli_streams::CommandEnding;
+use cli_streams::{CommandEnding, refuse_output_into};
 use rec_reader::{OwnedPacket, Packet, Reader};
 use std::alloc::Global;
 use std::fs;
@@ -120,9 +120,11 @@ pub(crate) fn reader_over<'a, I: Read + Drop>(
     Ok(Reader::new(alloc, input))
 }
 
-/// A recording's file.
+/// A recording's file. It is refused if standard output is that file too.
 pub(crate) fn open<'a, R: Files>(rt: &R, file: &'a str) -> Result<R::File, CommandEnding<'a>> {
-    fs::open(rt, file).map_err(|error| CommandEnding::of_io(file, &error))
+    let recording = fs::open(rt, file).map_err(|error| CommandEnding::of_io(file, &error))?;
+    refuse_output_into(rt, &recording)?;
+    Ok(recording)
 }
 
 /// Whether an open file can be read twice, as a regular file can. A pipe can't.

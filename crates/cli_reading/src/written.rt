@@ -9,7 +9,7 @@ use crate::output_file::{buffered_output, write_held};
 use crate::reading::{
     Counts, begin_again, counts_of, is_read_twice, next_packet, open, packet_again, reader_over,
 };
-use cli_streams::{CommandEnding, Inputs, LockFile, STREAM};
+use cli_streams::{CommandEnding, Inputs, LockFile, STREAM, refuse_output_into_input};
 use rec_reader::{Packet, Reader};
 use std::alloc::Global;
 use std::io::{BufWriter, Read, Write};
@@ -55,6 +55,8 @@ where
     if file != STREAM {
         return write_file(rt, file, &mut inputs, out, written);
     }
+    refuse_output_into_input(rt)?;
+    inputs.add_standard_input(rt)?;
     inputs.refuse_input(rt, out)?;
     write_once(rt, file, &inputs, out, input, written)
 }

@@ -3,10 +3,10 @@
 ghost use Rattle.std.specs.Prelude.{◌≡◌, IfErr};
 ghost use Rattle.cli_streams.specs.declared.ending.CommandEnding.TheVariants.{File};
 
-use crate::ending::CommandEnding;
+use crate::ending::{CommandEnding, STREAM};
 use std::alloc::{AllocError, Global};
 use std::fs::{Metadata, OpenFile};
-use std::io::ErrorKind;
+use std::io::{self, ErrorKind};
 use std::os::unix::fs::{FileTypeExt, MetadataExt};
 use std::rt::Files;
 
@@ -17,8 +17,14 @@ struct Identity {
     number: u64,
 }
 
+/// The system's name for standard input.
+const STANDARD_INPUT: &str = "/dev/stdin";
+
+/// The system's name for standard output.
+const STANDARD_OUTPUT: &str = "/dev/stdout";
+
 /// The names that the system has for the standard streams.
-const STREAMS: [&str; 3] = ["/dev/stdin", "/dev/stdout", "/dev/stderr"];
+const STREAMS: [&str; 3] = [STANDARD_INPUT, STANDARD_OUTPUT, "/dev/stderr"];
 
 /// Files that a command has opened, none of which may be its output.
 #[derive(Drop)]
@@ -37,6 +43,15 @@ impl Inputs {
     /// Adds an open file. One that doesn't tell what it is can't be compared, and is passed over.
     pub fn add<F: OpenFile>(&mut self, file: &F) -> Result<(), AllocError> {
         let Ok(found) = file.metadata() else {
+            return Ok(());
+        };
+        Ok(self.files.push(identity_of(&found))?)
+    }
+
+    /// Adds standard input, which a command reads: also a pipe, out of which would come again what
+    /// goes into it.
+    pub fn add_standard_input<R: Files>(&mut self, rt: &R) -> Result<(), AllocError> {
+        let Ok(found) = rt.metadata(STANDARD_INPUT) else {
             return Ok(());
         };
         Ok(self.files.push(identity_of(&found))?)
@@ -94,13 +109,48 @@ impl Inputs {
 
     /// Whether a file that is written would spoil what one of these gives.
     pub(crate) fn is_spoiled(&self, found: &Metadata) -> bool {
-        (found.is_file() || found.file_type().is_fifo()) && self.has(found)
+        is_kept(found) && self.has(found)
     }
 
     /// Whether a file is one of these.
     fn has(&self, found: &Metadata) -> bool {
         self.files.as_slice().contains(&identity_of(found))
     }
+}
+
+/// Refuses standard output if it is the file that a command has opened to read, as `>>` makes it: what
+/// is printed would come in again, and the file would be another one.
+pub fn refuse_output_into<'a, R: Files, F: OpenFile>(
+    rt: &R,
+    read: &F,
+) -> Result<(), CommandEnding<'a>> {
+    refuse_one(read.metadata(), rt.metadata(STANDARD_OUTPUT))
+}
+
+/// Refuses standard output if it is the file or the pipe that standard input is.
+pub fn refuse_output_into_input<'a, R: Files>(rt: &R) -> Result<(), CommandEnding<'a>> {
+    refuse_one(rt.metadata(STANDARD_INPUT), rt.metadata(STANDARD_OUTPUT))
+}
+
+/// Refuses standard output if it is what is read. What doesn't tell what it is can't be compared, and
+/// is passed over.
+fn refuse_one<'a>(
+    read: io::Result<Metadata>,
+    written: io::Result<Metadata>,
+) -> Result<(), CommandEnding<'a>> {
+    let (Ok(read), Ok(written)) = (read, written) else {
+        return Ok(());
+    };
+    if is_kept(&read) && identity_of(&read) == identity_of(&written) {
+        return Err(CommandEnding::File(STREAM));
+    }
+    Ok(())
+}
+
+/// Whether bytes that are written there are found again, as in a file or a pipe. A device has nothing
+/// to lose.
+fn is_kept(found: &Metadata) -> bool {
+    found.is_file() || found.file_type().is_fifo()
 }
 
 /// What tells a file from all others.

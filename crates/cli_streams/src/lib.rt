@@ -18,7 +18,7 @@ pub use created::{LockFile, create_output};
 pub use ending::{ANSWERED, CommandEnding, STREAM};
 pub use forced::force_to_disk;
 pub use input::{MAX_LISTING, MAX_TEXT, bounded_text, text_in, whole_text};
-pub use inputs::Inputs;
+pub use inputs::{Inputs, refuse_output_into, refuse_output_into_input};
 pub use listed::{ListedFault, listed_program};
 pub use output::{finish, print_line, print_text};
 pub use recording_fault::RecordingFault;

@@ -7,3 +7,4 @@ pub mod ShownFrames
 pub mod Whole
 pub mod Widths
 pub mod ShownChannels
+mod InterfaceEntries

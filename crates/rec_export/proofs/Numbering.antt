@@ -10,8 +10,7 @@ use Rattle.rec_reader.specs.Packets.{PacketData}
 use Rattle.rec_reader.specs.Channels.{Saying, saying_of}
 use Rattle.rec_reader.specs.Channels.Saying.{OfFrames, OfProgram, OfEnd}
 use Rattle.rec_export.specs.declared.version.LaterVersions.{LaterVersions}
-use Rattle.rec_export.specs.declared.interface.Interface.{Interface}
-use Rattle.rec_export.specs.Interfaces.{number_of, is_described, with_interface}
+use Rattle.rec_export.specs.Interfaces.{Interface, number_of, is_described, with_interface}
 use Rattle.rec_export.specs.Export.{ExportState, state_said, state_behind, state_behind_all}
 
 -- ---- one list of interfaces

@@ -10,10 +10,9 @@ use Rattle.pcapng_blocks.specs.Outputs.{TakesStart}
 use Rattle.std.specs.Option.{option_map}
 use Rattle.ch11_packet.specs.FramesRead.{ReadFrameData}
 use Rattle.rec_export.specs.declared.version.LaterVersions.{LaterVersions}
-use Rattle.rec_export.specs.declared.interface.Interface.{Interface}
 use Rattle.rec_export.specs.Frames.{frame_blocks}
 use Rattle.rec_export.specs.Versions.{later_text}
-use Rattle.rec_export.specs.Interfaces.{number_of, later_of}
+use Rattle.rec_export.specs.Interfaces.{Interface, number_of, later_of}
 use Rattle.rec_export.specs.Export.{description, export_state, blocks_of_frames}
 use Rattle.pcapng_blocks.proofs.BlockParts.{of_first, of_second, on_err}
 
@@ -55,11 +54,10 @@ whole_start old new blocks took = record { start = blocks_bytes blocks; rest = [
 
 -- ---- the blocks of frames, by the code's values
 
-pub same_blocks : (origin : Option ℕ) (channel : ℕ) (slice items : List Interface) (frames : List ReadFrameData) (more : List BlockData) → slice ≡ items
+pub same_blocks : (origin : Option ℕ) (channel : ℕ) (items : List Interface) (frames : List ReadFrameData) (more : List BlockData)
     → more ≡ frame_blocks (number_of channel items) (option_map later_text (later_of channel items)) frames
-    → description (export_state origin slice) channel None ++ more ≡ blocks_of_frames (export_state origin items) channel frames
-same_blocks origin channel slice items frames more same rest =
-    ap (λ l. description (export_state origin l) channel None ++ more) same ∙ ap (λ l. description (export_state origin items) channel None ++ l) rest
+    → description (export_state origin items) channel None ++ more ≡ blocks_of_frames (export_state origin items) channel frames
+same_blocks origin channel items frames more rest = ap (λ l. description (export_state origin items) channel None ++ l) rest
 
 pub same_frames : (channel number : ℕ) (text : Option (List ℕ)) (later : Option LaterVersions) (items : List Interface) (frames : List ReadFrameData)
     → number ≡ number_of channel items → text ≡ option_map later_text later → later ≡ later_of channel items

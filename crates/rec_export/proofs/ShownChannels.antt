@@ -13,10 +13,9 @@ use Rattle.std.proofs.lemmas.Option.{slice_get_cases}
 use Rattle.rec_reader.specs.Packets.{PacketData, BeginSomeBytes}
 use Rattle.rec_reader.specs.Channels.{Saying, saying_of}
 use Rattle.rec_reader.specs.Channels.Saying.{OfFrames, OfProgram, OfEnd}
-use Rattle.rec_export.specs.declared.interface.Interface.{Interface}
 use Rattle.rec_export.specs.Versions.{filter_version, later_text}
 use Rattle.rec_export.specs.Frames.{frame_blocks}
-use Rattle.rec_export.specs.Interfaces.{channel_name, number_of, is_described, later_of}
+use Rattle.rec_export.specs.Interfaces.{Interface, channel_name, number_of, is_described, later_of}
 use Rattle.rec_export.specs.Export.{ExportState, description, later_behind, blocks_said, state_said, packet_blocks, state_behind, packets_blocks}
 use Rattle.rec_export.specs.Export.{state_behind_all, first_state, export_blocks}
 use Rattle.rec_export.specs.Shown.{frames_on, interface_name}

@@ -20,10 +20,9 @@ use Rattle.rec_reader.specs.Channels.{Saying, saying_of, saying_in, stored_progr
 use Rattle.rec_reader.specs.Channels.Saying.{OfFrames, OfProgram, OfEnd}
 use Rattle.rec_export.specs.declared.version.FilterVersion.{FilterVersion}
 use Rattle.rec_export.specs.declared.version.LaterVersions.{LaterVersions}
-use Rattle.rec_export.specs.declared.interface.Interface.{Interface}
 use Rattle.rec_export.specs.Frames.{comment_options, flag_options, frame_blocks}
 use Rattle.rec_export.specs.Versions.{version_text, later_text, filter_version}
-use Rattle.rec_export.specs.Interfaces.{interface_block, channel_name, description_options, number_of}
+use Rattle.rec_export.specs.Interfaces.{Interface, interface_block, channel_name, description_options, number_of}
 use Rattle.rec_export.specs.Interfaces.{is_described, later_of, with_interface}
 use Rattle.rec_export.specs.Export.{ExportState, description, blocks_said, state_said, packet_blocks, state_behind, packets_blocks}
 use Rattle.rec_export.specs.Export.{state_behind_all, later_behind, later_with}

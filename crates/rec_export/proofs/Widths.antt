@@ -34,10 +34,9 @@ use Rattle.rec_reader.specs.Channels.Saying.{OfFrames, OfProgram, OfEnd}
 use Rattle.rec_export.specs.declared.version.FilterVersion.{FilterVersion}
 use Rattle.rec_export.specs.declared.version.LaterVersions.{LaterVersions}
 use Rattle.rec_export.specs.declared.version.LaterVersions.TheVariants.{One, Several}
-use Rattle.rec_export.specs.declared.interface.Interface.{Interface}
 use Rattle.rec_export.specs.Versions.{filter_version, version_text, joined_by, later_text}
 use Rattle.rec_export.specs.Frames.{packet_flags, comment_options, flag_options, captured, frame_blocks}
-use Rattle.rec_export.specs.Interfaces.{channel_name, offset_options, description_options, interface_block, number_of, is_described, later_of}
+use Rattle.rec_export.specs.Interfaces.{Interface, channel_name, offset_options, description_options, interface_block, number_of, is_described, later_of}
 use Rattle.rec_export.specs.Interfaces.{with_interface}
 use Rattle.rec_export.specs.Export.{ExportState, description, later_behind, later_with, blocks_said, state_said, packets_blocks, state_behind}
 use Rattle.rec_export.specs.Export.{state_behind_all, first_state, export_blocks}

@@ -9,10 +9,9 @@ use Rattle.rec_reader.specs.Channels.{Saying, saying_of}
 use Rattle.rec_reader.specs.Channels.Saying.{OfFrames, OfProgram, OfEnd}
 use Rattle.rec_export.specs.declared.version.FilterVersion.{FilterVersion}
 use Rattle.rec_export.specs.declared.version.LaterVersions.{LaterVersions}
-use Rattle.rec_export.specs.declared.interface.Interface.{Interface}
 use Rattle.rec_export.specs.Frames.{frame_blocks}
 use Rattle.rec_export.specs.Versions.{filter_version, later_text, joined_by}
-use Rattle.rec_export.specs.Interfaces.{interface_block, number_of, is_described, later_of, with_interface}
+use Rattle.rec_export.specs.Interfaces.{Interface, interface_block, number_of, is_described, later_of, with_interface}
 
 -- what is kept of an export: the origin of times in seconds, if one is given, and the interfaces
 pub record ExportState : Type 0 where

@@ -1,5 +1,5 @@
 -- The channels of a recording as the interfaces of a pcapng file.
-use Rattle.std.specs.Prelude.{ℕ, ◌==◌, Bool, codes, nat_lt, slice_set, slice_get, if◌then◌else◌, List, [], ◌∷◌, ◌++◌, length, Option, None, Some}
+use Rattle.std.specs.Prelude.{ℕ, ◌==◌, Bool, codes, nat_lt, slice_set, slice_get, if◌then◌else◌, List, [], ◌∷◌, ◌++◌, map, length, Option, None, Some}
 use Rattle.std.specs.Option.{option_map, option_and_then}
 use Rattle.std.specs.List.{position_or_len}
 use Rattle.std.specs.Fmt.{decimal}
@@ -8,7 +8,6 @@ use Rattle.pcapng_blocks.specs.Blocks.{BlockData}
 use Rattle.pcapng_blocks.specs.Blocks.BlockData.{OfInterface}
 use Rattle.rec_export.specs.declared.version.FilterVersion.{FilterVersion}
 use Rattle.rec_export.specs.declared.version.LaterVersions.{LaterVersions}
-use Rattle.rec_export.specs.declared.interface.Interface.{Interface}
 use Rattle.rec_export.specs.Frames.{comment_options}
 use Rattle.rec_export.specs.Versions.{version_text}
 
@@ -42,6 +41,16 @@ interface_block origin channel version = OfInterface (record {
 })
 
 -- ---- the interfaces so far, in the order of their descriptions
+
+-- the interface of a channel, with the filter's later versions that no frame was shown of
+pub record Interface : Type 0 where
+  pub channel : ℕ
+  pub later : Option LaterVersions
+
+-- the interfaces of channels with these later versions
+abbrev pub interfaces_of : List (ℕ × Option LaterVersions) → List Interface
+interfaces_of channels =
+    map (λ (entry : ℕ × Option LaterVersions). record { channel = entry.0; later = entry.1 }) channels
 
 -- the number of a channel's interface; that of the next one, if the channel has none
 abbrev pub number_of : (channel : ℕ) → List Interface → ℕ

@@ -4,9 +4,8 @@ use Rattle.ch11_packet.specs.FramesRead.{ReadFrameData}
 use Rattle.pcapng_blocks.specs.Options.{OptionData}
 use Rattle.pcapng_blocks.specs.Blocks.{CapturedData, BlockData}
 use Rattle.pcapng_blocks.specs.Blocks.BlockData.{OfSection, OfInterface, OfPacket}
-use Rattle.rec_export.specs.declared.interface.Interface.{Interface}
 use Rattle.rec_export.specs.Frames.{flag_options}
-use Rattle.rec_export.specs.Interfaces.{channel_name}
+use Rattle.rec_export.specs.Interfaces.{Interface, channel_name}
 
 -- ---- packets
 

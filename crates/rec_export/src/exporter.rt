@@ -8,7 +8,7 @@ ghost use Rattle.rec_export.specs.Export.{blocks_of_frames, blocks_of_version, l
 
 use crate::fault::ExportFault;
 use crate::frame::write_frames;
-use crate::interface::{Interface, describe, later_of, later_with, number_of, put_interface};
+use crate::interface::{Interfaces, describe};
 use crate::version::{FilterVersion, LaterVersions, later_comment, text_in};
 use ch11_packet::Frames;
 use pcapng_blocks::{Block, write_block};
@@ -23,7 +23,7 @@ use std::marker::Model;
 pub struct Exporter {
     alloc: Global,
     origin: Option<u64>,
-    interfaces: Vec<Interface>,
+    interfaces: Interfaces,
 }
 
 impl Model for Exporter {
@@ -31,7 +31,7 @@ impl Model for Exporter {
 
     ghost Value = { ExportState };
 
-    ghost view = { λ e. record { origin = e.origin; interfaces = e.interfaces.items } };
+    ghost view = { λ e. record { origin = e.origin; interfaces = e.interfaces } };
 }
 
 impl Exporter {
@@ -51,7 +51,7 @@ impl Exporter {
         Exporter {
             alloc,
             origin,
-            interfaces: Vec::new(alloc),
+            interfaces: Interfaces::new(alloc),
         }
     }
 
@@ -126,29 +126,29 @@ impl Exporter {
 fn export_frames<W: Write>(
     alloc: Global,
     origin: Option<u64>,
-    interfaces: &mut Vec<Interface>,
+    interfaces: &mut Interfaces,
     channel: u16,
     frames: &Frames<'_>,
     out: &mut W,
 ) -> Result<(), ExportFault>
     ensures whole { OnOk result (Appends (W.contents out.old) (W.contents out.new)
-        (blocks_bytes (blocks_of_frames (export_state origin interfaces.old.items) channel
+        (blocks_bytes (blocks_of_frames (export_state origin interfaces.old) channel
         frames.now))) }
-    ensures state { OnOk result (export_state origin interfaces.new.items
-        ≡ state_behind_frames (export_state origin interfaces.old.items) channel frames.now) }
+    ensures state { OnOk result (export_state origin interfaces.new
+        ≡ state_behind_frames (export_state origin interfaces.old) channel frames.now) }
     ensures part { OnErr result (TakesStart (W.contents out.old) (W.contents out.new)
-        (blocks_bytes (blocks_of_frames (export_state origin interfaces.old.items) channel
+        (blocks_bytes (blocks_of_frames (export_state origin interfaces.old) channel
         frames.now))) }
 {
-    let number = number_of(interfaces.as_slice(), channel);
+    let number = interfaces.number_of(channel);
     // there are no more than 65,536 channels
     let Ok(interface) = u32::try_from(number) else {
         return Err(ExportFault::Memory);
     };
-    let later = later_of(interfaces.as_slice(), channel);
+    let later = interfaces.later_of(channel);
     let comment = later_comment(alloc, later)?;
-    describe(alloc, out, origin, interfaces.as_slice(), channel, None)?;
-    put_interface(interfaces, channel, later_behind(frames, later))?;
+    describe(alloc, out, origin, interfaces, channel, None)?;
+    interfaces.put(channel, later_behind(frames, later))?;
     write_frames(out, interface, text_in(&comment), frames)?;
     Ok(())
 }
@@ -164,27 +164,20 @@ fn later_behind(frames: &Frames<'_>, later: Option<LaterVersions>) -> Option<Lat
 fn export_version<W: Write>(
     alloc: Global,
     origin: Option<u64>,
-    interfaces: &mut Vec<Interface>,
+    interfaces: &mut Interfaces,
     channel: u16,
     version: FilterVersion,
     out: &mut W,
 ) -> Result<(), ExportFault>
     ensures whole { OnOk result (Appends (W.contents out.old) (W.contents out.new)
-        (blocks_bytes (blocks_of_version (export_state origin interfaces.old.items) channel version))) }
-    ensures state { OnOk result (export_state origin interfaces.new.items
-        ≡ state_behind_version (export_state origin interfaces.old.items) channel version) }
+        (blocks_bytes (blocks_of_version (export_state origin interfaces.old) channel version))) }
+    ensures state { OnOk result (export_state origin interfaces.new
+        ≡ state_behind_version (export_state origin interfaces.old) channel version) }
     ensures part { OnErr result (TakesStart (W.contents out.old) (W.contents out.new)
-        (blocks_bytes (blocks_of_version (export_state origin interfaces.old.items) channel version))) }
+        (blocks_bytes (blocks_of_version (export_state origin interfaces.old) channel version))) }
 {
-    describe(
-        alloc,
-        out,
-        origin,
-        interfaces.as_slice(),
-        channel,
-        Some(version),
-    )?;
-    let later = later_with(interfaces.as_slice(), channel, version);
-    put_interface(interfaces, channel, later)?;
+    describe(alloc, out, origin, interfaces, channel, Some(version))?;
+    let later = interfaces.later_with(channel, version);
+    interfaces.put(channel, later)?;
     Ok(())
 }

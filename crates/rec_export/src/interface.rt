@@ -6,85 +6,101 @@ ghost use Rattle.pcapng_blocks.specs.Blocks.{block_bytes, blocks_bytes};
 ghost use Rattle.pcapng_blocks.specs.Outputs.{TakesStart};
 ghost use Rattle.pcapng_blocks.specs.Views.{options_data};
 ghost use Rattle.rec_export.specs.Frames.{text_of};
-ghost use Rattle.rec_export.specs.Export.{description, export_state, later_with};
-ghost use Rattle.rec_export.specs.Interfaces.{channel_name, description_options, interface_block, later_of, number_of, with_interface};
+ghost use Rattle.rec_export.specs.Export.{description, export_state};
+ghost use Rattle.rec_export.specs.Interfaces.{channel_name, description_options, interface_block};
 
 use crate::fault::ExportFault;
 use crate::frame::FCS_LEN;
 use crate::version::{FilterVersion, LaterVersions, comment_of, joined_by, text_in};
+use indexmap::IndexMap;
 use pcapng_blocks::{Block, BlockOption, LINK_TYPE_ETHERNET, write_block};
 use std::alloc::{AllocError, Global};
 use std::io::Write;
+use std::marker::Model;
 
 /// The unit of times: the relative time counter goes on every 10^-7 seconds.
 const TIME_RESOLUTION: u8 = 7;
 
-/// A channel that has an interface.
-#[derive(Clone, Copy, Debug, PartialEq, Eq)]
-pub(crate) struct Interface {
-    /// The channel.
-    pub(crate) channel: u16,
-    /// The versions that the channel's next frame is to show, if there are some.
-    pub(crate) later: Option<LaterVersions>,
+/// The channels that have an interface, in the order of their descriptions, each with the filter's later
+/// versions that no frame was shown of. A channel is found without a look at the others.
+#[derive(Debug, Drop)]
+pub(crate) struct Interfaces {
+    channels: IndexMap<u16, Option<LaterVersions>>,
 }
 
-/// The number of a channel's interface; that of the next one, if the channel has none.
-pub(crate) fn number_of(interfaces: &[Interface], channel: u16) -> usize
-    ensures { result ≡ number_of channel interfaces.now }
-{
-    let mut number = 0;
-    'interfaces: while number < interfaces.len() {
-        if interfaces[number].channel == channel {
-            return number;
+impl Model for Interfaces {
+    ghost use Rattle.std.specs.Prelude.{List};
+    ghost use Rattle.rec_export.specs.Interfaces.{Interface, interfaces_of};
+
+    ghost Value = { List Interface };
+
+    ghost view = { λ interfaces. interfaces_of interfaces.channels.entries };
+}
+
+impl Interfaces {
+    ghost use Rattle.std.specs.Prelude.{◌≡◌, [], OnOk};
+    ghost use Rattle.rec_export.specs.Export.{later_with};
+    ghost use Rattle.rec_export.specs.Interfaces.{is_described, later_of, number_of, with_interface};
+
+    /// No interfaces. It takes no memory yet.
+    pub(crate) fn new(alloc: Global) -> Interfaces
+        ensures { result ≡ [] }
+    {
+        Interfaces {
+            channels: IndexMap::new(alloc),
         }
-        number += 1;
     }
-    number
-}
 
-/// The filter's later versions of a channel that no frame was shown of.
-pub(crate) fn later_of(interfaces: &[Interface], channel: u16) -> Option<LaterVersions>
-    ensures { result ≡ later_of channel interfaces.now }
-{
-    match interfaces.get(number_of(interfaces, channel)) {
-        Some(interface) => interface.later,
-        None => None,
+    /// The number of a channel's interface; that of the next one, if the channel has none.
+    pub(crate) fn number_of(&self, channel: u16) -> usize
+        ensures { result ≡ number_of channel self.now }
+    {
+        match self.channels.get_index_of(&channel) {
+            Some(number) => number,
+            None => self.channels.len(),
+        }
     }
-}
 
-/// The filter's later versions of a channel once one more came into force. A channel without an
-/// interface has none: the version is the comment of its interface.
-pub(crate) fn later_with(
-    interfaces: &[Interface],
-    channel: u16,
-    version: FilterVersion,
-) -> Option<LaterVersions>
-    ensures { result ≡ later_with channel version interfaces.now }
-{
-    if number_of(interfaces, channel) < interfaces.len() {
-        Some(joined_by(later_of(interfaces, channel), version))
-    } else {
-        None
+    /// Whether a channel has an interface.
+    pub(crate) fn is_described(&self, channel: u16) -> bool
+        ensures { result ≡ is_described channel self.now }
+    {
+        self.number_of(channel) < self.channels.len()
     }
-}
 
-/// Puts an interface in the place of the one that its channel had, or behind all.
-pub(crate) fn put_interface(
-    interfaces: &mut Vec<Interface>,
-    channel: u16,
-    later: Option<LaterVersions>,
-) -> Result<(), AllocError>
-    ensures { OnOk result (interfaces.new.items
-        ≡ with_interface channel later interfaces.old.items) }
-{
-    let interface = Interface { channel, later };
-    let number = number_of(interfaces.as_slice(), channel);
-    if number < interfaces.len() {
-        interfaces[number] = interface;
-        return Ok(());
+    /// The filter's later versions of a channel that no frame was shown of.
+    pub(crate) fn later_of(&self, channel: u16) -> Option<LaterVersions>
+        ensures { result ≡ later_of channel self.now }
+    {
+        match self.channels.get(&channel) {
+            Some(later) => *later,
+            None => None,
+        }
     }
-    interfaces.push(interface)?;
-    Ok(())
+
+    /// The filter's later versions of a channel once one more came into force. A channel without an
+    /// interface has none: the version is the comment of its interface.
+    pub(crate) fn later_with(&self, channel: u16, version: FilterVersion) -> Option<LaterVersions>
+        ensures { result ≡ later_with channel version self.now }
+    {
+        if self.is_described(channel) {
+            Some(joined_by(self.later_of(channel), version))
+        } else {
+            None
+        }
+    }
+
+    /// Puts an interface in the place of the one that its channel had, or behind all.
+    pub(crate) fn put(
+        &mut self,
+        channel: u16,
+        later: Option<LaterVersions>,
+    ) -> Result<(), AllocError>
+        ensures { OnOk result (self.new ≡ with_interface channel later self.old) }
+    {
+        self.channels.insert(channel, later)?;
+        Ok(())
+    }
 }
 
 /// Writes the description of a channel's interface, if the channel has none yet.
@@ -92,7 +108,7 @@ pub(crate) fn describe<W: Write>(
     alloc: Global,
     out: &mut W,
     origin: Option<u64>,
-    interfaces: &[Interface],
+    interfaces: &Interfaces,
     channel: u16,
     version: Option<FilterVersion>,
 ) -> Result<(), ExportFault>
@@ -101,7 +117,7 @@ pub(crate) fn describe<W: Write>(
     ensures part { OnErr result (TakesStart (W.contents out.old) (W.contents out.new)
         (blocks_bytes (description (export_state origin interfaces.now) channel version))) }
 {
-    if number_of(interfaces, channel) < interfaces.len() {
+    if interfaces.is_described(channel) {
         return Ok(());
     }
     write_description(alloc, out, origin, channel, version)

@@ -165,7 +165,8 @@ Reads a recording, writes the frames of one of its channels into the feed OUT, i
 prints on standard output
   frames <n> passed <m>            n frames are in the feed, and m were skipped, since they
                                    are no frames with their frame check sequence (FCS)
-A recording that can't be read to its end is reported as by list, and then OUT is not created.
+An OUT that exists is overwritten, unless it is FILE. Of a recording that can't be read to its end,
+which is reported as by list, OUT is not created.
 
 Exit status: 0 written; 1 not read to its end; 2 arguments; 3 a file; 4 no memory.
 
@@ -178,8 +179,9 @@ lacks one. A packet that would get too long, past 524,288 bytes, is copied as it
 other packet. The contents do not change: list, audit and extract find the same, but for the places
 and the lengths of packets. Prints on standard output
   upgraded <n> copied <m>          n packets got a data checksum, and m were copied
-A recording that is up to date is copied byte for byte: upgraded 0. A recording that can't be read to
-its end is reported as by list, and then OUT is not created. OUT may not be IN.
+A recording that is up to date is copied byte for byte: upgraded 0. An OUT that exists is overwritten,
+unless it is IN. Of a recording that can't be read to its end, which is reported as by list, OUT is
+not created.
 
 Exit status: 0 written; 1 not read to its end; 2 arguments; 3 a file; 4 no memory.
 
@@ -231,8 +233,8 @@ behind has the new version as a comment. As OUT, - is standard output; it prints
 
 Times are those since counter 0, from 1970 on. ORIGIN is added to them, a number of seconds from 0
 to 9223372036854775807.
-A recording that can't be read to its end is reported as by list, and then OUT has the frames of the
-packets before. OUT may not be FILE.
+An OUT that exists is overwritten, unless it is FILE. Of a recording that can't be read to its end,
+which is reported as by list, OUT has the frames of the packets before.
 
 Exit status: 0 written; 1 not read to its end; 2 arguments; 3 a file; 4 no memory.
 
@@ -264,7 +266,7 @@ standard input. SETTINGS is a TOML document:
   speed = 0                        their Ethernet speed, 0 to 15
   max = 9223372036854775807        how many frames are taken at most, 0 to this number
 Only id, feed and filter must be set; the numbers above are the others' defaults. Filters and
-feeds are opened channel by channel, and then OUT is created, or emptied if it exists; the opening
+feeds are opened channel by channel, and then OUT is created, or overwritten if it exists; the opening
 of a pipe waits for its writer. No pipe may feed two channels. OUT may be none of these files, nor
 a file that a standard stream is, nor what another recorder writes: it is locked. With /dev/null as
 OUT the filters are tried; a named pipe as OUT takes the recording to another machine.

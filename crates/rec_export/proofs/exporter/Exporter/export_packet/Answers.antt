@@ -14,7 +14,7 @@ returns-in-Some-clause-whole g c =
     let held = c.in-Some.ensures.some.0 refl in
     subst (λ (blocks : List BlockData). OnOk c.export_frames.result
     (Appends (g.W.Write.contents c.args.out.now) (g.W.Write.contents c.export_frames.new.out) (blocks_bytes blocks)))
-    (frames_blocks_are (export_state c.self.inside.origin c.self.inside.interfaces.items) c.args.self.now packet packet.header.channel c.in-Some.frames
+    (frames_blocks_are (export_state c.self.inside.origin c.self.inside.interfaces) c.args.self.now packet packet.header.channel c.in-Some.frames
     c.self.view_is
     (says_frames packet held.0 c.in-Some.frames held.1 c.in-Some.ensures.frames))
     c.export_frames.ensures.whole
@@ -23,8 +23,8 @@ pub returns-in-Some-clause-state : goal.returns-in-Some-clause-state
 returns-in-Some-clause-state g c =
     let packet = packet_data c.args.packet.now in
     let held = c.in-Some.ensures.some.0 refl in
-    subst (λ (state : ExportState). OnOk c.export_frames.result (export_state c.self.inside.origin c.export_frames.new.interfaces.items ≡ state))
-    (frames_state_is (export_state c.self.inside.origin c.self.inside.interfaces.items) c.args.self.now packet packet.header.channel c.in-Some.frames
+    subst (λ (state : ExportState). OnOk c.export_frames.result (export_state c.self.inside.origin c.export_frames.new.interfaces ≡ state))
+    (frames_state_is (export_state c.self.inside.origin c.self.inside.interfaces) c.args.self.now packet packet.header.channel c.in-Some.frames
     c.self.view_is
     (says_frames packet held.0 c.in-Some.frames held.1 c.in-Some.ensures.frames))
     c.export_frames.ensures.state
@@ -35,7 +35,7 @@ returns-in-Some-clause-part g c =
     let held = c.in-Some.ensures.some.0 refl in
     subst (λ (blocks : List BlockData). OnErr c.export_frames.result
     (TakesStart (g.W.Write.contents c.args.out.now) (g.W.Write.contents c.export_frames.new.out) (blocks_bytes blocks)))
-    (frames_blocks_are (export_state c.self.inside.origin c.self.inside.interfaces.items) c.args.self.now packet packet.header.channel c.in-Some.frames
+    (frames_blocks_are (export_state c.self.inside.origin c.self.inside.interfaces) c.args.self.now packet packet.header.channel c.in-Some.frames
     c.self.view_is
     (says_frames packet held.0 c.in-Some.frames held.1 c.in-Some.ensures.frames))
     c.export_frames.ensures.part
@@ -44,15 +44,15 @@ pub returns-clause-whole : goal.returns-clause-whole
 returns-clause-whole g c =
     subst (λ (blocks : List BlockData). OnOk c.export_version.result
     (Appends (g.W.Write.contents c.args.out.now) (g.W.Write.contents c.export_version.new.out) (blocks_bytes blocks)))
-    (version_blocks_are (export_state c.self.inside.origin c.self.inside.interfaces.items) c.args.self.now (packet_data c.args.packet.now)
+    (version_blocks_are (export_state c.self.inside.origin c.self.inside.interfaces) c.args.self.now (packet_data c.args.packet.now)
     c.in-Some-program.program
     c.self.view_is c.in-Some-program.ensures.program)
     c.export_version.ensures.whole
 
 pub returns-clause-state : goal.returns-clause-state
 returns-clause-state g c =
-    subst (λ (state : ExportState). OnOk c.export_version.result (export_state c.self.inside.origin c.export_version.new.interfaces.items ≡ state))
-    (version_state_is (export_state c.self.inside.origin c.self.inside.interfaces.items) c.args.self.now (packet_data c.args.packet.now)
+    subst (λ (state : ExportState). OnOk c.export_version.result (export_state c.self.inside.origin c.export_version.new.interfaces ≡ state))
+    (version_state_is (export_state c.self.inside.origin c.self.inside.interfaces) c.args.self.now (packet_data c.args.packet.now)
     c.in-Some-program.program
     c.self.view_is c.in-Some-program.ensures.program)
     c.export_version.ensures.state
@@ -61,7 +61,7 @@ pub returns-clause-part : goal.returns-clause-part
 returns-clause-part g c =
     subst (λ (blocks : List BlockData). OnErr c.export_version.result
     (TakesStart (g.W.Write.contents c.args.out.now) (g.W.Write.contents c.export_version.new.out) (blocks_bytes blocks)))
-    (version_blocks_are (export_state c.self.inside.origin c.self.inside.interfaces.items) c.args.self.now (packet_data c.args.packet.now)
+    (version_blocks_are (export_state c.self.inside.origin c.self.inside.interfaces) c.args.self.now (packet_data c.args.packet.now)
     c.in-Some-program.program
     c.self.view_is c.in-Some-program.ensures.program)
     c.export_version.ensures.part
