@@ -16,6 +16,8 @@ Status: 0 done, 2 wrong arguments, 3 something to install is missing or not prov
 failed.'
 
 cd "$(dirname "$0")/../.." || exit 3
+# No mode of the caller's is in an installation.
+umask 022
 PREFIX=${PREFIX:-/usr/local} DESTDIR=${DESTDIR:-} ZSH=${ZSH:-share/zsh/site-functions}
 to=$DESTDIR$PREFIX
 # The tools in Python, and all.
@@ -33,7 +35,8 @@ files() {
     echo "644 completions/_bpfrec $ZSH/_bpfrec"
     echo "644 completions/bpfrec.fish share/fish/vendor_completions.d/bpfrec.fish"
     echo "644 host/wireshark/bpfrec.lua share/bpfrec/bpfrec.lua"
-    for file in README.md docs/user/*.md docs/user/*.png; do
+    echo "644 dev/package/README.md share/doc/bpfrec/README.md"
+    for file in docs/user/*.md docs/user/*.png; do
         echo "644 $file share/doc/bpfrec/${file##*/}"
     done
     find examples -type f ! -name bpfrec.service | sort | while read -r file; do
@@ -93,8 +96,8 @@ is_proved() {
 
 # install_host MODE FILE: makes the file of the tools in Python
 install_host() {
-    if ! command -v python3 > /dev/null; then
-        echo "python3 is missing, so ${tools[*]/#/bpfrec-} aren't installed"
+    if [[ ! -x /usr/bin/python3 ]]; then
+        echo "/usr/bin/python3 is missing, so ${tools[*]/#/bpfrec-} aren't installed"
         return
     fi
     install -d "$(dirname "$2")"
@@ -122,10 +125,12 @@ install_all() {
             install -D -m "$mode" "$from" "$to/$at"
         fi
     done < <(files)
-    # The unit runs what is installed.
-    sed -i -e "s|/opt/bpfrec/host/bin/live|$PREFIX/bin/bpfrec-live|" \
-        -e 's|^# It takes the repository at .* and settings at|# It takes settings at|' \
+    # The unit runs what is installed, and its settings name the installed listings by whole paths.
+    sed -i -e "s|/opt/bpfrec/host/bin/live|$PREFIX/bin/bpfrec-live|" -e 's|host/bin/live|bpfrec-live|g' \
+        -e '/^# It takes the repository at/d' -e "s|examples/wire.toml|$PREFIX/share/doc/bpfrec/&|" \
         "$to/lib/systemd/system/bpfrec.service"
+    sed -i -e "s|\"examples/|\"$PREFIX/share/doc/bpfrec/examples/|" -e 's|host/bin/live|bpfrec-live|' \
+        "$to/share/doc/bpfrec/examples/wire.toml"
     while read -r from at; do
         [[ $from == */libexec/* && ! -e $to/bin/$from ]] || ln -sfn "$from" "$to/$at"
     done < <(links)
@@ -145,7 +150,7 @@ install_names() {
         done
         sed -Ei -e "s#(^|[^/[:alnum:]])bin/(bpfrec)([^-_/[:alnum:]]|\$)#\\1\\2\\3#g" \
             -e 's#\bbin/capture\b#bpfrec-capture#g' -e 's#docs/user/([A-Za-z]*\.[a-z]*)#\1#g' "$file"
-        sed -i -e "s|host/wireshark/bpfrec.lua|$PREFIX/share/bpfrec/bpfrec.lua|g" \
+        sed -i -e "s|/usr/local/share/|$PREFIX/share/|g" -e "s|host/wireshark/bpfrec.lua|$PREFIX/share/bpfrec/bpfrec.lua|g" \
             -e "s|examples/bpfrec.service|$PREFIX/lib/systemd/system/bpfrec.service|g" \
             -e "s|/usr/local/libexec/|$PREFIX/libexec/|g" \
             -e "s|at the top of the repository after \`make build\`,|$work,|" "$file"

@@ -1,14 +1,15 @@
 #!/usr/bin/env bash
-# Makes a Debian package of the program and what stands around it; `make deb` calls it.
+# Makes two Debian packages of the program and of what stands around it; `make deb` calls it.
 set -euo pipefail
 
 usage='usage: dev/package/make_deb.sh
 
-Makes bin/bpfrec_<version>_<architecture>.deb by dpkg-deb, of what dev/package/install.sh installs. It needs bin/bpfrec
-(make build) and Debian'"'"'s dpkg and binutils; bin/capture is in it where it is built. The recorder needs the C
-library alone; the tools recommend python3, and bpfrec-capture the package that libpcap is of here. Programs are stripped. The
-same sources and programs make the same bytes: all times are SOURCE_DATE_EPOCH, by default that of the last commit.
-MAINTAINER names another maintainer.
+Makes bin/bpfrec_<version>_<architecture>.deb and bin/bpfrec-tools_<version>_<architecture>.deb by dpkg-deb, of what
+dev/package/install.sh installs. The first has the program, which needs the C library alone, with its page, completions
+and documents. The second has bpfrec-capture, the tools in Python, the unit for systemd and the plugin for Wireshark,
+and depends on what these need. It needs bin/bpfrec (make build), bin/capture (make capture), and Debian'"'"'s dpkg and
+binutils. Programs are stripped. The same sources and programs make the same bytes: all times are SOURCE_DATE_EPOCH, by
+default that of the last commit. MAINTAINER names another maintainer.
 
 Status: 0 made, 2 wrong arguments, 3 something is missing.'
 
@@ -22,15 +23,29 @@ if ! command -v dpkg-deb > /dev/null; then
     echo "make deb needs dpkg-deb: it is Debian's dpkg" >&2
     exit 3
 fi
+if [[ ! -x bin/capture ]]; then
+    echo "make deb needs bin/capture: make capture makes it, with libpcap-dev" >&2
+    exit 3
+fi
+# No mode of the caller's is in a package.
+umask 022
 export SOURCE_DATE_EPOCH=${SOURCE_DATE_EPOCH:-$(git log -1 --format=%ct 2> /dev/null || date -ud 2026-11-25 +%s)}
 maintainer=${MAINTAINER:-bpfrec maintainers <maintainers@bpfrec.invalid>}
 version=$(sed -n 's/^pub const VERSION: &str = "\(.*\)";$/\1/p' crates/rec_words/src/command_line.rt)
 architecture=$(dpkg --print-architecture)
 root=$(mktemp -d)
 trap 'rm -rf "$root"' EXIT
-chmod 755 "$root"
 
-# The newest symbols of the C library that the programs need.
+# Moves what of an installation is the tools' into the folder of their package.
+move_tools() {
+    cd "$root/bpfrec/usr" || return
+    local found=(bin/bpfrec-* libexec lib share/bpfrec share/man/man1/bpfrec-* share/fish/vendor_completions.d/bpfrec-*
+        share/bash-completion/completions/bpfrec-*)
+    cp -a --parents "${found[@]}" "$root/bpfrec-tools/usr"
+    rm -r "${found[@]}"
+}
+
+# The newest symbols of the C library that programs need.
 libc_version() {
     grep -aoh 'GLIBC_2\.[0-9]*' "$@" | sed 's/GLIBC_//' | sort -Vu | tail -n 1
 }
@@ -38,7 +53,6 @@ libc_version() {
 # The packages of the libraries that bin/capture runs with, beside the C library, each after a comma.
 capture_packages() {
     local library
-    [[ -x bin/capture ]] || return 0
     ldd bin/capture | sed -n 's/.*=> \([^ ]*\) .*/\1/p' | grep -E 'lib(pcap|deflate|z|seccomp)\.' |
         while read -r library; do
             # A file of /usr/lib may be known as one of /lib.
@@ -46,43 +60,64 @@ capture_packages() {
         done | sort -u | sed 's/^/, /' | tr -d '\n'
 }
 
-DESTDIR=$root PREFIX=/usr ZSH=share/zsh/vendor-completions dev/package/install.sh
-gzip -9n "$root/usr/share/man/man1/bpfrec.1"
-for link in "$root"/usr/share/man/man1/bpfrec-*.1; do
-    rm "$link"
-    ln -s bpfrec.1.gz "$link.gz"
-done
-libraries=$(capture_packages)
-for program in "$root/usr/bin/bpfrec" "$root/usr/libexec/bpfrec/bpfrec-capture"; do
-    [[ ! -f $program ]] || strip --strip-unneeded "$program"
-done
-documents=$root/usr/share/doc/bpfrec
-install -m 644 dev/package/copyright "$documents/copyright"
-install -m 644 CHANGELOG.md "$documents/CHANGELOG.md"
-gzip -9n > "$documents/changelog.gz" << END
-bpfrec ($version) unstable; urgency=medium
+# documented NAME: puts what each package says of itself into the folder of its documents
+documented() {
+    local documents=$root/$1/usr/share/doc/$1
+    install -D -m 644 dev/package/copyright "$documents/copyright"
+    gzip -9n > "$documents/changelog.gz" << END
+$1 ($version) unstable; urgency=medium
 
-  * CHANGELOG.md has what changed for users.
+  * CHANGELOG.md of the package bpfrec has what changed for users.
 
  -- $maintainer  $(LC_ALL=C date -u -d "@$SOURCE_DATE_EPOCH" -R)
 END
-find "$root" -exec touch -hd "@$SOURCE_DATE_EPOCH" {} +
-mkdir "$root/DEBIAN"
-cat > "$root/DEBIAN/control" << END
-Package: bpfrec
+}
+
+# packed NAME: makes the package of what stands in its folder; its own fields come from standard input
+packed() {
+    local folder=$root/$1 made=bin/${1}_${version}_$architecture.deb
+    documented "$1"
+    find "$folder" -exec touch -hd "@$SOURCE_DATE_EPOCH" {} +
+    mkdir "$folder/DEBIAN"
+    cat > "$folder/DEBIAN/control" << END
+Package: $1
 Version: $version
 Architecture: $architecture
 Maintainer: $maintainer
-Installed-Size: $(du -sk --apparent-size --exclude DEBIAN "$root" | cut -f 1)
-Depends: libc6 (>= $(libc_version bin/bpfrec))
-Recommends: python3 (>= 3.9), python3 (>= 3.11) | python3-tomli$libraries
-Suggests: tcpdump, wireshark
+Installed-Size: $(du -sk --apparent-size --exclude DEBIAN "$folder" | cut -f 1)
 Section: net
 Priority: optional
+$(cat)
+END
+    dpkg-deb --root-owner-group --build "$folder" "$made" > /dev/null
+    echo "$made"
+}
+
+mkdir -p "$root/bpfrec" "$root/bpfrec-tools/usr"
+DESTDIR=$root/bpfrec PREFIX=/usr ZSH=share/zsh/vendor-completions dev/package/install.sh
+gzip -9n "$root/bpfrec/usr/share/man/man1/bpfrec.1"
+for link in "$root"/bpfrec/usr/share/man/man1/bpfrec-*.1; do
+    rm "$link"
+    ln -s bpfrec.1.gz "$link.gz"
+done
+strip --strip-unneeded "$root/bpfrec/usr/bin/bpfrec" "$root/bpfrec/usr/libexec/bpfrec/bpfrec-capture"
+(move_tools)
+install -m 644 CHANGELOG.md "$root/bpfrec/usr/share/doc/bpfrec/CHANGELOG.md"
+packed bpfrec << END
+Depends: libc6 (>= $(libc_version bin/bpfrec))
+Suggests: bpfrec-tools
 Description: recorder of Ethernet channels with classic BPF filters
  Records Ethernet channels through filters that are verified, as packets in a
  profile of IRIG 106-17 Chapter 11, and reads, judges and extracts recordings.
 END
-made=bin/bpfrec_${version}_$architecture.deb
-dpkg-deb --root-owner-group --build "$root" "$made" > /dev/null
-echo "$made"
+# What reads settings.
+toml='python3 (>= 3.11) | python3-tomli'
+packed bpfrec-tools << END
+Depends: bpfrec (= $version), libc6 (>= $(libc_version bin/capture)), python3 (>= 3.9), $toml$(capture_packages)
+Recommends: ethtool, libcap2-bin, tcpdump
+Suggests: wireshark
+Description: capture from interfaces and tools around the recorder bpfrec
+ Takes frames of network interfaces for bpfrec, looks after a recording of
+ them with a status page, and converts, describes and repairs recordings.
+ Wireshark opens recordings by a plugin.
+END

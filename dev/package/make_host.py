@@ -14,7 +14,8 @@ import zipfile
 from pathlib import Path
 
 PACKAGE = Path(__file__).resolve().parents[2] / "host" / "bpfrec_host"
-INTERPRETER = "/usr/bin/env python3"
+# No modules of the caller's folder, and none that the environment names.
+INTERPRETER = "/usr/bin/python3 -I"
 MAIN = """import sys
 
 if sys.version_info < (3, 9):

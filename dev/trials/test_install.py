@@ -1,8 +1,8 @@
-"""Tries the manual page, install and uninstall, and the Debian package.
+"""Tries the manual page, install and uninstall, and the Debian packages.
 
-The package is unpacked into an empty folder and records there. Where DEBIAN_ROOT names a folder with a clean Debian, as
-`debootstrap --variant=minbase bookworm FOLDER` makes one (as root), it is installed there by dpkg, records, and is
-removed.
+The packages are unpacked into an empty folder and record there. Where DEBIAN_ROOT names a folder with a clean Debian,
+as `debootstrap --variant=minbase bookworm FOLDER` makes one (as root), that of the program is installed there by dpkg,
+records, and is removed.
 """
 
 import os
@@ -223,34 +223,73 @@ def test_unproved(work: Path) -> None:
     )
 
 
-# ---- the package
+# ---- the packages
+
+
+def made_packages() -> dict[str, Path]:
+    """The packages that `make deb` makes, by their names."""
+    status, told = ran("make", "-s", "-C", ROOT, "deb")
+    found = {it.name.split("_")[0]: it for it in map(ROOT.joinpath, told.split())}
+    judge_quietly("make deb", status == 0 and list(found) == ["bpfrec", "bpfrec-tools"], told)
+    return found
 
 
 @pytest.fixture(scope="module")
-def package() -> Path:
-    status, told = ran("make", "-s", "-C", ROOT, "deb")
-    made_file = ROOT / told.strip().split("\n")[-1]
-    judge("make deb", status == 0 and made_file.suffix == ".deb" and made_file.exists(), told)
-    return made_file
+def packages() -> dict[str, Path]:
+    return made_packages()
 
 
-def test_package(work: Path, package: Path) -> None:
-    unpacked, field = work / "unpacked", work / "field"
-    done = ran("dpkg-deb", "-x", package, unpacked)
-    judge("it unpacks into an empty folder", done[0] == 0, done)
-    field.mkdir()
-    judge("and what is unpacked records", record_in(field, unpacked / "usr/bin")[1].endswith("yes other 0\n"))
-    judge_tools(field, unpacked / "usr/bin")
+@pytest.fixture(scope="module")
+def unpacked(packages: dict[str, Path], place: Path) -> Path:
+    """A folder into which both are unpacked."""
+    for it in packages.values():
+        done = ran("dpkg-deb", "-x", it, place / "root")
+        judge_quietly(f"{it.name} unpacks into an empty folder", done[0] == 0, done)
+    return place / "root"
+
+
+def paths_in(package: Path) -> set[str]:
+    """The paths of all that a package has but folders."""
+    rows = ran("dpkg-deb", "-c", package)[1].splitlines()
+    return {it.split()[5] for it in rows if not it.startswith("d")}
+
+
+def test_what_is_unpacked_records(work: Path, unpacked: Path) -> None:
+    judge("it records", record_in(work, unpacked / "usr/bin")[1].endswith("yes other 0\n"))
+    judge_tools(work, unpacked / "usr/bin")
     judge_names(unpacked / "usr/bin")
     judge_plugin(unpacked)
 
 
-def test_package_is_whole(package: Path) -> None:
-    fields = ran("dpkg-deb", "-f", package, "Maintainer")[1]
-    listed = ran("dpkg-deb", "-c", package)[1]
-    judge("it has a maintainer", re.fullmatch(r".+ <\S+@\S+>\n", fields) and "root@" not in fields, fields)
-    for name in ("copyright", "changelog.gz", "CHANGELOG.md", "GLOSSARY.md"):
-        judge(f"it has {name}", f"./usr/share/doc/bpfrec/{name}\n" in listed, listed)
+def test_the_package_of_the_program_needs_the_c_library_alone(work: Path, packages: dict[str, Path]) -> None:
+    depends = ran("dpkg-deb", "-f", packages["bpfrec"], "Depends", "Recommends")[1]
+    judge("its field", re.fullmatch(r"Depends: libc6 \(>= 2\.\d+\)\n", depends), depends)
+    ran("dpkg-deb", "-x", packages["bpfrec"], work / "root")
+    programs = [it for it in files_in(work / "root") if os.access(it, os.X_OK) and not it.is_symlink()]
+    judge("one program is in it", programs == [work / "root/usr/bin/bpfrec"], programs)
+    judge("which records", record_in(work, work / "root/usr/bin")[1].endswith("yes other 0\n"))
+
+
+def test_the_package_of_the_tools_depends_on_what_they_need(packages: dict[str, Path]) -> None:
+    depends = ran("dpkg-deb", "-f", packages["bpfrec-tools"], "Depends")[1].replace("\n", "")
+    version = ran("dpkg-deb", "-f", packages["bpfrec"], "Version")[1].strip()
+    for name in (f"bpfrec (= {version})", "python3 (>= 3.9)", "python3 (>= 3.11) | python3-tomli", "libpcap0.8"):
+        judge(f"on {name}", name in depends.split(", "), depends)
+
+
+def test_no_path_is_in_both_packages(packages: dict[str, Path]) -> None:
+    first, second = (paths_in(it) for it in packages.values())
+    judge("none is", first and second and not first & second, first & second)
+
+
+def test_packages_are_whole(packages: dict[str, Path]) -> None:
+    for name, package in packages.items():
+        fields, paths = ran("dpkg-deb", "-f", package, "Maintainer")[1], paths_in(package)
+        judge("it has a maintainer", re.fullmatch(r".+ <\S+@\S+>\n", fields) and "root@" not in fields, fields)
+        lacking = {f"./usr/share/doc/{name}/{it}" for it in ("copyright", "changelog.gz")} - paths
+        judge(f"{name} has a copyright file and a changelog", not lacking, lacking)
+    documents = {f"./usr/share/doc/bpfrec/{it}" for it in ("README.md", "USING.md", "CHANGELOG.md", "GLOSSARY.md")}
+    judge("and the documents", documents <= paths_in(packages["bpfrec"]))
 
 
 def test_copyright() -> None:
@@ -261,41 +300,73 @@ def test_copyright() -> None:
         judge(f"the licence of {known} is named", re.search(rf"\b{known}\s+\([-\w.]+\)", text), text)
 
 
-def test_package_again(package: Path) -> None:
-    before = package.read_bytes()
-    status, told = ran("make", "-s", "-C", ROOT, "deb")
-    judge("the same sources make the same bytes", status == 0 and package.read_bytes() == before, told)
+@pytest.mark.parametrize("mask", [0o077, 0o002])
+def test_the_callers_umask_is_in_no_package(packages: dict[str, Path], mask: int) -> None:
+    """The same sources and programs make the same bytes, whatever modes the caller's files get."""
+    whole, before = [it.read_bytes() for it in packages.values()], os.umask(mask)
+    try:
+        again = [it.read_bytes() for it in made_packages().values()]
+    finally:
+        os.umask(before)
+    judge("the same bytes", again == whole)
 
 
-def test_lintian(package: Path) -> None:
+def test_lintian(packages: dict[str, Path]) -> None:
     if not shutil.which("lintian"):
         pytest.skip("left out: lintian is missing: apt-get install lintian")
-    status, told = ran("lintian", "--fail-on", "error", package)
-    judge("lintian finds no error", status == 0, told)
+    for package in packages.values():
+        status, told = ran("lintian", "--fail-on", "error", package)
+        judge(f"lintian finds no error in {package.name}", status == 0, told)
 
 
-def test_installed_names(work: Path, package: Path) -> None:
-    ran("dpkg-deb", "-x", package, work)
-    documents = work / "usr/share/doc/bpfrec"
-    using = (documents / "USING.md").read_text()
-    others = re.findall(r"(?<![\w/.-])(?:host|dev|crates|bench|capture|docs|man)/[\w./]+|\bmake build\b", using)
-    others += re.findall(r"(?<![\w/])bin/(?:bpfrec|capture)\b(?![-.\w])", using)
-    judge("the installed USING names installed commands", others == [] and "bpfrec-live" in using, others)
-    files = set(re.findall(r"(?<![\w/.-])examples/[\w./]*\w|(?<![\w/.-])[A-Z]+\.md", using))
-    # The last is misspelled, and refused.
-    missing = [it for it in files - {"examples/apr.txt"} if not (documents / it).exists()]
-    judge("and files that are there", missing == [] and "examples/flight.toml" in files, missing)
-    programs = set(re.findall(r"(?<!\w)/usr/(?:lib|libexec|share)/[\w./-]*\w", using))
-    missing = [it for it in programs if not (work / it[1:]).exists()]
-    judge("also where paths are whole", missing == [] and len(programs) > 1, missing)
-    bare = re.findall(r"^sudo .* bpfrec-capture\b.*", using, re.M)
-    judge("the permission is given to the file, not to a name", bare == [], bare)
+def test_installed_tools_run_nothing_that_the_environment_names(work: Path, unpacked: Path) -> None:
+    tools = unpacked / "usr/libexec/bpfrec/bpfrec-host.pyz"
+    judge("by its first line", tools.read_bytes().startswith(b"#!/usr/bin/python3 -I\n"), tools.read_bytes()[:40])
+    (work / "json.py").write_text("raise SystemExit(77)")
+    env = {**os.environ, "PYTHONPATH": str(work)}
+    status, told = ran(unpacked / "usr/bin/bpfrec-info", "--help", env=env, cwd=work)
+    judge("and a module of the environment isn't taken", status == 0, told)
+
+
+def test_the_unit_records_by_settings_that_are_installed(unpacked: Path) -> None:
+    unit = (unpacked / "usr/lib/systemd/system/bpfrec.service").read_text()
+    judge("it runs what is installed", "ExecStart=/usr/bin/bpfrec-live " in unit and "host/bin" not in unit, unit)
+    judge("the page is for this machine alone", "IPAddressAllow=localhost\nIPAddressDeny=any\n" in unit, unit)
+    judge("and a part of the disk stays free", re.search(r" --every \d+ --keep-free \d+ ", unit), unit)
+    named = re.findall(r"\S+/wire.toml", unit)
+    judge("its comments name an example", "/usr/share/doc/bpfrec/examples/wire.toml" in named, named)
+    example = (unpacked / "usr/share/doc/bpfrec/examples/wire.toml").read_text()
+    listings = re.findall(r'^filter = "/(.*)"$', example, re.M)
+    judge("whose listings are there", len(listings) == 2 and all((unpacked / it).is_file() for it in listings), example)
+
+
+def installed_words(text: str) -> list[str]:
+    """What a document names that stands in the source tree alone."""
+    found = re.findall(r"(?<![\w/.-])(?:host|dev|crates|bench|capture|docs|man)/[\w./]+|\bmake (?:build|try|capture)\b", text)
+    return found + re.findall(r"(?<![\w/])bin/(?:bpfrec|capture)\b(?![-.\w])", text)
+
+
+def test_installed_documents_name_what_is_installed(unpacked: Path) -> None:
+    documents = unpacked / "usr/share/doc/bpfrec"
+    for name in ("README.md", "USING.md"):
+        text = (documents / name).read_text()
+        others = installed_words(text)
+        judge(f"{name} names installed commands", others == [] and "bpfrec-live" in text, others)
+        files = set(re.findall(r"(?<![\w/.-])examples/[\w./]*\w|(?<![\w/.-])[A-Z]+\.md", text))
+        # The last is misspelled, and refused.
+        missing = [it for it in files - {"examples/apr.txt"} if not (documents / it).exists()]
+        judge("and files that are there", missing == [] and "examples/flight.toml" in files, missing)
+        programs = set(re.findall(r"(?<!\w)/usr/(?:lib|libexec|share)/[\w./-]*\w", text))
+        missing = [it for it in programs if not (unpacked / it[1:]).exists()]
+        judge("also where paths are whole", missing == [] and programs, missing)
+        bare = re.findall(r"^sudo .* bpfrec-capture\b.*", text, re.M)
+        judge("the permission is given to the file, not to a name", bare == [], bare)
 
 
 def test_dpkg(request: pytest.FixtureRequest) -> None:
     if not os.environ.get("DEBIAN_ROOT"):
         pytest.skip("an installation by dpkg needs a clean Debian in DEBIAN_ROOT")
-    root, package = Path(os.environ["DEBIAN_ROOT"]), request.getfixturevalue("package")
+    root, package = Path(os.environ["DEBIAN_ROOT"]), request.getfixturevalue("packages")["bpfrec"]
     inside = root / "root/field"
     inside.mkdir(exist_ok=True)
     shutil.copy(package, root / "root/bpfrec.deb")
@@ -308,5 +379,5 @@ def test_dpkg(request: pytest.FixtureRequest) -> None:
         "dpkg removes it",
         ran("chroot", root, "dpkg", "-P", "bpfrec")[0] == 0
         and not (root / "usr/bin/bpfrec").exists()
-        and not (root / "usr/libexec/bpfrec").exists(),
+        and not (root / "usr/share/doc/bpfrec").exists(),
     )
