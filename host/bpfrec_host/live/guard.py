@@ -7,7 +7,7 @@ import os
 import select
 import signal
 from pathlib import Path
-from typing import Optional
+from typing import Any, Optional
 
 from bpfrec_host.live.children import ENDING, opened, status_of
 from bpfrec_host.live.descriptors import Holder, close
@@ -105,16 +105,19 @@ def write_facts(writer: Writer, made: Path) -> None:
     events.read()
     try:
         about = About(*json.loads((made / "about.json").read_bytes()))
-        if events.origins and os.path.isfile(about.out) and not has_ended(about.out):
-            writer.write(about, events.facts(about.feed), KILLED_STATUS)
+        earlier = facts_beside(about.out)
+        if events.origins and os.path.isfile(about.out) and earlier.get("state") != "ended":
+            noted = {**events.facts(about.feed), "sync_fault": earlier.get("sync_fault")}
+            writer.write(about, noted, KILLED_STATUS)
     except (OSError, ValueError, TypeError):
         pass
 
 
-def has_ended(out: str) -> bool:
-    """Whether the facts beside a recording have its end."""
+def facts_beside(out: str) -> dict[str, Any]:
+    """The facts that are beside a recording; nothing where there are none."""
     try:
         with open(facts_path(out), "rb") as file:
-            return bool(json.load(file)["state"] == "ended")
-    except (OSError, ValueError, TypeError, KeyError):
-        return False
+            found = json.load(file)
+    except (OSError, ValueError):
+        return {}
+    return found if isinstance(found, dict) else {}

@@ -32,6 +32,10 @@ from bpfrec_host.live.watches import Watches
 from bpfrec_host.live.watching import Watching
 
 
+# Why a recording isn't on its disk of which the recorder alone was told so.
+UNFORCED = "the recorder's fsync failed"
+
+
 class Programs(NamedTuple):
     """The programs that live runs, by their paths."""
 
@@ -76,7 +80,7 @@ class Run:
         self.notifier = Notifier()
         self.ring = Ring(given.keep, given.keep_free, lambda: outputs.room_beside(self.machine.now), self.say)
         self.outputs = outputs.Outputs(self.watches, given.size is not None, self.begin_recording, self.say)
-        self.beside = Beside(self.loop, self.writer, self.events, self.synced, self.say)
+        self.beside = Beside(self.loop, self.writer, self.events, self.synced, self.sync_failed, self.say)
         self.recordings = Recordings(self.writer, self.outputs, self.say)
         self.timed: list[Timed] = [self.watches, self.outputs, self.watching, self.ring, self.notifier]
         self.timed += [self.flush] if self.flush else []
@@ -181,6 +185,13 @@ class Run:
         if it.recording is self.machine.now:
             self.watching.synced(moment)
 
+    def sync_failed(self, it: Recorded, why: str) -> None:
+        """A recording couldn't be forced to its disk."""
+        if not it.recording.is_unforced and not it.recording.has_failed:
+            self.watching.sync_failed(it, why)
+            self.beside.write(it)
+        self.machine.force_failed(it.recording, why, time.monotonic())
+
     def take_answers(self, it: Recorded) -> None:
         """Tells the recorder's answers, and sees whether its output failed."""
         for answer in it.answered():
@@ -189,6 +200,10 @@ class Run:
                 self.say(told)
             if answer.startswith("run 2 Output"):
                 self.machine.output_failed(it.recording, time.monotonic())
+            elif answer == f"file {it.about.out}" and it.keeper:
+                # It has opened OUT before, so that is what it says where its fsync fails.
+                it.keeper.sync_fault = it.keeper.sync_fault or UNFORCED
+                self.sync_failed(it, UNFORCED)
 
     def take_change(self, it: Recorded, change: Change, answer: str) -> None:
         """The recorder has answered a line."""

@@ -93,7 +93,10 @@ def of_disk(view: View) -> Iterator[Alarm]:
 
 
 def of_sync(view: View) -> Iterator[Alarm]:
-    """Whether what is recorded is forced to the disk in time."""
+    """Whether what is recorded is forced to the disk, and in time."""
+    if view.sync.faults:
+        text = f"{view.sync.fault}: what the disk has of it may have gaps"
+        yield Alarm("sync_fault", ALARM, None, "disk fails", text)
     if not view.recording or not view.sync.interval:
         return
     age = view.recording.seconds if view.sync.age is None else view.sync.age

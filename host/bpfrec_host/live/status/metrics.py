@@ -20,6 +20,7 @@ ALARMS = (
     "no_counts",
     "silent",
     "sync",
+    "sync_fault",
     "unread",
     "waiting",
     "waits",
@@ -87,6 +88,7 @@ def of_run(view: View) -> Iterator[str]:
     text = "In how many seconds the disk is full at the rate of the last minute."
     yield family("disk_seconds_left", GAUGE, text, [((), disk and disk.seconds_left)])
     yield family("sync_age_seconds", GAUGE, "How long ago it was forced to its disk.", [((), view.sync.age)])
+    yield family("sync_faults_total", COUNTER, "Recordings that can't be forced to it.", [((), view.sync.faults)])
     samples: list[Sample] = [((("answer", name),), count) for name, count in audits.items()]
     yield family("audits_total", COUNTER, "Recordings that have ended, by what the audit said.", samples)
 

@@ -81,10 +81,13 @@ class DiskView(NamedTuple):
 
 
 class SyncView(NamedTuple):
-    """How often the recording is forced to its disk, and how long ago it was; `interval` is 0 for never."""
+    """How often the recording is forced to its disk, and how long ago it was; `interval` is 0 for never. `faults` are
+    the recordings of the run that couldn't be, and `fault` says it of the last."""
 
     interval: float
     age: Optional[float]
+    faults: int = 0
+    fault: str = ""
 
 
 class EndedView(NamedTuple):

@@ -1,0 +1,36 @@
+/* Preloaded before a program: lets fdatasync of recordings fail, as where a disk fails to write back.
+
+   UNFORCED_FROM   the number of the first call for a file whose name ends in .ch11 that fails
+   UNFORCED_COUNT  how many calls fail from then on
+   UNFORCED_ERROR  the number of the error with which they do */
+#define _GNU_SOURCE
+#include <dlfcn.h>
+#include <errno.h>
+#include <stdio.h>
+#include <stdlib.h>
+#include <string.h>
+#include <unistd.h>
+
+static int is_recording(int file) {
+    char link[64], name[4096];
+    ssize_t len;
+
+    snprintf(link, sizeof link, "/proc/self/fd/%d", file);
+    len = readlink(link, name, sizeof name);
+    return len > 5 && memcmp(name + len - 5, ".ch11", 5) == 0;
+}
+
+int fdatasync(int file) {
+    static int calls;
+    int (*real_fdatasync)(int) = dlsym(RTLD_NEXT, "fdatasync");
+    int from = atoi(getenv("UNFORCED_FROM")), count = atoi(getenv("UNFORCED_COUNT"));
+
+    if (is_recording(file)) {
+        int call = __atomic_add_fetch(&calls, 1, __ATOMIC_SEQ_CST);
+        if (call >= from && call < from + count) {
+            errno = atoi(getenv("UNFORCED_ERROR"));
+            return -1;
+        }
+    }
+    return real_fdatasync(file);
+}
