@@ -121,6 +121,18 @@ CASES = {
         "keeps_nothing",
         "alarm",
     ),
+    "few filters are left": (
+        of_channel(version=1_023 - 257),
+        of_channel(version=1_023 - 256),
+        "filters",
+        "alarm",
+    ),
+    "a recording can't be forced to its disk": (
+        VIEW,
+        VIEW._replace(sync=SyncView(1.0, 0.5, 1, "a.ch11 can't be forced to its disk: Input/output error")),
+        "sync_fault",
+        "alarm",
+    ),
     "the disk is full soon": (
         VIEW._replace(disk=DiskView(10**9, 600.0)),
         VIEW._replace(disk=DiskView(10**9, 599.9)),

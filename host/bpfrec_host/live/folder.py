@@ -4,9 +4,10 @@ Its files, below `top`:
 
     settings        SETTINGS, as it was when the run began
     events          what the capture notes, a line of JSON each
+    kept            with --flush: how many frames of each interface the capture has counted that its filter keeps
     now             a link to the folder of the recording that goes on; to `gate` until OUT is there
     given/          the filters that the arguments give channels
-    filters/        of recordings that follow one another: the filter that each channel has by now
+    filters/        of recordings that follow one another, and with --flush: the filter that each channel has by now
     <number>/       a recording: <channel>.pipe, settings.toml, answers, report, audit, audit_errors, each of the last
                     three `.room` until it is printed into, and what `guard` needs: about.json
 """
@@ -32,6 +33,8 @@ from bpfrec_host.live.words import Way
 # have, also where the disk of TMPDIR is full by then.
 PRINTED = ("report", "audit", "audit_errors")
 PRINTED_ROOM, EVENTS_ROOM = 1 << 16, 1 << 20
+# A line of the file `kept`: 20 digits.
+COUNT_LEN = 21
 
 
 def read_settings(path: str) -> tuple[str, Settings]:
@@ -93,7 +96,7 @@ class Folder:
         self.keeps_filters = given.keeps_filters()
         self.holder = os.environ.get("TMPDIR") or "/tmp"
         self.top = Path(self.holder, f"bpfrec.{secrets.token_hex(8)}")
-        self.events = self.top / "events"
+        self.events, self.kept = self.top / "events", self.top / "kept"
 
     def make_all(self) -> None:
         """Makes the folder and what all recordings share, once there is somebody who removes it where live is
@@ -108,6 +111,7 @@ class Folder:
         for channel, listing in self.listings.items():
             self.given_filter(channel).write_text(listing, encoding="utf-8")
         write_room(self.events, EVENTS_ROOM)
+        write_room(self.kept, COUNT_LEN * len(self.ways))
         self.make_pipes("gate")
         self.point_to("gate")
         if self.keeps_filters:
@@ -210,6 +214,16 @@ class Folder:
             if isinstance(named, int) and path:
                 found.append((named, path))
         return found
+
+    def judged(self) -> set[int]:
+        """The channels whose kept frames the capture counts."""
+        return {way.channel for way in self.ways if self.kept_filter(way.channel).exists()}
+
+    def judges(self) -> list[str]:
+        """The capture's arguments that have it count the frames that filters keep."""
+        judged = self.judged()
+        ways = [f"{it.interface}={self.kept_filter(it.channel)}" for it in self.ways if it.channel in judged]
+        return ["--kept", str(self.kept), *(word for it in ways for word in ("--judge", it))]
 
     def prefilters(self) -> list[str]:
         """The capture's arguments that give the kernel the filters."""

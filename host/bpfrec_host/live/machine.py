@@ -214,6 +214,7 @@ class Machine:
         elif self.is_due(time):
             self.kills.clear()
             self.failures = self.failures if self.now.is_unforced else 0
+            self.now.is_used_up = False
             self.hand_over(time)
             if self.now.is_unforced:
                 self.back_off(time)
@@ -259,7 +260,7 @@ class Machine:
             return False
         if self.plan.every is not None and time >= self.begun + self.plan.every:
             return True
-        if self.now.is_unforced and time >= self.next_try:
+        if self.now.is_used_up or (self.now.is_unforced and time >= self.next_try):
             return True
         return self.plan.size is not None and self.store.size(self.now) >= self.plan.size
 

@@ -6,6 +6,7 @@ import signal
 import time
 from typing import NamedTuple, Optional, Protocol
 
+from bpfrec_host.formats.limits import MAX_VERSIONS
 from bpfrec_host.live import children, outputs, system
 from bpfrec_host.live.arguments import Arguments
 from bpfrec_host.live.beside import Beside
@@ -13,7 +14,7 @@ from bpfrec_host.live.capture import Capture
 from bpfrec_host.live.changes import Change
 from bpfrec_host.live.events import Events
 from bpfrec_host.live.facts import Writer
-from bpfrec_host.live.flush import Flush
+from bpfrec_host.live.flush import MOST_FILTERS, Flush
 from bpfrec_host.live.folder import Folder, open_printed
 from bpfrec_host.live.guard import Guard, open_and_close
 from bpfrec_host.live.life import Plan, Recording
@@ -76,7 +77,7 @@ class Run:
         self.watching = Watching(observer, folder)
         self.capture = Capture(programs.capture, given, folder, self.loop)
         self.line_flow = LineFlow(self.loop, folder, given, self.now, terminal)
-        self.flush = Flush(given.flush, folder, self.line_flow.push, self.say) if given.flush is not None else None
+        self.flush = Flush(given.flush, folder, self.line_flow.push) if given.flush is not None else None
         self.notifier = Notifier()
         self.ring = Ring(given.keep, given.keep_free, lambda: outputs.room_beside(self.machine.now), self.say)
         self.outputs = outputs.Outputs(self.watches, given.size is not None, self.begin_recording, self.say)
@@ -212,8 +213,21 @@ class Run:
             return
         if word == "installed":
             self.watching.changed(int(channel), int(version), change.is_own)
-        elif change.is_own and self.flush:
-            self.flush.answered(change, answer)
+            self.take_version(it, int(channel), int(version))
+
+    def take_version(self, it: Recorded, channel: int, version: int) -> None:
+        """A channel has this version of its filter, of which a recording has room for a number."""
+        if self.flush:
+            self.flush.installed(channel, version)
+        left = MAX_VERSIONS - 1 - version
+        if left > MAX_VERSIONS - MOST_FILTERS:
+            return
+        if self.given.is_rotating():
+            it.recording.is_used_up = True
+        elif channel not in it.used_up:
+            it.used_up.add(channel)
+            flushed = ", and --flush closes no packet of it any more" if self.flush else ""
+            self.say(f"live: channel {channel} has room for {left} more filters in this recording{flushed}")
 
     def end_recorder(self, it: Recorded, status: int) -> None:
         """A recorder has ended."""

@@ -9,6 +9,7 @@ from __future__ import annotations
 from collections.abc import Iterator
 from typing import NamedTuple, Optional
 
+from bpfrec_host.formats.limits import MAX_VERSIONS
 from bpfrec_host.live.status.view import ChannelView, View, lost
 
 ALARM, WARNING = "alarm", "warning"
@@ -23,6 +24,8 @@ COUNTS_SECONDS = 5
 # A filter keeps nothing where so many seconds and offered frames went by without a kept one in the recording, and so
 # many times the bytes in which a packet is full, by what the filter has kept so far; once where it has kept nothing.
 KEEPS_NOTHING_SECONDS, KEEPS_NOTHING_FRAMES, KEEPS_NOTHING_TIMES = 60, 100, 3
+# A recording has room for so many more filters of a channel.
+FILTERS_LEFT = MAX_VERSIONS // 4
 # A disk that is full in so many seconds, at the rate of the last minute.
 DISK_SECONDS = 600
 # A disk with fewer bytes than this is as good as full, whatever the rate.
@@ -111,7 +114,12 @@ def of_sync(view: View) -> Iterator[Alarm]:
 def of_channel(channel: ChannelView, state: str, limit: int) -> Iterator[Alarm]:
     """What is wrong with a channel: what was lost stays, the rest is of a channel that goes on."""
     yield from of_losses(channel)
-    if state == "ended" or channel.has_ended or channel.interface is None:
+    if state == "ended" or channel.has_ended:
+        return
+    left = channel.filters_left()
+    if left <= FILTERS_LEFT:
+        yield of(channel, "filters", ALARM, f"{left} filters left", f"there is room for {left} more filters")
+    if channel.interface is None:
         return
     yield from of_pipe(channel)
     unknown = channel.seconds if channel.counts_age is None else channel.counts_age

@@ -15,6 +15,7 @@ ALARMS = (
     "audit",
     "damaged",
     "disk",
+    "filters",
     "keeps_nothing",
     "lost",
     "no_counts",
@@ -60,6 +61,7 @@ CHANNEL_METRICS = (
         lambda it: it.counts and it.counts.waited / 1_000,
     ),
     Metric("filter_version", GAUGE, "The version of the filter, in this recording.", lambda it: it.version),
+    Metric("filters_left", GAUGE, "Versions that it has room for.", lambda it: it.filters_left()),
     Metric("last_frame_age_seconds", GAUGE, "How long ago the last frame came.", lambda it: it.frame_age),
 )
 

@@ -8,6 +8,7 @@ from __future__ import annotations
 
 from typing import NamedTuple, Optional
 
+from bpfrec_host.formats.limits import MAX_VERSIONS
 from bpfrec_host.live.observer import Counts
 
 # How many seconds of its past a channel keeps.
@@ -58,6 +59,10 @@ class ChannelView(NamedTuple):
     has_ended: bool
     unkept: Optional[Unkept]
     history: tuple[Second, ...]
+
+    def filters_left(self) -> int:
+        """For how many more versions of the filter the recording has room."""
+        return MAX_VERSIONS - 1 - self.version
 
 
 class RecordingView(NamedTuple):
