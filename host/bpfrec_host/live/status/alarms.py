@@ -15,8 +15,8 @@ from bpfrec_host.live.status.view import ChannelView, View, lost
 ALARM, WARNING = "alarm", "warning"
 # Frames that were lost in so many seconds are an alarm; those of before are a warning.
 LOST_SECONDS = 60
-# A pipe that was full for so many milliseconds of so many seconds waits.
-WAITED_MILLISECONDS, WAITED_SECONDS = 100, 10
+# A pipe that was full for so many milliseconds of so many seconds waits, which is an alarm from so many on.
+WAITED_MILLISECONDS, MOST_WAITED_MILLISECONDS, WAITED_SECONDS = 100, 1_000, 10
 # Without a frame for so many seconds a channel is silent.
 SILENT_SECONDS = 10
 # Without counts for so many seconds nothing is known of an interface.
@@ -149,11 +149,11 @@ def of_losses(channel: ChannelView) -> Iterator[Alarm]:
 def of_pipe(channel: ChannelView) -> Iterator[Alarm]:
     """Whether the recorder is slower than the wire."""
     waited = sum(it.waited for it in channel.history[-WAITED_SECONDS:])
-    if waited >= WAITED_MILLISECONDS:
-        text = (
-            f"its pipe was full for {waited:,} ms of the last {WAITED_SECONDS} s: the recorder is slower than the wire"
-        )
-        yield of(channel, "waits", ALARM, "pipe waits", text)
+    text = f"its pipe was full for {waited:,} ms of the last {WAITED_SECONDS} s"
+    if waited >= MOST_WAITED_MILLISECONDS:
+        yield of(channel, "waits", ALARM, "pipe waits", f"{text}: the recorder is slower than the wire")
+    elif waited >= WAITED_MILLISECONDS:
+        yield of(channel, "waits", WARNING, "pipe waits", text)
 
 
 def of_filter(channel: ChannelView, limit: int) -> Iterator[Alarm]:
