@@ -127,9 +127,8 @@ class World:
     def discard(self, recording: Recording) -> None:
         self.played[recording.number].is_discarded = True
 
-    def tell_report(self, recording: Recording) -> bool:
+    def tell_report(self, recording: Recording) -> None:
         self.played[recording.number].told += 1
-        return True
 
     def audit(self, recording: Recording) -> bool:
         self.played[recording.number].audits += 1

@@ -340,9 +340,7 @@ class Machine:
             self.store.discard(recording)
             self.end(recording, status)
             return
-        if not self.hands.tell_report(recording):
-            self.recorded = self.recorded or FILE_FAULT
-            status = status or FILE_FAULT
+        self.hands.tell_report(recording)
         if status != 0 or not self.plan.audits or not self.hands.audit(recording):
             self.end(recording, status)
 

@@ -295,16 +295,16 @@ class Run:
     # ---- what is told
 
     def printing_failed(self) -> None:
-        """Standard output can't be written."""
+        """Standard output can't be written: what is recorded is audited all the same, and its facts have that."""
         self.machine.recorded = self.machine.recorded or FILE_FAULT
 
-    def tell_report(self, recording: Recording) -> bool:
-        """Tells what the recorder printed: whether that could be done."""
+    def tell_report(self, recording: Recording) -> None:
+        """Tells what the recorder printed."""
         it = self.recordings.of(recording)
         if self.given.is_rotating():
             it.report = f"recording {it.about.out}\n{it.text('report')}"
-            return True
-        return self.telling.print(it.text("report"))
+        else:
+            self.telling.print(it.text("report"))
 
     def tell_lost(self) -> bool:
         """Tells what interfaces lost in all, as the last lines: whether one did."""
