@@ -14,7 +14,9 @@ Its files, below `top`:
 
 from __future__ import annotations
 
+import fcntl
 import os
+import re
 import secrets
 import stat
 from pathlib import Path
@@ -29,6 +31,8 @@ from bpfrec_host.live.expressions import listing_of, settings_text
 from bpfrec_host.live.names import Refusal
 from bpfrec_host.live.words import Way
 
+# What the private folders of runs are called.
+NAME = re.compile(r"bpfrec\.[0-9a-f]{16}")
 # What programs print into files of a recording's folder, and how much room each of these and the events are sure to
 # have, also where the disk of TMPDIR is full by then.
 PRINTED = ("report", "audit", "audit_errors")
@@ -105,6 +109,7 @@ class Folder:
             self.top.mkdir(mode=0o700)
         except OSError as error:
             raise Refusal(3, f"file {self.holder}: {error.strerror}") from None
+        self.hold()
         (self.top / "settings").write_text(self.text, encoding="utf-8")
         (self.top / "filters").mkdir()
         (self.top / "given").mkdir()
@@ -116,6 +121,22 @@ class Folder:
         self.point_to("gate")
         if self.keeps_filters:
             self.keep_filters()
+
+    def hold(self) -> None:
+        """Has the folder known as one of a run that goes on, as long as this process does."""
+        try:
+            descriptor = os.open(self.top, os.O_RDONLY | os.O_DIRECTORY | os.O_CLOEXEC)
+            fcntl.flock(descriptor, fcntl.LOCK_SH)
+        except OSError:
+            pass
+
+    def leftovers(self) -> list[str]:
+        """The folders beside this one that are left of runs of which live and its guard were killed."""
+        try:
+            names = sorted(os.listdir(self.holder))
+        except OSError:
+            return []
+        return [it for it in (f"{self.holder}/{name}" for name in names if NAME.fullmatch(name)) if is_left(it)]
 
     # ---- recordings
 
@@ -234,6 +255,21 @@ class Folder:
             paths = [str(given)] if given.exists() else [it.path("filter") or "" for it in tables]
             found += ["--prefilter", f"{way.interface}={next(it for it in paths if it)}"]
         return found
+
+
+def is_left(path: str) -> bool:
+    """Whether nobody holds a folder of this user's."""
+    try:
+        descriptor = os.open(path, os.O_RDONLY | os.O_DIRECTORY | os.O_NOFOLLOW | os.O_CLOEXEC)
+    except OSError:
+        return False
+    try:
+        fcntl.flock(descriptor, fcntl.LOCK_EX | fcntl.LOCK_NB)
+        return os.fstat(descriptor).st_uid == os.geteuid()
+    except OSError:
+        return False
+    finally:
+        os.close(descriptor)
 
 
 def remove_folder(path: Path) -> None:

@@ -23,13 +23,15 @@ class Guard(Holder):
     """The guard, as live has it, with the descriptor by which its end is told. Live ends it by `dismiss`; else it acts
     once live has died.
 
-    Two pipes tell it of ends: one that live alone has open, and one that each program that live starts has open too.
+    Two pipes tell it of ends: one that live alone has open, and one that each program that live starts has open too. A
+    third one, which live and the guard have open, tells the kernel that both have died.
     """
 
     def __init__(self, writer: Writer) -> None:
         own_reader, self.own = os.pipe()
         try:
             all_reader, self.all = os.pipe()
+            self.either_reader, self.either = os.pipe()
             self.pid = os.fork()
         except OSError:
             close(own_reader)
@@ -39,13 +41,17 @@ class Guard(Holder):
             os.close(self.own)
             os.close(self.all)
             try:
-                watch(writer, own_reader, all_reader)
+                watch(writer, own_reader, all_reader, self.either)
             finally:
                 os._exit(0)
         os.close(own_reader)
         os.close(all_reader)
         super().__init__(opened(self.pid))
         self.code: Optional[int] = None
+
+    def lifeline(self) -> int:
+        """A descriptor of its own of the pipe that has no writer any more once both have died."""
+        return os.open(f"/proc/self/fd/{self.either_reader}", os.O_RDONLY | os.O_NONBLOCK | os.O_CLOEXEC)
 
     def status(self) -> Optional[int]:
         """Its status; None while it runs."""
@@ -65,18 +71,19 @@ class Guard(Holder):
             os.waitpid(self.pid, 0)
 
 
-def watch(writer: Writer, own: int, everybody: int) -> None:
+def watch(writer: Writer, own: int, everybody: int, either: int) -> None:
     """Waits for live's end, in the process of the guard."""
     os.setpgid(0, 0)
     for it in (*ENDING, signal.SIGTTOU):
         signal.signal(it, signal.SIG_IGN)
     for descriptor in (int(it) for it in os.listdir("/proc/self/fd")):
-        if descriptor not in (own, everybody):
+        if descriptor not in (own, everybody, either):
             close(descriptor)
     for _ in range(3):
         os.open(os.devnull, os.O_RDWR)
     if os.read(own, 1):
         return
+    writer.folder.hold()
     end_rest(writer.folder.top, everybody)
     for about in sorted(writer.folder.top.glob("*/about.json")):
         write_facts(writer, about.parent)

@@ -101,6 +101,9 @@ class Run:
             # A line would change what the kernel doesn't know.
             self.line_flow.input.end()
         self.loop.follow(self.guard, self.end_guard)
+        left = self.folder.leftovers()
+        if left:
+            self.say(f"live: left of runs that were killed, and to be removed: {' '.join(left)}")
         self.machine.begin(time.monotonic())
         while not self.machine.is_done():
             self.turn()
@@ -161,7 +164,7 @@ class Run:
         try:
             if it.descriptor is None and not is_special(it.about.out):
                 it.hold_place()
-            child = it.start(self.programs.bpfrec, self.guard.all)
+            child = it.start(self.programs.bpfrec, self.guard.all, self.guard.lifeline())
         except OSError as error:
             self.say(f"live: {self.programs.bpfrec} record can't be started: {error.strerror}")
             self.recordings.drop(recording)
@@ -174,6 +177,7 @@ class Run:
 
     def begin_recording(self, it: Recorded) -> None:
         """A recorder has opened OUT."""
+        it.let_live()
         self.machine.opened(it.recording)
         self.watching.begun(it)
         self.notifier.ready(it.about.out)
