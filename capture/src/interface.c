@@ -181,6 +181,8 @@ static void wait_for_frames(struct interface *interface) {
 static int turn(struct interface *interface) {
     struct rings *rings = &interface->rings;
     follow_switches(interface);
+    if (interface->feed.judge != NULL)
+        follow_listing(interface->feed.judge);
     if (is_held(interface->switched))
         return 0;
     if (interface->is_gone)
@@ -252,8 +254,8 @@ void run_interface(struct interface *interface) {
 }
 
 void pass_later_feeds(struct interface *interface, const atomic_int *running) {
-    /* A run that is to end passes feeds too: the reader of one that was asked for before waits for all of its feeds, and
-     * so would an interface that has gone over already. */
+    /* A run that is to end passes feeds too: the reader of one that was asked for before waits for all of its feeds,
+     * and so would an interface that has gone over already. */
     while (atomic_load(running) > 0 && !is_hurried()) {
         int asked = switches_asked();
         if (asked != interface->switched) {

@@ -24,7 +24,7 @@ COUNTS = (1, 2, 12, 64)
 MOMENTS = int(os.environ.get("HANDOVER_MOMENTS", "2"))
 # Measured: 0.2 to 0.7 s, with 64 channels too.
 PATIENCE = float(os.environ.get("HANDOVER_PATIENCE", "2"))
-LENGTH, BATCH = 1_400, 32
+LENGTH, BATCH = 1_400, 8
 
 
 def drawn_moments(count: int) -> list[float]:
@@ -45,7 +45,7 @@ def pairs(entering: Callable) -> Iterator[None]:
 
 
 class Busy(threading.Thread):
-    """Sends numbered frames into the first pair until it is ended, some 15,000 a second."""
+    """Sends numbered frames into the first pair until it is ended, some 4,000 a second, which fill a pipe in 12 ms."""
 
     def __init__(self) -> None:
         super().__init__(daemon=True)
@@ -85,7 +85,7 @@ def test_one_signal_at_a_handover_ends_it_with_all_frames(
     work: Path, pairs: None, count: int, at: int, delay: float
 ) -> None:
     ways = [f"hx{number}" for number in range(count)]
-    running = Running(work, LIVE, "--quiet", "--every", 1, "--buffer", 16, work / "turn.ch11", *ways)
+    running = Running(work, LIVE, "--quiet", "--every", 1, work / "turn.ch11", *ways)
     running.wait_until_told("origin")
     first = wait_until_named(work, "")
     wait_for("the first recording goes on", lambda: recordings(work, "turn") != [])
