@@ -22,7 +22,7 @@ WANTED = {"bin/bpfrec": "make build", "bin/capture": "make build", "ip": "iprout
 pytestmark = pytest.mark.timed
 COUNTS = (1, 2, 12, 64)
 MOMENTS = int(os.environ.get("HANDOVER_MOMENTS", "2"))
-# Measured: 0.2 to 0.7 s, with 64 channels too.
+# Measured: 0.2 to 1.7 s, where a machine has twice as many programs to run as it has processors.
 PATIENCE = float(os.environ.get("HANDOVER_PATIENCE", "2"))
 LENGTH, BATCH = 1_400, 8
 
