@@ -21,7 +21,7 @@ from recordings import (
     recordings,
 )
 from schema import faults, schema_of
-from support import BPFREC, TRIALS, Running, judge, judge_quietly, shared_library, wait_for
+from support import TRIALS, Running, judge, judge_quietly, shared_library, wait_for
 
 WANTED = {"bin/bpfrec": "make build", "bin/capture": "make build", "ip": "iproute2", "cc": "gcc"}
 pytestmark = [pytest.mark.timed, pytest.mark.usefixtures("namespace")]
@@ -29,11 +29,12 @@ pytestmark = [pytest.mark.timed, pytest.mark.usefixtures("namespace")]
 ALL = 1_000_000
 
 
-def failing(work: Path, first: int, count: int) -> dict[str, str]:
-    """The environment in which so many calls fail that force a recording to its disk, from this one on."""
-    library = shared_library(TRIALS / "failing_fdatasync.c", work / "failing.so")
-    numbers = {"FROM": first, "COUNT": count, "ERROR": errno.EIO}
-    return {"LD_PRELOAD": str(library), **{f"UNFORCED_{name}": str(it) for name, it in numbers.items()}}
+def failing(work: Path, first: int, count: int, call: str = "fdatasync") -> dict[str, str]:
+    """The environment in which so many calls fail that force a recording to its disk, from this one on: those of live,
+    or by fsync those of the recorder."""
+    library = shared_library(TRIALS / "failing_force.c", work / "failing.so")
+    words = {"BY": call, "FROM": first, "COUNT": count, "ERROR": errno.EIO}
+    return {"LD_PRELOAD": str(library), **{f"UNFORCED_{name}": str(it) for name, it in words.items()}}
 
 
 def line_of(out: Path) -> str:
@@ -115,13 +116,8 @@ def test_a_recording_that_is_not_on_its_disk_at_its_end_is_told(work: Path) -> N
 
 
 def test_a_recorder_that_cannot_force_its_output_at_the_end_is_told(work: Path) -> None:
-    out, program = work / "end.ch11", work / "bpfrec"
-    library = shared_library(TRIALS / "failing_fsync.c", work / "failing.so")
-    preloaded = f"export LD_PRELOAD={library} FORCED={work}/forced FORCED_ERROR={errno.EIO}"
-    program.write_text(f'#!/bin/sh\ncase $1 in record) {preloaded} ;; esac\nexec {BPFREC} "$@"\n')
-    program.chmod(0o755)
-    (work / "forced").touch()
-    running = begin(work, out, "--quiet", adds={"BPFREC": str(program)})
+    out = work / "end.ch11"
+    running = begin(work, out, "--quiet", adds=failing(work, 1, ALL, "fsync"))
     wait_for("facts are there", lambda: has_facts(out), 5)
     running.interrupt()
     status, told = running.ended()[0], running.told()

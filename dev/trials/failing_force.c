@@ -1,5 +1,6 @@
-/* Preloaded before a program: lets fdatasync of recordings fail, as where a disk fails to write back.
+/* Preloaded before a program: lets calls fail that force recordings to their disk, as where a disk fails to write back.
 
+   UNFORCED_BY     which calls fail: fsync or fdatasync
    UNFORCED_FROM   the number of the first call for a file whose name ends in .ch11 that fails
    UNFORCED_COUNT  how many calls fail from then on
    UNFORCED_ERROR  the number of the error with which they do */
@@ -20,17 +21,24 @@ static int is_recording(int file) {
     return len > 5 && memcmp(name + len - 5, ".ch11", 5) == 0;
 }
 
-int fdatasync(int file) {
+static int force(const char *call, int file) {
     static int calls;
-    int (*real_fdatasync)(int) = dlsym(RTLD_NEXT, "fdatasync");
-    int from = atoi(getenv("UNFORCED_FROM")), count = atoi(getenv("UNFORCED_COUNT"));
+    int (*real)(int) = dlsym(RTLD_NEXT, call);
 
-    if (is_recording(file)) {
-        int call = __atomic_add_fetch(&calls, 1, __ATOMIC_SEQ_CST);
-        if (call >= from && call < from + count) {
+    if (strcmp(getenv("UNFORCED_BY"), call) == 0 && is_recording(file)) {
+        int number = __atomic_add_fetch(&calls, 1, __ATOMIC_SEQ_CST), from = atoi(getenv("UNFORCED_FROM"));
+        if (number >= from && number < from + atoi(getenv("UNFORCED_COUNT"))) {
             errno = atoi(getenv("UNFORCED_ERROR"));
             return -1;
         }
     }
-    return real_fdatasync(file);
+    return real(file);
+}
+
+int fsync(int file) {
+    return force("fsync", file);
+}
+
+int fdatasync(int file) {
+    return force("fdatasync", file);
 }
