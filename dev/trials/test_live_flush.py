@@ -92,7 +92,9 @@ def test_a_channel_without_frames_gets_none_and_a_changed_filter_stays(work: Pat
     running.interrupt()
     status, printed = running.ended()
     judge("it records", status == 0, running.told())
-    judge("channel 1 has its changed filter", re.search(r"channel 1 versions [23] offered 10 kept 0 ", printed), printed)
+    judge(
+        "channel 1 has its changed filter", re.search(r"channel 1 versions [23] offered 10 kept 0 ", printed), printed
+    )
     judge("channel 2 has its first", "channel 2 versions 1 offered 0 kept 0 " in printed, printed)
 
 
@@ -107,7 +109,9 @@ def test_the_last_filters_of_a_channel_are_left_to_lines(work: Path) -> None:
     """Without a recording that follows a line, an alarm and a metric say how many are left."""
     out = work / "full.ch11"
     running = begin(work, out, "--quiet", "--flush", 1, "--status", "0")
-    left = "live: channel 1 has room for 256 more filters in this recording, and --flush closes no packet of it any more"
+    left = (
+        "live: channel 1 has room for 256 more filters in this recording, and --flush closes no packet of it any more"
+    )
     typed = MOST_FLUSHED
     for _ in range(typed):
         running.type_in(f"set 1 {work}/all")

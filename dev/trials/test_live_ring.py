@@ -24,7 +24,7 @@ from recordings import (
     recordings,
     settings_of,
 )
-from support import BPFREC, LIVE, Running, judge, judge_quietly, outcome, run, wait_for
+from support import BPFREC, LIVE, Running, judge, judge_quietly, run, wait_for
 
 WANTED = {"bin/bpfrec": "make build", "bin/capture": "make build", "ip": "iproute2", "mount": "mount"}
 pytestmark = [pytest.mark.timed, pytest.mark.usefixtures("namespace")]

@@ -167,7 +167,9 @@ def test_rebinding(flight: Flight, host: str) -> None:
 
 
 OTHER_HOSTS = {
-    **dict.fromkeys(["127.0.0.1", "127.0.0.1:80", "Recorder.Example:80", "recorder.example.", "tap", "localhost:9"], 200),
+    **dict.fromkeys(
+        ["127.0.0.1", "127.0.0.1:80", "Recorder.Example:80", "recorder.example.", "tap", "localhost:9"], 200
+    ),
     **dict.fromkeys(["evil.example", "recorder.example.evil", "example", "0.0.0.0", "10.0.0.1", "[::1]x", ""], 421),
 }
 

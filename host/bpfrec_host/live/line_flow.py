@@ -12,7 +12,6 @@ from bpfrec_host.live.loop import Loop
 from bpfrec_host.live.recorder import Recorded
 from bpfrec_host.live.status import Terminal
 
-
 # So many lines a recorder has at once at most: less than are left of a channel's filters when a next recording begins.
 MOST_UNANSWERED = 128
 

@@ -32,7 +32,6 @@ from bpfrec_host.live.telling import Telling
 from bpfrec_host.live.watches import Watches
 from bpfrec_host.live.watching import Watching
 
-
 # Why a recording isn't on its disk of which the recorder alone was told so.
 UNFORCED = "the recorder's fsync failed"
 
