@@ -53,6 +53,6 @@ It needs bin/bpfrec (make build) and, for interfaces, bin/capture (make build wi
 capture. BPFREC and CAPTURE name other programs.
 
 Status: that of the first `bpfrec record` that failed, else of the first `bpfrec audit`, else 1 if capturing failed,
-else 5 if frames were lost and --strict says so; 1 if OUT couldn't be forced to its disk, 2 of wrong arguments, 3 if
-nothing was begun.
+else 5 if frames were lost and --strict says so. It is 1 if OUT couldn't be forced to its disk, 2 of wrong arguments, 3
+if nothing was begun.
 """
