@@ -400,6 +400,18 @@ def test_a_recording_that_cannot_be_forced_goes_on_where_no_other_can_begin() ->
     judge("and goes on", world.machine.now.number == 1 and world.now().is_running)
 
 
+def test_a_recording_that_its_recorder_could_not_force_is_audited_all_the_same() -> None:
+    world = World(SINGLE)
+    world.machine.begin(0)
+    while_going(world)
+    disk_fails(world)
+    it = world.now()
+    world.end_recorder(it, 3)
+    world.finish()
+    judge("it is audited, and has its recorder's status", (it.audits, it.concluded) == (1, [3]))
+    judge("the status is 1", world.machine.status(False) == 1)
+
+
 def test_a_recording_that_cannot_be_forced_goes_on_where_none_follows() -> None:
     world = World(SINGLE)
     world.machine.begin(0)

@@ -122,4 +122,8 @@ def test_a_recorder_that_cannot_force_its_output_at_the_end_is_told(work: Path) 
     running.interrupt()
     status, told = running.ended()[0], running.told()
     judge("it is told", f"live: {out} can't be forced to its disk: the recorder's fsync failed\n" in told, told)
-    judge("the status is 1, and the facts say it", (status, bool(facts_of(out)["sync_fault"])) == (1, True), status)
+    facts = facts_of(out)
+    judge("the status is 1, and the facts say it", (status, bool(facts["sync_fault"])) == (1, True), status)
+    judge(
+        "with the recorder's status, and the audit", (facts["status"], facts["audit"][-1]) == (3, YES), facts["audit"]
+    )

@@ -182,7 +182,7 @@ class Machine:
     def audited(self, recording: Recording, status: int) -> None:
         """An audit has ended."""
         self.audited_by = self.audited_by or status
-        self.end(recording, status)
+        self.end(recording, recording.status or status)
 
     # ---- time
 
@@ -341,7 +341,9 @@ class Machine:
             self.end(recording, status)
             return
         self.hands.tell_report(recording)
-        if status != 0 or not self.plan.audits or not self.hands.audit(recording):
+        # What isn't on its disk can be read still.
+        is_whole = status == 0 or (status == FILE_FAULT and recording.is_unforced)
+        if not is_whole or not self.plan.audits or not self.hands.audit(recording):
             self.end(recording, status)
 
     def end(self, recording: Recording, status: int) -> None:
