@@ -54,6 +54,8 @@ complete -c bpfrec-capture -l origin
 complete -c bpfrec-capture -l buffer
 complete -c bpfrec-capture -l direction
 complete -c bpfrec-capture -l prefilter
+complete -c bpfrec-capture -l kept
+complete -c bpfrec-capture -l judge
 complete -c bpfrec-capture -l no-promiscuous
 complete -c bpfrec-capture -l clock
 complete -c bpfrec-capture -l check-sequence

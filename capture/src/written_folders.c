@@ -78,7 +78,7 @@ static void cut_to_folder(char path[PATH_MAX]) {
     do {
         char *sign = strrchr(path, '/');
         if (sign == NULL)
-            strcpy(path, ".");
+            memcpy(path, ".", sizeof ".");
         else
             sign[sign == path] = '\0';
     } while (lstat(path, &kind) == 0 && S_ISLNK(kind.st_mode));
