@@ -46,8 +46,9 @@ static const char USAGE[] =
     "is removed is taken again once it is back.\n"
     "\n"
     "Once all are open the program gives up most calls of the kernel and its privileges, root's too, so a feed\n"
-    "has to be where its user may write. It keeps cap_net_raw, in force only while an interface is opened again;\n"
-    "with -r those alone by which root opens the files of others.\n"
+    "has to be where its user may write; by Landlock, where the kernel has it, all else can't be written. It\n"
+    "keeps cap_net_raw, in force only while an interface is opened again; with -r those alone by which root opens\n"
+    "the files of others.\n"
     "\n"
     "  --origin WHEN          the moment at which counters are 0: now (default of interfaces), zero (1970-01-01),\n"
     "                         first (default of files: their first frame), or a time, as\n"
@@ -414,7 +415,7 @@ int read_arguments(int argc, char **argv, struct arguments *arguments, int *is_d
         return status;
     if (origin == NULL)
         origin_of(arguments->are_files ? "first" : "now", &arguments->origin);
-    status = arguments->are_files ? 0 : place_origin(origin, arguments);
+    status = origin == NULL || arguments->are_files ? 0 : place_origin(origin, arguments);
     if (status == 0)
         status = read_routes(argc - optind, argv + optind, arguments);
     if (status == 0 && arguments->buffer_mib == 0)
