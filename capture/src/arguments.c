@@ -46,7 +46,7 @@ static const char USAGE[] =
     "is removed is taken again once it is back.\n"
     "\n"
     "Once all are open the program gives up most calls of the kernel and its privileges, root's too, so a feed\n"
-    "has to be where its user may write; by Landlock, where the kernel has it, all else can't be written. It\n"
+    "has to be where its user may write. By Landlock, where the kernel has it, nothing else can be written. It\n"
     "keeps cap_net_raw, in force only while an interface is opened again; with -r those alone by which root opens\n"
     "the files of others.\n"
     "\n"
