@@ -244,6 +244,14 @@ static int take_listing(int option, char *given, struct arguments *arguments) {
     return 1;
 }
 
+/* Takes an option without a value: 1. */
+static int take_flag(int option, struct arguments *arguments) {
+    arguments->is_promiscuous &= option != NO_PROMISCUOUS;
+    arguments->is_strict |= option == STRICT;
+    arguments->is_quiet |= option == QUIET;
+    return 1;
+}
+
 /* Takes an option's value; whether it is one. */
 static int take_option(int option, char *value, struct arguments *arguments) {
     static const char *const DIRECTIONS[] = {"both", "in", "out", NULL}, *const CLOCKS[] = {"host", "adapter", NULL};
@@ -279,15 +287,8 @@ static int take_option(int option, char *value, struct arguments *arguments) {
     case EVENTS:
         arguments->events = value;
         return 1;
-    case NO_PROMISCUOUS:
-        arguments->is_promiscuous = 0;
-        return 1;
-    case STRICT:
-        arguments->is_strict = 1;
-        return 1;
     default:
-        arguments->is_quiet = 1;
-        return 1;
+        return take_flag(option, arguments);
     }
 }
 
