@@ -46,8 +46,9 @@ static const char USAGE[] =
     "is removed is taken again once it is back.\n"
     "\n"
     "Once all are open the program gives up most calls of the kernel and its privileges, root's too, so a feed\n"
-    "has to be where its user may write. It keeps cap_net_raw, in force only while an interface is opened again;\n"
-    "with -r those alone by which root opens the files of others.\n"
+    "has to be where its user may write. By Landlock, where the kernel has it, nothing else can be written. It\n"
+    "keeps cap_net_raw, in force only while an interface is opened again; with -r those alone by which root opens\n"
+    "the files of others.\n"
     "\n"
     "  --origin WHEN          the moment at which counters are 0: now (default of interfaces), zero (1970-01-01),\n"
     "                         first (default of files: their first frame), or a time, as\n"
@@ -243,6 +244,14 @@ static int take_listing(int option, char *given, struct arguments *arguments) {
     return 1;
 }
 
+/* Takes an option without a value: 1. */
+static int take_flag(int option, struct arguments *arguments) {
+    arguments->is_promiscuous &= option != NO_PROMISCUOUS;
+    arguments->is_strict |= option == STRICT;
+    arguments->is_quiet |= option == QUIET;
+    return 1;
+}
+
 /* Takes an option's value; whether it is one. */
 static int take_option(int option, char *value, struct arguments *arguments) {
     static const char *const DIRECTIONS[] = {"both", "in", "out", NULL}, *const CLOCKS[] = {"host", "adapter", NULL};
@@ -278,15 +287,8 @@ static int take_option(int option, char *value, struct arguments *arguments) {
     case EVENTS:
         arguments->events = value;
         return 1;
-    case NO_PROMISCUOUS:
-        arguments->is_promiscuous = 0;
-        return 1;
-    case STRICT:
-        arguments->is_strict = 1;
-        return 1;
     default:
-        arguments->is_quiet = 1;
-        return 1;
+        return take_flag(option, arguments);
     }
 }
 
@@ -414,7 +416,7 @@ int read_arguments(int argc, char **argv, struct arguments *arguments, int *is_d
         return status;
     if (origin == NULL)
         origin_of(arguments->are_files ? "first" : "now", &arguments->origin);
-    status = arguments->are_files ? 0 : place_origin(origin, arguments);
+    status = origin == NULL || arguments->are_files ? 0 : place_origin(origin, arguments);
     if (status == 0)
         status = read_routes(argc - optind, argv + optind, arguments);
     if (status == 0 && arguments->buffer_mib == 0)

@@ -21,6 +21,9 @@ static const uint64_t UPPER_HALF = (uint64_t)1 << (COUNTER_BITS - 1);
 /* Of more settings than this only the last are known; a frame that waited for longer has the time of a later one. */
 enum { KEPT_SETTINGS = 1024, LOOKS = 3 };
 
+/* Of the settings of before only so many are noted again. */
+enum { MOST_NOTED = 16 };
+
 /* A setting of the wall clock. Moments are by the clock that runs on. The first is the beginning. */
 struct setting {
     int64_t ahead;                       /* how far the wall clock is ahead from then on */
@@ -145,11 +148,12 @@ static void note_origin(unsigned number, nanoseconds since, uint64_t counter) {
 /* Notes again, where counters have begun at 0 again and are in their lower half, what holds for those in the upper
  * half, of before: of several origins that hold for a counter the last counts. */
 static void note_upper_half(void) {
-    if (turned == 0 || counter_before >= UPPER_HALF)
+    unsigned first = last_before - first_high < MOST_NOTED ? first_high : last_before - MOST_NOTED + 1;
+    if (turned == 0 || counter_before >= UPPER_HALF || atomic_load(&newest) - first >= KEPT_SETTINGS)
         return;
-    for (unsigned number = first_high; number <= last_before; number++) {
+    for (unsigned number = first; number <= last_before; number++) {
         uint64_t counter = setting_of(number)->counter;
-        note_origin(number, turned - COUNTER_TURN, number == first_high ? UPPER_HALF : counter);
+        note_origin(number, turned - COUNTER_TURN, number == first ? UPPER_HALF : counter);
     }
 }
 
@@ -157,12 +161,18 @@ static void tell_setting(unsigned number) {
     struct setting *setting = setting_of(number);
     setting->counter = counter_of(told_from(setting));
     int64_t by = setting->ahead - setting_of(number - 1)->ahead;
+    int is_before = turned != 0 && counter_before < UPPER_HALF && setting->counter >= UPPER_HALF;
     char text[SECONDS_TEXT_LEN], by_text[SECONDS_TEXT_LEN];
-    print_seconds(origin.at + turned + set_by(number), text);
+    print_seconds(origin.at + turned - (is_before ? COUNTER_TURN : 0) + set_by(number), text);
     print_seconds(by, by_text);
     tell("origin %s from counter %" PRIu64 " on: the clock was set by %s%s s", text, setting->counter,
          by < 0 ? "" : "+", by_text);
     tell_event("{\"origin\": \"%s\", \"counter\": %" PRIu64 ", \"set_by\": \"%s\"}", text, setting->counter, by_text);
+    /* It came just before counters began at 0 again, and holds for those too. */
+    if (is_before) {
+        last_before = number;
+        note_origin(number, turned, 0);
+    }
     note_upper_half();
 }
 

@@ -27,6 +27,7 @@ enum { IS_LIMITED = 1 };
 #define EXECUTE (1ULL << 0)
 #define WRITE_FILE (1ULL << 1)
 #define REMOVE_AND_MAKE (0x1ffULL << 4)
+#define MAKE_FILE (1ULL << 8)
 #define REFER (1ULL << 13)
 #define TRUNCATE (1ULL << 14)
 #define IOCTL_DEVICE (1ULL << 15)
@@ -71,17 +72,28 @@ static void allow_file(int ruleset, int fd, const struct ruleset *refused) {
     syscall(ADD_RULE, ruleset, BELOW_PATH, &rule, 0);
 }
 
-/* Cuts a path to that of its folder; of a folder that is a link, to where the link stands, as it may lead elsewhere
- * later. */
+/* Cuts a path behind its last sign, to that of its folder. */
+static void cut_last(char path[PATH_MAX]) {
+    char *sign = strrchr(path, '/');
+    if (sign == NULL)
+        memcpy(path, ".", sizeof ".");
+    else
+        sign[sign == path] = '\0';
+}
+
+/* Whether a path is a link to what stands beside it, in a folder that isn't the topmost one. */
+static int is_link_beside(const char *path) {
+    char to[PATH_MAX];
+    ssize_t len = readlink(path, to, sizeof to);
+    return len > 0 && memchr(to, '/', (size_t)len) == NULL && strrchr(path, '/') != path;
+}
+
+/* Cuts a path to that of its folder; where that is a link to one beside it, to the folder of both, since it may lead to
+ * another of those later. */
 static void cut_to_folder(char path[PATH_MAX]) {
-    struct stat kind;
-    do {
-        char *sign = strrchr(path, '/');
-        if (sign == NULL)
-            strcpy(path, ".");
-        else
-            sign[sign == path] = '\0';
-    } while (lstat(path, &kind) == 0 && S_ISLNK(kind.st_mode));
+    do
+        cut_last(path);
+    while (is_link_beside(path));
 }
 
 /* Folders of what isn't a file of anybody's: what stands there is allowed alone. */
@@ -89,7 +101,7 @@ static int is_of_devices(const char *folder) {
     return strcmp(folder, "/dev") == 0 || strcmp(folder, "/dev/fd") == 0 || strncmp(folder, "/proc", 5) == 0;
 }
 
-/* Allows to write, make and remove what is in the folder of a path, and below, and what the path names. */
+/* Allows to make files and write them in the folder of a path, and below, and to write what the path names. */
 static void allow_path(int ruleset, const char *path, const struct ruleset *refused) {
     char folder[PATH_MAX];
     if (snprintf(folder, sizeof folder, "%s", path) >= PATH_MAX)
@@ -103,7 +115,7 @@ static void allow_path(int ruleset, const char *path, const struct ruleset *refu
     fd = is_of_devices(folder) ? -1 : open(folder, O_PATH | O_DIRECTORY | O_CLOEXEC);
     if (fd < 0)
         return;
-    struct rule rule = {refused->files & ~(EXECUTE | IOCTL_DEVICE), fd};
+    struct rule rule = {refused->files & (WRITE_FILE | TRUNCATE | MAKE_FILE), fd};
     syscall(ADD_RULE, ruleset, BELOW_PATH, &rule, 0);
     close(fd);
 }

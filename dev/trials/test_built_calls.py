@@ -9,6 +9,7 @@ from pathlib import Path
 import pytest
 from frames import numbers
 from namespace import make_pair, send_numbered, take_away
+from pcapng import capture_head, captured, frame_of
 from support import (
     CAPTURE,
     NOBODY,
@@ -17,6 +18,7 @@ from support import (
     Running,
     judge,
     judge_quietly,
+    outcome,
     pipe_at,
     run,
     shared_library,
@@ -149,6 +151,23 @@ def test_feeds_events_and_counts_are_written_in_several_folders(work: Path) -> N
         "facts and counts too",
         (work / "facts/events").stat().st_size > 0 and len((work / "counts/kept").read_text()) == 42,
     )
+
+
+@pytest.mark.parametrize("feed", ["here/made", "/dev/stdout", "/dev/fd/1", "/proc/self/fd/1", "-", "link", "relative"])
+@pytest.mark.parametrize("way", ["> there/out", "| cat > there/out", "> there/pipe"], ids=["file", "pipe", "named"])
+def test_a_feed_may_be_a_stream_or_a_link_to_another_folder(work: Path, feed: str, way: str) -> None:
+    for name in ("here", "there"):
+        (work / name).mkdir()
+    (work / "in.pcap").write_bytes(
+        capture_head(0xA1B23C4D) + b"".join(captured(at, 0, frame_of(at)) for at in range(9))
+    )
+    (work / "there/linked").touch()
+    (work / "link").symlink_to(work / "there/linked")
+    reader = Reader(pipe_at(work, "there/pipe")) if way.endswith("pipe") else None
+    done = outcome("sh", "-c", f'"$0" -r in.pcap={feed} {way}', CAPTURE, cwd=work)
+    streams = [reader.all()] if reader else [(work / "there/out").read_bytes()]
+    made = [it.read_bytes() for it in (work / "here/made", work / "there/linked", work / "relative") if it.exists()]
+    judge("its frames are there", [len(it) for it in streams + made if it] == [9 * 73], done.stderr)
 
 
 def test_a_device_as_feed_opens_no_other_device(work: Path, tried_calls: Path) -> None:

@@ -1,4 +1,5 @@
-/* Preloaded before a program: once it has limited its calls of the kernel, all others are tried, and standard error says
+/* Preloaded before a program: once it has limited its calls of the kernel, all others are tried, and standard error
+ says
  * how each ended: by an error that says that it is forbidden, or done.
 
    TRIED_FILE   a file that is tried to be read, written and emptied, and beside which another is tried to be made

@@ -90,35 +90,57 @@ def test_an_origin_that_lies_ahead_is_refused(work: Path) -> None:
     judge("by live too", running.ended()[0] == 2 and not out.exists(), running.told())
 
 
+class Turning:
+    """A capture whose counters begin at 0 again soon, under a clock that is set for it alone."""
+
+    def __init__(self, work: Path, seconds: int) -> None:
+        self.clock, self.events, self.feed = Clock(work), work / "events", work / "rx0.feed"
+        origin = time.time_ns() - TURN + seconds * SECOND
+        self.turn, self.sent = origin + TURN, []
+        words = ["--origin", f"{origin // SECOND}.{origin % SECOND:09}", "--events", self.events, f"rx0={self.feed}"]
+        self.running = Running(work, CAPTURE, "--quiet", *words, adds=self.clock.adds)
+        self.running.wait_until_told("origin")
+        time.sleep(0.2)
+
+    def send(self, count: int = 20) -> None:
+        more = send_timed(len(self.sent), count)
+        self.sent += [(self.clock.ahead_at(begun) + begun, self.clock.ahead_at(end) + end) for begun, end in more]
+
+    def judge(self, before: int) -> None:
+        """Ends it: of its frames so many came before the turn, and all have right times."""
+        self.running.interrupt()
+        judge_quietly(f"it ends: {self.running.told()}", self.running.ended()[0] == 0)
+        found = records(self.feed.read_bytes())
+        origins = [it for it in map(json.loads, self.events.read_text().splitlines()) if "origin" in it]
+        judge_quietly("each frame is there", numbers(self.feed.read_bytes()) == list(range(len(self.sent))))
+        judge("counters have begun at 0 again", found[before - 1].counter > 2**47 > found[-1].counter)
+        judge_moments("before and after", origins, found, self.sent)
+
+
 def test_times_are_right_once_counters_have_begun_at_0_again(work: Path) -> None:
     """While it captures, and with a clock that is set before and after that."""
-    clock, events, feed = Clock(work), work / "events", work / "rx0.feed"
-    origin = time.time_ns() - TURN + 3 * SECOND
-    words = ["--origin", f"{origin // SECOND}.{origin % SECOND:09}", "--events", events, f"rx0={feed}"]
-    running = Running(work, CAPTURE, "--quiet", *words, adds=clock.adds)
-    running.wait_until_told("origin")
-    time.sleep(0.2)
-    sent: list[tuple[int, int]] = []
-
-    def send_some() -> None:
-        more = send_timed(len(sent), 20)
-        sent.extend((clock.ahead_at(begun) + begun, clock.ahead_at(end) + end) for begun, end in more)
+    it = Turning(work, 3)
+    it.send()
+    it.clock.set_by(5 * SECOND)
+    time.sleep(0.15)
+    it.send()
+    judge_quietly("this is before the end of the counters", time.time_ns() < it.turn)
+    told = "from counter 0 on: counters have begun at 0 again"
+    wait_for("counters begin at 0 again", lambda: told in it.running.told(), 10)
+    it.send()
+    for step in (-2 * SECOND, SECOND):
+        it.clock.set_by(step)
         time.sleep(0.15)
+        it.send()
+    it.judge(40)
 
-    send_some()
-    clock.set_by(5 * SECOND)
-    send_some()
-    judge_quietly("this is before the end of the counters", time.time_ns() < origin + TURN)
-    wait_for("counters begin at 0 again", lambda: "counters have begun at 0 again" in running.told(), 10)
-    send_some()
-    clock.set_by(-2 * SECOND)
-    send_some()
-    clock.set_by(SECOND)
-    send_some()
-    running.interrupt()
-    judge_quietly(f"it ends: {running.told()}", running.ended()[0] == 0)
-    found = records(feed.read_bytes())
-    origins = [it for it in map(json.loads, events.read_text().splitlines()) if "origin" in it]
-    judge("each frame is there", numbers(feed.read_bytes()) == list(range(100)))
-    judge("counters have begun at 0 again", found[20].counter > 2**47 > found[-1].counter)
-    judge_moments("before and after", origins, found, sent)
+
+def test_times_are_right_where_the_clock_is_set_just_before_counters_begin_at_0_again(work: Path) -> None:
+    it = Turning(work, 2)
+    it.send()
+    it.clock.set_at(it.turn - 50 * MILLISECOND, 5 * SECOND)
+    it.send(5)
+    while time.time_ns() < it.turn + 300 * MILLISECOND:
+        it.send(1)
+        time.sleep(0.005)
+    it.judge(20)
