@@ -229,8 +229,9 @@ def test_a_file_is_forced_a_last_time_ahead_of_the_last_facts_unless_it_was_let_
         wait_for("it is let go", lambda: keeper.descriptor == -1, 3)
     keeper.write(lambda: done.append("facts"))
     keeper.end()
-    # What was ended isn't let go any more.
+    # What was ended isn't let go any more, and gets no other facts.
     keeper.release()
+    keeper.write(lambda: done.append("late facts"))
     keeper.join(5)
     os.close(descriptor)
     judge("in this order", done == ["forced", *(["facts"] if is_released else ["forced", "facts"])], done)

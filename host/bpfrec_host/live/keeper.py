@@ -42,10 +42,11 @@ class Keeper(threading.Thread):
         self.next_sync = self.next_write = time.monotonic()
 
     def write(self, facts: Callable[[], None]) -> None:
-        """Has facts written soon, in place of those that wait."""
+        """Has facts written soon, in place of those that wait; once it ends none any more."""
         with self.changed:
-            self.facts = facts
-            self.changed.notify()
+            if not self.is_ending:
+                self.facts = facts
+                self.changed.notify()
 
     def release(self) -> None:
         """Closes the file, which is forced to its disk no more: its room is free where it is removed. One that ends is

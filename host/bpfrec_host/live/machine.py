@@ -248,6 +248,7 @@ class Machine:
         return (
             self.now.phase is Phase.GOING
             and not self.now.has_failed
+            and not self.now.was_killed
             and not self.is_ending
             and self.captured is None
             and self.old is None
