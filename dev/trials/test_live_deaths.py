@@ -28,7 +28,7 @@ from support import BPFREC, LIVE, Running, judge, judge_quietly, wait_for
 WANTED = {"bin/bpfrec": "make build", "bin/capture": "make build", "ip": "iproute2"}
 pytestmark = [pytest.mark.timed, pytest.mark.usefixtures("namespace")]
 # So many drawn moments, and so long what is left may run.
-DRAWN, PATIENCE = 6, 8
+DRAWN, PATIENCE = 3, 8
 
 
 def kill_both(running: Running, out: Path) -> None:

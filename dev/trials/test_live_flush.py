@@ -170,7 +170,7 @@ class Played:
     def __init__(self, work: Path, channels: int) -> None:
         self.lines = SimpleNamespace(unanswered=[], is_ending=False, put=self.put)
         self.descriptor, self.now, self.given = None, 100.0, []
-        self.kept, self.numbers = work / "kept", [0] * channels
+        self.kept, self.numbers, self.counted = work / "kept", [0] * channels, channels
         self.ways = [SimpleNamespace(channel=it + 1, interface=f"rx{it}") for it in range(channels)]
         self.write()
 
@@ -178,7 +178,7 @@ class Played:
         self.given.append((round(self.now, 3), int(line.split()[1])))
 
     def judged(self) -> set[int]:
-        return {it.channel for it in self.ways}
+        return {it.channel for it in self.ways[: self.counted]}
 
     def filters(self) -> list[tuple[int, str]]:
         return [(it.channel, "") for it in self.ways]
@@ -248,6 +248,28 @@ def test_many_frames_are_flushed_no_more_often_than_they_must(played: tuple[Play
         it.count(2)
         pass_time(it, flush, 1 / LOOKS)
     judge("in a hundred seconds", 100 <= len(it.given) <= 150 and {it[1] for it in it.given} == {2}, len(it.given))
+
+
+def test_a_channel_whose_frames_nobody_counts_is_flushed_once_behind_each_packet(work: Path) -> None:
+    it = Played(work, 2)
+    it.counted = 1
+    flush, closed = Flush(1, it, lambda _: None), set()
+    flush.read_on = lambda _: closed
+    flush.begin(it, it.now)
+    pass_time(it, flush, 10)
+    judge("once", [channel for _, channel in it.given] == [2] and 100.8 < it.given[0][0] <= 101, it.given)
+    closed.add(2)
+    pass_time(it, flush, 1 / LOOKS)
+    closed.clear()
+    pass_time(it, flush, 10)
+    judge("and once more", [channel for _, channel in it.given] == [2, 2] and it.given[1][0] <= 111, it.given)
+    flush.installed(2, MOST_FLUSHED - 1)
+    closed.add(2)
+    pass_time(it, flush, 1 / LOOKS)
+    closed.clear()
+    pass_time(it, flush, 10)
+    judge("but not with the last filters", len(it.given) == 2, it.given)
+    flush.kept.close()
 
 
 def test_no_filter_is_given_behind_the_last_that_is_not_left_to_lines(played: tuple[Played, Flush]) -> None:
