@@ -13,8 +13,8 @@ Lines `set <channel> <file>` on standard input change filters.
 An OUT that exists is refused unless --force is given, and no link is followed. OUT and OUT.json have the mode 0640,
 less what umask takes away, or MODE. What is written is forced to the disk each second, so lost power costs about two
 seconds; with --sync SECONDS at that interval, with 0 never. A packet is written when it is full. With --flush SECONDS
-it is closed at most so long after a kept frame, before the channel's next one. Each time takes one of the 1,024 filters
-of a channel that a recording has room for; the last 256 are left to lines.
+one that has held a frame for that time, or a little less, is closed before the channel's next frame. Each time takes
+one of the 1,024 filters of a channel that a recording has room for; the last 256 are left to lines.
 
 The facts of a recording of interfaces are in OUT.json beside it: the origin of its relative time counter (RTC, 10 MHz),
 interfaces, settings, filters, what was lost and when, and in the end the report and the audit. `info` and
