@@ -45,8 +45,8 @@ _bpfrec() {
 _bpfrec_tool() {
     local options='' kind=''
     case ${1##*/} in
-        bpfrec-capture) options='-r --origin --buffer --direction --prefilter --no-promiscuous --clock --check-sequence --interface --quiet --strict --hold --events --parent --version --help' kind='*' ;;
-        bpfrec-live) options='--force --every --size --sync --flush --keep --keep-free --mode --status --prefilter --no-audit --strict --origin --buffer --direction --clock --check-sequence --quiet --no-promiscuous --help' kind=toml ;;
+        bpfrec-capture) options='-r --origin --buffer --direction --prefilter --kept --judge --no-promiscuous --clock --check-sequence --interface --quiet --strict --hold --events --parent --version --help' kind='*' ;;
+        bpfrec-live) options='--force --every --size --sync --flush --keep --keep-free --mode --status --status-name --prefilter --no-audit --strict --origin --buffer --direction --clock --check-sequence --quiet --no-promiscuous --help' kind=toml ;;
         bpfrec-convert) options='from-pcap to-pcap show make --origin --interface --quiet --facts --drop-check-sequence --help' kind='*' ;;
         bpfrec-info) options='--json --quiet --html --help' kind=ch11 ;;
         bpfrec-pcapng) options='--from --to --channel --force --quiet --help' kind=ch11 ;;

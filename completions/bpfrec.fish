@@ -54,6 +54,8 @@ complete -c bpfrec-capture -l origin
 complete -c bpfrec-capture -l buffer
 complete -c bpfrec-capture -l direction
 complete -c bpfrec-capture -l prefilter
+complete -c bpfrec-capture -l kept
+complete -c bpfrec-capture -l judge
 complete -c bpfrec-capture -l no-promiscuous
 complete -c bpfrec-capture -l clock
 complete -c bpfrec-capture -l check-sequence
@@ -74,6 +76,7 @@ complete -c bpfrec-live -l keep
 complete -c bpfrec-live -l keep-free
 complete -c bpfrec-live -l mode
 complete -c bpfrec-live -l status
+complete -c bpfrec-live -l status-name
 complete -c bpfrec-live -l prefilter
 complete -c bpfrec-live -l no-audit
 complete -c bpfrec-live -l strict

@@ -46,12 +46,15 @@ static const char USAGE[] =
     "is removed is taken again once it is back.\n"
     "\n"
     "Once all are open the program gives up most calls of the kernel and its privileges, root's too, so a feed\n"
-    "has to be where its user may write. It keeps cap_net_raw, in force only while an interface is opened again;\n"
-    "with -r those alone by which root opens the files of others.\n"
+    "has to be where its user may write. By Landlock, where the kernel has it, nothing else can be written. It\n"
+    "keeps cap_net_raw, in force only while an interface is opened again; with -r those alone by which root opens\n"
+    "the files of others.\n"
     "\n"
     "  --origin WHEN          the moment at which counters are 0: now (default of interfaces), zero (1970-01-01),\n"
     "                         first (default of files: their first frame), or a time, as\n"
-    "                         1764590400.25 or 2025-12-01T12:00:00.25Z\n"
+    "                         1764590400.25 or 2025-12-01T12:00:00.25Z. Counters begin at 0 again after 325\n"
+    "                         days: of interfaces a line prints the origin that is right by now, and an origin\n"
+    "                         that lies ahead is refused\n"
     "  --buffer MIB           kernel buffer per interface in MiB, 1 to 2047 (default 256, or less, so that all have\n"
     "                         a quarter of the memory at most). The kernel makes up to twice as much of it; a line\n"
     "                         prints what it has\n"
@@ -61,6 +64,12 @@ static const char USAGE[] =
     "                         counted nor offered to the recorder. A listing is what `bpfrec asm` or\n"
     "                         `tcpdump -ddd` prints. Frames that the kernel sees differently from the recorder,\n"
     "                         with a VLAN tag or of fewer than 60 bytes, always leave it\n"
+    "  --kept FILE            keeps in FILE how many frames the listing of each --judge has kept, a line for each\n"
+    "                         interface in their order: 20 digits, written anew every 100 ms where one changed\n"
+    "  --judge INTERFACE=LISTING\n"
+    "                         the listing by which frames are counted for --kept, which judges what the feed has;\n"
+    "                         without one, or where it is no listing, all frames count. A listing whose file is\n"
+    "                         replaced is taken within 100 ms, and counts one more\n"
     "  --no-promiscuous       only frames that are meant for the host\n"
     "  --clock WHICH          host (default) or adapter: whose clock stamps frames, which a line prints with its\n"
     "                         scale: UTC, or atomic time (TAI), as by the precision time protocol (PTP). An\n"
@@ -97,6 +106,8 @@ enum {
     BUFFER,
     DIRECTION,
     PREFILTER,
+    JUDGE,
+    KEPT,
     NO_PROMISCUOUS,
     CLOCK,
     CHECK_SEQUENCE,
@@ -115,6 +126,8 @@ static const struct option OPTIONS[] = {
     {"buffer", required_argument, NULL, BUFFER},
     {"direction", required_argument, NULL, DIRECTION},
     {"prefilter", required_argument, NULL, PREFILTER},
+    {"judge", required_argument, NULL, JUDGE},
+    {"kept", required_argument, NULL, KEPT},
     {"no-promiscuous", no_argument, NULL, NO_PROMISCUOUS},
     {"clock", required_argument, NULL, CLOCK},
     {"check-sequence", required_argument, NULL, CHECK_SEQUENCE},
@@ -129,25 +142,51 @@ static const struct option OPTIONS[] = {
     {NULL, 0, NULL, 0},
 };
 
-/* Standard error, opened anew where it is a pipe or a terminal: then no write waits, and whoever shares it keeps one
- * that does. */
-static int open_standard_error(void) {
+/* What an option takes whose value may be refused; NULL for others. */
+static const char *taken_by(int option) {
+    switch (option) {
+    case ORIGIN:
+        return "now, zero, or a time as 1764590400.25 or 2025-12-01T12:00:00.25Z; with -r first too";
+    case BUFFER:
+        return "1 to 2047 MiB";
+    case INTERFACE:
+        return "0 to 65535";
+    case DIRECTION:
+        return "both, in or out";
+    case CLOCK:
+        return "host or adapter";
+    case CHECK_SEQUENCE:
+        return "given, missing or adapter";
+    case HOLD:
+        return "0 to 60 seconds";
+    case PARENT:
+        return "the number of a process";
+    case PREFILTER:
+    case JUDGE:
+        return "INTERFACE=LISTING";
+    default:
+        return NULL;
+    }
+}
+
+static int error_fd = STDERR_FILENO;
+
+void open_standard_error(void) {
     struct stat kind;
     int is_shared = fstat(STDERR_FILENO, &kind) == 0 && (S_ISFIFO(kind.st_mode) || isatty(STDERR_FILENO));
     int fd = is_shared ? open("/proc/self/fd/2", O_WRONLY | O_NONBLOCK | O_NOCTTY | O_CLOEXEC) : -1;
-    return fd >= 0 ? fd : STDERR_FILENO;
+    error_fd = fd >= 0 ? fd : STDERR_FILENO;
 }
 
 /* Writes a line, where standard error has room for it. Whether it had: a terminal may have room for a part. */
 static int write_line(const char *line) {
-    static int fd = -1, is_cut;
-    fd = fd >= 0 ? fd : open_standard_error();
-    struct pollfd error = {.fd = fd, .events = POLLOUT};
+    static int is_cut;
+    struct pollfd error = {.fd = error_fd, .events = POLLOUT};
     ssize_t len = (ssize_t)strlen(line), count = 0;
     if (poll(&error, 1, 0) <= 0 || (error.revents & POLLOUT) == 0)
         return 0;
-    if (!is_cut || write(fd, "\n", 1) == 1)
-        count = write(fd, line, (size_t)len);
+    if (!is_cut || write(error_fd, "\n", 1) == 1)
+        count = write(error_fd, line, (size_t)len);
     is_cut = count < len && (is_cut || count > 0);
     return count == len;
 }
@@ -195,8 +234,26 @@ static int choice_of(const char *word, const char *const *choices, int *choice) 
     return 0;
 }
 
+/* Takes INTERFACE=LISTING apart, for when its way is known. Whether it is one. */
+static int take_listing(int option, char *given, struct arguments *arguments) {
+    char *sign = strchr(given, '=');
+    if (sign == NULL || sign == given || sign[1] == 0)
+        return 0;
+    *sign = 0;
+    arguments->listings[arguments->listing_count++] = (struct given_listing){given, sign + 1, option == JUDGE};
+    return 1;
+}
+
+/* Takes an option without a value: 1. */
+static int take_flag(int option, struct arguments *arguments) {
+    arguments->is_promiscuous &= option != NO_PROMISCUOUS;
+    arguments->is_strict |= option == STRICT;
+    arguments->is_quiet |= option == QUIET;
+    return 1;
+}
+
 /* Takes an option's value; whether it is one. */
-static int take_option(int option, const char *value, struct arguments *arguments) {
+static int take_option(int option, char *value, struct arguments *arguments) {
     static const char *const DIRECTIONS[] = {"both", "in", "out", NULL}, *const CLOCKS[] = {"host", "adapter", NULL};
     static const char *const CHECK_SEQUENCES[] = {"adapter", "given", "missing", NULL};
     int choice, is_right = 1;
@@ -221,23 +278,31 @@ static int take_option(int option, const char *value, struct arguments *argument
         return number_of(value, 0, MOST_HOLD, &arguments->hold_seconds);
     case PARENT:
         return number_of(value, 1, INT_MAX, &arguments->parent);
+    case PREFILTER:
+    case JUDGE:
+        return take_listing(option, value, arguments);
+    case KEPT:
+        arguments->kept = value;
+        return 1;
     case EVENTS:
         arguments->events = value;
         return 1;
-    case NO_PROMISCUOUS:
-        arguments->is_promiscuous = 0;
-        return 1;
-    case STRICT:
-        arguments->is_strict = 1;
-        return 1;
     default:
-        arguments->is_quiet = 1;
-        return 1;
+        return take_flag(option, arguments);
     }
 }
 
 static int wrong(const char *what, const char *word) {
     tell("%s%s: capture --help has its arguments", what, word);
+    return 2;
+}
+
+/* Says what an option takes, where its value is not that. */
+static int wrong_value(int option, const char *value) {
+    const struct option *known = OPTIONS;
+    while (known->val != option)
+        known++;
+    tell("--%s %s: %s", known->name, value, taken_by(option));
     return 2;
 }
 
@@ -247,32 +312,31 @@ static int take_route(char *given, struct arguments *arguments) {
     if (sign == NULL || sign == given || sign[1] == 0)
         return wrong(arguments->are_files ? "no FILE=FEED: " : "no INTERFACE=PIPE: ", given);
     *sign = 0;
-    arguments->routes[arguments->count++] = (struct route){given, sign + 1, NULL};
+    arguments->routes[arguments->count++] = (struct route){.from = given, .to = sign + 1};
     return 0;
 }
 
-/* Takes INTERFACE=LISTING apart, for when its way is known. Whether it is one. */
-static int take_prefilter(char *given, struct arguments *arguments) {
-    char *sign = strchr(given, '=');
-    if (sign == NULL || sign == given || sign[1] == 0)
-        return 0;
-    *sign = 0;
-    arguments->prefilters[arguments->prefilter_count++] = (struct route){given, sign + 1, NULL};
-    return 1;
+/* Gives each way of an interface a listing. Whether there is one. */
+static int place_listing(const struct given_listing *listing, struct arguments *arguments) {
+    int is_placed = 0;
+    for (int at = 0; at < arguments->count && !arguments->are_files; at++) {
+        struct route *route = &arguments->routes[at];
+        if (strcmp(route->from, listing->interface) != 0)
+            continue;
+        *(listing->is_judge ? &route->judge : &route->prefilter) = listing->path;
+        is_placed = 1;
+    }
+    return is_placed;
 }
 
-/* Gives each way its prefilter. 0, or the status where one is of no way. */
-static int place_prefilters(struct arguments *arguments) {
-    for (int i = 0; i < arguments->prefilter_count; i++) {
-        const struct route *prefilter = &arguments->prefilters[i];
-        int is_placed = 0;
-        for (int at = 0; at < arguments->count; at++)
-            if (!arguments->are_files && strcmp(arguments->routes[at].from, prefilter->from) == 0) {
-                arguments->routes[at].prefilter = prefilter->to;
-                is_placed = 1;
-            }
-        if (!is_placed)
-            return wrong("--prefilter of what isn't captured: ", prefilter->from);
+/* 0, or the status where a listing is of no way. */
+static int place_listings(struct arguments *arguments) {
+    for (int i = 0; i < arguments->listing_count; i++) {
+        const struct given_listing *listing = &arguments->listings[i];
+        if (!place_listing(listing, arguments))
+            return wrong(listing->is_judge ? "--judge of what isn't captured: "
+                                           : "--prefilter of what isn't captured: ",
+                         listing->interface);
     }
     return 0;
 }
@@ -283,7 +347,7 @@ static int read_routes(int count, char **given, struct arguments *arguments) {
         status = take_route(given[i], arguments);
     if (status == 0 && arguments->count == 0)
         return wrong("nothing to capture", "");
-    return status == 0 ? place_prefilters(arguments) : status;
+    return status == 0 ? place_listings(arguments) : status;
 }
 
 /* The kernel's buffer for each of so many interfaces, in MiB, where no other is given. */
@@ -301,32 +365,58 @@ static int show(const char *text) {
     return 1;
 }
 
-int read_arguments(int argc, char **argv, struct arguments *arguments, int *is_done) {
-    int option, has_origin = 0, status = 0;
-    *arguments = (struct arguments){.interface = EVERY_INTERFACE, .is_promiscuous = 1};
-    *is_done = 0;
-    arguments->routes = calloc((size_t)argc, sizeof *arguments->routes);
-    arguments->prefilters = calloc((size_t)argc, sizeof *arguments->prefilters);
+/* Reads the options. 0, or the status with which to end. `origin` is the one that is given, NULL where none is. */
+static int read_options(int argc, char **argv, struct arguments *arguments, int *is_done, const char **origin) {
+    int option, status = 0;
     while (status == 0 && (option = getopt_long(argc, argv, "r:", OPTIONS, NULL)) != -1) {
         if (option == HELP || option == VERSION_ASKED) {
             *is_done = 1;
             return show(option == HELP ? USAGE : "capture " VERSION "\n");
         }
-        if (option == '?' || arguments->routes == NULL || arguments->prefilters == NULL)
+        if (option == '?' || arguments->routes == NULL || arguments->listings == NULL)
             return wrong("the arguments are wrong", "");
         arguments->are_files |= option == 'r';
-        has_origin |= option == ORIGIN;
+        if (option == ORIGIN)
+            *origin = optarg;
+        const char *given = optarg;
         if (option == 'r')
             status = take_route(optarg, arguments);
-        else if (option == PREFILTER)
-            status = take_prefilter(optarg, arguments) ? 0 : wrong("no INTERFACE=LISTING: ", optarg);
         else if (!take_option(option, optarg, arguments))
-            status = wrong("no such value: ", optarg);
+            status = wrong_value(option, given);
     }
-    if (!has_origin)
+    return status;
+}
+
+/* Judges the origin of interfaces, and adds to it what makes times right by now. 0, or the status where it is refused.
+ */
+static int place_origin(const char *given, struct arguments *arguments) {
+    struct origin now;
+    char at_text[SECONDS_TEXT_LEN], now_text[SECONDS_TEXT_LEN];
+    if (arguments->origin.is_first_frame) {
+        tell("--origin first: it needs -r, since the first frames of interfaces aren't known");
+        return 2;
+    }
+    origin_of("now", &now);
+    print_seconds(arguments->origin.at, at_text);
+    print_seconds(now.at, now_text);
+    if (add_turns(&arguments->origin, now.at))
+        return 0;
+    tell("--origin %s: %s lies ahead of now, which is %s", given, at_text, now_text);
+    return 2;
+}
+
+int read_arguments(int argc, char **argv, struct arguments *arguments, int *is_done) {
+    const char *origin = NULL;
+    *arguments = (struct arguments){.interface = EVERY_INTERFACE, .is_promiscuous = 1};
+    *is_done = 0;
+    arguments->routes = calloc((size_t)argc, sizeof *arguments->routes);
+    arguments->listings = calloc((size_t)argc, sizeof *arguments->listings);
+    int status = read_options(argc, argv, arguments, is_done, &origin);
+    if (status != 0 || *is_done)
+        return status;
+    if (origin == NULL)
         origin_of(arguments->are_files ? "first" : "now", &arguments->origin);
-    if (status == 0 && arguments->origin.is_first_frame && !arguments->are_files)
-        return wrong("of interfaces the first frame isn't known: --origin first", "");
+    status = origin == NULL || arguments->are_files ? 0 : place_origin(origin, arguments);
     if (status == 0)
         status = read_routes(argc - optind, argv + optind, arguments);
     if (status == 0 && arguments->buffer_mib == 0)

@@ -7,12 +7,18 @@
 enum direction { BOTH_DIRECTIONS, INWARD, OUTWARD };
 enum check_sequences { AS_THE_ADAPTER_SAYS, GIVEN, MISSING };
 
-/* Where frames come from and where they go to, and the listing of a program by which the kernel drops some before;
- * NULL where there is none. */
+/* Where frames come from and where they go to; the listing of a program by which the kernel drops some before, and of
+ * one by which those are counted that the recorder keeps; NULL where there is none. */
 struct route {
     char *from;
     char *to;
-    const char *prefilter;
+    const char *prefilter, *judge;
+};
+
+/* A listing for an interface, as it was given. */
+struct given_listing {
+    const char *interface, *path;
+    int is_judge;
 };
 
 struct arguments {
@@ -26,17 +32,22 @@ struct arguments {
     int hold_seconds;   /* how long a feed whose reader has left waits for word that the next one is to go on */
     int parent;         /* the process whose end ends the run too; 0 where there is none */
     const char *events; /* the file in which the facts of the run are noted; NULL where there is none */
+    const char *kept;   /* the file that has how many frames listings kept; NULL where there is none */
     enum direction direction;
     enum check_sequences check_sequences;
     struct origin origin;
     struct route *routes;
     int count;
-    struct route *prefilters; /* from an interface to a listing, as they were given */
-    int prefilter_count;
+    struct given_listing *listings;
+    int listing_count;
 };
 
 /* Reads the arguments. 0, or the status with which to end: 0 is for help too, so `is_done` says which. */
 int read_arguments(int argc, char **argv, struct arguments *arguments, int *is_done);
+
+/* Opens standard error anew where it is a pipe or a terminal, before any line: then no write waits, and whoever shares
+ * it keeps one that does. */
+void open_standard_error(void);
 
 /* A line on standard error, written at once: `capture: ` and what the format makes. A line that finds no room is left
  * out and counted, so that nobody waits for whoever reads it. */

@@ -15,13 +15,20 @@ static const int64_t SOON = NANOSECONDS_PER_SECOND / 1000;
 /* How long frames are waited for that show when a setting was. */
 static const int64_t BEFORE_TOLD = NANOSECONDS_PER_SECOND / 10;
 
+/* Counters in their upper half are of before, for 162 days after they have begun at 0 again. */
+static const uint64_t UPPER_HALF = (uint64_t)1 << (COUNTER_BITS - 1);
+
 /* Of more settings than this only the last are known; a frame that waited for longer has the time of a later one. */
 enum { KEPT_SETTINGS = 1024, LOOKS = 3 };
+
+/* Of the settings of before only so many are noted again. */
+enum { MOST_NOTED = 16 };
 
 /* A setting of the wall clock. Moments are by the clock that runs on. The first is the beginning. */
 struct setting {
     int64_t ahead;                       /* how far the wall clock is ahead from then on */
     int64_t after, before;               /* it was between these: when its look before and the one that saw it were */
+    uint64_t counter;                    /* from which on it was told to hold */
     _Atomic int64_t last_old, first_new; /* the last frame that was stamped before it, and the first after it */
 };
 
@@ -36,6 +43,10 @@ static atomic_uint newest;        /* the number of the last setting */
 static _Atomic int64_t last_look; /* which saw no setting */
 static unsigned told;             /* the number of the last setting that was told */
 static struct origin origin;
+static nanoseconds turned;      /* by how much counters have begun at 0 again since the beginning */
+static uint64_t counter_before; /* at the last look */
+static unsigned first_high;  /* the setting that held when counters came into their upper half, or at the beginning */
+static unsigned last_before; /* the last setting before they began at 0 again */
 static pthread_mutex_t lock = PTHREAD_MUTEX_INITIALIZER;
 
 static struct setting *setting_of(unsigned number) {
@@ -72,8 +83,9 @@ void start_clock(const struct origin *first) {
     struct look look = look_at_clocks();
     origin = *first;
     first_ahead = look.ahead;
-    settings[0] = (struct setting){look.ahead, INT64_MIN, look.steady, INT64_MIN, INT64_MAX};
+    settings[0] = (struct setting){look.ahead, INT64_MIN, look.steady, 0, INT64_MIN, INT64_MAX};
     atomic_store(&last_look, look.steady);
+    counter_before = counter_now();
 }
 
 void follow_clock(void) {
@@ -126,19 +138,65 @@ static int64_t told_from(const struct setting *setting) {
     return greatest(setting->after, least(new, greatest(new - SOON, old)));
 }
 
+/* Notes for the facts that by a setting counters count from its origin, from a counter on. */
+static void note_origin(unsigned number, nanoseconds since, uint64_t counter) {
+    char text[SECONDS_TEXT_LEN];
+    print_seconds(origin.at + since + set_by(number), text);
+    tell_event("{\"origin\": \"%s\", \"counter\": %" PRIu64 "}", text, counter);
+}
+
+/* Notes again, where counters have begun at 0 again and are in their lower half, what holds for those in the upper
+ * half, of before: of several origins that hold for a counter the last counts. */
+static void note_upper_half(void) {
+    unsigned first = last_before - first_high < MOST_NOTED ? first_high : last_before - MOST_NOTED + 1;
+    if (turned == 0 || counter_before >= UPPER_HALF || atomic_load(&newest) - first >= KEPT_SETTINGS)
+        return;
+    for (unsigned number = first; number <= last_before; number++) {
+        uint64_t counter = setting_of(number)->counter;
+        note_origin(number, turned - COUNTER_TURN, number == first ? UPPER_HALF : counter);
+    }
+}
+
 static void tell_setting(unsigned number) {
     struct setting *setting = setting_of(number);
-    uint64_t counter = counter_of(told_from(setting));
+    setting->counter = counter_of(told_from(setting));
     int64_t by = setting->ahead - setting_of(number - 1)->ahead;
+    int is_before = turned != 0 && counter_before < UPPER_HALF && setting->counter >= UPPER_HALF;
     char text[SECONDS_TEXT_LEN], by_text[SECONDS_TEXT_LEN];
-    print_seconds(origin.at + set_by(number), text);
+    print_seconds(origin.at + turned - (is_before ? COUNTER_TURN : 0) + set_by(number), text);
     print_seconds(by, by_text);
-    tell("origin %s from counter %" PRIu64 " on: the clock was set by %s%s s", text, counter, by < 0 ? "" : "+",
-         by_text);
-    tell_event("{\"origin\": \"%s\", \"counter\": %" PRIu64 ", \"set_by\": \"%s\"}", text, counter, by_text);
+    tell("origin %s from counter %" PRIu64 " on: the clock was set by %s%s s", text, setting->counter,
+         by < 0 ? "" : "+", by_text);
+    tell_event("{\"origin\": \"%s\", \"counter\": %" PRIu64 ", \"set_by\": \"%s\"}", text, setting->counter, by_text);
+    /* It came just before counters began at 0 again, and holds for those too. */
+    if (is_before) {
+        last_before = number;
+        note_origin(number, turned, 0);
+    }
+    note_upper_half();
+}
+
+/* Tells the origin that is right once counters have begun at 0 again. */
+static void follow_counter(void) {
+    uint64_t before = counter_before;
+    counter_before = counter_now();
+    if (counter_before < before) {
+        char text[SECONDS_TEXT_LEN];
+        turned += COUNTER_TURN;
+        last_before = told;
+        print_seconds(origin.at + turned + set_by(told), text);
+        tell("origin %s from counter 0 on: counters have begun at 0 again", text);
+        note_origin(told, turned, 0);
+        note_upper_half();
+    } else if (before < UPPER_HALF && counter_before >= UPPER_HALF) {
+        first_high = told;
+        if (turned != 0)
+            note_origin(told, turned, UPPER_HALF);
+    }
 }
 
 void tell_settings(int is_end) {
+    follow_counter();
     while (told != atomic_load(&newest)) {
         if (!is_end && steady_now() - setting_of(told + 1)->before < BEFORE_TOLD)
             return;

@@ -17,7 +17,7 @@ void start_clock(const struct origin *origin);
 void follow_clock(void);
 
 /* Tells the settings that weren't told, each with the origin from then on: those that are a moment old, since frames
- * show when a setting was, or at the end all. */
+ * show when a setting was, or at the end all; and the origin once counters have begun at 0 again. */
 void tell_settings(int is_end);
 
 /* The moment of a frame by the clock that runs on: what the wall clock would have said if it hadn't been set. */

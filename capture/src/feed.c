@@ -145,6 +145,8 @@ static void put_record(struct feed *feed, uint64_t counter, const struct capture
         memset(frame + captured->len, 0, bare - captured->len);
         put_check_sequence(frame + bare, check_sequence(frame, bare));
     }
+    if (feed->judge != NULL)
+        judge_frame(feed->judge, frame, len - CHECK_SEQUENCE_LEN);
     put_head(record, counter, marks, len);
     feed->len += RECORD_HEAD_LEN + len;
     feed->frames++;

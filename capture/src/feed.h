@@ -2,6 +2,7 @@
 #ifndef FEED_H
 #define FEED_H
 
+#include "judge.h"
 #include "output.h"
 #include "output_thread.h"
 
@@ -13,6 +14,7 @@ enum { MARK_CHECK_SEQUENCE = 1, MARK_OTHER_FAULT = 2 };
 struct feed {
     struct output output;
     struct output_thread writer; /* where it is started, it writes */
+    struct judge *judge;         /* of its frames; NULL where they aren't judged */
     unsigned char *bytes;
     size_t len, room;
     int64_t since; /* when the first of the waiting bytes came */

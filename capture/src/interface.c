@@ -181,6 +181,8 @@ static void wait_for_frames(struct interface *interface) {
 static int turn(struct interface *interface) {
     struct rings *rings = &interface->rings;
     follow_switches(interface);
+    if (interface->feed.judge != NULL)
+        follow_listing(interface->feed.judge);
     if (is_held(interface->switched))
         return 0;
     if (interface->is_gone)
@@ -252,14 +254,16 @@ void run_interface(struct interface *interface) {
 }
 
 void pass_later_feeds(struct interface *interface, const atomic_int *running) {
-    while (atomic_load(running) > 0 && !is_stopping()) {
+    /* A run that is to end passes feeds too: the reader of one that was asked for before waits for all of its feeds,
+     * and so would an interface that has gone over already. */
+    while (atomic_load(running) > 0 && !is_hurried()) {
         int asked = switches_asked();
         if (asked != interface->switched) {
             enum switching switching = pass_next(&interface->feed.output);
             note_switch(interface, asked, switching, errno);
         }
-        struct pollfd stop = {.fd = stop_fd};
-        poll(&stop, 1, asked != interface->switched ? SWITCH_PAUSE_MS : MOST_PAUSE_MS);
+        struct pollfd stop = {.fd = is_stopping() ? hurry_fd : stop_fd};
+        poll(&stop, 1, is_stopping() || asked != interface->switched ? SWITCH_PAUSE_MS : MOST_PAUSE_MS);
     }
 }
 

@@ -44,8 +44,8 @@ int open_again(struct interface *interface);
 /* Writes the frames into the feed until the run is stopped or the feed is gone, and tells the counts. */
 void run_interface(struct interface *interface);
 
-/* What an interface does once it has ended, until all have or the run is stopped: whatever its path names later gets
- * nothing and is closed. `running` is how many haven't ended. */
+/* What an interface does once it has ended, until all have or the run is to end at once: whatever its path names later
+ * gets nothing and is closed. `running` is how many haven't ended. */
 void pass_later_feeds(struct interface *interface, const atomic_int *running);
 
 /* Whether the interface ended as it should. */

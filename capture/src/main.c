@@ -8,9 +8,11 @@
 #include "convert.h"
 #include "events.h"
 #include "interface.h"
+#include "kept.h"
 #include "privileges.h"
 #include "signals.h"
 #include "system_calls.h"
+#include "written_folders.h"
 
 #include <errno.h>
 #include <fcntl.h>
@@ -94,10 +96,17 @@ static int tell_all_lost(const struct work *works, const struct arguments *argum
     return has_lost;
 }
 
-/* What goes beside the threads: the clock that may be set. */
+/* What goes beside the threads: the clock that may be set, counters that begin at 0 again, and what is kept. */
 static void follow_settings(void) {
     follow_clock();
     tell_settings(0);
+    write_kept(0);
+}
+
+/* The same where an adapter's clock stamps frames. */
+static void follow_counters(void) {
+    tell_settings(0);
+    write_kept(0);
 }
 
 /* Says why nothing can be begun: NOT_BEGUN. */
@@ -156,16 +165,18 @@ static void follow_parent(pid_t parent) {
 }
 
 /* Begins what interfaces need beside their frames: facts, counters, no privileges. Whether it could. */
-static int begin_live(const struct work *works, const struct arguments *arguments) {
+static int begin_live(struct work *works, const struct arguments *arguments) {
     char text[SECONDS_TEXT_LEN];
     for (int i = 0; i < arguments->count; i++)
         tell_opened(&works[i].interface);
-    if (!drop_privileges())
+    if (!drop_privileges(arguments) || (arguments->events != NULL && !open_events(arguments->events)) ||
+        !open_kept(arguments))
         return 0;
-    forbid_other_calls();
+    for (int i = 0; i < arguments->count; i++)
+        works[i].interface.feed.judge = judge_of(i);
     follow_parent(arguments->parent);
-    if (arguments->events != NULL && !open_events(arguments->events))
-        return 0;
+    limit_writing(arguments);
+    forbid_other_calls();
     print_seconds(arguments->origin.at, text);
     tell("origin %s", text);
     tell_event("{\"origin\": \"%s\", \"counter\": 0}", text);
@@ -176,8 +187,9 @@ static int begin_live(const struct work *works, const struct arguments *argument
 static int run_live(struct work *works, const struct arguments *arguments) {
     if (!begin_live(works, arguments))
         return NOT_BEGUN;
-    int status = run_all(works, arguments->count, arguments->uses_adapter_clock ? NULL : follow_settings);
+    int status = run_all(works, arguments->count, arguments->uses_adapter_clock ? follow_counters : follow_settings);
     tell_settings(1);
+    write_kept(1);
     int has_lost = tell_all_lost(works, arguments);
     return status == WELL && has_lost && arguments->is_strict ? LOST : status;
 }
@@ -186,6 +198,7 @@ static int run_live(struct work *works, const struct arguments *arguments) {
 static int run_files(struct work *works, const struct arguments *arguments) {
     if (!drop_privileges_but_files())
         return NOT_BEGUN;
+    limit_writing(arguments);
     forbid_other_calls();
     return run_all(works, arguments->count, NULL);
 }
@@ -206,6 +219,7 @@ int main(int argc, char **argv) {
     struct arguments arguments;
     if (!fill_streams())
         return not_begun("/dev/null", errno);
+    open_standard_error();
     int is_done, status = read_arguments(argc, argv, &arguments, &is_done);
     if (status != 0 || is_done)
         return status;
@@ -218,6 +232,6 @@ int main(int argc, char **argv) {
     status = works != NULL ? run_arguments(works, &arguments) : not_begun("no room", ENOMEM);
     free(works);
     free(arguments.routes);
-    free(arguments.prefilters);
+    free(arguments.listings);
     return status;
 }

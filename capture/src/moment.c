@@ -6,7 +6,7 @@
 #include <string.h>
 #include <time.h>
 
-enum { COUNTER_BITS = 48, MOST_SECOND_DIGITS = 10, MOST_FRACTION_DIGITS = 9 };
+enum { MOST_SECOND_DIGITS = 10, MOST_FRACTION_DIGITS = 9 };
 
 /* Reads so many digits at least and at most, and returns how many there were; 0 where they are too few or too many. */
 static int digits(const char *text, int least, int most, int64_t *value) {
@@ -88,6 +88,13 @@ int origin_of(const char *word, struct origin *origin) {
         return 1;
     }
     return calendar(word, &origin->at);
+}
+
+int add_turns(struct origin *origin, nanoseconds now) {
+    if (origin->at > now)
+        return 0;
+    origin->at += (now - origin->at) / COUNTER_TURN * COUNTER_TURN;
+    return 1;
 }
 
 uint64_t counter_at(nanoseconds moment, const struct origin *origin) {

@@ -7,7 +7,12 @@
 /* Nanoseconds since 1970-01-01, as wide as the times of any capture file. */
 typedef __int128 nanoseconds;
 
-enum { NANOSECONDS_PER_TICK = 100, NANOSECONDS_PER_MS = 1000000, NANOSECONDS_PER_SECOND = 1000000000 };
+enum {
+    COUNTER_BITS = 48,
+    NANOSECONDS_PER_TICK = 100,
+    NANOSECONDS_PER_MS = 1000000,
+    NANOSECONDS_PER_SECOND = 1000000000
+};
 
 /* The moment at which the counter is 0; the first frame of a file, until that is known. */
 struct origin {
@@ -17,6 +22,13 @@ struct origin {
 
 /* Reads `now`, `zero` (1970-01-01), `first`, seconds since 1970 or `2026-03-01T12:00:00.5Z`; whether it is one. */
 int origin_of(const char *word, struct origin *origin);
+
+/* The time after which counters begin at 0 again. */
+static const int64_t COUNTER_TURN = ((int64_t)1 << COUNTER_BITS) * NANOSECONDS_PER_TICK;
+
+/* Adds to an origin the turns that counters have made since then, so that a counter of now counts from it; no counter
+ * changes by that. 0 where it lies ahead. */
+int add_turns(struct origin *origin, nanoseconds now);
 
 /* The 48 bits of the 10 MHz relative time counter at a moment. */
 uint64_t counter_at(nanoseconds moment, const struct origin *origin);

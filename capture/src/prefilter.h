@@ -4,9 +4,8 @@
 
 #include <pcap/pcap.h>
 
-/* Has the kernel drop what the program of a listing drops: `<count>,<code> <jt> <jf> <k>,..`, as `bpfrec asm`
- * prints it, or one instruction a line, as `tcpdump -ddd` does; of all these sources of an interface's frames. Whether
- * it could; else a line has said why not. */
+/* Has the kernel drop what the program of a listing drops, of all these sources of an interface's frames. Whether it
+ * could; else a line has said why not. */
 int drop_by_listing(pcap_t *const *pcaps, int count, const char *interface, const char *path);
 
 #endif

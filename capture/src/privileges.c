@@ -1,14 +1,18 @@
 #define _GNU_SOURCE
 #include "privileges.h"
-#include "arguments.h"
+#include "written_folders.h"
 
 #include <errno.h>
+#include <grp.h>
 #include <linux/capability.h>
 #include <stdint.h>
 #include <string.h>
 #include <sys/prctl.h>
+#include <sys/stat.h>
 #include <sys/syscall.h>
 #include <unistd.h>
+
+#define NOT_GIVEN_UP "privileges can't be given up"
 
 enum { WORDS = _LINUX_CAPABILITY_U32S_3 };
 
@@ -38,12 +42,41 @@ static int set_capabilities(uint32_t allowed, uint32_t in_force) {
 static int keep_alone(uint32_t allowed, uint32_t in_force) {
     if (prctl(PR_SET_NO_NEW_PRIVS, 1, 0, 0, 0) != 0 || prctl(PR_CAP_AMBIENT, PR_CAP_AMBIENT_CLEAR_ALL, 0, 0, 0) != 0 ||
         !set_capabilities(allowed, in_force))
-        return refused("privileges can't be given up");
+        return refused(NOT_GIVEN_UP);
     return 1;
 }
 
-int drop_privileges(void) {
-    return keep_alone(TO_OPEN, 0);
+/* The one owner of all feeds that are there; root where they have several. */
+static struct stat owner_of_feeds(const struct arguments *arguments) {
+    struct stat owner = {0}, each;
+    for (int at = 0; at < arguments->count; at++) {
+        const char *path = arguments->routes[at].to;
+        if ((strcmp(path, "-") == 0 ? fstat(STDOUT_FILENO, &each) : stat(path, &each)) != 0)
+            return (struct stat){0};
+        if (at > 0 && each.st_uid != owner.st_uid)
+            return (struct stat){0};
+        owner = each;
+    }
+    return owner;
+}
+
+/* Becomes the owner of the feeds, where root would write what it likes. A feed of root's nobody else could open later,
+ * so root stays root there. Whether that could be done. */
+static int stop_being_root(const struct arguments *arguments) {
+    struct stat owner = owner_of_feeds(arguments);
+    if (geteuid() != 0 || has_landlock())
+        return 1;
+    if (owner.st_uid == 0) {
+        tell("it may write all that root may: the kernel has no Landlock, and its feeds are root's");
+        return 1;
+    }
+    return prctl(PR_SET_KEEPCAPS, 1, 0, 0, 0) == 0 && setgroups(0, NULL) == 0 &&
+           setresgid(owner.st_gid, owner.st_gid, owner.st_gid) == 0 &&
+           setresuid(owner.st_uid, owner.st_uid, owner.st_uid) == 0;
+}
+
+int drop_privileges(const struct arguments *arguments) {
+    return stop_being_root(arguments) ? keep_alone(TO_OPEN, 0) : refused(NOT_GIVEN_UP);
 }
 
 int drop_privileges_but_files(void) {

@@ -1,6 +1,6 @@
 /* Preloaded before a program: calls that give up rights are refused.
 
-   FAILING_RIGHTS   which: capset, or a number of prctl
+   FAILING_RIGHTS   which: capset, landlock, which the kernel doesn't have then, or a number of prctl
    SPARED           how many of them are made first */
 #define _GNU_SOURCE
 #include <dlfcn.h>
@@ -11,7 +11,7 @@
 #include <sys/prctl.h>
 #include <sys/syscall.h>
 
-enum { ARGUMENTS = 6 };
+enum { ARGUMENTS = 6, LANDLOCK = 444 };
 
 static int is_refused(int is_named) {
     static int made;
@@ -32,6 +32,10 @@ long syscall(long number, ...) {
     for (int i = 0; i < ARGUMENTS; i++)
         given[i] = va_arg(more, long);
     va_end(more);
+    if (is_refused(number >= LANDLOCK && number < LANDLOCK + 3 && !strcmp(getenv("FAILING_RIGHTS"), "landlock"))) {
+        errno = ENOSYS;
+        return -1;
+    }
     if (is_refused(number == SYS_capset && !strcmp(getenv("FAILING_RIGHTS"), "capset")))
         return refused();
     return real(number, given[0], given[1], given[2], given[3], given[4], given[5]);

@@ -41,7 +41,7 @@ class World:
         self.time, self.said = 0.0, []
         self.consequences: list[Callable[[], None]] = []
         self.is_capturing = self.is_capture_ready = False
-        self.asked_to_end = 0
+        self.asked_to_end = self.held = 0
         self.has_space = self.can_start = True
         self.is_pipe, self.killed_audits = False, 0
         self.played: dict[int, Played] = {}
@@ -72,7 +72,8 @@ class World:
         self.consequences.append(lambda: self.open(it))
 
     def following(self, before: Recording) -> Recording | None:
-        assert self.machine.old is None, "two recordings are before this one"
+        is_old = before.phase is not Phase.OPENING
+        assert self.machine.old is None or not is_old, "two recordings are before this one"
         if not self.can_follow:
             self.say("it can't be begun")
             return None
@@ -85,6 +86,8 @@ class World:
             return
         if number == signal.SIGUSR1:
             self.consequences.append(self.go_over)
+        elif number == signal.SIGUSR2:
+            self.held += 1
         elif number == signal.SIGTERM:
             self.asked_to_end += 1
             self.consequences.append(lambda: self.end_capture(0))
@@ -124,9 +127,8 @@ class World:
     def discard(self, recording: Recording) -> None:
         self.played[recording.number].is_discarded = True
 
-    def tell_report(self, recording: Recording) -> bool:
+    def tell_report(self, recording: Recording) -> None:
         self.played[recording.number].told += 1
-        return True
 
     def audit(self, recording: Recording) -> bool:
         self.played[recording.number].audits += 1

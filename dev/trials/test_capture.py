@@ -24,6 +24,7 @@ from support import (
     judge,
     judge_quietly,
     origin_told,
+    outcome,
     pipe_at,
     run,
 )
@@ -178,7 +179,8 @@ def refusals(work: Path, settings: Path, out: Path) -> list[tuple]:
         (
             ["--origin", "yesterday", settings, out, "rx0=1"],
             2,
-            "capture: no such value: yesterday: capture --help has its arguments",
+            "capture: --origin yesterday: now, zero, or a time as 1764590400.25 or 2025-12-01T12:00:00.25Z; "
+            "with -r first too",
         ),
         ([settings, settings, "rx0=1"], 3, f"file {settings}"),
         ([work / "missing.toml", out, "rx0=1"], 3, f"file {work / 'missing.toml'}"),
@@ -195,6 +197,32 @@ def test_refusals(work: Path) -> None:
         judge(f"refused: {told}", running.ended()[0] == status and running.told() == told + "\n")
         judge_quietly("nothing is created or left", not out.exists() and nothing_left(work))
     judge("and the settings are kept", settings.read_text() == before)
+
+
+ORIGINS = "now, zero, or a time as 1764590400.25 or 2025-12-01T12:00:00.25Z; with -r first too"
+VALUES = [
+    ("--buffer", "0", "1 to 2047 MiB"),
+    ("--buffer", "4096", "1 to 2047 MiB"),
+    ("--buffer", "8M", "1 to 2047 MiB"),
+    ("--origin", "yesterday", ORIGINS),
+    ("--origin", "2025-02-30T00:00:00Z", ORIGINS),
+    ("--origin", "first", "it needs -r, since the first frames of interfaces aren't known"),
+    ("--direction", "inn", "both, in or out"),
+    ("--clock", "ptp", "host or adapter"),
+    ("--check-sequence", "yes", "given, missing or adapter"),
+    ("--interface", "65536", "0 to 65535"),
+    ("--hold", "61", "0 to 60 seconds"),
+    ("--parent", "0", "the number of a process"),
+    ("--prefilter", "rx0", "INTERFACE=LISTING"),
+    ("--judge", "=x", "INTERFACE=LISTING"),
+]
+
+
+@pytest.mark.parametrize("option, value, takes", VALUES)
+def test_a_value_that_is_refused_says_what_its_option_takes(work: Path, option: str, value: str, takes: str) -> None:
+    done = outcome(CAPTURE, option, value, "rx0=-")
+    line = f"capture: {option} {value}: {takes}\n"
+    judge("option, value and what it takes", (done.returncode, done.stderr) == (2, line), done.stderr)
 
 
 @pytest.mark.parametrize(

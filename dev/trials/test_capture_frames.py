@@ -249,14 +249,16 @@ def test_tag(work: Path) -> None:
     judge("a VLAN tag stays where it was", [it.frame[:-4] for it in records(feed)] == [tagged])
 
 
-def test_origins(work: Path) -> None:
-    begin = time.time_ns()
-    feed, told = capture_while(work, lambda: send("tx0", [numbered(4)]), "--origin", "zero")
-    off = (records(feed)[0].counter - begin // 100) % 2**48
-    judge("--origin zero", off < 10**8 and "origin 0.000000000" in told)
-    feed, told = capture_while(work, lambda: send("tx0", [numbered(4)]), "--origin", "2026-01-01T00:00:00Z")
-    off = records(feed)[0].counter - ((begin - 1_767_225_600 * 10**9) // 100) % 2**48
-    judge("--origin TIME", "origin 1767225600.000000000" in told and 0 <= off < 10**8)
+@pytest.mark.parametrize(
+    "word, origin", [("zero", 0), ("2026-01-01T00:00:00Z", 1_767_225_600 * 10**7)], ids=["zero", "time"]
+)
+def test_origins(work: Path, word: str, origin: int) -> None:
+    """Counters are the ticks since then; the origin that is told has the turns of the counters added."""
+    begin = time.time_ns() // 100
+    feed, told = capture_while(work, lambda: send("tx0", [numbered(4)]), "--origin", word)
+    off = (records(feed)[0].counter - (begin - origin)) % 2**48
+    noted = begin - (begin - origin) % 2**48
+    judge(f"--origin {word}", 0 <= off < 10**8 and origin_told(told) // 100 == noted, told)
 
 
 def test_promiscuous(work: Path) -> None:

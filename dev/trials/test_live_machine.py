@@ -4,6 +4,7 @@ from __future__ import annotations
 
 import itertools
 import random
+import re
 from collections.abc import Callable
 
 import pytest
@@ -44,6 +45,10 @@ def disk_is_full(world: World) -> None:
         world.has_space = True
 
 
+def disk_fails(world: World) -> None:
+    world.machine.force_failed(world.now().recording, "Input/output error", world.time)
+
+
 def due_but_cannot_follow(world: World) -> None:
     world.can_follow = False
     world.wait(11)
@@ -67,11 +72,12 @@ EVENTS: dict[str, Callable[[World], None]] = {
     "a signal": signal_comes,
     "a second signal": signal_comes,
     "a full disk": disk_is_full,
+    "a disk that fails to write back": disk_fails,
     "a hand-over that can't begin": due_but_cannot_follow,
     "a hand-over whose recorder can't be started": due_but_cannot_start,
     "a hand-over": due,
 }
-HARMFUL = {"the capture dies", "the recorder dies", "a full disk"}
+HARMFUL = {"the capture dies", "the recorder dies", "a full disk", "a disk that fails to write back"}
 
 
 # ---- when it happens
@@ -127,7 +133,7 @@ def judge_run(what: str, world: World, order: tuple[str, ...]) -> None:
         if it.concluded == [0]:
             judge_quietly(f"{what}: recording {number} is well and isn't audited", it.audits == 1)
     harm = [name for name in order if name in HARMFUL]
-    died = [line for line in world.said if "was ended by signal" in line or "can't be written any more" in line]
+    died = [line for line in world.said if re.search("was ended by signal|can't be (written any more|forced)", line)]
     judge_quietly(f"{what}: it was told twice: {died}", len(died) == len(set(died)))
     judge_quietly(f"{what}: status 0 after {harm}: {world.said}", status != 0 or not died)
     judge_quietly(f"{what}: status {status} without harm: {world.said}", status == 0 or harm or is_refused)
@@ -357,6 +363,149 @@ def test_room() -> None:
     world.wait(10)
     world.settle()
     judge("a recording that is handed over ends the row", world.machine.failures == 0)
+
+
+def test_after_a_disk_that_fails_to_write_back_recordings_follow_later_and_later() -> None:
+    world = World(ROTATING._replace(every=1_000))
+    world.machine.begin(0)
+    while_going(world)
+    for turn in range(9):
+        it = world.now()
+        for _ in range(2):
+            disk_fails(world)
+        pause = 0.5 * 2 ** min(turn + 1, 7)
+        world.wait(pause - 0.01)
+        judge_quietly("nothing follows at once", world.now() is it)
+        world.wait(0.02)
+        world.settle()
+        judge_quietly("but then", world.now() is not it and it.concluded == [0] and it.audits == 1, turn)
+    judge("each is told once", len(world.said) == len(set(world.said)) == 9, world.said)
+    world.wait(1_000)
+    world.settle()
+    judge("one that is handed over well ends the row", world.machine.failures == 0)
+    world.machine.told_to_end(world.time)
+    world.finish()
+    judge("the status is 1", world.machine.status(False) == 1)
+
+
+def test_a_recording_that_cannot_be_forced_goes_on_where_no_other_can_begin() -> None:
+    world = World(ROTATING._replace(every=1_000))
+    world.machine.begin(0)
+    while_going(world)
+    disk_fails(world)
+    world.can_follow = False
+    for _ in range(100):
+        world.wait(world.machine.deadline(world.time) - world.time)
+    judge("it is tried later and later", world.time > 1_000, world.time)
+    judge("and goes on", world.machine.now.number == 1 and world.now().is_running)
+
+
+def test_a_recording_that_its_recorder_could_not_force_is_audited_all_the_same() -> None:
+    world = World(SINGLE)
+    world.machine.begin(0)
+    while_going(world)
+    disk_fails(world)
+    it = world.now()
+    world.end_recorder(it, 3)
+    world.finish()
+    judge("it is audited, and has its recorder's status", (it.audits, it.concluded) == (1, [3]))
+    judge("the status is 1", world.machine.status(False) == 1)
+
+
+def test_a_recording_that_cannot_be_forced_goes_on_where_none_follows() -> None:
+    world = World(SINGLE)
+    world.machine.begin(0)
+    while_going(world)
+    disk_fails(world)
+    world.wait(100)
+    judge("nothing ends", world.machine.deadline(world.time) is None and world.now().is_running)
+    world.machine.told_to_end(world.time)
+    world.finish()
+    judge("but the status is 1", world.machine.status(False) == 1 and world.now().audits == 1)
+
+
+def test_a_killed_recorder_is_followed_by_the_next_recording() -> None:
+    world = World(ROTATING)
+    world.machine.begin(0)
+    while_going(world)
+    first = world.now()
+    recorder_dies(world)
+    judge("the capture keeps the frames", world.held == 1 and world.asked_to_end == 0)
+    world.wait(0)
+    world.settle()
+    judge("the next one goes on", world.now() is not first and world.now().recording.phase is Phase.GOING)
+    judge("the cut one is told, and isn't audited", first.concluded == [KILLED] and first.audits == 0)
+    second = world.now()
+    world.wait(9.9)
+    recorder_dies(world)
+    judge("it isn't looked at all the time", world.machine.deadline(world.time + 0.2) == world.time + 0.5)
+    world.wait(0.49)
+    judge("a second one in a row isn't followed at once", world.now() is second)
+    world.wait(0.02)
+    world.settle()
+    judge("but soon", world.now() is not second and world.is_capturing)
+    world.machine.told_to_end(world.time)
+    world.finish()
+    judge("the status says that one was killed", world.machine.status(False) == KILLED)
+
+
+def killed(world: World, count: int, pause: float) -> None:
+    """So many recorders are killed, each so long after it was begun."""
+    for _ in range(count):
+        world.wait(pause)
+        world.settle()
+        recorder_dies(world)
+        world.wait(1)
+        world.settle()
+
+
+def test_ten_killed_recorders_in_a_row_within_a_minute_end_the_run() -> None:
+    world = World(ROTATING._replace(every=1_000))
+    world.machine.begin(0)
+    while_going(world)
+    killed(world, 9, 1)
+    judge("nine don't", world.machine.now.number == 10 and world.is_capturing)
+    killed(world, 1, 1)
+    world.finish()
+    line = "live: 10 recorders in a row were killed within a minute: the recording ends"
+    judge("the tenth does, with a line", world.said[-1] == line and not world.is_left(), world.said)
+    judge("the status is that of the first", world.machine.status(False) == KILLED)
+    judge("each is told", all(it.concluded == [KILLED] for it in world.played.values()))
+
+
+def test_ten_killed_recorders_in_more_than_a_minute_end_nothing() -> None:
+    world = World(ROTATING._replace(every=1_000))
+    world.machine.begin(0)
+    while_going(world)
+    killed(world, 30, 6)
+    judge("recordings go on", world.machine.now.number == 31 and world.is_capturing, world.said)
+
+
+def test_a_recording_that_is_handed_over_well_ends_a_row_of_kills() -> None:
+    world = World(ROTATING._replace(every=3))
+    world.machine.begin(0)
+    while_going(world)
+    for _ in range(30):
+        killed(world, 1, 0.5)
+        world.wait(3)
+        world.settle()
+    judge("recordings go on", world.is_capturing and world.now().is_running, world.said)
+
+
+def test_a_recorder_that_is_killed_while_it_opens_is_followed_too() -> None:
+    """The one before goes on until another one takes its frames."""
+    world = World(ROTATING)
+    world.machine.begin(0)
+    while_handing_over(world)
+    first, second = world.played[1], world.now()
+    world.consequences.clear()
+    recorder_dies(world)
+    world.wait(0)
+    third = world.now()
+    judge("another one begins", third is not second and world.machine.old is first.recording and first.is_running)
+    judge("the killed one is gone", second.is_discarded and second.concluded == [KILLED])
+    world.settle()
+    judge("and the one before has ended", first.concluded == [0] and third.recording.phase is Phase.GOING)
 
 
 def test_unanswered_line() -> None:

@@ -1,4 +1,4 @@
-"""Tries recordings of host/bin/live of which only the last are kept, and packets that it closes by their age."""
+"""Tries recordings of host/bin/live of which only the last are kept, and their files."""
 
 import contextlib
 import os
@@ -24,11 +24,10 @@ from recordings import (
     recordings,
     settings_of,
 )
-from support import BPFREC, LIVE, Running, judge, judge_quietly, outcome, run, wait_for
+from support import BPFREC, LIVE, Running, judge, judge_quietly, run, wait_for
 
 WANTED = {"bin/bpfrec": "make build", "bin/capture": "make build", "ip": "iproute2", "mount": "mount"}
 pytestmark = [pytest.mark.timed, pytest.mark.usefixtures("namespace")]
-MOST_VERSIONS = 1_024
 REMOVED = re.compile(r"live: (\S+) was removed: (.*)\n")
 
 # ---- a ring
@@ -117,65 +116,6 @@ def test_refused(work: Path) -> None:
         judge(f"refused: {line}", (running.ended()[0], running.told()) == (2, f"{line}\n"), running.told())
     running = Running(work, LIVE, "--flush", 1, settings, out)
     judge("refused: --flush without", (running.ended()[0], running.told()) == (2, "live: --flush needs an interface\n"))
-
-
-# ---- packets that are open for long
-
-
-@pytest.mark.parametrize("words", [[], ["--every", 3]], ids=["single", "every"])
-def test_flush(work: Path, words: list) -> None:
-    """Of a channel of ten frames a second the frames are in the file soon, and no line is told of it."""
-    out = work / "quiet.ch11"
-    running = begin(work, out, "--quiet", "--flush", 1, *words)
-    traffic = Traffic(60, 0.1)
-    time.sleep(2.6)
-    files = recordings(work, "quiet") if words else [out]
-    listed = outcome(BPFREC, "list", files[0]).stdout
-    judge("frames of some seconds ago are in the file", listed.count(" frames ") >= 2, listed)
-    time.sleep(1.5)
-    sent = traffic.end()
-    time.sleep(0.2)
-    running.interrupt()
-    (status, printed), told = running.ended(), running.told()
-    judge("status 0, and no line of it", status == 0 and "installed" not in told and "refused" not in told, told)
-    found = numbers_in(parts_of(work, "quiet", 1)) if words else numbers(extracted(work, out, 1))
-    judge("all frames are there, once", found == list(range(sent)))
-    versions = [int(it) for it in re.findall(r"channel 1 versions (\d+) ", printed)]
-    judge("its filter was given again, not too often", 2 <= max(versions) <= 6, versions)
-
-
-def test_flush_of_silent(work: Path) -> None:
-    """A channel without frames gets its filter once, and a filter that was changed stays so."""
-    out = work / "silent.ch11"
-    running = begin(work, out, "--quiet", "--flush", 1)
-    running.type_in(f"set 1 {work}/none")
-    running.wait_until_told("installed 1 1 0\n")
-    time.sleep(3.5)
-    send_numbered("tx0", 0, 10)
-    time.sleep(0.3)
-    running.interrupt()
-    status, printed = running.ended()
-    judge("it records", status == 0, running.told())
-    judge("channel 1 has its changed filter", "channel 1 versions 3 offered 10 kept 0 " in printed, printed)
-    judge("channel 2 got its filter once more", "channel 2 versions 2 offered 0 kept 0 " in printed, printed)
-
-
-def test_flush_without_versions(work: Path) -> None:
-    """A channel that has had all its programs isn't flushed any more, which is told once, and goes on."""
-    out = work / "full.ch11"
-    running = begin(work, out, "--quiet", "--flush", 1)
-    for _ in range(MOST_VERSIONS - 1):
-        running.type_in(f"set 1 {work}/all")
-    running.wait_until_told(f"installed 1 {MOST_VERSIONS - 1} 0\n")
-    running.wait_until_told(f"live: channel 1 has had {MOST_VERSIONS} programs: ")
-    time.sleep(1.5)
-    send_numbered("tx0", 0, 10)
-    time.sleep(0.3)
-    running.interrupt()
-    (status, printed), told = running.ended(), running.told()
-    judge("it is told once", told.count("live: channel 1 has had ") == 1 and "refused" not in told, told[-500:])
-    wanted = f"channel 1 versions {MOST_VERSIONS} offered 10 kept 10 "
-    judge("and the channel is recorded", status == 0 and wanted in printed and YES in printed, printed)
 
 
 # ---- files

@@ -1,13 +1,29 @@
-"""Tries host/bin/live in the foreground of a terminal with job control: typed lines, Ctrl-Z, fg and Ctrl-C."""
+"""Tries host/bin/live in the foreground of a terminal with job control: typed lines, Ctrl-Z, fg and Ctrl-C; and
+terminals that are closed."""
 
+import fcntl
+import os
+import pty
+import termios
 import time
 from pathlib import Path
 
 import pytest
 from frames import numbers
 from namespace import send_together
-from recordings import YES, extracted, is_recording, nothing_left, process_of, processes_of, settings_of
-from support import BPFREC, CAPTURE, LIVE, judge, judge_quietly, wait_for
+from recordings import (
+    RUN,
+    YES,
+    extracted,
+    facts_of,
+    has_facts,
+    is_recording,
+    nothing_left,
+    process_of,
+    processes_of,
+    settings_of,
+)
+from support import BPFREC, CAPTURE, LIVE, Running, judge, judge_quietly, wait_for
 from terminal import Terminal
 
 WANTED = {"bin/bpfrec": "make build", "bin/capture": "make build", "ip": "iproute2"}
@@ -50,3 +66,47 @@ def test_terminal(work: Path) -> None:
     judge("all frames are recorded", numbers(extracted(work, out, 1)) == list(range(300)))
     found = numbers(extracted(work, out, 2))
     judge("and of the other channel those before its filter changed", found == list(range(100)), found)
+
+
+@pytest.mark.parametrize("words", [["--quiet"], []], ids=["plain", "table"])
+def test_a_terminal_that_is_closed_leaves_facts_with_the_report_and_the_audit(work: Path, words: list) -> None:
+    out = work / "closed.ch11"
+    master, slave = pty.openpty()
+    streams = dict.fromkeys(("stdin", "stdout", "stderr"), slave)
+    running = Running(
+        work,
+        LIVE,
+        *words,
+        settings_of(work),
+        out,
+        "rx0=1",
+        "rx1=2",
+        adds={RUN: str(out), "TERM": "xterm"},
+        preexec_fn=lambda: fcntl.ioctl(0, termios.TIOCSCTTY, 0),
+        **streams,
+    )
+    os.close(slave)
+    wait_for("it records", lambda: has_facts(out), 10)
+    send_together(0, 100)
+    time.sleep(0.3)
+    os.close(master)
+    status = running.process.wait(20)
+    facts = facts_of(out)
+    judge("the facts have the audit", facts["audit"] is not None and facts["audit"][-1] == YES, facts["audit"])
+    judge("and the status of the recording", (facts["state"], facts["status"]) == ("ended", 0), facts["status"])
+    judge("that of the run is that of its output", status == 3, status)
+    judge("nothing is left", nothing_left(work) and not processes_of(out))
+
+
+def test_a_report_that_nobody_reads_is_in_facts_with_the_audit(work: Path) -> None:
+    out = work / "unread.ch11"
+    reader, writer = os.pipe()
+    os.close(reader)
+    running = Running(work, LIVE, "--quiet", settings_of(work), out, "rx0=1", "rx1=2", stdout=writer)
+    os.close(writer)
+    wait_for("it records", lambda: has_facts(out), 10)
+    running.interrupt()
+    status, told = running.process.wait(20), running.told()
+    facts = facts_of(out)
+    judge("the status is that of the output", status == 3 and told.count("file -\n") == 1, told)
+    judge("the facts have the audit", (facts["status"], (facts["audit"] or [""])[-1]) == (0, YES), facts["audit"])

@@ -136,15 +136,26 @@ def test_events(work: Path) -> None:
     judge("and is forgotten", events.facts(2)["losses"] == [] and events.lost_in_all == ["e0 LOST 1"])
 
 
+class Heard:
+    """What a keeper tells."""
+
+    def __init__(self) -> None:
+        self.moments, self.faults, self.unwritten = [], [], 0
+        self.synced, self.sync_failed = self.moments.append, self.faults.append
+
+    def writing_failed(self) -> None:
+        self.unwritten += 1
+
+
 def test_keeper(work: Path, monkeypatch: pytest.MonkeyPatch) -> None:
     """It forces a file to its disk each second, writes the newest facts, and tells of those that can't be written."""
-    told: list = []
+    told = Heard()
     path = work / "out"
     path.write_bytes(b"")
     descriptor = os.open(path, os.O_RDWR)
-    keeper = Keeper(descriptor, str(work), 1, told.append)
+    keeper = Keeper(descriptor, str(work), 1, told)
     keeper.start()
-    wait_for("it was forced", lambda: len(told) >= 1, 3)
+    wait_for("it was forced", lambda: told.moments, 3)
     done: list[int] = []
     keeper.write(lambda: done.append(1))
     wait_for("facts are written", lambda: done == [1], 3)
@@ -159,43 +170,87 @@ def test_keeper(work: Path, monkeypatch: pytest.MonkeyPatch) -> None:
     keeper.write(full)
     keeper.end()
     keeper.join(5)
-    judge("facts that can't be written are told, at the end at once", told[-1] is None and not keeper.is_alive())
-    judge("the times of what is safe rise", told[:-1] == sorted(told[:-1]) and len(told) >= 3, told)
+    judge("facts that can't be written are told, at the end at once", told.unwritten == 1 and not keeper.is_alive())
+    times = told.moments
+    judge("the times of what is safe rise", times == sorted(times) and len(times) >= 3 and not told.faults, times)
     os.close(descriptor)
 
 
 def test_keeper_without_folder(work: Path) -> None:
     """A folder that can't be forced keeps it from nothing."""
-    told: list = []
+    told = Heard()
     descriptor = os.open(work / "out", os.O_RDWR | os.O_CREAT)
-    keeper = Keeper(descriptor, str(work / "none"), 1, told.append)
+    keeper = Keeper(descriptor, str(work / "none"), 1, told)
     keeper.start()
-    wait_for("the file was forced", lambda: len(told) >= 1, 3)
+    wait_for("the file was forced", lambda: told.moments, 3)
     keeper.end()
     keeper.join(5)
     os.close(descriptor)
 
 
 def test_keeper_that_fails(work: Path, monkeypatch: pytest.MonkeyPatch) -> None:
-    """A disk that fails tells nothing, and a file that is let go is forced no more."""
+    """The first reason of a disk that fails stays, and a file that is let go is forced no more."""
+    reasons = iter([errno.EIO, errno.ENOSPC])
 
     def fails(_: int) -> None:
-        raise OSError(errno.EIO, "fails")
+        number = next(reasons, errno.ENOSPC)
+        raise OSError(number, os.strerror(number))
 
-    told: list = []
+    told = Heard()
     descriptor = os.open(work / "out", os.O_RDWR | os.O_CREAT)
     with monkeypatch.context() as patched:
         patched.setattr(os, "fdatasync", fails)
-        patched.setattr(os, "fsync", fails)
-        keeper = Keeper(descriptor, str(work), 1, told.append)
+        keeper = Keeper(descriptor, "", 1, told)
         keeper.start()
-        time.sleep(0.3)
+        wait_for("it is told twice", lambda: len(told.faults) == 2, 3)
         keeper.release()
         wait_for("it is let go", lambda: keeper.descriptor == -1, 3)
         keeper.end()
         keeper.join(5)
-    judge("nothing is told of it", told == [] and not keeper.is_alive())
+    reason = os.strerror(errno.EIO)
+    judge("with its first reason", told.faults == [reason] * 2 and keeper.sync_fault == reason, told.faults)
+    judge("nothing else is told", not told.moments and not told.unwritten and not keeper.is_alive())
     os.close(descriptor)
+
+
+@pytest.mark.parametrize("is_released", [False, True])
+def test_a_file_is_forced_a_last_time_ahead_of_the_last_facts_unless_it_was_let_go(
+    work: Path, monkeypatch: pytest.MonkeyPatch, is_released: bool
+) -> None:
+    done: list[str] = []
+    real = os.fdatasync
+    monkeypatch.setattr(os, "fdatasync", lambda it: (done.append("forced"), real(it)))
+    descriptor = os.open(work / "out", os.O_RDWR | os.O_CREAT)
+    keeper = Keeper(descriptor, str(work), 1_000, Heard())
+    keeper.start()
+    wait_for("it is forced once", lambda: done == ["forced"], 3)
+    if is_released:
+        keeper.release()
+        wait_for("it is let go", lambda: keeper.descriptor == -1, 3)
+    keeper.write(lambda: done.append("facts"))
+    keeper.end()
+    # What was ended isn't let go any more, and gets no other facts.
+    keeper.release()
+    keeper.write(lambda: done.append("late facts"))
+    keeper.join(5)
+    os.close(descriptor)
+    judge("in this order", done == ["forced", *(["facts"] if is_released else ["forced", "facts"])], done)
+
+
+def test_a_disk_that_takes_no_forcing_is_none_that_fails(work: Path, monkeypatch: pytest.MonkeyPatch) -> None:
+    def refuses(_: int) -> None:
+        raise OSError(errno.EINVAL, os.strerror(errno.EINVAL))
+
+    told = Heard()
+    monkeypatch.setattr(os, "fdatasync", refuses)
+    descriptor = os.open(work / "out", os.O_RDWR | os.O_CREAT)
+    keeper = Keeper(descriptor, str(work), 1, told)
+    keeper.start()
+    time.sleep(0.2)
+    keeper.end()
+    keeper.join(5)
+    os.close(descriptor)
+    judge("nothing is told", not told.faults and not told.moments and keeper.sync_fault is None)
 
 
 # ---- the service manager

@@ -1,12 +1,14 @@
 """Tries host/bin/preflight --live, which takes the arguments of host/bin/live: each fault is one that live has too."""
 
 import os
+import re
 import subprocess
+import time
 from pathlib import Path
 
 import pytest
 from namespace import set_link
-from recordings import nothing_left, settings_of, write_settings
+from recordings import begin, facts_of, nothing_left, settings_of, write_settings
 from support import LIVE, NOBODY, ROOT, Running, judge, judge_quietly, outcome, run
 
 WANTED = {"bin/bpfrec": "make build", "bin/capture": "make build", "ip": "iproute2", "tcpdump": "tcpdump"}
@@ -73,6 +75,33 @@ def test_faults(work: Path) -> None:
         judge(f"a fault: {line}", status == 1 and len(faults) == 1 and faults[0].startswith(line), faults)
         running = Running(work, LIVE, "--quiet", *words)
         judge_quietly(f"live says so too: {running.told()}", running.ended()[0] != 0 and nothing_left(work))
+
+
+def test_an_origin_is_noted_as_capture_notes_it(work: Path) -> None:
+    """Counters begin at 0 again after 325 days, so by then another origin gives right times."""
+    for word in ("zero", "2025-01-01T00:00:00Z", str(int(time.time()) - 86_400)):
+        running = begin(work, work / f"{word}.ch11", "--quiet", "--origin", word)
+        running.interrupt()
+        running.ended()
+        noted = facts_of(work / f"{word}.ch11")["origins"][0]["origin"]
+        _, faults, notes = told("--origin", word, settings_of(work), work / "out.ch11", "rx0=1", "rx1=2")
+        line = f"capture: note: --origin {word}: the origin {noted} is noted"
+        judge(f"what is noted of --origin {word}", faults == [] and any(it.startswith(line) for it in notes), notes)
+
+
+def test_an_origin_that_capture_refuses_is_a_fault(work: Path) -> None:
+    for word in ("2096-01-01T00:00:00Z", "yesterday", "first"):
+        words = ["--origin", word, settings_of(work), work / "out.ch11", "rx0=1", "rx1=2"]
+        status, faults, _ = told(*words)
+        running = Running(work, LIVE, *words)
+        refused = (running.ended()[0], running.told())
+        # But for the digits of now.
+        one, other = (re.sub(r"now, which is .*", "now", it.strip()) for it in (faults[0], refused[1]))
+        judge(
+            f"a fault, as capture says it: {one}",
+            (status, len(faults), refused[0]) == (1, 1, 2) and one == other,
+            other,
+        )
 
 
 def test_interface_that_is_down(work: Path) -> None:

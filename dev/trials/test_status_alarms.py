@@ -89,13 +89,15 @@ CASES = {
         of_channel(history=waited(99, *[0] * 9)),
         of_channel(history=waited(100, *[0] * 9)),
         "waits",
-        "alarm",
+        "warning",
     ),
+    "a pipe waits for less than a second": (VIEW, of_channel(history=waited(999, *[0] * 9)), "waits", "warning"),
+    "a pipe waits for a second": (VIEW, of_channel(history=waited(*[100] * 10)), "waits", "alarm"),
     "a pipe waited longer ago": (
         of_channel(history=waited(500, *[0] * 10)),
         of_channel(history=waited(*[10] * 10)),
         "waits",
-        "alarm",
+        "warning",
     ),
     "a filter keeps nothing: time": (
         of_channel(kept_frames=0, kept_bytes=0, unkept=Unkept(59.9, 10**6, 10**8)),
@@ -119,6 +121,18 @@ CASES = {
         of_channel(kept_bytes=6_000, unkept=Unkept(900.0, 1_000, 30 * LIMIT - 1)),
         of_channel(kept_bytes=6_000, unkept=Unkept(900.0, 1_000, 30 * LIMIT)),
         "keeps_nothing",
+        "alarm",
+    ),
+    "few filters are left": (
+        of_channel(version=1_023 - 257),
+        of_channel(version=1_023 - 256),
+        "filters",
+        "alarm",
+    ),
+    "a recording can't be forced to its disk": (
+        VIEW,
+        VIEW._replace(sync=SyncView(1.0, 0.5, 1, "a.ch11 can't be forced to its disk: Input/output error")),
+        "sync_fault",
         "alarm",
     ),
     "the disk is full soon": (
@@ -189,7 +203,7 @@ def ended(views: Iterable[View]) -> Iterable[View]:
 
 def test_ended() -> None:
     """What has ended is silent, and needs no disk; what was lost stays."""
-    past = [case for case in CASES if CASES[case][2] not in ("lost", "was_lost", "audit")]
+    past = [case for case in CASES if CASES[case][2] not in ("lost", "was_lost", "audit", "sync_fault")]
     told = {case: names(view) for case, view in zip(past, ended(CASES[it][1] for it in past)) if names(view)}
     judge("a run that has ended has none of its channels", not told, told)
     lost = VIEW._replace(state="ended", recording=None, channels=of_channel(counts=LOST, lost_age=5.0).channels)
@@ -218,6 +232,9 @@ def test_texts() -> None:
     wanted = {
         "frames are lost": "channel 3 (eth2): frames are lost: 7 dropped by the kernel, 2 missed, 1 skipped so far",
         "silent": "channel 3 (eth2): no frame came for 10 s",
+        "a pipe waits": "channel 3 (eth2): its pipe was full for 100 ms of the last 10 s",
+        "a pipe waits for a second": "channel 3 (eth2): its pipe was full for 1,000 ms of the last 10 s: the recorder "
+        "is slower than the wire",
         "a filter keeps nothing: time": "channel 3 (eth2): the filter keeps nothing, or too little to fill a packet of "
         "65,536 bytes: none of the 1,000,000 frames that were offered in 1 min 0 s is in the recording",
         "the disk is full soon": "the disk is full in 9 min 59 s: 1.0 GB are free",

@@ -11,12 +11,13 @@ import signal
 import socket
 import subprocess
 import time
+import urllib.error
 import urllib.request
 from pathlib import Path
 
 import pytest
 from recordings import Traffic, begin, is_approved, nothing_left, settings_of, write_settings
-from support import LIVE, judge, judge_quietly, outcome, wait_for
+from support import LIVE, judge, judge_quietly, outcome, run, wait_for
 
 WANTED = {"bin/bpfrec": "make build", "bin/capture": "make build", "ip": "iproute2"}
 pytestmark = [pytest.mark.timed, pytest.mark.usefixtures("namespace")]
@@ -62,6 +63,27 @@ def test_status(work: Path) -> None:
     with pytest.raises(OSError):
         asked(address)
     judge("nothing is left", nothing_left(work))
+
+
+def test_another_address_is_asked_by_it_and_by_names_that_are_given(work: Path) -> None:
+    """A page of the web whose name leads to that address gets nothing."""
+    run("ip", "address", "add", "192.0.2.7/24", "dev", "rx1")
+    words = ["--status", "192.0.2.7:0", "--status-name", "recorder.example", "--status-name", "tap"]
+    live = begin(work, work / "n.ch11", "--quiet", *words)
+    address = address_in(live.told())
+    for host, wanted in {"192.0.2.7": 200, "tap:8080": 200, "recorder.example": 200, "evil.example": 421}.items():
+        request = urllib.request.Request(f"{address}metrics", headers={"Host": host})
+        try:
+            with urllib.request.urlopen(request, timeout=5) as answer:
+                found = answer.status
+        except urllib.error.HTTPError as refused:
+            found = refused.code
+        judge_quietly(f"Host: {host}: {found}", found == wanted)
+    live.interrupt()
+    judge("it ends well", live.ended()[0] == 0, live.told())
+    refused = outcome(LIVE, "--status-name", "tap", work / "x.ch11", "rx0")
+    told = (refused.returncode, refused.stderr)
+    judge("names without a page are refused", told == (2, "live: --status-name needs --status\n"), told)
 
 
 def test_rotation(work: Path) -> None:

@@ -64,7 +64,7 @@ def opened(browser: Browser, flight: Flight, size: tuple[int, int], is_dark: boo
 def losing() -> dict[int, Wire]:
     """64 channels, five of which aren't well."""
     wires = wires_of(64)
-    wires[5].end, wires[9].kept, wires[33].waited = 40, 0, 40
+    wires[5].end, wires[9].kept, wires[33].waited = 40, 0, 140
     wires[20].dropped, wires[20].drops_at = 30, (50, 51, 60)
     wires[41].dropped, wires[41].drops_at = 5, (3,)
     wires[50].interface = LONG_NAME

@@ -166,11 +166,28 @@ def test_rebinding(flight: Flight, host: str) -> None:
     judge(f"Host: {host}", asked(flight, host=host)[0] == HOSTS[host])
 
 
-def test_other_machines(work: Path) -> None:
-    """At an address that others reach it has any name."""
-    flight = Flight(work, {1: Wire("eth0")}, endpoint=status.endpoint_in("0.0.0.0:0"))
-    judge("a name of this machine isn't judged", asked(flight, "/", host="recorder.example:80")[0] == 200)
+OTHER_HOSTS = {
+    **dict.fromkeys(
+        ["127.0.0.1", "127.0.0.1:80", "Recorder.Example:80", "recorder.example.", "tap", "localhost:9"], 200
+    ),
+    **dict.fromkeys(["evil.example", "recorder.example.evil", "example", "0.0.0.0", "10.0.0.1", "[::1]x", ""], 421),
+}
+
+
+@pytest.mark.parametrize("host", OTHER_HOSTS)
+def test_at_an_address_that_others_reach_it_has_that_name_and_those_that_are_given(work: Path, host: str) -> None:
+    place = status.endpoint_in("0.0.0.0:0", ["recorder.example", "TAP"])
+    flight = Flight(work, {1: Wire("eth0")}, endpoint=place)
+    found = asked(flight, "/", host=host)[0]
     flight.status.close()
+    judge(f"Host: {host}", found == OTHER_HOSTS[host], found)
+
+
+@pytest.mark.parametrize("name", ["", "a b", "recorder:80", "[::1]", "x/y", "-x", "x" * 254])
+def test_a_name_that_no_host_has_is_refused(name: str) -> None:
+    with pytest.raises(status.BadEndpoint) as refused:
+        status.endpoint_in("8080", [name])
+    judge("with the status 2", refused.value.status == 2 and f"--status-name {name}: " in str(refused.value))
 
 
 # ---- where it serves
@@ -178,16 +195,16 @@ def test_other_machines(work: Path) -> None:
 
 def test_endpoints() -> None:
     wanted = {
-        "8080": ("127.0.0.1", 8080, True),
-        "0": ("127.0.0.1", 0, True),
-        "127.0.0.2:80": ("127.0.0.2", 80, True),
-        "0.0.0.0:65535": ("0.0.0.0", 65_535, False),
-        "192.0.2.7:1": ("192.0.2.7", 1, False),
-        "[::1]:8080": ("::1", 8080, True),
-        "[::]:8080": ("::", 8080, False),
+        "8080": ("127.0.0.1", 8080),
+        "0": ("127.0.0.1", 0),
+        "127.0.0.2:80": ("127.0.0.2", 80),
+        "0.0.0.0:65535": ("0.0.0.0", 65_535),
+        "192.0.2.7:1": ("192.0.2.7", 1),
+        "[::1]:8080": ("::1", 8080),
+        "[::]:8080": ("::", 8080),
     }
     found = {it: status.endpoint_in(it) for it in wanted}
-    judge("places", {k: (str(it.address), it.port, it.is_loopback()) for k, it in found.items()} == wanted)
+    judge("places", {k: (str(it.address), it.port) for k, it in found.items()} == wanted)
     judge("and as they are told", str(found["[::1]:8080"]) == "[::1]:8080" and str(found["8080"]) == "127.0.0.1:8080")
     for word in (
         "",

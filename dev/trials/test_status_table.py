@@ -158,7 +158,7 @@ def test_lines(work: Path) -> None:
     )
     judge(
         "and one that isn't",
-        found[6].split() == ["22", "eth1", "500", "0", "0", "0", "0", "s", "KEEPS", "NOTHING"],
+        found[6].split() == ["22", "eth1", "500", "0", "0", "0", "0", "s", "KEEPS", "NOTHING", "█" * 20],
         found[6],
     )
     judge("in red", lines[6].startswith("\x1b[97;41m") and lines[6].endswith("\x1b[0m") and "\x1b" not in lines[5])
@@ -172,6 +172,17 @@ def test_lines(work: Path) -> None:
     flight.status.ended(flight.now())
     found = plain(table.lines_of(*told_of(flight), 120, 30))
     judge("at the end", found[0] == "ENDED" and len(found) == 4, found)
+
+
+def test_a_pipe_that_waits_is_a_warning_beside_the_graph(work: Path) -> None:
+    flight = flown(work, {1: Wire("eth0", waited=99), 2: Wire("eth1", waited=100)})
+    lines = table.lines_of(*told_of(flight), 120, 30)
+    found = plain(lines)
+    judge("a warning and an alarm", found[0] == "RECORDING, 1 ALARM, 1 warning", found)
+    judge("each with its graph", [it.endswith("PIPE WAITS " + "█" * 20) for it in found[6:8]] == [True] * 2, found)
+    judge("in yellow and red", [it[:8] for it in lines[6:8]] == ["\x1b[30;43m", "\x1b[97;41m"], lines)
+    narrow = plain(table.lines_of(*told_of(flight), 79, 30))[6]
+    judge("in the room that there is", 0 < narrow.count("█") < 20 and len(narrow) == 79, narrow)
 
 
 @pytest.fixture(scope="module")

@@ -38,6 +38,8 @@ class Arguments(NamedTuple):
     is_strict: bool
     # Where the status is served.
     status: Optional[str]
+    # The names by which a browser may ask for it.
+    status_names: list[str]
     # After how many seconds a channel's open packet is closed; None for never.
     flush: Optional[int]
     # How many recordings are kept at most, and how many bytes are to be free on their disk.
@@ -123,6 +125,8 @@ def parser() -> Parser:
     made.add_argument("--keep-free", metavar="BYTES", type=free, help="removes the oldest until this much is free")
     made.add_argument("--mode", metavar="MODE", type=file_mode, help="who may read OUT and its facts")
     made.add_argument("--status", metavar="[ADDRESS:]PORT", help="serves a page that shows how the recording goes")
+    named = "a name by which browsers ask for it; may be given again"
+    made.add_argument("--status-name", metavar="NAME", action="append", default=[], help=named)
     made.add_argument("--prefilter", action="store_true", help="has the kernel run the filters too")
     made.add_argument("--no-audit", action="store_true", help="leaves the audit out")
     made.add_argument("--strict", action="store_true", help="exit status 5 if an interface lost frames")
@@ -165,6 +169,7 @@ def read(words: list[str]) -> Arguments:
         is_audited=not given.no_audit,
         is_strict=given.strict,
         status=given.status,
+        status_names=given.status_name,
         flush=given.flush,
         keep=given.keep,
         keep_free=given.keep_free,

@@ -3,7 +3,7 @@
 from __future__ import annotations
 
 import os
-from typing import Callable, Optional
+from typing import Callable
 
 from bpfrec_host.live.events import Events
 from bpfrec_host.live.facts import Writer
@@ -13,9 +13,28 @@ from bpfrec_host.live.names import facts_path, remove
 from bpfrec_host.live.recorder import Recorded
 
 
+class Heard:
+    """What a recording's keeper tells, brought to the loop."""
+
+    def __init__(self, beside: Beside, it: Recorded) -> None:
+        self.beside, self.it, self.soon = beside, it, beside.loop.call_soon
+
+    def synced(self, moment: float) -> None:
+        """The recording is on its disk up to a moment."""
+        self.soon(lambda: self.beside.synced(self.it, moment))
+
+    def sync_failed(self, why: str) -> None:
+        """The recording couldn't be forced to its disk."""
+        self.soon(lambda: self.beside.sync_failed(self.it, why))
+
+    def writing_failed(self) -> None:
+        """Its facts couldn't be written."""
+        self.soon(lambda: self.beside.tell_unwritten(self.it))
+
+
 class Beside:
-    """The keepers of a run's recordings. `synced` takes a recording and the moment up to which it is on its disk, and
-    `say` a line for who watches."""
+    """The keepers of a run's recordings. `synced` takes a recording and the moment up to which it is on its disk,
+    `sync_failed` one that couldn't be forced there and why, and `say` a line for who watches."""
 
     def __init__(
         self,
@@ -23,9 +42,11 @@ class Beside:
         writer: Writer,
         events: Events,
         synced: Callable[[Recorded, float], None],
+        sync_failed: Callable[[Recorded, str], None],
         say: Callable[[str], None],
     ) -> None:
-        self.loop, self.writer, self.events, self.synced, self.say = loop, writer, events, synced, say
+        self.loop, self.writer, self.events, self.say = loop, writer, events, say
+        self.synced, self.sync_failed = synced, sync_failed
         self.threads: list[Keeper] = []
 
     def begin(self, it: Recorded) -> None:
@@ -37,7 +58,7 @@ class Beside:
             remove(facts_path(it.about.out))
         folder, pause = os.path.dirname(it.about.out), self.writer.given.sync
         try:
-            it.keeper = Keeper(it.descriptor, folder, pause, lambda moment: self.kept(it, moment))
+            it.keeper = Keeper(it.descriptor, folder, pause, Heard(self, it))
             it.keeper.start()
         except (OSError, RuntimeError) as error:
             it.keeper = None
@@ -49,26 +70,26 @@ class Beside:
     def write(self, it: Recorded) -> None:
         """Has the facts of a recording written that goes on."""
         if it.keeper and self.events.origins:
-            about, noted = it.about, self.events.facts(it.about.feed)
-            it.keeper.write(lambda: self.writer.write(about, noted, None))
+            about, noted, keeper = it.about, self.events.facts(it.about.feed), it.keeper
+            keeper.write(lambda: self.writer.write(about, {**noted, "sync_fault": keeper.sync_fault}, None))
 
     def end(self, it: Recorded, status: int) -> None:
         """Has the last facts of a recording written, and its folder removed."""
         self.events.read()
-        about, noted = it.about, self.events.facts(it.about.feed)
+        about, noted, keeper = it.about, self.events.facts(it.about.feed), it.keeper
         is_written = bool(self.events.origins) and it.is_created
 
         def last() -> None:
             try:
-                if is_written:
-                    self.writer.write(about, noted, status)
+                if is_written and keeper:
+                    self.writer.write(about, {**noted, "sync_fault": keeper.sync_fault}, status)
             finally:
                 self.writer.folder.remove(about.number)
 
         self.events.forget(about.feed)
-        if it.keeper:
-            it.keeper.write(last)
-            it.keeper.end()
+        if keeper:
+            keeper.write(last)
+            keeper.end()
         else:
             self.writer.folder.remove(about.number)
 
@@ -79,14 +100,8 @@ class Beside:
             thread.join()
         self.loop.take_calls()
 
-    def kept(self, it: Recorded, moment: Optional[float]) -> None:
-        """A recording is on its disk up to a moment; or its facts couldn't be written. Called by its keeper."""
-        self.loop.call_soon(lambda: self.tell(it, moment))
-
-    def tell(self, it: Recorded, moment: Optional[float]) -> None:
-        """Tells the same."""
-        if moment is not None:
-            self.synced(it, moment)
-        elif not it.is_told and not it.recording.has_failed:
+    def tell_unwritten(self, it: Recorded) -> None:
+        """Tells that facts couldn't be written."""
+        if not it.is_told and not it.recording.has_failed:
             it.is_told = True
             self.say(f"live: {facts_path(it.about.out)} can't be written")

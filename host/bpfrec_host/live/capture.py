@@ -35,6 +35,7 @@ class Capture:
         words = [self.program]
         words += [it for it in self.given.options if not self.lines or it != "--quiet"]
         words += self.folder.prefilters() if self.given.is_prefiltered else []
+        words += self.folder.judges() if self.given.flush is not None else []
         words += ["--events", str(self.folder.events), "--parent", str(os.getpid())]
         words += ["--hold", str(HOLD)] if self.given.is_rotating() else []
         return words + self.folder.sources()

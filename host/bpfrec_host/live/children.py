@@ -20,12 +20,14 @@ Stream = Union[int, IO[bytes]]
 
 class Manner(NamedTuple):
     """How a program is started: the signals that it ignores, those that it finds blocked and waiting, the descriptors
-    that it keeps, the signal that it gets from the kernel when live dies, and whether it gets live's capabilities."""
+    that it keeps, the signal that it gets from the kernel when live dies, the pipe without whose writers it is killed,
+    and whether it gets live's capabilities."""
 
     ignored: Sequence[signal.Signals] = ()
     blocked: Sequence[signal.Signals] = ()
     kept: Sequence[int] = ()
     ends_by: Optional[signal.Signals] = None
+    ends_with: Optional[int] = None
     has_capabilities: bool = False
 
 
@@ -83,6 +85,8 @@ def start(words: Sequence[str], streams: tuple[Stream, Optional[Stream], Optiona
             system.keep_capabilities_from_children()
         if manner.ends_by is not None:
             system.end_with_parent(manner.ends_by, parent)
+        if manner.ends_with is not None:
+            system.end_at_hangup(manner.ends_with)
 
     try:
         process = subprocess.Popen(

@@ -67,7 +67,7 @@ def run_shown(recording: Run, status: Optional[Status]) -> int:
 def made_status(given: Arguments, limit: object, terminal: Terminal) -> Optional[Status]:
     """What shows how it goes, where somebody looks; a port that can't be had is refused."""
     try:
-        endpoint = endpoint_in(given.status) if given.status is not None else None
+        endpoint = endpoint_in(given.status, given.status_names) if given.status is not None else None
         is_watched = endpoint or terminal.is_shown()
         longest = limit if isinstance(limit, int) else USUAL_LIMIT
         has_ring = given.keep is not None or given.keep_free is not None
@@ -116,5 +116,7 @@ def refuse_together(given: Arguments) -> None:
         raise Refusal(2, "live: --keep and --keep-free need --every or --size")
     if is_ring and not given.is_audited:
         raise Refusal(2, "live: --keep and --keep-free remove what was audited, and --no-audit audits nothing")
+    if given.status_names and given.status is None:
+        raise Refusal(2, "live: --status-name needs --status")
     if given.flush is not None and not given.ways:
         raise Refusal(2, "live: --flush needs an interface")

@@ -2,6 +2,8 @@
 
 from __future__ import annotations
 
+import errno
+import itertools
 import json
 import os
 import socket
@@ -19,6 +21,8 @@ from bpfrec_host.live.synchronisation import synchronisation
 from bpfrec_host.streams import force_folder
 
 Entry = dict[str, Any]
+# So many names are tried for a file that is to take the place of the facts, at most.
+MOST_NAMES = 1_000
 # Where a run was killed, as shells have it.
 KILLED_STATUS = 137
 
@@ -100,13 +104,7 @@ class Writer:
         facts["origin_utc"] = utc_of_origin(noted["origins"])
         if status is not None:
             facts["synchronisation"] = {**facts["synchronisation"], "end": synchronisation()}
-        path = facts_path(about.out)
-        following = f"{path}.new"
-        try:
-            replace(path, following, self.files, encoded(facts))
-        except OSError:
-            remove(following)
-            raise
+        replace(facts_path(about.out), self.files, encoded(facts))
 
     def ending(self, about: About, status: Optional[int]) -> Entry:
         """What is known of a recording's end."""
@@ -129,16 +127,30 @@ def utc_of_origin(origins: list[Entry]) -> Optional[str]:
         return None
 
 
-def replace(path: str, following: str, files: Files, data: bytes) -> None:
+def replace(path: str, files: Files, data: bytes) -> None:
     """Writes a file anew, so that it is whole at any moment, also where power is lost."""
-    remove(following)
-    descriptor = Files(files.mode).create(following)
-    with open(descriptor, "wb") as file:
-        file.write(data)
-        file.flush()
-        os.fdatasync(descriptor)
-    os.replace(following, path)
+    following, descriptor = created_beside(path, files)
+    try:
+        with open(descriptor, "wb") as file:
+            file.write(data)
+            file.flush()
+            os.fdatasync(descriptor)
+        os.replace(following, path)
+    except OSError:
+        remove(following)
+        raise
     force_folder(os.path.dirname(path) or ".")
+
+
+def created_beside(path: str, files: Files) -> tuple[str, int]:
+    """Creates a file that is to take another one's place, under a name that nobody has: that and its descriptor."""
+    for number in itertools.chain([""], range(2, MOST_NAMES)):
+        following = f"{path}.new{number}"
+        try:
+            return following, Files(files.mode).create(following)
+        except FileExistsError:
+            continue
+    raise FileExistsError(errno.EEXIST, os.strerror(errno.EEXIST), f"{path}.new")
 
 
 def lines_of(path: Path) -> Optional[list[str]]:

@@ -1,5 +1,5 @@
-"""Packets that stay open for long: a channel whose last packet is old gets its filter once more, as a line does it. So
-the recorder closes the open packet ahead of the channel's next frame."""
+"""Packets that stay open for long: a channel whose open packet has held a frame for long gets its filter once more, as a
+line does it. So the recorder closes the packet ahead of the channel's next frame."""
 
 from __future__ import annotations
 
@@ -19,39 +19,69 @@ from bpfrec_host.formats.limits import (
     RECORD_CHANNEL,
 )
 from bpfrec_host.live.changes import Change
-from bpfrec_host.live.folder import Folder
+from bpfrec_host.live.folder import COUNT_LEN, Folder
 from bpfrec_host.live.recorder import Recorded
 
 # A recording is looked at so often in the time that a packet may be open.
-LOOKS = 4
+LOOKS = 8
+# So long the count of a frame that was kept may be under way, in seconds.
+COUNT_PAUSE = 0.1
+# So many filters a channel may have in a recording until the rest is left to lines.
+MOST_FILTERS = MAX_VERSIONS * 3 // 4
 # So many packets are looked at at once, at most.
 MOST_PACKETS = 4_096
 MOST_RECORD_LEN = PROGRAM_HEAD_LEN + MAX_INSNS * INSN_LEN
 
 
 class Age:
-    """A channel: when a packet of it was seen last, whether it was given its filter since, and whether it may be."""
+    """A channel: how many of its frames were counted by the last look, how many a flush or a packet covers, the
+    earliest moment at which one may have been kept that none covers, and how many filters the recording has of it.
+    Where nobody counts its frames, whether it was flushed since its last packet stands for that."""
 
-    def __init__(self, seen: float) -> None:
-        self.seen, self.is_asked, self.is_full = seen, False, False
+    def __init__(self, is_counted: bool) -> None:
+        self.is_counted = is_counted
+        self.counted = self.covered = 0
+        self.since: Optional[float] = None
+        self.filters = 1
+
+    def begin(self, now: float) -> None:
+        """A recording begins. What was kept meanwhile may be in this one."""
+        self.filters = 1
+        if not self.is_counted:
+            self.since = now
+
+    def cover(self, closed: Optional[float]) -> None:
+        """A packet was closed at that moment, or is by a flush: it has what was counted by the last look. What came
+        since may still have been on its way."""
+        self.covered = self.counted
+        self.since = None if self.is_counted else closed
+
+    def count(self, counted: int, looked: float) -> None:
+        """Takes a new count; the last look was then."""
+        self.counted = counted
+        if counted > self.covered and self.since is None:
+            self.since = looked - COUNT_PAUSE
 
 
 class Flush:
     """Gives channels their filters once more. `push` hands a recorder its lines."""
 
-    def __init__(
-        self, seconds: int, folder: Folder, push: Callable[[Recorded], None], say: Callable[[str], None]
-    ) -> None:
-        self.seconds, self.folder, self.push, self.say = seconds, folder, push, say
+    def __init__(self, seconds: int, folder: Folder, push: Callable[[Recorded], None]) -> None:
+        self.seconds, self.pause, self.folder, self.push = seconds, seconds / LOOKS, folder, push
         self.going: Optional[Recorded] = None
-        self.at, self.next_look = 0, 0.0
-        self.ages: dict[int, Age] = {}
+        self.at, self.next_look, self.last_look = 0, 0.0, 0.0
+        # Open from now on, so that no shortage of descriptors hides what comes.
+        self.kept = open(folder.kept, "rb", buffering=0)
+        judged = folder.judged()
+        kept = [channel for channel, _ in folder.filters() if folder.kept_filter(channel).exists()]
+        self.ages = {channel: Age(channel in judged) for channel in kept}
 
     def begin(self, it: Recorded, now: float) -> None:
         """A recording has begun, which is the one that goes on."""
         self.going, self.at, self.next_look = it, 0, now
-        kept = [channel for channel, _ in self.folder.filters() if self.folder.kept_filter(channel).exists()]
-        self.ages = {channel: Age(now) for channel in kept}
+        self.last_look = self.last_look or now
+        for age in self.ages.values():
+            age.begin(now)
 
     def end(self, it: Recorded) -> None:
         """A recording takes no lines any more."""
@@ -63,36 +93,43 @@ class Flush:
         return self.next_look if self.going else None
 
     def tick(self, now: float) -> None:
-        """Looks at what came, and gives channels their filters whose last packet is old."""
+        """Looks at what came, and gives channels their filters whose open packets are old."""
         it = self.going
         if not it or now < self.next_look:
             return
-        self.next_look = now + self.seconds / LOOKS
-        for channel in self.read_on(it):
-            if channel in self.ages:
-                self.ages[channel].seen, self.ages[channel].is_asked = now, False
-        if it.lines.unanswered or it.lines.is_ending:
-            # A filter that was changed a moment ago would be changed back.
-            return
+        counts = self.counts()
+        closed = self.read_on(it)
+        # A filter that was changed a moment ago would be changed back.
+        may_flush = not it.lines.unanswered and not it.lines.is_ending
         for channel, age in self.ages.items():
-            if now - age.seen >= self.seconds and not age.is_asked and not age.is_full:
-                age.is_asked = True
-                line = b"set %d %s" % (channel, os.fsencode(self.folder.kept_filter(channel)))
-                it.lines.put(line, Change(channel, None, is_own=True))
+            is_old = age.since is not None and now + self.pause - age.since > self.seconds
+            if channel in closed:
+                age.cover(now)
+            elif is_old and may_flush and age.filters < MOST_FILTERS:
+                self.give(it, channel)
+                age.cover(None)
+            age.count(counts.get(channel, 0), self.last_look)
+        self.last_look, self.next_look = now, now + self.pause
         self.push(it)
 
-    def answered(self, change: Change, answer: str) -> None:
-        """The recorder has answered a line of ours."""
-        if answer.endswith(" VersionsFull") and not self.ages[change.channel].is_full:
-            self.ages[change.channel].is_full = True
-            self.say(
-                f"live: channel {change.channel} has had {MAX_VERSIONS} programs: "
-                "--flush closes no packet of it any more in this recording"
-            )
+    def counts(self) -> dict[int, int]:
+        """How many frames the capture has counted by channel, where it has by now."""
+        lines = os.pread(self.kept.fileno(), COUNT_LEN * len(self.folder.ways), 0).splitlines()
+        return {way.channel: int(line) for way, line in zip(self.folder.ways, lines) if line.isdigit()}
 
-    def read_on(self, it: Recorded) -> list[int]:
+    def give(self, it: Recorded, channel: int) -> None:
+        """Gives a channel its filter."""
+        line = b"set %d %s" % (channel, os.fsencode(self.folder.kept_filter(channel)))
+        it.lines.put(line, Change(channel, None, is_own=True))
+
+    def installed(self, channel: int, version: int) -> None:
+        """The recording that goes on has this version of a channel's filter, whoever gave it."""
+        if channel in self.ages:
+            self.ages[channel].filters = version + 1
+
+    def read_on(self, it: Recorded) -> set[int]:
         """The channels of which packets came since the last look."""
-        found: list[int] = []
+        found: set[int] = set()
         if it.descriptor is None:
             return found
         for _ in range(MOST_PACKETS):
@@ -101,19 +138,19 @@ class Flush:
                 break
             header = header_of(head)
             if header.kind == ETHERNET_DATA:
-                found.append(header.channel)
+                found.add(header.channel)
             elif header.kind == COMPUTER_GENERATED_DATA and header.channel == RECORD_CHANNEL:
-                found += channels_in(
+                found |= channels_in(
                     os.pread(it.descriptor, min(header.data_len, MOST_RECORD_LEN), self.at + HEADER_LEN)
                 )
             self.at += header.packet_len
         return found
 
 
-def channels_in(data: bytes) -> list[int]:
-    """The channel of a program's record, in a list; of another record none."""
+def channels_in(data: bytes) -> set[int]:
+    """The channel of a program's record, in a set; of another record none."""
     try:
         record = record_in(data)
     except BadBody:
-        return []
-    return [record.channel] if isinstance(record, Program) else []
+        return set()
+    return {record.channel} if isinstance(record, Program) else set()

@@ -4,16 +4,19 @@ Its files, below `top`:
 
     settings        SETTINGS, as it was when the run began
     events          what the capture notes, a line of JSON each
+    kept            with --flush: how many frames of each interface the capture has counted that its filter keeps
     now             a link to the folder of the recording that goes on; to `gate` until OUT is there
     given/          the filters that the arguments give channels
-    filters/        of recordings that follow one another: the filter that each channel has by now
+    filters/        of recordings that follow one another, and with --flush: the filter that each channel has by now
     <number>/       a recording: <channel>.pipe, settings.toml, answers, report, audit, audit_errors, each of the last
                     three `.room` until it is printed into, and what `guard` needs: about.json
 """
 
 from __future__ import annotations
 
+import fcntl
 import os
+import re
 import secrets
 import stat
 from pathlib import Path
@@ -28,10 +31,14 @@ from bpfrec_host.live.expressions import listing_of, settings_text
 from bpfrec_host.live.names import Refusal
 from bpfrec_host.live.words import Way
 
+# What the private folders of runs are called.
+NAME = re.compile(r"bpfrec\.[0-9a-f]{16}")
 # What programs print into files of a recording's folder, and how much room each of these and the events are sure to
 # have, also where the disk of TMPDIR is full by then.
 PRINTED = ("report", "audit", "audit_errors")
 PRINTED_ROOM, EVENTS_ROOM = 1 << 16, 1 << 20
+# A line of the file `kept`: 20 digits.
+COUNT_LEN = 21
 
 
 def read_settings(path: str) -> tuple[str, Settings]:
@@ -93,7 +100,7 @@ class Folder:
         self.keeps_filters = given.keeps_filters()
         self.holder = os.environ.get("TMPDIR") or "/tmp"
         self.top = Path(self.holder, f"bpfrec.{secrets.token_hex(8)}")
-        self.events = self.top / "events"
+        self.events, self.kept = self.top / "events", self.top / "kept"
 
     def make_all(self) -> None:
         """Makes the folder and what all recordings share, once there is somebody who removes it where live is
@@ -102,16 +109,34 @@ class Folder:
             self.top.mkdir(mode=0o700)
         except OSError as error:
             raise Refusal(3, f"file {self.holder}: {error.strerror}") from None
+        self.hold()
         (self.top / "settings").write_text(self.text, encoding="utf-8")
         (self.top / "filters").mkdir()
         (self.top / "given").mkdir()
         for channel, listing in self.listings.items():
             self.given_filter(channel).write_text(listing, encoding="utf-8")
         write_room(self.events, EVENTS_ROOM)
+        write_room(self.kept, COUNT_LEN * len(self.ways))
         self.make_pipes("gate")
         self.point_to("gate")
         if self.keeps_filters:
             self.keep_filters()
+
+    def hold(self) -> None:
+        """Has the folder known as one of a run that goes on, as long as this process does."""
+        try:
+            descriptor = os.open(self.top, os.O_RDONLY | os.O_DIRECTORY | os.O_CLOEXEC)
+            fcntl.flock(descriptor, fcntl.LOCK_SH)
+        except OSError:
+            pass
+
+    def leftovers(self) -> list[str]:
+        """The folders beside this one that are left of runs of which live and its guard were killed."""
+        try:
+            names = sorted(os.listdir(self.holder))
+        except OSError:
+            return []
+        return [it for it in (f"{self.holder}/{name}" for name in names if NAME.fullmatch(name)) if is_left(it)]
 
     # ---- recordings
 
@@ -211,6 +236,16 @@ class Folder:
                 found.append((named, path))
         return found
 
+    def judged(self) -> set[int]:
+        """The channels whose kept frames the capture counts."""
+        return {way.channel for way in self.ways if self.kept_filter(way.channel).exists()}
+
+    def judges(self) -> list[str]:
+        """The capture's arguments that have it count the frames that filters keep."""
+        judged = self.judged()
+        ways = [f"{it.interface}={self.kept_filter(it.channel)}" for it in self.ways if it.channel in judged]
+        return ["--kept", str(self.kept), *(word for it in ways for word in ("--judge", it))]
+
     def prefilters(self) -> list[str]:
         """The capture's arguments that give the kernel the filters."""
         found: list[str] = []
@@ -220,6 +255,21 @@ class Folder:
             paths = [str(given)] if given.exists() else [it.path("filter") or "" for it in tables]
             found += ["--prefilter", f"{way.interface}={next(it for it in paths if it)}"]
         return found
+
+
+def is_left(path: str) -> bool:
+    """Whether nobody holds a folder of this user's."""
+    try:
+        descriptor = os.open(path, os.O_RDONLY | os.O_DIRECTORY | os.O_NOFOLLOW | os.O_CLOEXEC)
+    except OSError:
+        return False
+    try:
+        fcntl.flock(descriptor, fcntl.LOCK_EX | fcntl.LOCK_NB)
+        return os.fstat(descriptor).st_uid == os.geteuid()
+    except OSError:
+        return False
+    finally:
+        os.close(descriptor)
 
 
 def remove_folder(path: Path) -> None:

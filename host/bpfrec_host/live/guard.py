@@ -7,7 +7,7 @@ import os
 import select
 import signal
 from pathlib import Path
-from typing import Optional
+from typing import Any, Optional
 
 from bpfrec_host.live.children import ENDING, opened, status_of
 from bpfrec_host.live.descriptors import Holder, close
@@ -23,13 +23,15 @@ class Guard(Holder):
     """The guard, as live has it, with the descriptor by which its end is told. Live ends it by `dismiss`; else it acts
     once live has died.
 
-    Two pipes tell it of ends: one that live alone has open, and one that each program that live starts has open too.
+    Two pipes tell it of ends: one that live alone has open, and one that each program that live starts has open too. A
+    third one, which live and the guard have open, tells the kernel that both have died.
     """
 
     def __init__(self, writer: Writer) -> None:
         own_reader, self.own = os.pipe()
         try:
             all_reader, self.all = os.pipe()
+            self.either_reader, self.either = os.pipe()
             self.pid = os.fork()
         except OSError:
             close(own_reader)
@@ -39,13 +41,17 @@ class Guard(Holder):
             os.close(self.own)
             os.close(self.all)
             try:
-                watch(writer, own_reader, all_reader)
+                watch(writer, own_reader, all_reader, self.either)
             finally:
                 os._exit(0)
         os.close(own_reader)
         os.close(all_reader)
         super().__init__(opened(self.pid))
         self.code: Optional[int] = None
+
+    def lifeline(self) -> int:
+        """A descriptor of its own of the pipe that has no writer any more once both have died."""
+        return os.open(f"/proc/self/fd/{self.either_reader}", os.O_RDONLY | os.O_NONBLOCK | os.O_CLOEXEC)
 
     def status(self) -> Optional[int]:
         """Its status; None while it runs."""
@@ -65,18 +71,19 @@ class Guard(Holder):
             os.waitpid(self.pid, 0)
 
 
-def watch(writer: Writer, own: int, everybody: int) -> None:
+def watch(writer: Writer, own: int, everybody: int, either: int) -> None:
     """Waits for live's end, in the process of the guard."""
     os.setpgid(0, 0)
     for it in (*ENDING, signal.SIGTTOU):
         signal.signal(it, signal.SIG_IGN)
     for descriptor in (int(it) for it in os.listdir("/proc/self/fd")):
-        if descriptor not in (own, everybody):
+        if descriptor not in (own, everybody, either):
             close(descriptor)
     for _ in range(3):
         os.open(os.devnull, os.O_RDWR)
     if os.read(own, 1):
         return
+    writer.folder.hold()
     end_rest(writer.folder.top, everybody)
     for about in sorted(writer.folder.top.glob("*/about.json")):
         write_facts(writer, about.parent)
@@ -105,16 +112,19 @@ def write_facts(writer: Writer, made: Path) -> None:
     events.read()
     try:
         about = About(*json.loads((made / "about.json").read_bytes()))
-        if events.origins and os.path.isfile(about.out) and not has_ended(about.out):
-            writer.write(about, events.facts(about.feed), KILLED_STATUS)
+        earlier = facts_beside(about.out)
+        if events.origins and os.path.isfile(about.out) and earlier.get("state") != "ended":
+            noted = {**events.facts(about.feed), "sync_fault": earlier.get("sync_fault")}
+            writer.write(about, noted, KILLED_STATUS)
     except (OSError, ValueError, TypeError):
         pass
 
 
-def has_ended(out: str) -> bool:
-    """Whether the facts beside a recording have its end."""
+def facts_beside(out: str) -> dict[str, Any]:
+    """The facts that are beside a recording; nothing where there are none."""
     try:
         with open(facts_path(out), "rb") as file:
-            return bool(json.load(file)["state"] == "ended")
-    except (OSError, ValueError, TypeError, KeyError):
-        return False
+            found = json.load(file)
+    except (OSError, ValueError):
+        return {}
+    return found if isinstance(found, dict) else {}

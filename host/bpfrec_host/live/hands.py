@@ -35,8 +35,8 @@ class Hands(Protocol):
     def end_lines(self, recording: Recording) -> None:
         """Ends the lines that change filters."""
 
-    def tell_report(self, recording: Recording) -> bool:
-        """Tells what the recorder printed: whether that could be done."""
+    def tell_report(self, recording: Recording) -> None:
+        """Tells what the recorder printed."""
 
     def audit(self, recording: Recording) -> bool:
         """Starts an audit; False where OUT is no file that could be audited."""

@@ -12,8 +12,9 @@ Lines `set <channel> <file>` on standard input change filters.
 
 An OUT that exists is refused unless --force is given, and no link is followed. OUT and OUT.json have the mode 0640,
 less what umask takes away, or MODE. What is written is forced to the disk each second, so lost power costs about two
-seconds; with --sync SECONDS at that interval, with 0 never. A packet is written when it is full. With --flush SECONDS a
-channel whose last packet is older has its open packet closed before its next frame.
+seconds; with --sync SECONDS at that interval, with 0 never. A packet is written when it is full. With --flush SECONDS
+one that has held a frame for that time, or a little less, is closed before the channel's next frame. Each time takes
+one of the 1,024 filters of a channel that a recording has room for; the last 256 are left to lines.
 
 The facts of a recording of interfaces are in OUT.json beside it: the origin of its relative time counter (RTC, 10 MHz),
 interfaces, settings, filters, what was lost and when, and in the end the report and the audit. `info` and
@@ -26,8 +27,9 @@ their names: flight.ch11 makes flight_00001.ch11 and so on, after those that exi
 changed. Each channel needs an interface then; one that has as many frames as its `max` is empty in later recordings.
 When a recording has ended, its name is printed, its report and its audit. --keep N keeps the last N that ended, and
 --keep-free BYTES removes the oldest until that many bytes are free: only recordings of this run whose audit says yes,
-with a line for each. If the disk is full, the next recording begins once a mebibyte is free; without --every and
---size a full disk ends the run.
+with a line for each. If the disk is full, the next recording begins once a mebibyte is free; it begins too if the
+recorder is killed, the disk fails to write, or a channel has 768 filters. Without --every and --size a full disk or a
+killed recorder ends the run.
 
 With --prefilter the kernel drops what a channel's filter drops, which takes far less time if most frames are dropped.
 These frames are not offered to the recorder, so its report doesn't count them, and lines that would change a filter are
@@ -35,8 +37,8 @@ not read. Frames with a VLAN tag and those of fewer than 60 bytes always go to t
 differently.
 
 On a terminal a table shows each second how the recording goes, unless --quiet is given. With --status PORT a page shows
-the same to a browser, on this machine alone; with --status ADDRESS:PORT to anybody who reaches the address. The port
-serves the data too: /status.json as JSON and /metrics for Prometheus.
+the same to a browser, on this machine alone; with --status ADDRESS:PORT to anybody who reaches the address and asks by
+it, or by a NAME of --status-name. The port serves the data too: /status.json as JSON and /metrics for Prometheus.
 
 With --no-audit nothing is audited. With --strict the exit status is 5 if an interface lost frames; either way the last
 lines say how many.
@@ -51,5 +53,6 @@ It needs bin/bpfrec (make build) and, for interfaces, bin/capture (make build wi
 capture. BPFREC and CAPTURE name other programs.
 
 Status: that of the first `bpfrec record` that failed, else of the first `bpfrec audit`, else 1 if capturing failed,
-else 5 if frames were lost and --strict says so; 2 of wrong arguments, 3 if nothing was begun.
+else 5 if frames were lost and --strict says so. It is 1 if OUT couldn't be forced to its disk, 2 of wrong arguments, 3
+if nothing was begun.
 """

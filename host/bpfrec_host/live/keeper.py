@@ -3,17 +3,29 @@
 from __future__ import annotations
 
 import contextlib
+import errno
 import os
 import threading
 import time
-from typing import Callable, Optional
+from typing import Callable, Optional, Protocol
 
 from bpfrec_host.streams import force_folder
 
 # Facts that change are written so often at most, in seconds; the last ones at once.
 FACTS_PAUSE = 1.0
-# What a thread tells: the moment up to which a recording is on its disk, or None where facts couldn't be written.
-Told = Callable[[Optional[float]], None]
+
+
+class Told(Protocol):
+    """Who is told what a keeper did, by its thread."""
+
+    def synced(self, moment: float) -> None:
+        """The file is on its disk up to a moment."""
+
+    def sync_failed(self, why: str) -> None:
+        """The file couldn't be forced to its disk."""
+
+    def writing_failed(self) -> None:
+        """Facts couldn't be written."""
 
 
 class Keeper(threading.Thread):
@@ -24,19 +36,23 @@ class Keeper(threading.Thread):
         self.descriptor, self.folder, self.pause, self.told = os.dup(descriptor), folder, pause, told
         self.changed = threading.Condition()
         self.facts: Optional[Callable[[], None]] = None
+        # Why the file couldn't be forced to its disk, first.
+        self.sync_fault: Optional[str] = None
         self.is_ending = self.is_released = False
         self.next_sync = self.next_write = time.monotonic()
 
     def write(self, facts: Callable[[], None]) -> None:
-        """Has facts written soon, in place of those that wait."""
+        """Has facts written soon, in place of those that wait; once it ends none any more."""
         with self.changed:
-            self.facts = facts
-            self.changed.notify()
+            if not self.is_ending:
+                self.facts = facts
+                self.changed.notify()
 
     def release(self) -> None:
-        """Closes the file, which is forced to its disk no more: its room is free where it is removed."""
+        """Closes the file, which is forced to its disk no more: its room is free where it is removed. One that ends is
+        forced a last time and closed all the same."""
         with self.changed:
-            self.is_released = True
+            self.is_released = not self.is_ending
             self.changed.notify()
 
     def end(self) -> None:
@@ -58,10 +74,12 @@ class Keeper(threading.Thread):
                 facts = self.facts if self.is_ending or self.facts_are_due() else None
                 self.facts = None if facts else self.facts
                 is_ending = self.is_ending
+            if is_ending or self.is_released:
+                # What a killed recorder left is forced too, and the last facts say where that fails.
+                self.sync(is_last=True)
+                self.close()
             if facts:
                 self.try_to_write(facts)
-            if is_ending or self.is_released:
-                self.close()
             if is_ending and not facts:
                 return
             self.sync()
@@ -91,20 +109,23 @@ class Keeper(threading.Thread):
         try:
             facts()
         except OSError:
-            self.told(None)
+            self.told.writing_failed()
 
-    def sync(self) -> None:
-        """Forces the file to its disk, where it is due."""
+    def sync(self, is_last: bool = False) -> None:
+        """Forces the file to its disk, where it is due or ends."""
         begun = time.monotonic()
-        if not self.forces() or begun < self.next_sync:
+        if not self.forces() or self.is_released or (begun < self.next_sync and not is_last):
             return
         self.next_sync = begun + self.pause
         try:
             os.fdatasync(self.descriptor)
-        except OSError:
-            # The recorder tells of a disk that fails.
+        except OSError as error:
+            if error.errno != errno.EINVAL:
+                # The kernel tells of what it couldn't write once, and a later call may succeed.
+                self.sync_fault = self.sync_fault or str(error.strerror)
+                self.told.sync_failed(self.sync_fault)
             return
-        self.told(begun)
+        self.told.synced(begun)
 
     def close(self) -> None:
         """Closes the file."""

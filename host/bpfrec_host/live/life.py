@@ -37,12 +37,13 @@ class Plan(NamedTuple):
 
 
 class Recording:
-    """One recording: what it is called, where it is in its life, whether its output failed, and its recorder's
-    status once that has ended."""
+    """One recording: what it is called, where it is in its life, whether its output failed or couldn't be forced to
+    its disk, whether its recorder was killed and another one follows, whether it has little room for filters, and its
+    recorder's status once that has ended."""
 
     def __init__(self, number: int, out: str) -> None:
         self.number, self.out, self.phase = number, out, Phase.OPENING
-        self.has_failed = False
+        self.has_failed = self.is_unforced = self.was_killed = self.is_used_up = False
         self.status: Optional[int] = None
 
     def has_ended(self) -> bool:

@@ -2,6 +2,7 @@
 
 from __future__ import annotations
 
+from collections import deque
 from typing import Callable, Optional
 
 from bpfrec_host.live.arguments import Arguments
@@ -10,6 +11,9 @@ from bpfrec_host.live.folder import Folder
 from bpfrec_host.live.loop import Loop
 from bpfrec_host.live.recorder import Recorded
 from bpfrec_host.live.status import Terminal
+
+# So many lines a recorder has at once at most: less than are left of a channel's filters when a next recording begins.
+MOST_UNANSWERED = 128
 
 
 class LineFlow:
@@ -20,29 +24,45 @@ class LineFlow:
     ) -> None:
         self.loop, self.given, self.now, self.terminal = loop, given, now, terminal
         self.input, self.changes = Input(), Changes(folder, given.keeps_filters())
+        # The lines that no recorder has yet.
+        self.held: deque[tuple[bytes, Change]] = deque()
 
     def is_open(self) -> bool:
         """Whether a line may come still, from standard input or from live itself."""
-        return self.input.descriptor is not None or self.given.flush is not None
+        return self.input.descriptor is not None or bool(self.held) or self.given.flush is not None
 
     def read(self) -> None:
         """Has lines read as long as the recorder takes them."""
-        if self.input.descriptor is None:
-            return
-        it = self.now()
-        waits = len(it.lines.waiting) > MAX_WAITING or it.recording.has_failed
-        self.loop.on_read(self.input.descriptor, None if waits else self.take)
+        self.hand_on()
+        if self.input.descriptor is not None:
+            self.loop.on_read(self.input.descriptor, None if self.held or self.waits(self.now()) else self.take)
+
+    def waits(self, it: Recorded) -> bool:
+        """Whether a recorder takes no line now."""
+        is_full = len(it.lines.waiting) > MAX_WAITING or len(it.lines.unanswered) >= MOST_UNANSWERED
+        return is_full or it.recording.has_failed or it.recording.was_killed or it.recording.is_used_up
 
     def take(self) -> None:
-        """Hands lines on to the recorder."""
-        descriptor, it = self.input.descriptor, self.now()
+        """Takes lines for the recorder."""
+        descriptor = self.input.descriptor
         for line in self.input.lines() or []:
             if descriptor is not None and self.terminal.is_of(descriptor):
                 self.terminal.note_typed()
-            it.lines.put(*self.changes.copied(line))
+            self.held.append(self.changes.copied(line))
         if self.input.descriptor is None and descriptor is not None:
             self.loop.on_read(descriptor, None)
-            it.lines.is_ending = not self.is_open()
+            self.now().lines.is_ending = not self.is_open()
+            self.push(self.now())
+        self.hand_on()
+
+    def hand_on(self) -> None:
+        """Hands on the lines that the recorder takes."""
+        it = self.now()
+        if not self.held:
+            return
+        while self.held and not self.waits(it):
+            it.lines.put(*self.held.popleft())
+        it.lines.is_ending = it.lines.is_ending or not self.is_open()
         self.push(it)
 
     def push(self, it: Recorded) -> None:
@@ -57,6 +77,9 @@ class LineFlow:
 
     def end(self, it: Recorded) -> None:
         """Ends the lines of a recorder, once it has those that wait."""
+        is_last = it is self.now() and not it.recording.has_failed and not it.recording.was_killed
+        while self.held and is_last:
+            it.lines.put(*self.held.popleft())
         it.lines.is_ending = True
         self.push(it)
 

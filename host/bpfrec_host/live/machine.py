@@ -26,6 +26,8 @@ HURRIES_AFTER, KILL_AFTER = 1.0, 4.0
 # After a full disk: how long until there may be a next recording, which doubles with each failure in a row up to so
 # many, and how often the room is looked at.
 RETRY_AFTER, MOST_DOUBLINGS, ROOM_PAUSE = 0.5, 7, 1.0
+# After so many recorders in a row that were killed within so many seconds no other one is started.
+MOST_KILLS, KILLS_SECONDS = 10, 60.0
 
 
 class Machine:
@@ -41,6 +43,8 @@ class Machine:
         self.captured: Optional[int] = None if plan.has_interfaces else 0
         self.recorded = self.audited_by = 0
         self.begun, self.unanswered, self.failures, self.next_try = 0.0, 0, 0, 0.0
+        # The moments at which recorders were killed in a row.
+        self.kills: list[float] = []
         self.told_at: Optional[float] = None
         self.hurry_at: Optional[float] = None
         self.give_up_at: Optional[float] = None
@@ -105,6 +109,21 @@ class Machine:
         self.hands.kill_recorder(recording)
         self.store.forget_output(recording)
         self.unanswered = 0
+        self.back_off(time)
+
+    def force_failed(self, recording: Recording, why: str, time: float) -> None:
+        """OUT can't be forced to its disk. It can still be written and read, so its recorder goes on, to a next
+        recording where one may follow."""
+        if recording.is_unforced or recording.has_failed:
+            return
+        recording.is_unforced = True
+        self.hands.say(f"live: {recording.out} can't be forced to its disk: {why}")
+        self.recorded = self.recorded or OUTPUT_FAULT
+        if recording is self.now:
+            self.back_off(time)
+
+    def back_off(self, time: float) -> None:
+        """Has the next recording tried later with each failure in a row."""
         self.failures += 1
         self.next_try = time + RETRY_AFTER * 2 ** min(self.failures, MOST_DOUBLINGS)
 
@@ -116,11 +135,25 @@ class Machine:
         if recording is self.old:
             self.tell(recording)
             return
-        if recording.has_failed and self.plan.is_rotating() and not self.is_ending and self.captured is None:
+        if self.may_follow() and (recording.has_failed or (status > KILLED and self.follow_killed(recording, time))):
             return
         recording.phase = Phase.ENDING
         self.end_feeding(time)
         self.settle()
+
+    def follow_killed(self, recording: Recording, time: float) -> bool:
+        """A recorder was killed: whether a next recording begins, for which the capture keeps the frames."""
+        self.kills = [*(it for it in self.kills if time - it < KILLS_SECONDS), time]
+        if len(self.kills) >= MOST_KILLS:
+            self.hands.say(f"live: {MOST_KILLS} recorders in a row were killed within a minute: the recording ends")
+            return False
+        recording.was_killed = True
+        self.hands.say("live: the next recording begins")
+        self.hands.signal_capture(signal.SIGUSR2)
+        self.hands.end_lines(recording)
+        self.unanswered = 0
+        self.next_try = time if len(self.kills) == 1 else time + RETRY_AFTER
+        return True
 
     def capture_ended(self, status: int, time: float) -> None:
         """The capture has ended, as it was told to or not."""
@@ -149,7 +182,7 @@ class Machine:
     def audited(self, recording: Recording, status: int) -> None:
         """An audit has ended."""
         self.audited_by = self.audited_by or status
-        self.end(recording, status)
+        self.end(recording, recording.status or status)
 
     # ---- time
 
@@ -158,7 +191,7 @@ class Machine:
         moments = [self.hurry_at, self.give_up_at]
         if self.is_letting_go():
             moments.append(time + LET_GO_PAUSE)
-        if self.is_waiting_for_room():
+        if self.is_waiting_for_room() or (self.now.is_unforced and self.plan.is_rotating() and self.may_hand_over()):
             moments.append(self.next_try)
         if self.plan.every is not None and self.may_hand_over():
             moments.append(self.begun + self.plan.every)
@@ -179,8 +212,12 @@ class Machine:
                 if self.store.has_room(self.now):
                     self.hand_over(time)
         elif self.is_due(time):
-            self.failures = 0
+            self.kills.clear()
+            self.failures = self.failures if self.now.is_unforced else 0
+            self.now.is_used_up = False
             self.hand_over(time)
+            if self.now.is_unforced:
+                self.back_off(time)
 
     def waits_for_reader(self, recording: Recording) -> bool:
         """Whether a recorder runs that may wait for a reader of OUT."""
@@ -195,14 +232,15 @@ class Machine:
         return recording.phase is Phase.OPENING and not recording.has_ended() and not self.is_refused
 
     def is_waiting_for_room(self) -> bool:
-        """Whether the output failed, and the next recording begins once there is room."""
-        return (
-            self.plan.is_rotating()
-            and self.now.has_failed
-            and not self.is_ending
-            and self.captured is None
-            and self.old is None
-        )
+        """Whether the output failed or the recorder was killed, and the next recording begins once there is room."""
+        if self.now.was_killed and self.now.phase is Phase.OPENING:
+            # The recording before may go on until there is another one to go over to.
+            return self.may_follow()
+        return (self.now.has_failed or self.now.was_killed) and self.may_follow() and self.old is None
+
+    def may_follow(self) -> bool:
+        """Whether another recording may follow, once this one lets it."""
+        return self.plan.is_rotating() and self.is_ready and not self.is_ending and self.captured is None
 
     def may_hand_over(self) -> bool:
         """Whether another recording may follow: this one is going, so its recorder has opened each of its pipes and
@@ -210,6 +248,7 @@ class Machine:
         return (
             self.now.phase is Phase.GOING
             and not self.now.has_failed
+            and not self.now.was_killed
             and not self.is_ending
             and self.captured is None
             and self.old is None
@@ -221,6 +260,8 @@ class Machine:
         if not self.plan.is_rotating() or not self.may_hand_over():
             return False
         if self.plan.every is not None and time >= self.begun + self.plan.every:
+            return True
+        if self.now.is_used_up or (self.now.is_unforced and time >= self.next_try):
             return True
         return self.plan.size is not None and self.store.size(self.now) >= self.plan.size
 
@@ -254,13 +295,14 @@ class Machine:
         following = self.store.following(self.now)
         if following is None or not self.hands.start_recorder(following):
             return
-        self.old, self.now = self.now, following
-        self.old.phase = Phase.HANDING_OVER
-        self.hands.end_lines(self.old)
+        before, self.now = self.now, following
+        if not before.was_killed or before.phase is not Phase.OPENING:
+            self.old, before.phase = before, Phase.HANDING_OVER
+        self.hands.end_lines(before)
         self.hands.point_to(following)
         self.hands.signal_capture(signal.SIGUSR1)
-        if self.old.has_ended():
-            self.tell(self.old)
+        if before.has_ended():
+            self.tell(before)
 
     def give_up(self) -> None:
         """Kills what doesn't end by itself: the capture, else the recorder; in a hurry that before and audits too."""
@@ -299,10 +341,10 @@ class Machine:
             self.store.discard(recording)
             self.end(recording, status)
             return
-        if not self.hands.tell_report(recording):
-            self.recorded = self.recorded or FILE_FAULT
-            status = status or FILE_FAULT
-        if status != 0 or not self.plan.audits or not self.hands.audit(recording):
+        self.hands.tell_report(recording)
+        # What isn't on its disk can be read still.
+        is_whole = status == 0 or (status == FILE_FAULT and recording.is_unforced)
+        if not is_whole or not self.plan.audits or not self.hands.audit(recording):
             self.end(recording, status)
 
     def end(self, recording: Recording, status: int) -> None:

@@ -43,6 +43,9 @@ class Observer(Protocol):
     def synced(self, now: float) -> None:
         """The recording that goes on was forced to its disk."""
 
+    def sync_failed(self, path: str, why: str) -> None:
+        """A recording couldn't be forced to its disk; it is told once of each."""
+
     def recording_ended(
         self, number: int, status: int, now: float, report: Sequence[str] = (), audit: Sequence[str] = ()
     ) -> None:

@@ -6,7 +6,7 @@ import os
 from pathlib import Path
 from typing import Optional
 
-from bpfrec_host.live import children
+from bpfrec_host.live import children, system
 from bpfrec_host.live.changes import Pipe
 from bpfrec_host.live.facts import About
 from bpfrec_host.live.folder import open_printed
@@ -25,6 +25,8 @@ class Recorded:
         self.place = about.out
         self.is_created = self.is_moved = self.is_told = False
         self.child: Optional[children.Child] = None
+        # As long as OUT isn't open nobody would let the recorder go where live and its guard have died.
+        self.lifeline: Optional[int] = None
         self.auditor: Optional[children.Child] = None
         self.lines = Pipe()
         # Both ways, so that the recorder always has a reader, also where live has died.
@@ -32,6 +34,8 @@ class Recorded:
         self.rest = b""
         self.keeper: Optional[Keeper] = None
         self.watch: Optional[int] = None
+        # The channels of which it was told that few filters are left to them.
+        self.used_up: set[int] = set()
         # What is printed once all is known of it.
         self.report = ""
 
@@ -87,17 +91,26 @@ class Recorded:
 
     # ---- the recorder
 
-    def start(self, bpfrec: str, everybody: int) -> children.Child:
+    def start(self, bpfrec: str, everybody: int, lifeline: int) -> children.Child:
         """Starts the recorder."""
-        kept = [everybody]
+        self.lifeline = lifeline
+        kept = [everybody, lifeline]
         if self.is_inherited() and self.descriptor is not None:
             kept.append(self.descriptor)
         words = [bpfrec, "record", str(self.made / "settings.toml"), self.place]
         with open_printed(self.made, "report") as report:
             streams = (self.lines.reader, report, self.answers)
-            self.child = children.start(words, streams, children.RECORDER._replace(kept=kept))
+            manner = children.RECORDER._replace(kept=kept, ends_with=lifeline)
+            self.child = children.start(words, streams, manner)
         os.close(self.lines.reader)
         return self.child
+
+    def let_live(self) -> None:
+        """Lets the recorder go on where live and its guard die: it ends with its pipes."""
+        if self.lifeline is not None:
+            system.stay_at_hangup(self.lifeline)
+            os.close(self.lifeline)
+            self.lifeline = None
 
     def answered(self) -> list[str]:
         """The lines that the recorder has told since."""
@@ -118,6 +131,7 @@ class Recorded:
 
     def close(self) -> None:
         """Closes all that is still open."""
+        self.let_live()
         self.lines.close()
         os.close(self.answers)
         self.forget()

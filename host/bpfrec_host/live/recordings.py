@@ -86,7 +86,7 @@ class Recordings:
             return recording
         except OSError:
             self.names.give_back(number)
-        if self.told_of != out and not before.has_failed:
+        if self.told_of != out and not before.has_failed and not before.has_ended():
             self.say(f"live: {out} can't be begun: {before.out} goes on")
         self.told_of = out
         return None

@@ -6,6 +6,7 @@ import signal
 import time
 from typing import NamedTuple, Optional, Protocol
 
+from bpfrec_host.formats.limits import MAX_VERSIONS
 from bpfrec_host.live import children, outputs, system
 from bpfrec_host.live.arguments import Arguments
 from bpfrec_host.live.beside import Beside
@@ -13,7 +14,7 @@ from bpfrec_host.live.capture import Capture
 from bpfrec_host.live.changes import Change
 from bpfrec_host.live.events import Events
 from bpfrec_host.live.facts import Writer
-from bpfrec_host.live.flush import Flush
+from bpfrec_host.live.flush import MOST_FILTERS, Flush
 from bpfrec_host.live.folder import Folder, open_printed
 from bpfrec_host.live.guard import Guard, open_and_close
 from bpfrec_host.live.life import Plan, Recording
@@ -30,6 +31,9 @@ from bpfrec_host.live.status import Terminal
 from bpfrec_host.live.telling import Telling
 from bpfrec_host.live.watches import Watches
 from bpfrec_host.live.watching import Watching
+
+# Why a recording isn't on its disk of which the recorder alone was told so.
+UNFORCED = "the recorder's fsync failed"
 
 
 class Programs(NamedTuple):
@@ -72,11 +76,11 @@ class Run:
         self.watching = Watching(observer, folder)
         self.capture = Capture(programs.capture, given, folder, self.loop)
         self.line_flow = LineFlow(self.loop, folder, given, self.now, terminal)
-        self.flush = Flush(given.flush, folder, self.line_flow.push, self.say) if given.flush is not None else None
+        self.flush = Flush(given.flush, folder, self.line_flow.push) if given.flush is not None else None
         self.notifier = Notifier()
         self.ring = Ring(given.keep, given.keep_free, lambda: outputs.room_beside(self.machine.now), self.say)
         self.outputs = outputs.Outputs(self.watches, given.size is not None, self.begin_recording, self.say)
-        self.beside = Beside(self.loop, self.writer, self.events, self.synced, self.say)
+        self.beside = Beside(self.loop, self.writer, self.events, self.synced, self.sync_failed, self.say)
         self.recordings = Recordings(self.writer, self.outputs, self.say)
         self.timed: list[Timed] = [self.watches, self.outputs, self.watching, self.ring, self.notifier]
         self.timed += [self.flush] if self.flush else []
@@ -96,6 +100,9 @@ class Run:
             # A line would change what the kernel doesn't know.
             self.line_flow.input.end()
         self.loop.follow(self.guard, self.end_guard)
+        left = self.folder.leftovers()
+        if left:
+            self.say(f"live: left of runs that were killed, and to be removed: {' '.join(left)}")
         self.machine.begin(time.monotonic())
         while not self.machine.is_done():
             self.turn()
@@ -156,7 +163,7 @@ class Run:
         try:
             if it.descriptor is None and not is_special(it.about.out):
                 it.hold_place()
-            child = it.start(self.programs.bpfrec, self.guard.all)
+            child = it.start(self.programs.bpfrec, self.guard.all, self.guard.lifeline())
         except OSError as error:
             self.say(f"live: {self.programs.bpfrec} record can't be started: {error.strerror}")
             self.recordings.drop(recording)
@@ -169,6 +176,7 @@ class Run:
 
     def begin_recording(self, it: Recorded) -> None:
         """A recorder has opened OUT."""
+        it.let_live()
         self.machine.opened(it.recording)
         self.watching.begun(it)
         self.notifier.ready(it.about.out)
@@ -181,6 +189,13 @@ class Run:
         if it.recording is self.machine.now:
             self.watching.synced(moment)
 
+    def sync_failed(self, it: Recorded, why: str) -> None:
+        """A recording couldn't be forced to its disk."""
+        if not it.recording.is_unforced and not it.recording.has_failed:
+            self.watching.sync_failed(it, why)
+            self.beside.write(it)
+        self.machine.force_failed(it.recording, why, time.monotonic())
+
     def take_answers(self, it: Recorded) -> None:
         """Tells the recorder's answers, and sees whether its output failed."""
         for answer in it.answered():
@@ -189,6 +204,10 @@ class Run:
                 self.say(told)
             if answer.startswith("run 2 Output"):
                 self.machine.output_failed(it.recording, time.monotonic())
+            elif answer == f"file {it.about.out}" and it.keeper:
+                # It has opened OUT before, so that is what it says where its fsync fails.
+                it.keeper.sync_fault = it.keeper.sync_fault or UNFORCED
+                self.sync_failed(it, UNFORCED)
 
     def take_change(self, it: Recorded, change: Change, answer: str) -> None:
         """The recorder has answered a line."""
@@ -197,8 +216,21 @@ class Run:
             return
         if word == "installed":
             self.watching.changed(int(channel), int(version), change.is_own)
-        elif change.is_own and self.flush:
-            self.flush.answered(change, answer)
+            self.take_version(it, int(channel), int(version))
+
+    def take_version(self, it: Recorded, channel: int, version: int) -> None:
+        """A channel has this version of its filter, of which a recording has room for a number."""
+        if self.flush:
+            self.flush.installed(channel, version)
+        left = MAX_VERSIONS - 1 - version
+        if left > MAX_VERSIONS - MOST_FILTERS:
+            return
+        if self.given.is_rotating():
+            it.recording.is_used_up = True
+        elif channel not in it.used_up:
+            it.used_up.add(channel)
+            flushed = ", and --flush closes no packet of it any more" if self.flush else ""
+            self.say(f"live: channel {channel} has room for {left} more filters in this recording{flushed}")
 
     def end_recorder(self, it: Recorded, status: int) -> None:
         """A recorder has ended."""
@@ -266,16 +298,16 @@ class Run:
     # ---- what is told
 
     def printing_failed(self) -> None:
-        """Standard output can't be written."""
+        """Standard output can't be written: what is recorded is audited all the same, and its facts have that."""
         self.machine.recorded = self.machine.recorded or FILE_FAULT
 
-    def tell_report(self, recording: Recording) -> bool:
-        """Tells what the recorder printed: whether that could be done."""
+    def tell_report(self, recording: Recording) -> None:
+        """Tells what the recorder printed."""
         it = self.recordings.of(recording)
         if self.given.is_rotating():
             it.report = f"recording {it.about.out}\n{it.text('report')}"
-            return True
-        return self.telling.print(it.text("report"))
+        else:
+            self.telling.print(it.text("report"))
 
     def tell_lost(self) -> bool:
         """Tells what interfaces lost in all, as the last lines: whether one did."""

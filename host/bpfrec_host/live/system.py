@@ -3,7 +3,9 @@ files. Where they can't be had, as under a Python without ctypes, live does with
 
 from __future__ import annotations
 
+import fcntl
 import os
+import signal
 import struct
 from typing import Any, Iterator
 
@@ -32,6 +34,22 @@ def end_with_parent(signal_number: int, parent: int) -> None:
         LIBC.prctl(PR_SET_PDEATHSIG, signal_number, 0, 0, 0)
     if os.getppid() != parent:
         os.kill(os.getpid(), signal_number)
+
+
+def end_at_hangup(descriptor: int) -> None:
+    """Has the kernel kill this process once the pipe of this descriptor has no writer any more, until `stay_at_hangup`
+    of the same descriptor, here or in another process that shares it."""
+    try:
+        fcntl.fcntl(descriptor, fcntl.F_SETOWN, os.getpid())
+        fcntl.fcntl(descriptor, fcntl.F_SETSIG, signal.SIGKILL)
+        fcntl.fcntl(descriptor, fcntl.F_SETFL, os.O_NONBLOCK | os.O_ASYNC)
+    except OSError:
+        pass
+
+
+def stay_at_hangup(descriptor: int) -> None:
+    """Takes back what `end_at_hangup` has done."""
+    fcntl.fcntl(descriptor, fcntl.F_SETFL, os.O_NONBLOCK)
 
 
 def give_capabilities_up() -> None:

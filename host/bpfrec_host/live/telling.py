@@ -33,21 +33,20 @@ class Telling:
         """Tells a line on standard error."""
         self.lines.say(line)
 
-    def print(self, text: str) -> bool:
-        """Prints a text on standard output, now or as there is room: whether that can be done."""
+    def print(self, text: str) -> None:
+        """Prints a text on standard output, now or as there is room."""
         if self.terminal.is_of(1):
             self.lines.say(*text.splitlines())
-            return True
-        self.printed.put(text)
-        return self.check()
+        else:
+            self.printed.put(text)
+            self.check()
 
-    def check(self) -> bool:
-        """Whether standard output takes what is printed; the first time that it doesn't is told."""
+    def check(self) -> None:
+        """Tells the first time that standard output doesn't take what is printed."""
         if self.printed.has_failed and not self.has_told:
             self.has_told = True
             self.say("file -")
             self.failed()
-        return not self.printed.has_failed
 
     def write_on(self) -> None:
         """Has the rest written once there is room."""

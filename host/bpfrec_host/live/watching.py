@@ -47,6 +47,11 @@ class Watching:
         if self.observer:
             self.observer.synced(moment)
 
+    def sync_failed(self, it: Recorded, why: str) -> None:
+        """A recording couldn't be forced to its disk."""
+        if self.observer:
+            self.observer.sync_failed(it.about.out, why)
+
     def ended(self, it: Recorded, status: int) -> None:
         """A recording has ended, and its audit too."""
         report, audit = it.text("report").splitlines(), it.text("audit").splitlines()

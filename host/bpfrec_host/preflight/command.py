@@ -32,8 +32,8 @@ With --capture it records FEED through each filter into /dev/null, and says how 
 
 With --live it judges the arguments of `live` that follow, as `--live --every 3600 wire.toml flight.ch11 eth0=1`: the
 same for SETTINGS and OUT, which may not exist. It judges whether each interface exists and is up and whether the
-kernel joins its frames; the permission to capture; the kernel's buffers, and how much memory is available; and the
-expressions that are filters.
+kernel joins its frames; the permission to capture; the kernel's buffers, and how much memory is available; the origin
+that --origin names; and the expressions that are filters.
 
 It creates nothing but temporary files, empties nothing, and opens no pipe, since that would wait for
 the pipe's other end.

@@ -1,18 +1,28 @@
-"""What `bpfrec-live` would refuse or lose with the same arguments: interfaces, permission, offloads, buffers and
-OUT."""
+"""What `bpfrec-live` would refuse or lose with the same arguments: interfaces, permission, offloads, buffers, the origin
+and OUT."""
 
 from __future__ import annotations
 
+import argparse
 import fcntl
 import os
 import re
 import shutil
 import socket
 import struct
+import time
 from typing import Callable, Optional
 
 from bpfrec_host import program
-from bpfrec_host.formats.limits import BUFFER_FOLD, BUFFERS_IN_MEMORY, USUAL_BUFFER
+from bpfrec_host.convert.moments import moment_of
+from bpfrec_host.formats.limits import (
+    BUFFER_FOLD,
+    BUFFERS_IN_MEMORY,
+    MAX_COUNTER,
+    NANOSECONDS_A_SECOND,
+    NANOSECONDS_A_TICK,
+    USUAL_BUFFER,
+)
 from bpfrec_host.formats.settings import Settings
 from bpfrec_host.live.adapters import asked
 from bpfrec_host.live.arguments import Arguments, read
@@ -27,6 +37,11 @@ from bpfrec_host.preflight.report import Report
 MEBIBYTE = 1 << 20
 # How a group gets the permission, as capture itself says it.
 BY_GROUP = "as USING.md says: chgrp recorder F && chmod 750 F && setcap cap_net_raw=ep F, where F is"
+# What capture says of another origin than these.
+ORIGINS = "now, zero, or a time as 1764590400.25 or 2025-12-01T12:00:00.25Z; with -r first too"
+NO_FIRST = "it needs -r, since the first frames of interfaces aren't known"
+# The time after which counters begin at 0 again.
+COUNTER_TURN = (MAX_COUNTER + 1) * NANOSECONDS_A_TICK
 # Stands for the pipes of live's: nothing is ever there.
 NOWHERE = "/dev/null"
 SIOCGIFFLAGS, UP, RUNNING = 0x8913, 0x1, 0x40
@@ -54,6 +69,7 @@ def judge_live(words: list[str], judge: Callable[[Settings, Report, set[int]], o
     for way in given.ways:
         judge_interface(way.interface, report)
     if given.ways:
+        judge_origin(given, report)
         judge_permission(report)
         judge_buffers(given, report)
 
@@ -166,6 +182,36 @@ def judge_buffers(given: Arguments, report: Report) -> None:
 
 def asked_buffer(given: Arguments) -> Optional[int]:
     """The buffer that --buffer asks for, in MiB."""
-    options = given.options
-    values = [value for name, value in zip(options, options[1:]) if name == "--buffer"]
-    return int(values[-1]) if values and re.fullmatch(r"[0-9]{1,4}", values[-1]) else None
+    value = value_of(given, "--buffer")
+    return int(value) if value and re.fullmatch(r"[0-9]{1,4}", value) else None
+
+
+def value_of(given: Arguments, option: str) -> Optional[str]:
+    """The last value of an option of the capture's."""
+    values = [value for name, value in zip(given.options, given.options[1:]) if name == option]
+    return values[-1] if values else None
+
+
+def judge_origin(given: Arguments, report: Report) -> None:
+    """The origin that --origin names: as capture refuses it, or notes it by now."""
+    word = value_of(given, "--origin")
+    if word is None:
+        return
+    now = time.time_ns()
+    try:
+        origin = moment_of(word)
+    except argparse.ArgumentTypeError:
+        report.fault("capture", f"--origin {word}: {NO_FIRST if word == 'first' else ORIGINS}")
+        return
+    if origin > now:
+        report.fault("capture", f"--origin {word}: {seconds(origin)} lies ahead of now, which is {seconds(now)}")
+        return
+    turns = (now - origin) // COUNTER_TURN
+    why = f", since counters have begun at 0 again {turns} times" if turns else ""
+    report.note("capture", f"--origin {word}: the origin {seconds(origin + turns * COUNTER_TURN)} is noted{why}")
+
+
+def seconds(moment: int) -> str:
+    """Nanoseconds as seconds with nine digits."""
+    whole, rest = divmod(moment, NANOSECONDS_A_SECOND)
+    return f"{whole}.{rest:09}"

@@ -9,13 +9,14 @@ from __future__ import annotations
 from collections.abc import Iterator
 from typing import NamedTuple, Optional
 
+from bpfrec_host.formats.limits import MAX_VERSIONS
 from bpfrec_host.live.status.view import ChannelView, View, lost
 
 ALARM, WARNING = "alarm", "warning"
 # Frames that were lost in so many seconds are an alarm; those of before are a warning.
 LOST_SECONDS = 60
-# A pipe that was full for so many milliseconds of so many seconds waits.
-WAITED_MILLISECONDS, WAITED_SECONDS = 100, 10
+# A pipe that was full for so many milliseconds of so many seconds waits, which is an alarm from so many on.
+WAITED_MILLISECONDS, MOST_WAITED_MILLISECONDS, WAITED_SECONDS = 100, 1_000, 10
 # Without a frame for so many seconds a channel is silent.
 SILENT_SECONDS = 10
 # Without counts for so many seconds nothing is known of an interface.
@@ -23,6 +24,8 @@ COUNTS_SECONDS = 5
 # A filter keeps nothing where so many seconds and offered frames went by without a kept one in the recording, and so
 # many times the bytes in which a packet is full, by what the filter has kept so far; once where it has kept nothing.
 KEEPS_NOTHING_SECONDS, KEEPS_NOTHING_FRAMES, KEEPS_NOTHING_TIMES = 60, 100, 3
+# A recording has room for so many more filters of a channel.
+FILTERS_LEFT = MAX_VERSIONS // 4
 # A disk that is full in so many seconds, at the rate of the last minute.
 DISK_SECONDS = 600
 # A disk with fewer bytes than this is as good as full, whatever the rate.
@@ -93,7 +96,10 @@ def of_disk(view: View) -> Iterator[Alarm]:
 
 
 def of_sync(view: View) -> Iterator[Alarm]:
-    """Whether what is recorded is forced to the disk in time."""
+    """Whether what is recorded is forced to the disk, and in time."""
+    if view.sync.faults:
+        text = f"{view.sync.fault}: what the disk has of it may have gaps"
+        yield Alarm("sync_fault", ALARM, None, "disk fails", text)
     if not view.recording or not view.sync.interval:
         return
     age = view.recording.seconds if view.sync.age is None else view.sync.age
@@ -108,7 +114,12 @@ def of_sync(view: View) -> Iterator[Alarm]:
 def of_channel(channel: ChannelView, state: str, limit: int) -> Iterator[Alarm]:
     """What is wrong with a channel: what was lost stays, the rest is of a channel that goes on."""
     yield from of_losses(channel)
-    if state == "ended" or channel.has_ended or channel.interface is None:
+    if state == "ended" or channel.has_ended:
+        return
+    left = channel.filters_left()
+    if left <= FILTERS_LEFT:
+        yield of(channel, "filters", ALARM, f"{left} filters left", f"there is room for {left} more filters")
+    if channel.interface is None:
         return
     yield from of_pipe(channel)
     unknown = channel.seconds if channel.counts_age is None else channel.counts_age
@@ -138,11 +149,11 @@ def of_losses(channel: ChannelView) -> Iterator[Alarm]:
 def of_pipe(channel: ChannelView) -> Iterator[Alarm]:
     """Whether the recorder is slower than the wire."""
     waited = sum(it.waited for it in channel.history[-WAITED_SECONDS:])
-    if waited >= WAITED_MILLISECONDS:
-        text = (
-            f"its pipe was full for {waited:,} ms of the last {WAITED_SECONDS} s: the recorder is slower than the wire"
-        )
-        yield of(channel, "waits", ALARM, "pipe waits", text)
+    text = f"its pipe was full for {waited:,} ms of the last {WAITED_SECONDS} s"
+    if waited >= MOST_WAITED_MILLISECONDS:
+        yield of(channel, "waits", ALARM, "pipe waits", f"{text}: the recorder is slower than the wire")
+    elif waited >= WAITED_MILLISECONDS:
+        yield of(channel, "waits", WARNING, "pipe waits", text)
 
 
 def of_filter(channel: ChannelView, limit: int) -> Iterator[Alarm]:

@@ -15,11 +15,13 @@ ALARMS = (
     "audit",
     "damaged",
     "disk",
+    "filters",
     "keeps_nothing",
     "lost",
     "no_counts",
     "silent",
     "sync",
+    "sync_fault",
     "unread",
     "waiting",
     "waits",
@@ -59,6 +61,7 @@ CHANNEL_METRICS = (
         lambda it: it.counts and it.counts.waited / 1_000,
     ),
     Metric("filter_version", GAUGE, "The version of the filter, in this recording.", lambda it: it.version),
+    Metric("filters_left", GAUGE, "Versions that it has room for.", lambda it: it.filters_left()),
     Metric("last_frame_age_seconds", GAUGE, "How long ago the last frame came.", lambda it: it.frame_age),
 )
 
@@ -87,6 +90,7 @@ def of_run(view: View) -> Iterator[str]:
     text = "In how many seconds the disk is full at the rate of the last minute."
     yield family("disk_seconds_left", GAUGE, text, [((), disk and disk.seconds_left)])
     yield family("sync_age_seconds", GAUGE, "How long ago it was forced to its disk.", [((), view.sync.age)])
+    yield family("sync_faults_total", COUNTER, "Recordings that can't be forced to it.", [((), view.sync.faults)])
     samples: list[Sample] = [((("answer", name),), count) for name, count in audits.items()]
     yield family("audits_total", COUNTER, "Recordings that have ended, by what the audit said.", samples)
 

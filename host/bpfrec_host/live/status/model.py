@@ -51,6 +51,8 @@ class Model:
     def __init__(self, now: float, sync: float, has_ring: bool = False) -> None:
         self.begun, self.sync, self.has_ring = now, sync, has_ring
         self.synced_at: Optional[float] = None
+        # How many recordings couldn't be forced to their disk, and what is said of the last.
+        self.sync_faults, self.sync_fault = 0, ""
         self.channels: dict[int, Channel] = {}
         self.going: dict[int, Going] = {}
         self.current: Optional[int] = None
@@ -113,6 +115,10 @@ class Model:
         """The recording that goes on was forced to its disk."""
         self.synced_at = now
 
+    def sync_failed(self, name: str, why: str) -> None:
+        """A recording couldn't be forced to its disk."""
+        self.sync_faults, self.sync_fault = self.sync_faults + 1, f"{name} can't be forced to its disk: {why}"
+
     def has_room(self, free: Optional[int]) -> None:
         """So many bytes are free on the recording's disk."""
         self.free = free
@@ -173,7 +179,7 @@ class Model:
             uptime=now - self.begun,
             recording=going.view(now, rate) if going else None,
             disk=None if self.free is None else DiskView(self.free, left),
-            sync=SyncView(self.sync, since(self.synced_at, now)),
+            sync=SyncView(self.sync, since(self.synced_at, now), self.sync_faults, self.sync_fault),
             channels=self.channel_views(now),
             recordings=tuple(self.recordings),
             audits=self.audits,

@@ -71,6 +71,10 @@ class Status(Observer):
         """The recording that goes on was forced to its disk."""
         self.model.synced(now)
 
+    def sync_failed(self, path: str, why: str) -> None:
+        """A recording couldn't be forced to its disk; it is told once of each."""
+        self.model.sync_failed(os.path.basename(path), why)
+
     def recording_ended(
         self, number: int, status: int, now: float, report: Sequence[str] = (), audit: Sequence[str] = ()
     ) -> None:

@@ -33,8 +33,10 @@ MAKING_ROOM_SECONDS = 0.2
 SHORTAGE_SECONDS = 0.1
 # How many may wait to be taken, and how often it is looked whether all ends.
 BACKLOG, POLL_SECONDS = 128, 0.25
-# The names of this machine's loopback by which a browser may ask: through a tunnel with another port.
-LOCAL = re.compile(r"(?:localhost|127(?:\.[0-9]{1,3}){3}|\[::1\])(?::[0-9]{1,5})?")
+# The names of this machine's loopback by which a browser may ask: through a tunnel, with another port.
+LOCAL = re.compile(r"localhost|127(?:\.[0-9]{1,3}){3}|\[::1\]")
+# What a header Host has: an address in brackets or a name, and a port.
+HOST = re.compile(r"(\[[0-9a-f:.]+\]|[^\[\]:]+?)\.?(?::[0-9]{1,5})?")
 HEADERS = (
     ("Cache-Control", "no-store"),
     ("Content-Security-Policy", CONTENT_POLICY),
@@ -158,9 +160,18 @@ class Handler(BaseHTTPRequestHandler):
         names = self.headers.get_all("Host") or []
         if len(names) > 1 or not names and self.request_version == "HTTP/1.1":
             return plain(400, "There is no header Host, or more than one.")
-        if names and self.server.is_loopback and not is_local(names[0]):
-            return plain(421, "The header Host names another machine than this one's loopback.")
+        if names and not self.is_here(names[0]):
+            return plain(421, "The header Host names neither this address nor a name of --status-name.")
         return None
+
+    def is_here(self, host: str) -> bool:
+        """Whether a header Host names the loopback, the address at which it came, or a name that was given; with any
+        port or none."""
+        found = HOST.fullmatch(host.strip().lower())
+        if not found:
+            return False
+        name, here = found[1], self.connection.getsockname()[0].partition("%")[0]
+        return LOCAL.fullmatch(name) is not None or name in (here, f"[{here}]") or name in self.server.names
 
     def send(self, answer: Answer) -> None:
         """Sends an answer, of which who asked by HEAD gets the head alone."""
@@ -184,19 +195,15 @@ class Handler(BaseHTTPRequestHandler):
         """Says nothing: what is wrong with a request is answered without its words."""
 
 
-def is_local(host: str) -> bool:
-    """Whether a header Host names this machine's loopback, with any port or none."""
-    return LOCAL.fullmatch(host.strip().lower()) is not None
-
-
 class Server(socketserver.ThreadingMixIn, socketserver.TCPServer):
-    """Serves until it is closed. At most so many connections are open; where there are more, the oldest is closed."""
+    """Serves until it is closed, under its address and these names. At most so many connections are open; where there
+    are more, the oldest is closed."""
 
     allow_reuse_address, daemon_threads, request_queue_size = True, True, BACKLOG
 
     def __init__(self, endpoint: Endpoint, clock: Callable[[], float] = time.monotonic) -> None:
         self.address_family = socket.AF_INET6 if endpoint.address.version == 6 else socket.AF_INET
-        self.is_loopback, self.answers = endpoint.is_loopback(), Answers(clock)
+        self.names, self.answers = endpoint.names, Answers(clock)
         self.places = threading.BoundedSemaphore(MOST_CONNECTIONS)
         self.lock = threading.Lock()
         # Those that are open, the oldest first.

@@ -100,9 +100,15 @@ def row(it: ChannelView, alarms: tuple[Alarm, ...], width: int) -> Line:
         f"{'-' if it.counts is None else format(lost(it.counts), ','):>8}",
         f"{it.same_since:>6}",
         f"{'-' if it.frame_age is None else duration(it.frame_age):>8}",
-        f" {words.upper() or ('ended' if it.has_ended else bar(it, width - STATE_AT))}",
+        f" {state(it, words, width - STATE_AT)}",
     ]
     return Line(" ".join(columns), level_of(alarms, it.channel))
+
+
+def state(it: ChannelView, words: str, width: int) -> str:
+    """What is wrong with a channel, and its bar in what is left of the columns."""
+    said = words.upper() or ("ended" if it.has_ended else "")
+    return said if it.has_ended else f"{said} {bar(it, width - len(said) - 1)}" if said else bar(it, width)
 
 
 def rate(value: Optional[float]) -> str:

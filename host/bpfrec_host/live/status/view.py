@@ -8,6 +8,7 @@ from __future__ import annotations
 
 from typing import NamedTuple, Optional
 
+from bpfrec_host.formats.limits import MAX_VERSIONS
 from bpfrec_host.live.observer import Counts
 
 # How many seconds of its past a channel keeps.
@@ -59,6 +60,10 @@ class ChannelView(NamedTuple):
     unkept: Optional[Unkept]
     history: tuple[Second, ...]
 
+    def filters_left(self) -> int:
+        """For how many more versions of the filter the recording has room."""
+        return MAX_VERSIONS - 1 - self.version
+
 
 class RecordingView(NamedTuple):
     """The recording that goes on. `bytes_per_second` is the mean of the last minute; `unread` are bytes of the file
@@ -81,10 +86,13 @@ class DiskView(NamedTuple):
 
 
 class SyncView(NamedTuple):
-    """How often the recording is forced to its disk, and how long ago it was; `interval` is 0 for never."""
+    """How often the recording is forced to its disk, and how long ago it was; `interval` is 0 for never. `faults` are
+    the recordings of the run that couldn't be, and `fault` says it of the last."""
 
     interval: float
     age: Optional[float]
+    faults: int = 0
+    fault: str = ""
 
 
 class EndedView(NamedTuple):
