@@ -35,9 +35,8 @@ files() {
     echo "644 completions/_bpfrec $ZSH/_bpfrec"
     echo "644 completions/bpfrec.fish share/fish/vendor_completions.d/bpfrec.fish"
     echo "644 host/wireshark/bpfrec.lua share/bpfrec/bpfrec.lua"
-    echo "644 dev/package/README.md share/doc/bpfrec/README.md"
     for file in docs/user/*.md docs/user/*.png; do
-        echo "644 $file share/doc/bpfrec/${file##*/}"
+        echo "644 $file share/doc/bpfrec/$(basename "${file/INSTALLED/README}")"
     done
     find examples -type f ! -name bpfrec.service | sort | while read -r file; do
         echo "644 $file share/doc/bpfrec/$file"
