@@ -24,7 +24,8 @@ COUNTS = (1, 2, 12, 64)
 MOMENTS = int(os.environ.get("HANDOVER_MOMENTS", "2"))
 # Measured: 0.2 to 1.7 s, where a machine has twice as many programs to run as it has processors.
 PATIENCE = float(os.environ.get("HANDOVER_PATIENCE", "2"))
-LENGTH, BATCH = 1_400, 8
+# Frames of each two milliseconds: they fill a pipe in 3 or 12 ms. Of 64 interfaces each has a small buffer.
+LENGTH, BATCHES = 1_400, {1: 32, 2: 32, 12: 32, 64: 8}
 
 
 def drawn_moments(count: int) -> list[float]:
@@ -45,17 +46,17 @@ def pairs(entering: Callable) -> Iterator[None]:
 
 
 class Busy(threading.Thread):
-    """Sends numbered frames into the first pair until it is ended, some 4,000 a second, which fill a pipe in 12 ms."""
+    """Sends numbered frames into the first pair until it is ended."""
 
-    def __init__(self) -> None:
+    def __init__(self, batch: int) -> None:
         super().__init__(daemon=True)
-        self.sent, self.is_ending = 0, False
+        self.batch, self.sent, self.is_ending = batch, 0, False
         self.start()
 
     def run(self) -> None:
         with socket_into("hy0") as into:
             while not self.is_ending:
-                for _ in range(BATCH):
+                for _ in range(self.batch):
                     into.send(numbered(self.sent, LENGTH))
                     self.sent += 1
                 time.sleep(0.002)
@@ -89,7 +90,7 @@ def test_one_signal_at_a_handover_ends_it_with_all_frames(
     running.wait_until_told("origin")
     first = wait_until_named(work, "")
     wait_for("the first recording goes on", lambda: recordings(work, "turn") != [])
-    busy = Busy()
+    busy = Busy(BATCHES[count])
     try:
         wait_until_named(work, first)
         time.sleep(delay)
