@@ -7,7 +7,8 @@ import stat
 from typing import BinaryIO, Callable, NamedTuple, Optional, Union
 
 from bpfrec_host.formats import ch11
-from bpfrec_host.formats.ch11.packet import body_fault, header_fault, header_of
+from bpfrec_host.formats.ch11.body import What
+from bpfrec_host.formats.ch11.packet import body_fault, has_right_sum, header_fault, header_of
 from bpfrec_host.formats.limits import COMPUTER_GENERATED_DATA, ETHERNET_DATA, HEADER_LEN, RECORD_CHANNEL
 from bpfrec_host.streams import Refused
 
@@ -42,6 +43,12 @@ class Channel:
             self.end = what
 
 
+def body_of(header: ch11.Header, packet: bytes) -> tuple[What, Optional[tuple[int, str]]]:
+    """What a packet that is read whole holds, and the fault of its body."""
+    data = packet[HEADER_LEN : HEADER_LEN + header.data_len]
+    return body_fault(header, data, lambda: has_right_sum(packet))
+
+
 class Index:
     """The channels of a recording, which is a regular file: of its bytes those that it has when it is opened."""
 
@@ -54,6 +61,8 @@ class Index:
             raise Refused(f"{path}: it is no regular file, of which parts could be read")
         self.file: BinaryIO = open(path, "rb")
         self.size = os.fstat(self.file.fileno()).st_size
+        # Of damaged places.
+        self.reader = ch11.Reader(self.file)
 
     def read(self) -> None:
         """Goes from header to header; a damaged place is told, and the reading goes on behind it."""
@@ -90,7 +99,7 @@ class Index:
         """Reads a packet that may be a record; whether it is whole."""
         if header.packet_len > MOST_RECORD_LEN:
             return True
-        what, fault = body_fault(header, self.read_at(at, header.packet_len), True)
+        what, fault = body_of(header, self.read_at(at, header.packet_len))
         if isinstance(what, (ch11.Program, ch11.End)):
             self.channel(what.channel).take(what)
         return fault is None
@@ -101,12 +110,12 @@ class Index:
 
     def behind_damage(self, at: int) -> int:
         """Tells a damaged place: where packets go on."""
-        reader = ch11.Reader(self.file, begin=at)
-        found = reader.next()
+        self.reader.go_to(at)
+        found = self.reader.next()
         if isinstance(found, ch11.Fault):
-            self.tell_fault(found, reader.search())
+            self.tell_fault(found, self.reader.search())
         # Where there is nothing any more, the file was cut meanwhile.
-        return self.size if found is None else reader.at
+        return self.size if found is None else self.reader.at
 
     def tell_fault(self, fault: ch11.Fault, length: int) -> None:
         """Tells bytes that are left out."""
@@ -120,7 +129,7 @@ class Index:
             self.tell_fault(ch11.Fault(1, "Truncated", place.at), len(packet))
             return None
         header = header_of(packet)
-        what, fault = body_fault(header, packet, True)
+        what, fault = body_of(header, packet)
         if fault is not None:
             self.tell_fault(ch11.Fault(*fault, place.at), place.length)
         return packet[HEADER_LEN : HEADER_LEN + header.data_len] if isinstance(what, ch11.Frames) else None
