@@ -114,9 +114,8 @@ class Search:
         # Only headers are looked at so far.
         if not (leads_on or stands_alone or at + header.packet_len > end):
             return False
-        if not self.is_packet(0, header, 0 if leads_on else MOST_SPARE // 2):
-            return False
-        return stands_alone or self.leads_to(end)
+        is_packet = self.is_packet(0, header, 0 if leads_on else MOST_SPARE // 2) and self.has_right_sum(0, header)
+        return is_packet and (stands_alone or self.leads_to(end))
 
     def follows(self, header: Header) -> bool:
         """Whether a packet here stands where all do, and goes on in its channel's sequence numbers."""
@@ -124,27 +123,27 @@ class Search:
         return (self.held.at - self.begin) % 4 == 0 and missing <= MOST_MISSING
 
     def is_packet(self, offset: int, header: Header, reserve: int) -> bool:
-        """Whether the packet of a header is whole and right, of which data are judged while more than a reserve of
-        bytes is left for that."""
+        """Whether the packet of a header is whole and right, as far as it isn't another's. Its data are judged while
+        more than a reserve of bytes is left for that."""
         if header.packet_len > MOST_SEARCHED or not self.held.fill(offset + header.packet_len):
             return False
-        if header.has_checksum() and not self.has_right_sum(offset, header):
+        if not header.has_judged_data():
+            return True
+        if header.data_len > self.spare - reserve or not self.has_right_sum(offset, header):
             return False
-        return self.has_right_data(offset + HEADER_LEN, header, reserve)
+        return self.has_right_data(offset + HEADER_LEN, header)
 
     def has_right_sum(self, offset: int, header: Header) -> bool:
-        """Whether the data checksum of a packet is the sum of its data."""
+        """Whether the data checksum of a packet, where it has one, is the sum of its data."""
+        if not header.has_checksum():
+            return True
         held, begin, end = self.held, offset + HEADER_LEN, offset + header.packet_len - CHECKSUM_LEN
         told = int.from_bytes(held.held[end : end + CHECKSUM_LEN], "little")
         with memoryview(held.held) as view:
             return self.sums.of_part(view, held.at, held.at + begin, held.at + end) == told
 
-    def has_right_data(self, begin: int, header: Header, reserve: int) -> bool:
-        """Whether the data are what their header says; not where no bytes are left to be judged."""
-        if not header.has_judged_data():
-            return True
-        if header.data_len > self.spare - reserve:
-            return False
+    def has_right_data(self, begin: int, header: Header) -> bool:
+        """Whether the data are what their header says."""
         self.spare -= header.data_len
         try:
             what_in(header, bytes(memoryview(self.held.held)[begin : begin + header.data_len]))
