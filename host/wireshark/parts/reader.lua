@@ -46,12 +46,12 @@ local function is_packet(reader, at, packet, reserve)
   packet.at = at
   if not has_judged_data(packet) then
     return true
-  elseif packet.data_len > reader.spare - reserve or not has_no_wrong_sum(reader, packet) then
+  elseif packet.data_len > reader.spare - reserve then
     return false
   end
   reader.spare, reader.search.judged = reader.spare - packet.data_len, reader.search.judged + packet.data_len
   packet.data = reader.window:bytes(at, HEADER_LEN + packet.data_len)
-  return not take_data(packet)
+  return not take_data(packet) and (packet.what == "other" or has_no_wrong_sum(reader, packet))
 end
 
 -- Whether packets that begin at a place follow one another beyond `stop`, or to the file's end. The places of those

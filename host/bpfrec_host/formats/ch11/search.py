@@ -129,9 +129,15 @@ class Search:
             return False
         if not header.has_judged_data():
             return True
-        if header.data_len > self.spare - reserve or not self.has_right_sum(offset, header):
+        if header.data_len > self.spare - reserve:
             return False
-        return self.has_right_data(offset + HEADER_LEN, header)
+        self.spare -= header.data_len
+        begin = offset + HEADER_LEN
+        try:
+            what = what_in(header, bytes(memoryview(self.held.held)[begin : begin + header.data_len]))
+        except BadBody:
+            return False
+        return what is None or self.has_right_sum(offset, header)
 
     def has_right_sum(self, offset: int, header: Header) -> bool:
         """Whether the data checksum of a packet, where it has one, is the sum of its data."""
@@ -141,15 +147,6 @@ class Search:
         told = int.from_bytes(held.held[end : end + CHECKSUM_LEN], "little")
         with memoryview(held.held) as view:
             return self.sums.of_part(view, held.at, held.at + begin, held.at + end) == told
-
-    def has_right_data(self, begin: int, header: Header) -> bool:
-        """Whether the data are what their header says."""
-        self.spare -= header.data_len
-        try:
-            what_in(header, bytes(memoryview(self.held.held)[begin : begin + header.data_len]))
-        except BadBody:
-            return False
-        return True
 
     def leads_to(self, end: int) -> bool:
         """Whether packets that begin here follow one another beyond that place, or to the input's end. Those that
