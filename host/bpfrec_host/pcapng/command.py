@@ -11,16 +11,18 @@ from bpfrec_host.formats import facts
 from bpfrec_host.formats.limits import MAX_CHANNEL_ID
 from bpfrec_host.pcapng import output
 from bpfrec_host.pcapng.index import Index
-from bpfrec_host.pcapng.merging import Interface, Recording, blocks
+from bpfrec_host.pcapng.merging import Interface, Recording, blocks, interfaces_of
 from bpfrec_host.pcapng.times import Times, time_of
 from bpfrec_host.progress import Progress
 from bpfrec_host.streams import Refused, Unreadable, force
 from bpfrec_host.words import Parser, natural
 
 ABOUT = """\
-Makes one capture in pcapng of recordings: of all their time or a slice of it, of all channels or some, merged by time.
+Makes one capture in pcapng of recordings: of all their time or a slice of it, of all channels or some.
 
-Each channel is an interface, with the name that the facts beside the recording have for it. Frames have their frame
+Each channel of a recorder is an interface, with the name that the facts beside the recording have for it. A recorder
+is a host with its interface, by the facts; recordings without facts are of a recorder each. Frames stand in the order
+in which they came, so times step back where a clock was set back. Frames have their frame
 check sequence (FCS) and their error flags. Comments have the counts of each channel, the filter in force at its first
 frame and, at the first frame after a change, the filter from there on.
 
@@ -107,26 +109,25 @@ def judge_times(recordings: list[Recording]) -> None:
         raise Refused(f"{known[0].headers.path} has facts beside it and {unknown[0].headers.path} has none")
 
 
-def interfaces_of(recordings: list[Recording], chosen: Optional[list[int]]) -> list[Interface]:
-    """The channels that are chosen, or else all, as interfaces."""
+def chosen_of(recordings: list[Recording], asked: Optional[list[int]]) -> set[int]:
+    """The channels that are asked for, or else all."""
     known = {number for it in recordings for number in it.headers.channels}
-    missing = sorted(set(chosen or []) - known)
+    missing = sorted(set(asked or []) - known)
     if missing:
         raise Refused(f"{' '.join(it.headers.path for it in recordings)}: no channel {missing[0]}")
-    channels = sorted(set(chosen) if chosen else known)
-    return [Interface(number, channel, recordings) for number, channel in enumerate(channels)]
+    return set(asked) if asked else known
 
 
 def write_blocks(out: BinaryIO, recordings: list[Recording], interfaces: list[Interface], is_quiet: bool) -> int:
     """Writes the capture's blocks: how many frames they have."""
-    slices = [each for it in interfaces for each in it.slices]
     count = -1 - len(interfaces)
-    with Progress("pcapng", sum(it.size() for it in slices), is_quiet) as progress:
+    size = sum(each.slice.size() for it in interfaces for each in it.parts)
+    with Progress("pcapng", size, is_quiet) as progress:
         for block in blocks(recordings, interfaces):
             out.write(block)
             count += 1
             if count % FRAMES_A_LOOK == 0:
-                progress.at(sum(it.done for it in slices))
+                progress.at(sum(it.headers.done for it in recordings))
     return count
 
 
@@ -148,7 +149,7 @@ def make(given: argparse.Namespace) -> int:
     output.judge(given.out, inputs, given.force)
     recordings = [recording_at(it, given) for it in given.recordings]
     judge_times(recordings)
-    interfaces = interfaces_of(recordings, given.channel)
+    interfaces = interfaces_of(recordings, chosen_of(recordings, given.channel))
     count = write(given.out, recordings, interfaces, given.quiet)
     line = f"frames {count} skipped {sum(it.skipped() for it in interfaces)}"
     if given.out == output.STREAM:

@@ -55,7 +55,8 @@ class Index:
     def __init__(self, path: str, tell: Tell) -> None:
         self.path, self.tell = path, tell
         self.channels: dict[int, Channel] = {}
-        self.is_damaged = False
+        # Whether a place is damaged, and how many bytes of packets of frames were read.
+        self.is_damaged, self.done = False, 0
         # Before it is opened, since a pipe would be waited for.
         if not stat.S_ISREG(os.stat(path).st_mode):
             raise Refused(f"{path}: it is no regular file, of which parts could be read")
@@ -125,6 +126,7 @@ class Index:
     def body(self, place: Place) -> Optional[bytes]:
         """The data of a packet of frames; None where they are none or damaged, which is told."""
         packet = self.read_at(place.at, place.length)
+        self.done += place.length
         if len(packet) < place.length:
             self.tell_fault(ch11.Fault(1, "Truncated", place.at), len(packet))
             return None

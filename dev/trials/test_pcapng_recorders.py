@@ -1,0 +1,117 @@
+"""Tries host/bin/pcapng on recordings of several recorders, and of many channels."""
+
+import json
+import time
+from pathlib import Path
+
+import pytest
+from expected_facts import facts_of_run
+from frames import FRAMES, body_of, end_packet, numbered, packet_of, program_packet, with_check_sequence
+from reading import facts_of
+from seen import seen_in
+from support import INFO, PCAPNG, judge, outcome, run
+
+WANTED = {"bin/bpfrec": "make build", "tshark": "tshark", "capinfos": "wireshark-common"}
+SECOND = 10_000_000
+# On a quiet machine that many channels take five seconds, and took twice as long where each looked at all.
+CHANNELS, PATIENCE = 65_535, 40
+
+
+def recording_at(path: Path, counters: list[int], mark: int, facts: dict | None = None) -> Path:
+    """A recording of channel 1, whose frames have a mark, with its facts."""
+    frames = [(it, 0, with_check_sequence(numbered(mark * 1_000 + at))) for at, it in enumerate(counters)]
+    packets = [packet_of(1, body_of([it]), at, FRAMES, it[0], True) for at, it in enumerate(frames)]
+    path.write_bytes(b"".join([program_packet(1, 0), *packets, end_packet(1, len(frames))]))
+    if facts:
+        Path(f"{path}.json").write_text(json.dumps(facts))
+    return path
+
+
+def facts_by(host: str, interface: str, origins: list | None = None) -> dict:
+    made = facts_of_run(origins or [("1764590400.000000000", 0, None)])
+    return {**made, "host": host, "interfaces": [{"interface": interface, "channel": 1}]}
+
+
+def captured(work: Path, *recordings: Path) -> tuple[list[str], list[tuple[int, int]]]:
+    """The names of a capture's interfaces, and of each frame its interface and its number."""
+    run(PCAPNG, "--force", work / "all.pcapng", *recordings)
+    told = run("capinfos", "-k", "-I", work / "all.pcapng")
+    names = [it.split(" = ")[1] for it in told.splitlines() if it.strip().startswith("Name = ")]
+    numbers = [int.from_bytes(it.bytes[14:22], "big") for it in seen_in(work / "all.pcapng")]
+    return names, list(zip((it.interface for it in seen_in(work / "all.pcapng")), numbers))
+
+
+TWO = {
+    "interfaces": ("fc1", "eth0", "fc1", "eth1", ["eth0", "eth1"]),
+    "hosts": ("fc1", "eth0", "fc2", "eth0", ["eth0 of fc1", "eth0 of fc2"]),
+}
+
+
+@pytest.mark.parametrize("name", TWO)
+@pytest.mark.parametrize("is_turned", [False, True], ids=["", "turned"])
+def test_two_recorders_are_two_interfaces(work: Path, name: str, is_turned: bool) -> None:
+    host, interface, other_host, other_interface, names = TWO[name]
+    one = recording_at(work / "one.ch11", [0, 20], 1, facts_by(host, interface))
+    two = recording_at(work / "two.ch11", [10, 30], 2, facts_by(other_host, other_interface))
+    told, seen = captured(work, *((two, one) if is_turned else (one, two)))
+    judge("each has its name", told == (names[::-1] if is_turned else names), told)
+    first, second = (1, 0) if is_turned else (0, 1)
+    wanted = [(first, 1_000), (second, 2_000), (first, 1_001), (second, 2_001)]
+    judge("and its frames", seen == wanted, seen)
+
+
+def test_recordings_of_one_run_stay_one_interface(work: Path) -> None:
+    """Also where the clock was set back between them: frames stand in the order in which they came."""
+    set_back = [("1764590400.000000000", 0, None), ("1764586800.000000000", 15, "-3600.000000000")]
+    one = recording_at(work / "one.ch11", [0, 10], 1, facts_by("fc1", "eth0"))
+    two = recording_at(work / "two.ch11", [20, 30], 2, facts_by("fc1", "eth0", set_back))
+    names, seen = captured(work, two, one)
+    judge("one interface", names == ["eth0"], names)
+    judge("in the order in which they came", [it for _, it in seen] == [1_000, 1_001, 2_000, 2_001], seen)
+
+
+def test_a_clock_that_was_set_counts_as_right_among_recorders(work: Path) -> None:
+    """The first recorder's clock was an hour behind until it was set."""
+    late = [("1764586800.000000000", 0, None), ("1764590400.000000000", 10, "3600.000000000")]
+    one = recording_at(work / "one.ch11", [0, 20, 40], 1, facts_by("fc1", "eth0", late))
+    two = recording_at(work / "two.ch11", [10, 30, 50], 2, facts_by("fc2", "eth0"))
+    _, seen = captured(work, one, two)
+    judge("frames alternate", [it for it, _ in seen] == [0, 1, 0, 1, 0, 1], seen)
+
+
+def test_recordings_without_facts_are_of_a_recorder_each(work: Path) -> None:
+    one, two = recording_at(work / "one.ch11", [0, 20], 1), recording_at(work / "two.ch11", [10, 30], 2)
+    names, seen = captured(work, one, two)
+    judge("named by the recordings", names == ["channel 1 of one.ch11", "channel 1 of two.ch11"], names)
+    judge("and apart", seen == [(0, 1_000), (1, 2_000), (0, 1_001), (1, 2_001)], seen)
+
+
+def test_help_promises_no_order_by_time(work: Path) -> None:
+    told = " ".join(run(PCAPNG, "--help").split())
+    judge("it says where times step back", "merged by time" not in told and "times step back" in told, told)
+
+
+# ---- many channels
+
+
+@pytest.fixture(scope="module")
+def many(place: Path) -> Path:
+    """A recording of a frame of each channel that there may be."""
+    frame = with_check_sequence(numbered(0, 60))
+    with open(place / "many.ch11", "wb") as file:
+        for channel in range(1, CHANNELS + 1):
+            file.write(packet_of(channel, body_of([(channel, 0, frame)]), 0, FRAMES, channel, False))
+    return place / "many.ch11"
+
+
+def test_pcapng_of_all_channels_takes_seconds(work: Path, many: Path) -> None:
+    begun = time.monotonic()
+    done = outcome(PCAPNG, work / "many.pcapng", many, seconds=PATIENCE)
+    judge("all frames", (done.returncode, done.stdout) == (0, f"frames {CHANNELS} skipped 0\n"), done)
+    print(time.monotonic() - begun)
+
+
+def test_info_of_all_channels_takes_seconds(many: Path) -> None:
+    done = outcome(INFO, many, seconds=PATIENCE)
+    judge("all channels", done.stdout.count("\nchannel ") == CHANNELS, done.stderr)
+    judge("as facts too", len(facts_of(many)["channels"]) == CHANNELS)
