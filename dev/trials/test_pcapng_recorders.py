@@ -115,3 +115,46 @@ def test_info_of_all_channels_takes_seconds(many: Path) -> None:
     done = outcome(INFO, many, seconds=PATIENCE)
     judge("all channels", done.stdout.count("\nchannel ") == CHANNELS, done.stderr)
     judge("as facts too", len(facts_of(many)["channels"]) == CHANNELS)
+
+
+# ---- arguments
+
+
+def test_a_channel_may_be_named_by_its_interface(work: Path) -> None:
+    one = recording_at(work / "one.ch11", [0, 20], 1, facts_by("fc1", "eth0"))
+    two = recording_at(work / "two.ch11", [10, 30], 2, facts_by("fc1", "eth1"))
+    run(PCAPNG, "--channel", "eth1", work / "eth1.pcapng", one, two)
+    numbers = [int.from_bytes(it.bytes[14:22], "big") for it in seen_in(work / "eth1.pcapng")]
+    judge("its frames alone", numbers == [2_000, 2_001], numbers)
+
+
+@pytest.mark.parametrize("has_facts", [False, True])
+def test_an_interface_that_is_not_known_is_refused(work: Path, has_facts: bool) -> None:
+    one = recording_at(work / "one.ch11", [0], 1, facts_by("fc1", "eth0") if has_facts else None)
+    done = outcome(PCAPNG, "--channel", "eth9", work / "out.pcapng", one)
+    told = "no channel eth9" if has_facts else "no facts beside it, so --channel takes numbers, as 1"
+    judge("refused", (done.returncode, done.stderr) == (1, f"pcapng: {one}: {told}\n"), done)
+
+
+def test_a_time_of_day_is_refused_with_what_a_time_is(work: Path) -> None:
+    done = outcome(PCAPNG, "--from", "23:36", work / "out.pcapng", work / "one.ch11")
+    told = "23:36 is no time, as 12.5 or 2025-12-01T12:00:00.25Z: seconds since counter 0, or UTC with its date"
+    judge("refused", done.returncode == 2 and told in done.stderr, done)
+
+
+# ---- standard input
+
+
+def test_a_pipe_is_read_as_standard_input(work: Path) -> None:
+    one = recording_at(work / "one.ch11", [0, 20], 1)
+    run(PCAPNG, work / "wanted.pcapng", one)
+    done = outcome("sh", "-c", f"cat {one} | {PCAPNG} {work}/out.pcapng -")
+    judge("it is read", (done.returncode, done.stdout) == (0, "frames 2 skipped 0\n"), done)
+    judge("with the same frames", seen_in(work / "out.pcapng") == seen_in(work / "wanted.pcapng"))
+
+
+def test_standard_input_given_twice_is_refused(work: Path) -> None:
+    one = recording_at(work / "one.ch11", [0], 1)
+    for words in ("- -", "- /dev/stdin"):
+        done = outcome("sh", "-c", f"cat {one} | {PCAPNG} {work}/out.pcapng {words}", seconds=10)
+        judge("refused", done.returncode == 1 and "given twice" in done.stderr, done)

@@ -3,14 +3,16 @@
 from __future__ import annotations
 
 import os
+import shutil
 import stat
+import tempfile
 from typing import BinaryIO, Callable, NamedTuple, Optional, Union
 
 from bpfrec_host.formats import ch11
 from bpfrec_host.formats.ch11.body import What
 from bpfrec_host.formats.ch11.packet import body_fault, has_right_sum, header_fault, header_of
 from bpfrec_host.formats.limits import COMPUTER_GENERATED_DATA, ETHERNET_DATA, HEADER_LEN, RECORD_CHANNEL
-from bpfrec_host.streams import Refused
+from bpfrec_host.streams import STREAM, Refused
 
 # A record of a program is far shorter; a longer packet is another recorder's.
 MOST_RECORD_LEN = 1 << 20
@@ -49,18 +51,36 @@ def body_of(header: ch11.Header, packet: bytes) -> tuple[What, Optional[tuple[in
     return body_fault(header, data, lambda: has_right_sum(packet))
 
 
+def regular_file(path: str) -> BinaryIO:
+    """A file of which parts can be read."""
+    # Before it is opened, since a pipe would be waited for.
+    if not stat.S_ISREG(os.stat(path).st_mode):
+        raise Refused(f"{path}: it is no regular file, of which parts could be read")
+    return open(path, "rb")
+
+
+def standard_input() -> BinaryIO:
+    """Standard input as such a file: a pipe is copied into an unnamed one first."""
+    given = open(0, "rb", closefd=False)
+    if stat.S_ISREG(os.fstat(0).st_mode):
+        return given
+    with given:
+        copied = tempfile.TemporaryFile()
+        shutil.copyfileobj(given, copied)
+    copied.seek(0)
+    return copied
+
+
 class Index:
-    """The channels of a recording, which is a regular file: of its bytes those that it has when it is opened."""
+    """The channels of a recording, which is a regular file or standard input: of its bytes those that it has when it is
+    opened."""
 
     def __init__(self, path: str, tell: Tell) -> None:
         self.path, self.tell = path, tell
         self.channels: dict[int, Channel] = {}
         # Whether a place is damaged, and how many bytes of packets of frames were read.
         self.is_damaged, self.done = False, 0
-        # Before it is opened, since a pipe would be waited for.
-        if not stat.S_ISREG(os.stat(path).st_mode):
-            raise Refused(f"{path}: it is no regular file, of which parts could be read")
-        self.file: BinaryIO = open(path, "rb")
+        self.file = standard_input() if path == STREAM else regular_file(path)
         self.size = os.fstat(self.file.fileno()).st_size
         # Of damaged places.
         self.reader = ch11.Reader(self.file)

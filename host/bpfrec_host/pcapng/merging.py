@@ -5,7 +5,7 @@ from __future__ import annotations
 import heapq
 import os
 from collections import Counter
-from typing import Iterable, Iterator, NamedTuple, Optional
+from typing import Iterable, Iterator, NamedTuple, Optional, Union
 
 from bpfrec_host.filter_texts import Texts
 from bpfrec_host.formats import pcapng_blocks
@@ -33,12 +33,19 @@ class Recording(NamedTuple):
     times: Times
     ranges: list[Range]
 
+    def interface_of(self, channel: int) -> Optional[str]:
+        """The interface that was a channel, by the facts."""
+        return self.times.facts.interfaces.get(channel) if self.times.facts else None
+
     def recorder_of(self, channel: int) -> Recorder:
         """What recorded a channel. Recordings without facts may be of any recorders."""
-        facts = self.times.facts
-        if facts is None:
+        if self.times.facts is None:
             return Recorder(os.path.basename(self.headers.path), self.headers.path)
-        return Recorder(facts.host, facts.interfaces.get(channel))
+        return Recorder(self.times.facts.host, self.interface_of(channel))
+
+    def channels_of(self, asked: Union[int, str]) -> set[int]:
+        """The channels of an ID, or of an interface."""
+        return {it for it in self.headers.channels if asked in (it, self.interface_of(it))}
 
 
 class Part(NamedTuple):
@@ -57,8 +64,8 @@ class Interface:
         # The program that was told last.
         self.told = next((it for it in (first_program(part.slice) for part in self.parts) if it), None)
         first = recordings[0]
-        known = first.times.facts and first.times.facts.interfaces.get(channel)
-        self.name, self.source = known or f"channel {channel}", first.recorder_of(channel).source
+        self.name = first.interface_of(channel) or f"channel {channel}"
+        self.source = first.recorder_of(channel).source
 
     def counts(self) -> str:
         """How many frames were offered and kept, by the records of the channel's ends."""
@@ -110,11 +117,12 @@ def recording_text(recording: Recording) -> str:
     return f"{name}: times {f'by its facts, of host {facts.host}' if facts else 'since counter 0, from 1970 on'}"
 
 
-def interfaces_of(recordings: list[Recording], chosen: set[int]) -> list[Interface]:
-    """The channels of recordings that are chosen, by recorder."""
+def interfaces_of(recordings: list[Recording], asked: Optional[list[Union[int, str]]]) -> list[Interface]:
+    """The channels of recordings that are asked for by their IDs or interfaces, or else all, by recorder."""
     found: dict[tuple[int, Recorder], list[Recording]] = {}
     for it in recordings:
-        for channel in chosen & it.headers.channels.keys():
+        chosen = set(it.headers.channels) if asked is None else set().union(*map(it.channels_of, asked))
+        for channel in chosen:
             found.setdefault((channel, it.recorder_of(channel)), []).append(it)
     in_order = sorted(found.items(), key=lambda it: it[0][0])
     return [Interface(number, channel, parts) for number, ((channel, _), parts) in enumerate(in_order)]

@@ -38,7 +38,8 @@ def time_of(word: str) -> Time:
         rest = int((found[2] or "").ljust(9, "0"))
         return Time(int(found[1]) * NANOSECONDS_A_SECOND + rest, False)
     if not word.endswith("Z"):
-        raise argparse.ArgumentTypeError(f"{word} is no time, as 12.5 or 2025-12-01T12:00:00.25Z")
+        takes = "seconds since counter 0, or UTC with its date"
+        raise argparse.ArgumentTypeError(f"{word} is no time, as 12.5 or 2025-12-01T12:00:00.25Z: {takes}")
     return Time(moment_of(word), True)
 
 
