@@ -90,7 +90,9 @@ def test_channels_have_the_names_of_their_interfaces_by_the_facts(work: Path) ->
         told = {**facts, "interfaces": [{"interface": name, "channel": 1}]}
         Path(f"{recording}.json").write_text(json.dumps(told))
         lines = run(INFO, recording).splitlines()
-        judge("in the table", lines[0].split()[-2:] == ["interface", "remarks"] and shown in lines[1].split(), lines[:2])
+        judge(
+            "in the table", lines[0].split()[-2:] == ["interface", "remarks"] and shown in lines[1].split(), lines[:2]
+        )
         judge("in the text", f"channel 1: {shown}" in lines, lines)
         run(INFO, "--html", work / "page.html", recording)
         judge("on the page", f"<h2>Channel 1: {shown.replace('<', '&lt;')}</h2>" in (work / "page.html").read_text())

@@ -57,7 +57,11 @@ def parser() -> Parser:
     made.add_argument("--from", dest="since", metavar="TIME", type=time_of, help="frames from this time on")
     made.add_argument("--to", dest="until", metavar="TIME", type=time_of, help="frames before this time")
     made.add_argument(
-        "--channel", metavar="N", type=channel_of, action="append", help="this channel, or interface by the facts; several times"
+        "--channel",
+        metavar="N",
+        type=channel_of,
+        action="append",
+        help="this channel, or interface by the facts; several times",
     )
     made.add_argument("--force", action="store_true", help="overwrites an OUT that exists")
     made.add_argument("--quiet", action="store_true", help="shows no progress on a terminal")

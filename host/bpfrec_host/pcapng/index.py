@@ -64,9 +64,8 @@ def standard_input() -> BinaryIO:
     given = open(0, "rb", closefd=False)
     if stat.S_ISREG(os.fstat(0).st_mode):
         return given
-    with given:
-        copied = tempfile.TemporaryFile()
-        shutil.copyfileobj(given, copied)
+    copied: BinaryIO = tempfile.TemporaryFile()  # type: ignore[assignment]
+    shutil.copyfileobj(given, copied)
     copied.seek(0)
     return copied
 

@@ -134,9 +134,7 @@ def what_in(header: Header, data: bytes) -> What:
     return frames_in(data) if header.kind == ETHERNET_DATA else record_in(data)
 
 
-def body_fault(
-    header: Header, data: bytes, is_sum_right: Callable[[], bool]
-) -> tuple[What, Optional[tuple[int, str]]]:
+def body_fault(header: Header, data: bytes, is_sum_right: Callable[[], bool]) -> tuple[What, Optional[tuple[int, str]]]:
     """What a packet holds, and the fault of its body, as its number and name. Of another's packet the data checksum
     isn't judged."""
     what: What = None
