@@ -37,7 +37,7 @@ def write_facts(path: Path, *origins: tuple) -> Path:
 
 
 def by_facts(facts: object, feed: object, capture: Path) -> tuple[int, str]:
-    done = outcome(CONVERT, "to-pcap", "--facts", facts, feed, capture)
+    done = outcome(CONVERT, "to-pcap", "--force", "--facts", facts, feed, capture)
     return done.returncode, done.stdout + done.stderr
 
 

@@ -18,7 +18,8 @@ def words_of(work: Path, tool: str, out: object, *options: str) -> list:
     recording, feed, capture = work / "own.ch11", work / "own.feed", work / "own.pcap"
     shutil.copy(SAMPLES[1], recording)
     make_feed(feed, 10)
-    run(CONVERT, "to-pcap", "--force", feed, capture)
+    capture.unlink(missing_ok=True)
+    run(CONVERT, "to-pcap", feed, capture)
     return {
         "salvage": [SALVAGE, *options, recording, out],
         "pcapng": [PCAPNG, *options, out, recording],
