@@ -1,7 +1,7 @@
 """Tries host/bin/pcapng on recordings of several recorders, and of many channels."""
 
 import json
-import time
+import resource
 from pathlib import Path
 
 import pytest
@@ -12,8 +12,7 @@ from seen import seen_in
 from support import INFO, PCAPNG, judge, outcome, run
 
 WANTED = {"bin/bpfrec": "make build", "tshark": "tshark", "capinfos": "wireshark-common"}
-SECOND = 10_000_000
-# On a quiet machine that many channels take five seconds, and took twice as long where each looked at all.
+# On a quiet machine that many channels take five seconds.
 CHANNELS, PATIENCE = 65_535, 40
 
 
@@ -94,21 +93,33 @@ def test_help_promises_no_order_by_time(work: Path) -> None:
 # ---- many channels
 
 
+def recording_of_channels(path: Path, count: int) -> Path:
+    """A recording of a frame of each of so many channels."""
+    frame = with_check_sequence(numbered(0, 60))
+    with open(path, "wb") as file:
+        for channel in range(1, count + 1):
+            file.write(packet_of(channel, body_of([(channel, 0, frame)]), 0, FRAMES, channel, False))
+    return path
+
+
 @pytest.fixture(scope="module")
 def many(place: Path) -> Path:
-    """A recording of a frame of each channel that there may be."""
-    frame = with_check_sequence(numbered(0, 60))
-    with open(place / "many.ch11", "wb") as file:
-        for channel in range(1, CHANNELS + 1):
-            file.write(packet_of(channel, body_of([(channel, 0, frame)]), 0, FRAMES, channel, False))
-    return place / "many.ch11"
+    return recording_of_channels(place / "many.ch11", CHANNELS)
 
 
-def test_pcapng_of_all_channels_takes_seconds(work: Path, many: Path) -> None:
-    begun = time.monotonic()
-    done = outcome(PCAPNG, work / "many.pcapng", many, seconds=PATIENCE)
-    judge("all frames", (done.returncode, done.stdout) == (0, f"frames {CHANNELS} skipped 0\n"), done)
-    print(time.monotonic() - begun)
+def processor_seconds(out: Path, recording: Path, count: int) -> float:
+    """How long the processor makes a capture of so many frames."""
+    begun = resource.getrusage(resource.RUSAGE_CHILDREN).ru_utime
+    done = outcome(PCAPNG, "--force", out, recording, seconds=PATIENCE)
+    judge("all frames", (done.returncode, done.stdout) == (0, f"frames {count} skipped 0\n"), done)
+    return resource.getrusage(resource.RUSAGE_CHILDREN).ru_utime - begun
+
+
+def test_pcapng_takes_a_time_that_grows_as_the_channels_do(work: Path, many: Path) -> None:
+    """Four times as many channels took six times as long where each looked at all."""
+    few = recording_of_channels(work / "few.ch11", CHANNELS // 4)
+    taken = [processor_seconds(work / "out", it, count) for it, count in ((few, CHANNELS // 4), (many, CHANNELS))]
+    judge("four times as long", taken[1] < 5 * taken[0], taken)
 
 
 def test_info_of_all_channels_takes_seconds(many: Path) -> None:
