@@ -106,19 +106,24 @@ def has_right_sum(packet: Union[bytes, bytearray]) -> bool:
     return word_sum(body[:-CHECKSUM_LEN]) == int.from_bytes(body[-CHECKSUM_LEN:], "little")
 
 
-def header_fault(head: bytes) -> Optional[tuple[int, str]]:
-    """The fault of 24 bytes that are no header, as its number and name; None where they are one."""
-    words = WORDS.unpack_from(head)
+def header_or_fault(head: bytes) -> Union[Header, tuple[int, str]]:
+    """The header that 24 bytes are, or the fault of those that are none, as its number and name."""
     if head[:2] != SYNC:
         return 2, "Sync"
-    if sum(words) & 0xFFFF != head[22] | head[23] << 8:
+    if sum(WORDS.unpack_from(head)) & 0xFFFF != head[22] | head[23] << 8:
         return 3, "Checksum"
     header = header_of(head)
     room = header.packet_len - HEADER_LEN - (CHECKSUM_LEN if header.has_checksum() else 0)
     is_long = header.kind == ETHERNET_DATA and header.packet_len > MAX_ETHERNET_PACKET_LEN
     if header.packet_len % 4 or room < 0 or header.data_len > room or is_long:
         return 4, "Length"
-    return None
+    return header
+
+
+def header_fault(head: bytes) -> Optional[tuple[int, str]]:
+    """The fault of 24 bytes that are no header; None where they are one."""
+    found = header_or_fault(head)
+    return None if isinstance(found, Header) else found
 
 
 def header_of(head: bytes) -> Header:

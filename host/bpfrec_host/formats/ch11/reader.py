@@ -5,7 +5,7 @@ from __future__ import annotations
 from typing import BinaryIO, Iterator, Union
 
 from bpfrec_host.formats.ch11.held import Held
-from bpfrec_host.formats.ch11.packet import Damage, Fault, Header, Packet, body_fault, header_fault, header_of, word_sum
+from bpfrec_host.formats.ch11.packet import Damage, Fault, Header, Packet, body_fault, header_or_fault, word_sum
 from bpfrec_host.formats.ch11.search import Search
 from bpfrec_host.formats.limits import CHECKSUM_LEN, HEADER_LEN
 
@@ -28,10 +28,10 @@ class Reader(Held):
         head = self.head(0)
         if len(head) < HEADER_LEN:
             return Fault(1, "Truncated", self.at) if head else None
-        fault = header_fault(head)
-        if fault:
-            return Fault(*fault, self.at)
-        header = header_of(head)
+        found = header_or_fault(head)
+        if not isinstance(found, Header):
+            return Fault(*found, self.at)
+        header = found
         if not self.fill(header.packet_len):
             return Fault(1, "Truncated", self.at)
         data = bytes(memoryview(self.held)[HEADER_LEN : HEADER_LEN + header.data_len])

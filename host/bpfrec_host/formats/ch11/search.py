@@ -7,7 +7,7 @@ from typing import Optional
 
 from bpfrec_host.formats.ch11.body import BadBody
 from bpfrec_host.formats.ch11.held import Held
-from bpfrec_host.formats.ch11.packet import Header, header_fault, header_of, what_in
+from bpfrec_host.formats.ch11.packet import Header, header_of, header_or_fault, what_in
 from bpfrec_host.formats.ch11.sums import BlockSums
 from bpfrec_host.formats.limits import CHECKSUM_LEN, HEADER_LEN, MAX_FRAME_LEN
 
@@ -89,7 +89,8 @@ class Search:
     def header(self, offset: int) -> Optional[Header]:
         """The header that many bytes on; None where none stands there."""
         head = self.held.head(offset)
-        return header_of(head) if len(head) == HEADER_LEN and header_fault(head) is None else None
+        found = header_or_fault(head) if len(head) == HEADER_LEN else None
+        return found if isinstance(found, Header) else None
 
     def end_of_packet(self) -> int:
         """The place up to which all bytes belong to the damaged packet, by a header that is right."""

@@ -34,8 +34,10 @@ class BlockSums:
         low, high = -(-(begin - turn) // BLOCK), (end - turn) // BLOCK
         if low >= high:
             return word_sum(held[begin - at : end - at])
-        self.know(held, at, turn, low, high)
         totals, first = self.totals[turn], self.first[turn]
+        if not first <= low <= high < first + len(totals):
+            self.know(held, at, turn, low, high)
+            totals, first = self.totals[turn], self.first[turn]
         ahead = held[begin - at : low * BLOCK + turn - at]
         behind = held[high * BLOCK + turn - at : end - at]
         return (short_sum(ahead) + totals[high - first] - totals[low - first] + short_sum(behind)) % (1 << 32)
