@@ -37,13 +37,12 @@ PIECES = {
     "short_data": header(FRAMES, 524_288, 4) + b"\1\0\0\0",
     "sync_patterns": b"\x25\xeb",
 }
-LONG = ("frames", "frames_with_sums")
 each_piece = pytest.mark.parametrize("name", PIECES)
 
 
 def hostile(work: Path, name: str) -> Path:
     """A recording of a program and of these pieces, back to back."""
-    length = LENGTH if name in LONG else SHORT_LENGTH
+    length = LENGTH if name == "frames" else SHORT_LENGTH
     (work / "hostile.ch11").write_bytes(program_packet(1, 0) + b"junk" + PIECES[name] * (length // len(PIECES[name])))
     return work / "hostile.ch11"
 
