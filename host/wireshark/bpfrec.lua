@@ -48,7 +48,7 @@ local MOST_JUDGED = 4194304
 -- So many bytes of packets that are longer than a search takes are summed in vain.
 local MOST_LONG = 268435456
 -- Sums are made of blocks so long; how many are kept before those behind are forgotten.
-local BLOCK, MOST_BLOCKS = 256, 16384
+local BLOCK, MOST_BLOCKS = 64, 65536
 -- A damaged beginning of a recording may be so long.
 local MOST_BEGINNING = 1048576
 
