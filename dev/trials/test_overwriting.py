@@ -140,6 +140,11 @@ def test_what_is_no_recording_is_refused_by_name(work: Path) -> None:
         judge("and leaves nothing", not (work / "out").exists())
 
 
+def test_a_pipe_of_what_is_no_recording_is_refused_too(work: Path) -> None:
+    done = outcome("sh", "-c", f"yes | head -n 50 | {INFO} /dev/stdin")
+    judge("by info", (done.returncode, done.stdout, done.stderr) == (1, "", "info: /dev/stdin: no recording\n"), done)
+
+
 @pytest.mark.parametrize("command", ["to-pcap", "show"])
 def test_a_recording_in_place_of_a_feed_is_refused_by_name(work: Path, command: str) -> None:
     done = outcome(CONVERT, command, SAMPLES[1], *[work / "out"] * (command == "to-pcap"))

@@ -2,6 +2,8 @@
 
 from __future__ import annotations
 
+import os
+
 from bpfrec_host.formats.ch11.packet import SYNC, header_fault
 from bpfrec_host.formats.limits import HEADER_LEN
 from bpfrec_host.formats.pcap import begins_classic
@@ -26,6 +28,8 @@ def guess_of(head: bytes) -> str:
 
 
 def guess_at(path: str) -> str:
-    """The same of a file by its path."""
+    """The same of a file by its path; a pipe can't be read again."""
+    if not os.path.isfile(path):
+        return ""
     with open(path, "rb") as file:
         return guess_of(file.read(HEAD_LEN))

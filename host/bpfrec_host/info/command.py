@@ -79,11 +79,10 @@ def judge_output(recording: str) -> None:
             raise OSError(0, f"it is {what} itself", STREAM)
 
 
-def is_other(path: str, recording: Recording) -> bool:
+def is_other(recording: Recording) -> bool:
     """Whether a file is no recording: it has no packet, and doesn't begin as one."""
-    if sum(recording.kinds.values()) or not recording.damages or not os.path.isfile(path):
-        return False
-    return recording.damages[0].fault.name == "Sync"
+    is_empty = not sum(recording.kinds.values())
+    return is_empty and bool(recording.damages) and recording.damages[0].fault.name == "Sync"
 
 
 def run(words: list[str]) -> int:
@@ -93,7 +92,7 @@ def run(words: list[str]) -> int:
     audit = audit_of(given.recording, given.quiet)
     # An audit that says yes has summed all data.
     recording = read(given.recording, not audit.is_yes(), given.quiet)
-    if is_other(given.recording, recording):
+    if is_other(recording):
         tell(f"{short_name('info')}: {given.recording}: no recording{guess_at(given.recording)}")
         return 1
     beside = facts_beside(given.recording)
