@@ -47,10 +47,10 @@ _bpfrec_tool() {
     case ${1##*/} in
         bpfrec-capture) options='-r --origin --buffer --direction --prefilter --kept --judge --no-promiscuous --clock --check-sequence --interface --quiet --strict --hold --events --parent --version --help' kind='*' ;;
         bpfrec-live) options='--force --every --size --sync --flush --keep --keep-free --mode --status --status-name --prefilter --no-audit --strict --origin --buffer --direction --clock --check-sequence --quiet --no-promiscuous --help' kind=toml ;;
-        bpfrec-convert) options='from-pcap to-pcap show make --origin --interface --quiet --facts --drop-check-sequence --help' kind='*' ;;
+        bpfrec-convert) options='from-pcap to-pcap show make --origin --interface --force --quiet --facts --drop-check-sequence --help' kind='*' ;;
         bpfrec-info) options='--json --quiet --html --help' kind=ch11 ;;
         bpfrec-pcapng) options='--from --to --channel --force --quiet --help' kind=ch11 ;;
-        bpfrec-salvage) options='--quiet --help' kind=ch11 ;;
+        bpfrec-salvage) options='--force --quiet --help' kind=ch11 ;;
         bpfrec-preflight) options='--out --capture --live --help' kind=toml ;;
     esac
     if [[ ${COMP_WORDS[COMP_CWORD]} == -* || ${1##*/} == bpfrec-convert && $COMP_CWORD == 1 ]]; then

@@ -95,6 +95,7 @@ complete -c bpfrec-convert -n __fish_use_subcommand -a show
 complete -c bpfrec-convert -n __fish_use_subcommand -a make
 complete -c bpfrec-convert -l origin
 complete -c bpfrec-convert -l interface
+complete -c bpfrec-convert -l force
 complete -c bpfrec-convert -l quiet
 complete -c bpfrec-convert -l facts
 complete -c bpfrec-convert -l drop-check-sequence
@@ -111,6 +112,7 @@ complete -c bpfrec-pcapng -l force
 complete -c bpfrec-pcapng -l quiet
 complete -c bpfrec-pcapng -l help
 complete -c bpfrec-pcapng -ka '(__fish_complete_suffix .ch11)'
+complete -c bpfrec-salvage -l force
 complete -c bpfrec-salvage -l quiet
 complete -c bpfrec-salvage -l help
 complete -c bpfrec-salvage -ka '(__fish_complete_suffix .ch11)'

@@ -25,7 +25,7 @@ def ticks(moment: str) -> int:
 def is_as_tshark_reads(capture: Path, feed: Path, chosen: str = "") -> bool:
     """Whether the whole frames that tshark reads are those of the feed, in order, with their times since 1970."""
     words = ["--interface", chosen] if chosen else []
-    told = run(CONVERT, "from-pcap", "--origin", "zero", *words, capture, feed)
+    told = run(CONVERT, "from-pcap", "--force", "--origin", "zero", *words, capture, feed)
     read = [it for it in fields_of(capture) if not chosen or it[0] == chosen]
     kept = [(ticks(it[1]), it[4]) for it in read if it[2] == it[3]]
     got = [(it.counter, hashlib.md5(it.frame[:-4]).hexdigest()) for it in records(feed.read_bytes())]

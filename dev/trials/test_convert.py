@@ -210,7 +210,7 @@ def test_no_capture(work: Path) -> None:
         judge_refusal(["from-pcap", capture, feed], told)
         judge("the feed is kept", feed.read_bytes() == b"kept")
     capture.write_bytes(capture_head(MICROSECONDS) + captured(9, 5, bytes(14))[:-1])
-    judge_refusal(["from-pcap", capture, feed], f"{capture}: cut short at byte 53")
+    judge_refusal(["from-pcap", "--force", capture, feed], f"{capture}: cut short at byte 53")
 
 
 def test_faults(work: Path) -> None:

@@ -37,7 +37,7 @@ def write_facts(path: Path, *origins: tuple) -> Path:
 
 
 def by_facts(facts: object, feed: object, capture: Path) -> tuple[int, str]:
-    done = outcome(CONVERT, "to-pcap", "--facts", facts, feed, capture)
+    done = outcome(CONVERT, "to-pcap", "--force", "--facts", facts, feed, capture)
     return done.returncode, done.stdout + done.stderr
 
 
@@ -238,7 +238,7 @@ def test_alone(work: Path, feed: Path) -> None:
     facts.write_text(json.dumps(facts_of_run([("1764590400.250000000", 0, None)])))
     wanted = moments_by([("1764590400.25", 0)], counters(feed.read_bytes()))
     for words in (["--origin", "1764590400.25"], ["--facts", facts]):
-        run(sys.executable, alone, "to-pcap", *words, feed, capture)
+        run(sys.executable, alone, "to-pcap", "--force", *words, feed, capture)
         judge(f"one file works alone, with {words[0]}", times_of(capture.read_bytes()) == wanted)
     judge("and leaves nothing beside it", [it.name for it in alone.parent.iterdir()] == ["bpfrec-convert"])
     judge("nor in the repository", not (CONVERT.parent / "__pycache__").exists())

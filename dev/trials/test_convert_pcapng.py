@@ -43,7 +43,7 @@ DAMAGED = 300
 def converted(work: Path, data: bytes, *words: object) -> tuple[int, str]:
     """The status, and what is told, of a capture's conversion into out.feed."""
     (work / "in.pcapng").write_bytes(data)
-    done = outcome(CONVERT, "from-pcap", *words, work / "in.pcapng", work / "out.feed")
+    done = outcome(CONVERT, "from-pcap", "--force", *words, work / "in.pcapng", work / "out.feed")
     return done.returncode, done.stdout + done.stderr
 
 
@@ -125,7 +125,7 @@ def test_two_units(work: Path) -> None:
         [it[1:] for it in fields_of(classic)] == [it[1:] for it in fields_of(made)],
     )
     run(CONVERT, "from-pcap", "--origin", "zero", classic, work / "classic.feed")
-    run(CONVERT, "from-pcap", "--origin", "zero", made, feed)
+    run(CONVERT, "from-pcap", "--force", "--origin", "zero", made, feed)
     judge("the same feed", (work / "classic.feed").read_bytes() == feed.read_bytes())
 
 

@@ -119,7 +119,7 @@ def test_feeds(work: Path, three: Path) -> None:
     """The converter makes of each interface the feed that `extract` gives, marks and all."""
     out = exported(work, three)
     for number, channel in enumerate(wanted_of(three.read_bytes()).numbers):
-        words = ["from-pcap", "--origin", "zero", "--interface", number]
+        words = ["from-pcap", "--force", "--origin", "zero", "--interface", number]
         run(CONVERT, *words, out, work / "back.feed")
         same = (work / "back.feed").read_bytes() == extracted(three, channel, work / "one.feed")
         judge(f"the feed of channel {channel}", same)

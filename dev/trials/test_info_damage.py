@@ -199,7 +199,7 @@ def test_lines(work: Path) -> None:
         f"kept 4 packets {sum(map(len, (*parts[:2], *parts[3:5])))} bytes, lost {len(parts[2]) + 3} bytes at 2 places\n"
     )
     judge("what salvage prints", (done.returncode, done.stdout, done.stderr) == (1, wanted, ""), done)
-    done = outcome(SALVAGE, SAMPLES[1], work / "kept.ch11")
+    done = outcome(SALVAGE, "--force", SAMPLES[1], work / "kept.ch11")
     wanted = "kept 4 packets 248 bytes, lost 0 bytes at 0 places\n"
     judge("and of a whole recording", (done.returncode, done.stdout) == (0, wanted), done)
 
@@ -219,7 +219,7 @@ def test_forced(work: Path) -> None:
     ]
     for fails, status, printed, told in cases:
         more = {"LD_PRELOAD": str(work / "fsync.so"), **({"FSYNC_FAILS": str(fails)} if fails else {})}
-        done = outcome(sys.executable, SALVAGE, cut, out, env={**os.environ, **more})
+        done = outcome(sys.executable, SALVAGE, "--force", cut, out, env={**os.environ, **more})
         judge(
             f"salvage forces its output before it answers: {errno.errorcode.get(fails, 'done')}",
             (done.returncode, done.stdout, done.stderr) == (status, printed, told),
@@ -234,7 +234,7 @@ def test_salvage_without_program(work: Path) -> None:
     cut, out = work / "cut.ch11", work / "out.ch11"
     cut.write_bytes(SAMPLES[1].read_bytes()[:-3])
     plain = outcome(SALVAGE, cut, out)
-    without = outcome(SALVAGE, cut, out, env={**os.environ, "BPFREC": "/nowhere"})
+    without = outcome(SALVAGE, "--force", cut, out, env={**os.environ, "BPFREC": "/nowhere"})
     wanted = plain.stdout.replace("audit: no 5 NoEnd 1", "audit: not asked: bpfrec is missing")
     judge("without bpfrec salvage says so", (without.returncode, without.stdout) == (1, wanted), without)
 

@@ -106,8 +106,11 @@ def three(sample: Path) -> Path:
 
 def test_rows(three: Path) -> None:
     rows = [f"facts                      {three}.json", *THREE_ROWS.splitlines()]
+    head, line = WITHOUT_FACTS.splitlines()[:2]
+    named = {f"{head[:-7]}interface  remarks": head, f"{line}  eth0": line, "channel 1: eth0": "channel 1"}
     done = outcome(INFO, three)
-    told = done.stdout.splitlines()
+    told = [named.get(it, it) for it in done.stdout.splitlines()]
+    judge("channels are named", all(it in done.stdout.splitlines() for it in named), done.stdout)
     new = [it for it in told if it not in WITHOUT_FACTS.splitlines()]
     judge("the rows of facts", (done.returncode, done.stderr, new) == (0, "", rows), done)
     judge("and all others as without them", "".join(f"{it}\n" for it in told if it not in rows) == WITHOUT_FACTS)

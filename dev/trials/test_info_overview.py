@@ -1,9 +1,12 @@
 """Tries what stands ahead in host/bin/info: a line for each channel, and damaged places by channel and time."""
 
+import json
 import subprocess
 from pathlib import Path
 
 import pytest
+from expected_facts import facts_of_run
+from reading import SAMPLES
 from support import BPFREC, INFO, ROOT, judge, outcome, run
 
 WANTED = {"bin/bpfrec": "make build"}
@@ -74,3 +77,22 @@ def test_missing(recording: Path) -> None:
     twice.write_bytes(2 * recording.read_bytes())
     found = lines_of(twice)
     judge("packets that are missing are marked", found[1].endswith("  255 PACKETS MISSING"), str(found))
+
+
+def test_channels_have_the_names_of_their_interfaces_by_the_facts(work: Path) -> None:
+    """In the table, the text and the page; a name can't break a line or a page. Without facts there is none."""
+    recording = work / "named.ch11"
+    recording.write_bytes(SAMPLES[1].read_bytes())
+    plain = run(INFO, recording)
+    judge("without facts the number alone", "\nchannel 1\n" in plain and "interface" not in plain, plain)
+    facts = facts_of_run([("1764590400.000000000", 0, None)])
+    for name, shown in (("eth0", "eth0"), ("a<b\n", "a<b?")):
+        told = {**facts, "interfaces": [{"interface": name, "channel": 1}]}
+        Path(f"{recording}.json").write_text(json.dumps(told))
+        lines = run(INFO, recording).splitlines()
+        judge(
+            "in the table", lines[0].split()[-2:] == ["interface", "remarks"] and shown in lines[1].split(), lines[:2]
+        )
+        judge("in the text", f"channel 1: {shown}" in lines, lines)
+        run(INFO, "--html", work / "page.html", recording)
+        judge("on the page", f"<h2>Channel 1: {shown.replace('<', '&lt;')}</h2>" in (work / "page.html").read_text())

@@ -127,7 +127,7 @@ def test_back(work: Path, three: Path) -> None:
         packet_of(1, body_of([(at, words[it], frame) for at, it, frame in marked]), 0, FRAMES, 0, True),
     ]
     (work / "marked.ch11").write_bytes(b"".join(parts))
-    run(CONVERT, "from-pcap", "--origin", "zero", made(work, work / "marked.ch11"), work / "back.feed")
+    run(CONVERT, "from-pcap", "--force", "--origin", "zero", made(work, work / "marked.ch11"), work / "back.feed")
     judge(
         "all four marks", [it.marks for it in records((work / "back.feed").read_bytes())] == [it for _, it, _ in marked]
     )

@@ -104,4 +104,4 @@ def test_several(work: Path) -> None:
     moments = [it.moment for it in seen_in(work / "all.pcapng")]
     judge("by time", moments == sorted(counter * 100 for it in parts.values() for counter, _ in it))
     told = run("capinfos", "-k", "-I", work / "all.pcapng")
-    judge("counts of all", "frames offered 90, kept 90" in told, told)
+    judge("counts of each", told.count("frames offered 30, kept 30") == 3, told)

@@ -64,14 +64,14 @@ def recording(place: Path) -> Path:
 def words_of(recording: Path, work: Path) -> dict[str, list]:
     """The tools that read a recording or a feed, each with its arguments."""
     extracted(recording, 1, work / "x.feed")
-    to_pcap = ["convert", "to-pcap", work / "x.feed", work / "x.pcap"]
+    to_pcap = ["convert", "to-pcap", "--force", work / "x.feed", work / "x.pcap"]
     outcome(CONVERT, *to_pcap[1:])
     return {
         "info": ["info", recording],
-        "salvage": ["salvage", recording, work / "out.ch11"],
+        "salvage": ["salvage", "--force", recording, work / "out.ch11"],
         "pcapng": ["pcapng", "--force", recording.with_suffix(".pcapng"), recording],
         "to-pcap": to_pcap,
-        "from-pcap": ["convert", "from-pcap", work / "x.pcap", work / "y.feed"],
+        "from-pcap": ["convert", "from-pcap", "--force", work / "x.pcap", work / "y.feed"],
     }
 
 

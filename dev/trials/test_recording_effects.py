@@ -56,11 +56,11 @@ def commands(work: Path) -> dict[str, Command]:
         "upgrade": Command([BPFREC, "upgrade", SAMPLE, OUT]),
         "extract_of_input": Command([BPFREC, "extract", "-", "1", OUT], SAMPLE),
         "upgrade_of_input": Command([BPFREC, "upgrade", "-", OUT], SAMPLE),
-        "salvage": Command([SALVAGE, SAMPLE, OUT]),
+        "salvage": Command([SALVAGE, "--force", SAMPLE, OUT]),
         "pcapng": Command([PCAPNG, "--force", OUT, SAMPLE]),
-        "from-pcap": Command([CONVERT, "from-pcap", work / "own.pcap", OUT]),
-        "to-pcap": Command([CONVERT, "to-pcap", feed, OUT]),
-        "make": Command([CONVERT, "make", "1", FRAMES, OUT]),
+        "from-pcap": Command([CONVERT, "from-pcap", "--force", work / "own.pcap", OUT]),
+        "to-pcap": Command([CONVERT, "to-pcap", "--force", feed, OUT]),
+        "make": Command([CONVERT, "make", "--force", "1", FRAMES, OUT]),
     }
 
 

@@ -46,7 +46,7 @@ def words_of(work: Path, tool: str, given: Path | None = None) -> list:
     """The words of a tool, with an input of its own or with this one."""
     feed = make_feed(work / "own.feed", 100)
     settings = write_settings(work, ["own.feed"], ["all"])
-    run(CONVERT, "to-pcap", feed, work / "own.pcap")
+    run(CONVERT, "to-pcap", "--force", feed, work / "own.pcap")
     recording, out = given or SAMPLES[1], work / "out"
     return {
         "check_sums": [CHECK_SUMS, recording],
@@ -54,10 +54,10 @@ def words_of(work: Path, tool: str, given: Path | None = None) -> list:
         "info_json": [INFO, "--json", recording],
         # It reads regular files alone, so it is its OUT that it waits for.
         "pcapng": [PCAPNG, "--force", given or out, SAMPLES[1]],
-        "salvage": [SALVAGE, recording, out],
-        "from-pcap": [CONVERT, "from-pcap", given or work / "own.pcap", out],
-        "to-pcap": [CONVERT, "to-pcap", given or feed, out],
-        "make": [CONVERT, "make", "1", "100", out],
+        "salvage": [SALVAGE, "--force", recording, out],
+        "from-pcap": [CONVERT, "from-pcap", "--force", given or work / "own.pcap", out],
+        "to-pcap": [CONVERT, "to-pcap", "--force", given or feed, out],
+        "make": [CONVERT, "make", "--force", "1", "100", out],
         "show": [CONVERT, "show", given or feed],
         "preflight": [PREFLIGHT, given or settings, "--out", out],
     }[tool]

@@ -3,13 +3,14 @@
 from __future__ import annotations
 
 import os
-from typing import BinaryIO, Iterator, NoReturn, Optional, Union
+from itertools import chain
+from typing import BinaryIO, Iterable, Iterator, NoReturn, Optional, Union
 
 from bpfrec_host.ending import full_name, say, short_name, tell
 from bpfrec_host.formats import ch11
 from bpfrec_host.program import audit_of
 from bpfrec_host.progress import Progress, size_of
-from bpfrec_host.streams import force, force_folder_of
+from bpfrec_host.streams import STREAM, Refused, force, force_folder_of, input_at, refuse_overwriting
 from bpfrec_host.words import Parser
 
 ABOUT = """\
@@ -33,15 +34,20 @@ and at last
 
   kept <packets> packets <bytes> bytes, lost <bytes> bytes at <n> places
 
+An OUT that exists is refused unless --force is given, and DAMAGED if no packet of it is whole. Then nothing is made.
 Places are counted in bytes from the beginning of DAMAGED. `bpfrec list` and `bpfrec extract` read OUT. When the last
 lines are printed, OUT is on its disk.
 """
 MORE = """\
 It runs bpfrec: what BPFREC names, or the one beside it.
 
-Status: 0 nothing was lost, 1 something was, 2 the arguments are wrong, 3 a file can't be read or written, and OUT
-isn't created if DAMAGED can't be opened, 4 out of memory.
+Status: 0 nothing was lost, 1 something was, 2 the arguments are wrong, 3 a file can't be read or written, or OUT
+exists, 4 out of memory.
 """
+
+
+# What is read of a recording.
+Piece = Union[ch11.Packet, ch11.Damage]
 
 
 class SalvageParser(Parser):
@@ -80,10 +86,15 @@ class Left:
         return [f"no end of {channel}" for channel, has_end in sorted(self.has_end.items()) if not has_end]
 
 
-def salvage(damaged: BinaryIO, out: BinaryIO, is_quiet: bool = True) -> bool:
+def salvage(damaged: BinaryIO, out: BinaryIO) -> bool:
     """Copies what is whole, and prints what was lost: whether nothing was."""
+    return copy(watched(damaged, True), out)
+
+
+def copy(pieces: Iterable[Piece], out: BinaryIO) -> bool:
+    """The same of what is read."""
     left, places, lost, is_missing = Left(), 0, 0, False
-    for it in watched(damaged, is_quiet):
+    for it in pieces:
         if isinstance(it, ch11.Damage):
             say(f"lost {it.length} at {it.fault.at} after read {it.fault.number} {it.fault.name}\n")
             places, lost = places + 1, lost + it.length
@@ -103,7 +114,7 @@ def salvage(damaged: BinaryIO, out: BinaryIO, is_quiet: bool = True) -> bool:
     return is_whole
 
 
-def watched(damaged: BinaryIO, is_quiet: bool) -> Iterator[Union[ch11.Packet, ch11.Damage]]:
+def watched(damaged: BinaryIO, is_quiet: bool) -> Iterator[Piece]:
     """What is read of a recording, with its progress."""
     reader = ch11.Reader(damaged)
     with Progress("salvage", size_of(damaged.fileno()), is_quiet) as progress:
@@ -115,29 +126,49 @@ def watched(damaged: BinaryIO, is_quiet: bool) -> Iterator[Union[ch11.Packet, ch
 def parser() -> Parser:
     """The arguments of bpfrec-salvage."""
     made = SalvageParser(prog=full_name("salvage"), description=ABOUT, epilog=MORE)
+    made.add_argument("--force", action="store_true", help="overwrites an OUT that exists")
     made.add_argument("--quiet", action="store_true", help="shows no progress on a terminal")
     made.add_argument("damaged", metavar="DAMAGED")
     made.add_argument("out", metavar="OUT")
     return made
 
 
+def up_to_packet(pieces: Iterator[Piece], path: str) -> list[Piece]:
+    """What is read up to the first packet that is whole, without which a file is refused."""
+    found: list[Piece] = []
+    for it in pieces:
+        found.append(it)
+        if isinstance(it, ch11.Packet):
+            return found
+    if found:
+        raise Refused(f"{path}: no recording: no packet of it is whole")
+    return found
+
+
 def run(words: list[str]) -> int:
     """Copies what is left of a recording: the status."""
     given = parser().parse_args(words)
-    with open(given.damaged, "rb") as damaged:
-        if os.path.exists(given.out) and os.path.samefile(given.out, given.damaged):
-            raise OSError(0, "it is DAMAGED itself", given.out)
-        return 0 if salvage_into(given.out, damaged, given.quiet) else 1
+    try:
+        with open(given.damaged, "rb") as damaged:
+            for it in (given.out, STREAM):
+                if input_at(it, [given.damaged]):
+                    raise OSError(0, "it is DAMAGED itself", it)
+            refuse_overwriting(given.out, given.force)
+            pieces = watched(damaged, given.quiet)
+            return 0 if salvage_into(given.out, chain(up_to_packet(pieces, given.damaged), pieces)) else 1
+    except Refused as refused:
+        tell(f"{short_name('salvage')}: {refused}")
+        return refused.status
 
 
-def salvage_into(path: str, damaged: BinaryIO, is_quiet: bool) -> bool:
+def salvage_into(path: str, pieces: Iterable[Piece]) -> bool:
     """Copies what is whole into a file; whose fault has its name, where it has no other."""
     is_new = not os.path.exists(path)
     try:
         with open(path, "wb") as out:
             if is_new:
                 force_folder_of(path)
-            return salvage(damaged, out, is_quiet)
+            return copy(pieces, out)
     except OSError as error:
         error.filename = error.filename or path
         raise

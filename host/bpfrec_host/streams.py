@@ -5,7 +5,7 @@ from __future__ import annotations
 import errno
 import os
 import stat
-from typing import BinaryIO, Callable, Optional
+from typing import BinaryIO, Callable, Iterable, Optional
 
 from bpfrec_host.ending import say, tell
 
@@ -58,6 +58,38 @@ class Unreadable(Refused):
     status = 3
 
 
+class Taken(Refused):
+    """An output that exists, and that may not be overwritten."""
+
+    status = 3
+
+
+STREAM = "-"
+
+
+def identity(path: str, stream: int) -> Optional[tuple[int, int]]:
+    """What tells a file or a pipe from all others, by its path or as a standard stream; None of a device, and where
+    there is nothing."""
+    try:
+        found = os.fstat(stream) if path == STREAM else os.stat(path)
+    except (OSError, ValueError):
+        return None
+    is_kept = stat.S_ISREG(found.st_mode) or stat.S_ISFIFO(found.st_mode)
+    return (found.st_dev, found.st_ino) if is_kept else None
+
+
+def input_at(out: str, inputs: Iterable[str]) -> Optional[str]:
+    """The input that an output is, also by another name; `-` is standard output there and standard input here."""
+    taken = identity(out, 1)
+    return next((it for it in inputs if taken and identity(it, 0) == taken), None)
+
+
+def refuse_overwriting(out: str, is_forced: bool) -> None:
+    """Refuses a file that exists, unless it may be overwritten."""
+    if out != STREAM and os.path.isfile(out) and not is_forced:
+        raise Taken(f"{out} is there: give it another name, or --force")
+
+
 class Input:
     """The bytes of a file as they come: those that are there are data[at:], and place is where data begins."""
 
@@ -70,7 +102,7 @@ class Input:
         # Is told the place up to which bytes came.
         self.after_read: Callable[[int], None] = lambda _: None
         try:
-            self.descriptor = 0 if path == "-" else os.open(path, os.O_RDONLY)
+            self.descriptor = 0 if path == STREAM else os.open(path, os.O_RDONLY)
             self.waits = not stat.S_ISREG(os.fstat(self.descriptor).st_mode)
         except OSError as fault:
             raise Refused(f"{path}: {fault.strerror}") from None
@@ -125,28 +157,31 @@ class Input:
 class Output:
     """A file that is written in large pieces. It must not be the input, nor the file of facts."""
 
-    def __init__(self, path: str, source: Optional[Input] = None, facts: Optional[str] = None) -> None:
+    def __init__(
+        self, path: str, source: Optional[Input] = None, facts: Optional[str] = None, is_forced: bool = False
+    ) -> None:
         self.name = path
         self.parts: list[bytes] = []
+        # What is printed of it goes to standard output too.
+        for it in (path, STREAM):
+            if source and input_at(it, [source.name]):
+                raise Refused(f"{it}: the output is the input")
+            if facts and input_at(it, [facts]):
+                raise Refused(f"{it}: the output is the file of facts")
+        refuse_overwriting(path, is_forced)
         try:
-            self.descriptor = 1 if path == "-" else self.create(source, facts)
+            self.descriptor = 1 if path == STREAM else self.create()
         except OSError as fault:
             raise Refused(f"{path}: {fault.strerror}") from None
         if source:
             source.before_waiting = self.flush
 
-    def create(self, source: Optional[Input], facts: Optional[str]) -> int:
-        """The descriptor of the file, which is emptied only once it is known to be no input."""
+    def create(self) -> int:
+        """The descriptor of the file, which is emptied."""
         is_new = not os.path.exists(self.name)
-        descriptor = os.open(self.name, os.O_WRONLY | os.O_CREAT, 0o666)
+        descriptor = os.open(self.name, os.O_WRONLY | os.O_CREAT | os.O_TRUNC, 0o666)
         if is_new:
             force_folder_of(self.name)
-        if stat.S_ISREG(os.fstat(descriptor).st_mode):
-            if source and os.path.sameopenfile(descriptor, source.descriptor):
-                raise Refused(f"{self.name}: the output is the input")
-            if facts and os.path.samestat(os.fstat(descriptor), os.stat(facts)):
-                raise Refused(f"{self.name}: the output is the file of facts")
-            os.ftruncate(descriptor, 0)
         return descriptor
 
     def write(self, part: bytes) -> None:
@@ -177,7 +212,7 @@ class Output:
 
     def tell(self, line: str) -> None:
         """Prints what was done: on standard output, or on standard error where that is the output itself."""
-        if self.name == "-":
+        if self.name == STREAM:
             tell(line)
             return
         try:

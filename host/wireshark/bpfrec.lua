@@ -40,8 +40,15 @@ local PIECE, MOST_HELD, MOST_IN_ROW = 65536, 1048576, 65536
 local MOST_LENGTH = 2147483647
 -- So many sequence numbers may be missing before a packet that is found by itself.
 local MOST_MISSING = 16
+-- So many bytes of data may be judged in vain in searches, and so many more for each byte that is passed over. The data
+-- of headers that lead to no other may use half of them, so that what is whole behind such headers is still found.
+local MOST_SPARE, SPARE_A_BYTE = 4194304, 4
 -- So many bytes are judged in a search before its damaged place gets a row; what follows is another row.
-local MOST_JUDGED = 268435456
+local MOST_JUDGED = 4194304
+-- So many bytes of packets that are longer than a search takes are summed in vain.
+local MOST_LONG = 268435456
+-- Sums are made of blocks so long; how many are kept before those behind are forgotten.
+local BLOCK, MOST_BLOCKS = 64, 65536
 -- A damaged beginning of a recording may be so long.
 local MOST_BEGINNING = 1048576
 
@@ -70,8 +77,8 @@ function Window.new()
   return setmetatable({ begin = 0, data = "" }, Window)
 end
 
--- Up to `count` bytes at a place, which are fewer where the file ends. What is held before them stays.
-function Window:bytes(at, count)
+-- Reads on until `count` bytes at a place are held, or the file ends: whether they are. What is held before them stays.
+function Window:fill(at, count)
   if at < self.begin or at > self.begin + #self.data then
     self.begin, self.data = at, ""
   end
@@ -86,6 +93,12 @@ function Window:bytes(at, count)
     end
     self.data = self.data .. piece
   end
+  return self.begin + #self.data >= at + count
+end
+
+-- Up to `count` bytes at a place, which are fewer where the file ends.
+function Window:bytes(at, count)
+  self:fill(at, count)
   return sub(self.data, at - self.begin + 1, at - self.begin + count)
 end
 
@@ -94,8 +107,11 @@ function Window:has(at)
   return #self:bytes(at, 1) == 1
 end
 
--- Lets go what stands before a place.
+-- Lets go what stands before a place, where it is much.
 function Window:drop(at)
+  if at >= self.begin and at - self.begin < PIECE then
+    return
+  end
   local is_near = at >= self.begin and at <= self.begin + #self.data
   self.begin, self.data = at, is_near and sub(self.data, at - self.begin + 1) or ""
 end
@@ -121,23 +137,74 @@ local function word_sum(data)
   return total % 4294967296
 end
 
--- Whether the data checksum of a packet is the sum of its data.
-local function has_right_sum(window, packet)
-  local at, stop, total = packet.at + HEADER_LEN, packet.at + packet.packet_len - CHECKSUM_LEN, 0
-  if packet.packet_len <= MOST_HELD then
-    local data = packet.data
-    return word_sum(sub(data, HEADER_LEN + 1, -CHECKSUM_LEN - 1)) == number32(data, #data - CHECKSUM_LEN)
+-- Sums of many parts of the same bytes: by blocks, each of which is summed once, for words that begin at each of the four
+-- places of a word.
+local Sums = {}
+Sums.__index = Sums
+
+function Sums.new()
+  -- The place up to which packets that may be wrong were summed, and how many bytes of long ones may still be.
+  return setmetatable({ totals = {}, stop = 0, long = MOST_LONG }, Sums)
+end
+
+-- The sums of the blocks from a first one up to each, of which all up to the block `high` are known then.
+function Sums:known(window, turn, low, high)
+  local totals = self.totals[turn]
+  if not totals or not totals[low] or low - totals.first > MOST_BLOCKS then
+    totals = { first = low, last = low, [low] = 0 }
+    self.totals[turn] = totals
   end
+  for block = totals.last, high - 1 do
+    totals[block + 1] = (totals[block] + word_sum(window:bytes(block * BLOCK + turn, BLOCK))) % 4294967296
+  end
+  totals.last = max(totals.last, high)
+  return totals
+end
+
+-- The sum of the bytes from one place up to another, which are whole words.
+function Sums:of_part(window, begin, stop)
+  local turn = begin % 4
+  local low, high = floor((begin - turn + BLOCK - 1) / BLOCK), floor((stop - turn) / BLOCK)
+  if low >= high then
+    return word_sum(window:bytes(begin, stop - begin))
+  end
+  local totals, ahead, behind = self:known(window, turn, low, high), low * BLOCK + turn, high * BLOCK + turn
+  local ends = word_sum(window:bytes(begin, ahead - begin)) + word_sum(window:bytes(behind, stop - behind))
+  return (ends + totals[high] - totals[low]) % 4294967296
+end
+
+-- The sum of the bytes from one place up to another, which aren't held at once; nothing where the file ends before.
+local function long_sum(window, at, stop)
+  local total = 0
   while at < stop do
     local piece = window:bytes(at, min(PIECE, stop - at))
     if #piece < min(PIECE, stop - at) then
-      return false
+      return
     end
     total, at = (total + word_sum(piece)) % 4294967296, at + #piece
     window:drop(at)
   end
+  return total
+end
+
+-- Whether the data checksum of a packet is the sum of its data. Bytes that a wrong one before had are summed by blocks,
+-- so that such packets may overlap.
+local function has_right_sum(window, packet, sums)
+  local at, length, sum = packet.at + HEADER_LEN, packet.packet_len, nil
+  local stop = packet.at + length - CHECKSUM_LEN
+  if length > MOST_HELD then
+    sum = sums.long > 0 and long_sum(window, at, stop)
+    sums.long = sums.long - length
+  elseif at < sums.stop then
+    sum = sums:of_part(window, at, stop)
+  else
+    sum = word_sum(window:bytes(at, stop - at))
+  end
+  sums.stop = max(sums.stop, min(stop, packet.at + MOST_HELD))
   local last = window:bytes(stop, CHECKSUM_LEN)
-  return #last == CHECKSUM_LEN and number32(last, 0) == total
+  local is_right = #last == CHECKSUM_LEN and number32(last, 0) == sum
+  sums.long = sums.long + (is_right and length > MOST_HELD and length or 0)
+  return is_right
 end
 
 local function header_of(head)
@@ -234,26 +301,38 @@ local function take_record(packet)
   packet.of = channel
 end
 
+-- Whether the data of a packet may be frames or a record.
+local function has_judged_data(packet)
+  local is_record = packet.kind == COMPUTER_DATA and packet.channel == 0
+  return is_plain(packet.flags) and (packet.kind == ETHERNET_DATA or is_record)
+end
+
 -- Finds what a packet holds: its fault, where it has one.
-local function take_body(window, packet, is_summed)
-  local fault
+local function take_data(packet)
   packet.what, packet.count = "other", 0
-  if is_plain(packet.flags) and packet.kind == ETHERNET_DATA then
-    fault = take_frames(packet)
-  elseif is_plain(packet.flags) and packet.kind == COMPUTER_DATA and packet.channel == 0 then
-    fault = take_record(packet)
+  if not has_judged_data(packet) then
+    return
+  elseif packet.kind == ETHERNET_DATA then
+    return take_frames(packet)
   end
+  return take_record(packet)
+end
+
+-- The same with its data checksum, where there are sums.
+local function take_body(window, packet, sums)
+  local fault = take_data(packet)
   if packet.what == "other" and not fault then
     return
   end
-  if is_summed and is_summed_by(packet.flags) and not has_right_sum(window, packet) then
+  if sums and is_summed_by(packet.flags) and not has_right_sum(window, packet, sums) then
     return WRONG_SUM
   end
   return fault
 end
 
--- The packet that begins at a place, of at most `most` bytes, or its fault; nothing where the file ends there.
-local function judged(window, at, most, is_summed)
+-- The packet that begins at a place, or its fault; nothing where the file ends there. Without sums its data checksum
+-- isn't judged.
+local function judged(window, at, sums)
   local head = window:bytes(at, HEADER_LEN)
   if #head < HEADER_LEN then
     return nil, #head > 0 and TRUNCATED or nil
@@ -264,23 +343,20 @@ local function judged(window, at, most, is_summed)
   end
   local packet = header_of(head)
   local length = packet.packet_len
-  if length > most then
+  local held = min(length, MOST_HELD)
+  if not window:fill(at, held) or length > MOST_HELD and not window:has(at + length - 1) then
     return nil, TRUNCATED
   end
-  packet.at, packet.data = at, window:bytes(at, min(length, MOST_HELD))
-  if #packet.data < min(length, MOST_HELD) or length > MOST_HELD and not window:has(at + length - 1) then
-    return nil, TRUNCATED
-  end
-  fault = take_body(window, packet, is_summed)
+  packet.at, packet.data = at, window:bytes(at, min(HEADER_LEN + packet.data_len, MOST_HELD))
+  fault = take_body(window, packet, sums)
   if fault then
     return nil, fault
   end
+  packet.data = window:bytes(at, held)
   return packet
 end
 
 -- ---- the search for the next packet behind a damaged place
-
-local ANY_LENGTH = 4294967296
 
 -- How long the damaged packet may be, by what its header says.
 local function claims(head)
@@ -298,98 +374,141 @@ local function claims(head)
   return found
 end
 
--- Whether packets go on at a place: a header stands there, or the file ends.
-local function goes_on(window, at)
+-- The header at a place; nil where none stands there.
+local function header_at(window, at)
   local head = window:bytes(at, HEADER_LEN)
-  if #head == 0 then
-    return window:has(at - 1)
+  if #head == HEADER_LEN and not header_fault(head) then
+    return header_of(head)
   end
-  return #head == HEADER_LEN and not header_fault(head)
+end
+
+-- Whether packets go on behind so many bytes at a place: a header stands there, or the file ends.
+local function goes_on(window, begin, length)
+  -- With what is between, which the window would lose.
+  window:fill(begin, length + HEADER_LEN)
+  local at, stop = begin + length, window.begin + #window.data
+  return at == stop or at < stop and header_at(window, at) ~= nil
+end
+
+-- Whether the data checksum of a packet, where it has one, is the sum of its data.
+local function has_no_wrong_sum(reader, packet)
+  return not is_summed_by(packet.flags) or has_right_sum(reader.window, packet, reader.sums)
+end
+
+-- Whether the packet of a header at a place is whole and right, as far as it isn't another's. Its data are judged while
+-- more than a reserve of bytes is left for that.
+local function is_packet(reader, at, packet, reserve)
+  if packet.packet_len > MOST_HELD or not reader.window:fill(at, packet.packet_len) then
+    return false
+  end
+  packet.at = at
+  if not has_judged_data(packet) then
+    return true
+  elseif packet.data_len > reader.spare - reserve then
+    return false
+  end
+  reader.spare, reader.search.judged = reader.spare - packet.data_len, reader.search.judged + packet.data_len
+  packet.data = reader.window:bytes(at, HEADER_LEN + packet.data_len)
+  return not take_data(packet) and (packet.what == "other" or has_no_wrong_sum(reader, packet))
 end
 
 -- Whether packets that begin at a place follow one another beyond `stop`, or to the file's end. The places of those
 -- that don't are put into `broken`.
-local function leads_to(search, at, stop)
-  local passed = {}
+local function leads_to(reader, at, stop)
+  local window, broken, passed = reader.window, reader.search.broken, {}
   while at < stop do
-    local packet, fault = judged(search.window, at, MOST_HELD, true)
-    if not packet and not fault then
+    if at == window.begin + #window.data and not window:has(at) then
       return true
     end
     passed[#passed + 1] = at
-    if not packet then
+    local packet = not broken[at] and header_at(window, at)
+    if not packet or not is_packet(reader, at, packet, 0) then
       for _, place in ipairs(passed) do
-        search.broken[place] = true
+        broken[place] = true
       end
       return false
     end
-    search.judged = search.judged + packet.packet_len
     at = at + packet.packet_len
   end
   return at > stop
+end
+
+-- Whether a packet stands where all do, and goes on in its channel's sequence numbers.
+local function follows(reader, at, packet)
+  local missing = (packet.sequence - (reader.sequences[packet.channel] or 0)) % 256
+  return (at - reader.search.begin) % 4 == 0 and missing <= MOST_MISSING
 end
 
 -- Whether packets begin again at a place, with a right data checksum where there is one, also of another's packet.
 -- Frames may hold packets of another recording: so those that stand within a packet whose header is right must lead
 -- beyond its end; and elsewhere they lead further than a frame is long or to the file's end, or else the packet stands
 -- where all do, a multiple of 4 bytes behind, and goes on in its channel's sequence numbers.
-local function begins_again(search, at, sequences)
+local function begins_again(reader, at)
+  local search, window = reader.search, reader.window
   if search.broken[at] then
     search.broken[at] = nil
     return false
   end
-  local packet = judged(search.window, at, MOST_HELD, true)
+  local packet = header_at(window, at)
   if not packet then
     return false
   end
-  search.judged = search.judged + packet.packet_len
-  if is_summed_by(packet.flags) and not has_right_sum(search.window, packet) then
+  local stands_alone = at >= search.inside and follows(reader, at, packet)
+  local stop = at < search.inside and min(search.inside, at + MOST_HELD) or at + MAX_FRAME_LEN
+  local leads_on = packet.packet_len <= MOST_HELD and goes_on(window, at, packet.packet_len)
+  -- Only headers are looked at so far.
+  if not (leads_on or stands_alone or at + packet.packet_len > stop) then
     return false
   end
-  if at < search.inside then
-    return leads_to(search, at, min(search.inside, at + MOST_HELD))
+  if not is_packet(reader, at, packet, leads_on and 0 or MOST_SPARE / 2) or not has_no_wrong_sum(reader, packet) then
+    return false
   end
-  local missing = (packet.sequence - (sequences[packet.channel] or 0)) % 256
-  if (at - search.begin) % 4 == 0 and missing <= MOST_MISSING then
-    return true
-  end
-  return leads_to(search, at, at + MAX_FRAME_LEN)
+  return stands_alone or leads_to(reader, at, stop)
 end
 
 -- A search from the place of a fault on.
 local function search_from(window, begin)
-  local head = window:bytes(begin, HEADER_LEN)
-  local inside = begin
-  if #head == HEADER_LEN and not header_fault(head) then
-    inside = begin + number32(head, 4)
-  end
-  return { window = window, begin = begin, inside = inside, at = begin + 1, broken = {}, judged = 0 }
+  local packet = header_at(window, begin)
+  local inside = begin + (packet and packet.packet_len or 0)
+  return { begin = begin, inside = inside, at = begin + 1, broken = {}, judged = 0 }
+end
+
+-- Goes on with a search to another place.
+local function pass_to(reader, at)
+  reader.spare = min(reader.spare + SPARE_A_BYTE * (at - reader.search.at), MOST_SPARE)
+  reader.search.at = at
+end
+
+-- Whether a header may begin at a place of bytes: its packet has whole words, and isn't too long.
+local function may_begin(data, at)
+  local low, high, top = byte(data, at + 4), byte(data, at + 6, at + 7)
+  return top == 0 and high <= 16 and low % 4 == 0
 end
 
 -- Goes on with a search up to the next packet, to the file's end, to a place, or until many bytes were judged: whether
 -- it is over.
-local function go_on(search, sequences, stop)
-  local window = search.window
+local function go_on(reader)
+  local search, window = reader.search, reader.window
   search.judged = 0
-  while search.judged < MOST_JUDGED and search.at <= stop do
+  while search.judged < MOST_JUDGED and search.at <= reader.stop do
     -- Frames hold packets, so what is before the search is needed no more.
-    if search.at - window.begin >= PIECE then
-      window:drop(search.at)
-    end
-    local held = window:bytes(search.at, #SYNC)
-    if #held < #SYNC then
-      search.at = search.at + #held
+    window:drop(search.at)
+    if not window:fill(search.at, HEADER_LEN) then
+      pass_to(reader, window.begin + #window.data)
       return true
     end
     local found = find(window.data, SYNC, search.at - window.begin + 1, true)
-    if not found then
-      search.at = window.begin + #window.data - 1
+    if not found or #window.data - found < HEADER_LEN - 1 then
+      pass_to(reader, found and window.begin + found - 1 or window.begin + #window.data - 1)
     else
-      search.at = window.begin + found - 1
-      if begins_again(search, search.at, sequences) then
+      pass_to(reader, window.begin + found - 1)
+      local spare = reader.spare
+      if may_begin(window.data, found) and begins_again(reader, search.at) then
+        -- What was judged is read now.
+        reader.spare = spare
         return true
       end
-      search.at = search.at + 1
+      pass_to(reader, search.at + 1)
     end
   end
   return false
@@ -402,7 +521,8 @@ Reader.__index = Reader
 
 -- A reader of a file, which searches for packets up to a place.
 function Reader.new(stop)
-  return setmetatable({ window = Window.new(), at = 0, sequences = {}, stop = stop }, Reader)
+  local made = { window = Window.new(), at = 0, sequences = {}, stop = stop, sums = Sums.new(), spare = MOST_SPARE }
+  return setmetatable(made, Reader)
 end
 
 -- The damaged place that ends where the reader goes on.
@@ -415,8 +535,8 @@ end
 function Reader:damage(fault)
   local window, begin = self.window, self.at
   for _, length in ipairs(claims(window:bytes(begin, HEADER_LEN))) do
-    if goes_on(window, begin + length) then
-      self.first = window:bytes(begin, MOST_IN_ROW)
+    if goes_on(window, begin, length) then
+      self.first = window:bytes(begin, min(length, MOST_IN_ROW))
       return damage_to(self, begin, fault, begin + length)
     end
   end
@@ -428,7 +548,7 @@ end
 function Reader:searched()
   local begin, search = self.at, self.search
   self.first = self.window:bytes(begin, MOST_IN_ROW)
-  if go_on(search, self.sequences, self.stop) then
+  if go_on(self) then
     self.search = nil
   end
   return damage_to(self, begin, self.fault, search.at)
@@ -440,7 +560,7 @@ function Reader:next()
     return self:searched()
   end
   self.window:drop(self.at)
-  local packet, fault = judged(self.window, self.at, ANY_LENGTH, true)
+  local packet, fault = judged(self.window, self.at, self.sums)
   if fault then
     return self:damage(fault)
   elseif packet then
@@ -911,7 +1031,7 @@ function Recording:row_at(frame, place)
   local at = index_up_to(self.places, place)
   if not self.again or self.again.at ~= self.places[at] then
     self.window:drop(self.places[at])
-    self.again = judged(self.window, self.places[at], ANY_LENGTH, false)
+    self.again = judged(self.window, self.places[at])
   end
   local packet = self.again
   if packet and packet.count == 0 then

@@ -21,7 +21,7 @@ length (2 bytes, {MIN_FRAME_LEN} to {MAX_FRAME_LEN:,}), and the frame with its f
 Numbers are little-endian. Bit 0 of the flags says that the FCS is wrong, bit 1 that the frame came with a frame
 error, as one that is too long or too short.
 
-As a file, `-` is standard input or output. It needs Python 3.9 or later, and nothing beside it.
+As a file, `-` is standard input or output. An OUT that exists is refused unless --force is given. It needs Python 3.9 or later, and nothing beside it.
 Nothing of this tool is proved; bpfrec itself reads no captures and computes no check sequence.
 """
 FROM_PCAP = f"""Makes a feed from a capture of Ethernet: a classic pcap file (both byte orders, micro- and nanoseconds)
@@ -47,6 +47,11 @@ def add(commands: "Commands[Parser]", name: str, about: str, description: str) -
     return commands.add_parser(name, help=about, description=description, formatter_class=argparse.HelpFormatter)
 
 
+def add_force(made: Parser) -> None:
+    """The option that overwrites."""
+    made.add_argument("--force", action="store_true", help="overwrite an OUT that exists")
+
+
 def add_quiet(made: Parser) -> None:
     """The option that keeps progress away."""
     made.add_argument("--quiet", action="store_true", help="show no progress on a terminal")
@@ -68,9 +73,12 @@ def add_from_pcap(commands: "Commands[Parser]") -> None:
     made.add_argument(
         "--interface", metavar="N", type=natural, help="only the frames of each section's interface N, from 0 on"
     )
+    add_force(made)
     add_quiet(made)
     made.set_defaults(
-        run=lambda given: from_pcap(given.capture, given.output, given.origin, given.interface, given.quiet)
+        run=lambda given: from_pcap(
+            given.capture, given.output, given.origin, given.interface, given.force, given.quiet
+        )
     )
 
 
@@ -94,10 +102,11 @@ def add_to_pcap(commands: "Commands[Parser]") -> None:
         "has its time, even if the clock was set during the recording",
     )
     made.add_argument("--drop-check-sequence", action="store_true", help="leave each frame's FCS out")
+    add_force(made)
     add_quiet(made)
     made.set_defaults(
         run=lambda given: to_pcap(
-            given.feed, given.output, given.origin, given.facts, given.drop_check_sequence, given.quiet
+            given.feed, given.output, given.origin, given.facts, given.drop_check_sequence, given.force, given.quiet
         )
     )
 
@@ -115,6 +124,7 @@ def add_make(commands: "Commands[Parser]") -> None:
     made.add_argument("seed", metavar="SEED", type=natural)
     made.add_argument("count", metavar="COUNT", type=natural)
     made.add_argument("output", metavar="OUT.feed")
+    add_force(made)
     made.set_defaults(run=run_make)
 
 
@@ -123,7 +133,7 @@ def run_make(given: argparse.Namespace) -> None:
     # Here, since no other command needs what draws.
     from bpfrec_host.convert.samples import make
 
-    make(given.seed, given.count, given.output)
+    make(given.seed, given.count, given.output, given.force)
 
 
 def parser() -> Parser:

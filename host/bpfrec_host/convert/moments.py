@@ -8,7 +8,7 @@ import time
 from typing import Callable, Optional
 
 from bpfrec_host.formats.limits import NANOSECONDS_A_SECOND, NANOSECONDS_A_TICK
-from bpfrec_host.streams import Input, Refused, Unreadable
+from bpfrec_host.streams import STREAM, Input, Refused, Unreadable, identity
 
 MOMENT = re.compile(
     r"(?:([0-9]{1,10})|([0-9]{4}-[0-9]{2}-[0-9]{2}T[0-9]{2}:[0-9]{2}:[0-9]{2}))(?:\.([0-9]{1,9}))?(Z?)\Z"
@@ -52,8 +52,8 @@ def moments_by_facts(path: str, feed: str) -> Callable[[int], Optional[int]]:
     # Here, since most conversions need no facts.
     from bpfrec_host.formats import facts
 
-    if path == feed == "-":
-        raise Refused("standard input can't be the feed and the facts")
+    if path == feed == STREAM or identity(path, 0) is not None and identity(path, 0) == identity(feed, 0):
+        raise Refused(f"{'standard input' if STREAM in (path, feed) else path} can't be the feed and the facts")
     try:
         return facts.read(0 if path == "-" else path).moment_of
     except OSError as fault:

@@ -9,8 +9,10 @@ from typing import Iterator, Optional
 from bpfrec_host.convert.moments import captured_time, moments_by_facts, moments_by_origin
 from bpfrec_host.formats import pcap, pcapng
 from bpfrec_host.formats.feed import CHECK_SEQUENCE, MIN_WIRE_LEN, RECORD_HEAD, read_records
+from bpfrec_host.formats.guesses import begins_recording
 from bpfrec_host.formats.limits import (
     CHECK_SEQUENCE_LEN,
+    HEADER_LEN,
     MARK_CHECK_SEQUENCE,
     MAX_COUNTER,
     MAX_FRAME_LEN,
@@ -36,6 +38,15 @@ def captured_frames(capture: Input, chosen: Optional[int]) -> Iterator[Captured]
         if pcapng.begins_pcapng(head):
             return pcapng.Blocks(capture, chosen).frames()
     raise Refused(f"{capture.name}: no pcap or pcapng file")
+
+
+def feed_at(path: str) -> Input:
+    """The feed at a path, which a recording is often taken for."""
+    feed = Input(path)
+    feed.has(HEADER_LEN)
+    if begins_recording(feed.data[:HEADER_LEN]):
+        raise Refused(f"{path} is a recording: bpfrec extract makes a feed of it, or bpfrec-pcapng a capture")
+    return feed
 
 
 def padded(frame: bytes) -> bytes:
@@ -79,11 +90,13 @@ def progress_of(source: Input, is_quiet: bool) -> Progress:
     return progress
 
 
-def from_pcap(path: str, output: str, origin: Optional[int], interface: Optional[int], is_quiet: bool) -> None:
+def from_pcap(
+    path: str, output: str, origin: Optional[int], interface: Optional[int], is_forced: bool, is_quiet: bool
+) -> None:
     """Writes the feed of a capture, and prints how many frames it has and how many were skipped."""
     capture = Input(path)
     captures = captured_frames(capture, interface)
-    feed = Output(output, capture)
+    feed = Output(output, capture, is_forced=is_forced)
     try:
         with progress_of(capture, is_quiet):
             frames, skipped = write_captured(captures, origin, feed)
@@ -93,12 +106,18 @@ def from_pcap(path: str, output: str, origin: Optional[int], interface: Optional
 
 
 def to_pcap(
-    path: str, output: str, origin: int, facts: Optional[str], drops_check_sequences: bool, is_quiet: bool
+    path: str,
+    output: str,
+    origin: int,
+    facts: Optional[str],
+    drops_check_sequences: bool,
+    is_forced: bool,
+    is_quiet: bool,
 ) -> None:
     """Writes the capture of a feed, in nanoseconds, and prints its number of frames."""
     moment_at = moments_by_origin(origin) if facts is None else moments_by_facts(facts, path)
-    feed = Input(path)
-    capture = Output(output, feed, None if facts == "-" else facts)
+    feed = feed_at(path)
+    capture = Output(output, feed, facts, is_forced)
     pack, frames = pcap.CAPTURED_HEAD.pack, 0
     try:
         capture.write(pcap.head(not drops_check_sequences))
@@ -117,8 +136,8 @@ def show(path: str) -> None:
     """Prints a line for each record: its counter, its marks, its frame's length and first bytes."""
     # A reader of the lines may leave, as `head` does.
     signal.signal(signal.SIGPIPE, signal.SIG_DFL)
-    feed = Input(path)
-    lines = Output("-")
+    feed = feed_at(path)
+    lines = Output("-", feed)
     feed.before_waiting = lines.flush
     try:
         for counter, marks, frame in read_records(feed):

@@ -55,11 +55,11 @@ def sample_frame(draw: random.Random) -> bytes:
     return TARGET + SOURCE + tag + b"\x08\x00" + udp_datagram(SENDER, RECEIVER, port, payload)
 
 
-def make(seed: int, count: int, output: str) -> None:
+def make(seed: int, count: int, output: str, is_forced: bool) -> None:
     """Writes a feed of sample frames, the same for the same seed, and prints their number."""
     draw = random.Random(seed)
     counter = 0
-    feed = Output(output)
+    feed = Output(output, is_forced=is_forced)
     for _ in range(count):
         frame = sample_frame(draw).ljust(MIN_WIRE_LEN, b"\0")
         write_record(feed, Record(counter, 0, frame + check_sequence(frame)))

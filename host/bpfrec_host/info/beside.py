@@ -32,6 +32,16 @@ def facts_beside(recording: str) -> Optional[Beside]:
         return None
 
 
+def interface_of(channel: int, beside: Optional[Beside]) -> str:
+    """The interface that was a channel, by the facts; nothing where it isn't known."""
+    return "" if beside is None else on_a_line(beside.known.interfaces.get(channel, ""))
+
+
+def on_a_line(given: str) -> str:
+    """A text that another wrote, with a question mark for what isn't to be seen on a line."""
+    return "".join(it if it.isprintable() else "?" for it in given)
+
+
 def time_of(counter: Optional[int], beside: Optional[Beside]) -> Optional[str]:
     """The time of a counter, by the facts; None where it isn't known."""
     moment = None if beside is None or counter is None else beside.known.moment_of(counter)

@@ -7,7 +7,8 @@ import os
 from itertools import chain
 from typing import Optional
 
-from bpfrec_host.ending import full_name, say_parts
+from bpfrec_host.ending import full_name, say_parts, short_name, tell
+from bpfrec_host.formats.guesses import guess_at
 from bpfrec_host.formats.limits import MAX_VERSIONS
 from bpfrec_host.info.as_json import object_of
 from bpfrec_host.info.beside import Beside, facts_beside
@@ -15,6 +16,7 @@ from bpfrec_host.info.contents import MOST_PLACES, MOST_SECONDS, Recording, read
 from bpfrec_host.info.page import page_parts
 from bpfrec_host.info.text import text_parts
 from bpfrec_host.program import Audit, audit_of
+from bpfrec_host.streams import STREAM, input_at
 from bpfrec_host.words import Parser
 
 ABOUT = """\
@@ -70,12 +72,29 @@ def write_page(path: str, name: str, recording: Recording, audit: Audit, beside:
         raise
 
 
+def judge_output(recording: str) -> None:
+    """Refuses standard output that is the recording or its facts, which it would be written into."""
+    for what, name in (("RECORDING", recording), ("RECORDING.json", f"{recording}.json")):
+        if input_at(STREAM, [name]):
+            raise OSError(0, f"it is {what} itself", STREAM)
+
+
+def is_other(recording: Recording) -> bool:
+    """Whether a file is no recording: it has no packet, and doesn't begin as one."""
+    is_empty = not sum(recording.kinds.values())
+    return is_empty and bool(recording.damages) and recording.damages[0].fault.name == "Sync"
+
+
 def run(words: list[str]) -> int:
     """Tells what is in a recording: the status."""
     given = parser().parse_args(words)
+    judge_output(given.recording)
     audit = audit_of(given.recording, given.quiet)
     # An audit that says yes has summed all data.
     recording = read(given.recording, not audit.is_yes(), given.quiet)
+    if is_other(recording):
+        tell(f"{short_name('info')}: {given.recording}: no recording{guess_at(given.recording)}")
+        return 1
     beside = facts_beside(given.recording)
     if given.json:
         parts = json.JSONEncoder(indent=2).iterencode(object_of(recording, audit.answer, beside))

@@ -6,10 +6,12 @@ from typing import Iterator, Optional
 
 from bpfrec_host.formats import ch11
 from bpfrec_host.formats.limits import TICKS_A_SECOND
-from bpfrec_host.info.beside import Beside, time_of
+from bpfrec_host.info.beside import Beside, interface_of, time_of
 from bpfrec_host.info.contents import Channel, Recording
 
 HEADS = ("channel", "frames", "offered", "frames/s", "first s", "last s", "remarks")
+# What stands ahead of the remarks where facts have it.
+INTERFACE = "interface"
 WIDTHS = (7, 13, 13, 11, 15, 15)
 # How many damaged places are shown one by one here; the row "damaged places" has more.
 MOST_SHOWN = 10
@@ -29,8 +31,8 @@ def remarks_of(channel: Channel, missing: int) -> list[str]:
     ]
 
 
-def line_of(number: int, channel: Channel, missing: int) -> str:
-    """A channel's line of the table."""
+def line_of(number: int, channel: Channel, missing: int, name: str) -> str:
+    """A channel's line of the table; its name stands there where the table has names."""
     offered, rate, counters = channel.offered(), channel.mean_rate(), channel.counters()
     first, last = counters[:2] if counters else (None, None)
     cells = (
@@ -42,7 +44,7 @@ def line_of(number: int, channel: Channel, missing: int) -> str:
         time_text(last),
     )
     numbers = " ".join(f"{it:>{width}}" for it, width in zip(cells, WIDTHS))
-    return f"{numbers}  {', '.join(remarks_of(channel, missing))}".rstrip()
+    return f"{numbers}  {name}{', '.join(remarks_of(channel, missing))}".rstrip()
 
 
 def damage_line(damage: ch11.Damage, before: Optional[tuple[int, int]], beside: Optional[Beside]) -> str:
@@ -57,9 +59,13 @@ def damage_line(damage: ch11.Damage, before: Optional[tuple[int, int]], beside: 
 
 def overview(recording: Recording, beside: Optional[Beside]) -> Iterator[str]:
     """The table of all channels, and the first damaged places, line by line."""
-    yield " ".join(f"{it:>{width}}" for it, width in zip(HEADS, WIDTHS)) + f"  {HEADS[-1]}\n"
+    names = {it: interface_of(it, beside) for it in recording.channels}
+    # No column where there is no name.
+    width = max([len(INTERFACE), *map(len, names.values())]) + 2 if any(names.values()) else 0
+    heads = " ".join(f"{it:>{each}}" for it, each in zip(HEADS, WIDTHS))
+    yield f"{heads}  {INTERFACE[:width]:<{width}}{HEADS[-1]}\n"
     for number, it in sorted(recording.channels.items()):
-        yield f"{line_of(number, it, recording.missing[number])}\n"
+        yield f"{line_of(number, it, recording.missing[number], f'{names[number]:<{width}}')}\n"
     shown = list(zip(recording.damages, recording.before))[:MOST_SHOWN]
     for damage, before in shown:
         yield f"{damage_line(damage, before, beside)}\n"

@@ -7,9 +7,9 @@ from typing import Collection, Iterable, Iterator, Optional
 
 from bpfrec_host import program
 from bpfrec_host.filter_texts import Texts
-from bpfrec_host.info.beside import Beside
+from bpfrec_host.info.beside import Beside, interface_of, on_a_line
 from bpfrec_host.info.contents import Channel, Recording
-from bpfrec_host.info.text import Row, number, on_a_line, rows_of, rows_of_whole, seconds
+from bpfrec_host.info.text import Row, number, rows_of, rows_of_whole, seconds
 from bpfrec_host.info.timeline import Axis, escaped, last_of, timeline
 
 STYLE = """
@@ -77,9 +77,10 @@ def filters(channel: Channel, axis: Axis, texts: Texts) -> Iterator[str]:
 
 def section(channel_id: int, channel: Channel, axis: Axis, texts: Texts, beside: Optional[Beside]) -> str:
     """What the page has of a channel."""
-    bad = [] if channel.end else ["end record"]
+    bad, interface = [] if channel.end else ["end record"], interface_of(channel_id, beside)
+    title = f"Channel {channel_id}{f': {interface}' if interface else ''}"
     return (
-        f"<section><h2>Channel {channel_id}</h2>{timeline(channel, axis)}{table(rows_of(channel, beside), bad)}"
+        f"<section><h2>{escaped(title)}</h2>{timeline(channel, axis)}{table(rows_of(channel, beside), bad)}"
         f"{''.join(filters(channel, axis, texts))}</section>"
     )
 

@@ -6,7 +6,7 @@ from typing import Iterator, Optional, Union
 
 from bpfrec_host.formats import ch11, facts
 from bpfrec_host.formats.limits import TICKS_A_SECOND
-from bpfrec_host.info.beside import Beside, time_of
+from bpfrec_host.info.beside import Beside, interface_of, on_a_line, time_of
 from bpfrec_host.info.contents import KINDS, MOST_PLACES, Channel, Missing, Recording
 from bpfrec_host.info.overview import overview
 from bpfrec_host.program import Audit
@@ -28,11 +28,6 @@ def seconds(ticks: Optional[int]) -> str:
         return "unknown"
     sign, ticks = "-" if ticks < 0 else "", abs(ticks)
     return f"{sign}{ticks // TICKS_A_SECOND}.{ticks % TICKS_A_SECOND:07d} s"
-
-
-def on_a_line(given: str) -> str:
-    """A text that another wrote, with a question mark for what isn't to be seen on a line."""
-    return "".join(it if it.isprintable() else "?" for it in given)
 
 
 def origin_text(origin: facts.Origin) -> str:
@@ -120,7 +115,8 @@ def channel_lines(channel_id: int, channel: Channel, beside: Optional[Beside]) -
         (f"version {it.name()}", f"from frame {number(it.first)}, counter {number(it.counter)}")
         for it in channel.versions
     ]
-    yield f"\nchannel {channel_id}\n"
+    interface = interface_of(channel_id, beside)
+    yield f"\nchannel {channel_id}{f': {interface}' if interface else ''}\n"
     for name, value in rows_of(channel, beside) + versions:
         yield f"  {name:<26} {value}\n"
 

@@ -4,23 +4,25 @@ from __future__ import annotations
 
 import argparse
 import os
-from typing import BinaryIO, Optional
+from typing import BinaryIO, Optional, Union
 
 from bpfrec_host.ending import full_name, say, short_name, tell
 from bpfrec_host.formats import facts
 from bpfrec_host.formats.limits import MAX_CHANNEL_ID
 from bpfrec_host.pcapng import output
 from bpfrec_host.pcapng.index import Index
-from bpfrec_host.pcapng.merging import Interface, Recording, blocks
+from bpfrec_host.pcapng.merging import Interface, Recording, blocks, interfaces_of
 from bpfrec_host.pcapng.times import Times, time_of
 from bpfrec_host.progress import Progress
-from bpfrec_host.streams import Refused, Unreadable, force
+from bpfrec_host.streams import STREAM, Refused, Unreadable, force, identity
 from bpfrec_host.words import Parser, natural
 
 ABOUT = """\
-Makes one capture in pcapng of recordings: of all their time or a slice of it, of all channels or some, merged by time.
+Makes one capture in pcapng of recordings: of all their time or a slice of it, of all channels or some.
 
-Each channel is an interface, with the name that the facts beside the recording have for it. Frames have their frame
+Each channel of a recorder is an interface, with the name that the facts beside the recording have for it. A recorder
+is a host with its interface, by the facts; recordings without facts are of a recorder each. Frames stand in the order
+in which they came, so times step back where a clock was set back. Frames have their frame
 check sequence (FCS) and their error flags. Comments have the counts of each channel, the filter in force at its first
 frame and, at the first frame after a change, the filter from there on.
 
@@ -33,9 +35,9 @@ since the relative time counter (RTC) was 0, from 1970 on. All recordings must h
 MORE = """\
 TIME is seconds since counter 0, as 12.5, or UTC as 2025-12-01T12:00:00.25Z, which needs facts.
 
-As OUT, `-` is standard output. It prints `frames <n> skipped <m>`, on standard error if OUT is standard output: m
-frames have another content, or fewer than 18 bytes, and no capture can have them. When that is printed, OUT is on its
-disk.
+As OUT, `-` is standard output, and as RECORDING standard input; a pipe is copied into TMPDIR. It prints
+`frames <n> skipped <m>`, on standard error if OUT is standard output: m frames have another content, or fewer than 18
+bytes, and no capture can have them. When that is printed, OUT is on its disk.
 A damaged place is reported on standard error, and what is behind it is read.
 
 It runs bpfrec for the text of filters: what BPFREC names, or the one beside it; without it they are listings.
@@ -55,7 +57,11 @@ def parser() -> Parser:
     made.add_argument("--from", dest="since", metavar="TIME", type=time_of, help="frames from this time on")
     made.add_argument("--to", dest="until", metavar="TIME", type=time_of, help="frames before this time")
     made.add_argument(
-        "--channel", metavar="N", type=channel_id, action="append", help="this channel; it may be given several times"
+        "--channel",
+        metavar="N",
+        type=channel_of,
+        action="append",
+        help="this channel, or interface by the facts; several times",
     )
     made.add_argument("--force", action="store_true", help="overwrites an OUT that exists")
     made.add_argument("--quiet", action="store_true", help="shows no progress on a terminal")
@@ -64,8 +70,10 @@ def parser() -> Parser:
     return made
 
 
-def channel_id(word: str) -> int:
-    """The channel ID that a word is."""
+def channel_of(word: str) -> Union[int, str]:
+    """The channel ID that a word is, or the interface."""
+    if not word.isdigit():
+        return word
     number = natural(word)
     if number > MAX_CHANNEL_ID:
         raise argparse.ArgumentTypeError(f"{word} is no channel ID, 0 to {MAX_CHANNEL_ID}")
@@ -80,7 +88,7 @@ def tell_fault(line: str) -> None:
 def facts_beside(path: str) -> Optional[facts.Facts]:
     """The facts beside a recording; None where there are none. Others would make wrong times."""
     beside = f"{path}.json"
-    if not os.path.exists(beside):
+    if path == STREAM or not os.path.exists(beside):
         return None
     try:
         return facts.read(beside)
@@ -107,26 +115,27 @@ def judge_times(recordings: list[Recording]) -> None:
         raise Refused(f"{known[0].headers.path} has facts beside it and {unknown[0].headers.path} has none")
 
 
-def interfaces_of(recordings: list[Recording], chosen: Optional[list[int]]) -> list[Interface]:
-    """The channels that are chosen, or else all, as interfaces."""
-    known = {number for it in recordings for number in it.headers.channels}
-    missing = sorted(set(chosen or []) - known)
-    if missing:
-        raise Refused(f"{' '.join(it.headers.path for it in recordings)}: no channel {missing[0]}")
-    channels = sorted(set(chosen) if chosen else known)
-    return [Interface(number, channel, recordings) for number, channel in enumerate(channels)]
+def judge_asked(recordings: list[Recording], asked: list[Union[int, str]]) -> None:
+    """Refuses a channel or an interface that no recording has."""
+    paths = " ".join(it.headers.path for it in recordings)
+    for channel in asked:
+        if any(it.channels_of(channel) for it in recordings):
+            continue
+        if isinstance(channel, str) and not recordings[0].times.facts:
+            raise Refused(f"{paths}: no facts beside it, so --channel takes numbers, as 1")
+        raise Refused(f"{paths}: no channel {channel}")
 
 
 def write_blocks(out: BinaryIO, recordings: list[Recording], interfaces: list[Interface], is_quiet: bool) -> int:
     """Writes the capture's blocks: how many frames they have."""
-    slices = [each for it in interfaces for each in it.slices]
     count = -1 - len(interfaces)
-    with Progress("pcapng", sum(it.size() for it in slices), is_quiet) as progress:
+    size = sum(each.slice.size() for it in interfaces for each in it.parts)
+    with Progress("pcapng", size, is_quiet) as progress:
         for block in blocks(recordings, interfaces):
             out.write(block)
             count += 1
             if count % FRAMES_A_LOOK == 0:
-                progress.at(sum(it.done for it in slices))
+                progress.at(sum(it.headers.done for it in recordings))
     return count
 
 
@@ -142,16 +151,25 @@ def write(path: str, recordings: list[Recording], interfaces: list[Interface], i
     return count
 
 
+def judge_inputs(paths: list[str]) -> None:
+    """Refuses standard input that is given twice, also by another name."""
+    others = [it for it in paths if it != STREAM]
+    if paths.count(STREAM) > 1 or STREAM in paths and identity(STREAM, 0) in [identity(it, 0) or () for it in others]:
+        raise Refused(f"{STREAM}: it is given twice, and can be read once")
+
+
 def make(given: argparse.Namespace) -> int:
     """Makes the capture: the status."""
+    judge_inputs(given.recordings)
     inputs = [name for it in given.recordings for name in (it, f"{it}.json")]
     output.judge(given.out, inputs, given.force)
     recordings = [recording_at(it, given) for it in given.recordings]
     judge_times(recordings)
+    judge_asked(recordings, given.channel or [])
     interfaces = interfaces_of(recordings, given.channel)
     count = write(given.out, recordings, interfaces, given.quiet)
     line = f"frames {count} skipped {sum(it.skipped() for it in interfaces)}"
-    if given.out == output.STREAM:
+    if given.out == STREAM:
         tell(line)
     else:
         say(f"{line}\n")

@@ -3,13 +3,16 @@
 from __future__ import annotations
 
 import os
+import shutil
 import stat
+import tempfile
 from typing import BinaryIO, Callable, NamedTuple, Optional, Union
 
 from bpfrec_host.formats import ch11
-from bpfrec_host.formats.ch11.packet import body_fault, header_fault, header_of
+from bpfrec_host.formats.ch11.body import What
+from bpfrec_host.formats.ch11.packet import body_fault, has_right_sum, header_fault, header_of
 from bpfrec_host.formats.limits import COMPUTER_GENERATED_DATA, ETHERNET_DATA, HEADER_LEN, RECORD_CHANNEL
-from bpfrec_host.streams import Refused
+from bpfrec_host.streams import STREAM, Refused
 
 # A record of a program is far shorter; a longer packet is another recorder's.
 MOST_RECORD_LEN = 1 << 20
@@ -42,18 +45,44 @@ class Channel:
             self.end = what
 
 
+def body_of(header: ch11.Header, packet: bytes) -> tuple[What, Optional[tuple[int, str]]]:
+    """What a packet that is read whole holds, and the fault of its body."""
+    data = packet[HEADER_LEN : HEADER_LEN + header.data_len]
+    return body_fault(header, data, lambda: has_right_sum(packet))
+
+
+def regular_file(path: str) -> BinaryIO:
+    """A file of which parts can be read."""
+    # Before it is opened, since a pipe would be waited for.
+    if not stat.S_ISREG(os.stat(path).st_mode):
+        raise Refused(f"{path}: it is no regular file, of which parts could be read")
+    return open(path, "rb")
+
+
+def standard_input() -> BinaryIO:
+    """Standard input as such a file: a pipe is copied into an unnamed one first."""
+    given = open(0, "rb", closefd=False)
+    if stat.S_ISREG(os.fstat(0).st_mode):
+        return given
+    copied: BinaryIO = tempfile.TemporaryFile()  # type: ignore[assignment]
+    shutil.copyfileobj(given, copied)
+    copied.seek(0)
+    return copied
+
+
 class Index:
-    """The channels of a recording, which is a regular file: of its bytes those that it has when it is opened."""
+    """The channels of a recording, which is a regular file or standard input: of its bytes those that it has when it is
+    opened."""
 
     def __init__(self, path: str, tell: Tell) -> None:
         self.path, self.tell = path, tell
         self.channels: dict[int, Channel] = {}
-        self.is_damaged = False
-        # Before it is opened, since a pipe would be waited for.
-        if not stat.S_ISREG(os.stat(path).st_mode):
-            raise Refused(f"{path}: it is no regular file, of which parts could be read")
-        self.file: BinaryIO = open(path, "rb")
+        # Whether a place is damaged, and how many bytes of packets of frames were read.
+        self.is_damaged, self.done = False, 0
+        self.file = standard_input() if path == STREAM else regular_file(path)
         self.size = os.fstat(self.file.fileno()).st_size
+        # Of damaged places.
+        self.reader = ch11.Reader(self.file)
 
     def read(self) -> None:
         """Goes from header to header; a damaged place is told, and the reading goes on behind it."""
@@ -90,7 +119,7 @@ class Index:
         """Reads a packet that may be a record; whether it is whole."""
         if header.packet_len > MOST_RECORD_LEN:
             return True
-        what, fault = body_fault(header, self.read_at(at, header.packet_len), True)
+        what, fault = body_of(header, self.read_at(at, header.packet_len))
         if isinstance(what, (ch11.Program, ch11.End)):
             self.channel(what.channel).take(what)
         return fault is None
@@ -101,12 +130,12 @@ class Index:
 
     def behind_damage(self, at: int) -> int:
         """Tells a damaged place: where packets go on."""
-        reader = ch11.Reader(self.file, begin=at)
-        found = reader.next()
+        self.reader.go_to(at)
+        found = self.reader.next()
         if isinstance(found, ch11.Fault):
-            self.tell_fault(found, reader.search())
+            self.tell_fault(found, self.reader.search())
         # Where there is nothing any more, the file was cut meanwhile.
-        return self.size if found is None else reader.at
+        return self.size if found is None else self.reader.at
 
     def tell_fault(self, fault: ch11.Fault, length: int) -> None:
         """Tells bytes that are left out."""
@@ -116,11 +145,12 @@ class Index:
     def body(self, place: Place) -> Optional[bytes]:
         """The data of a packet of frames; None where they are none or damaged, which is told."""
         packet = self.read_at(place.at, place.length)
+        self.done += place.length
         if len(packet) < place.length:
             self.tell_fault(ch11.Fault(1, "Truncated", place.at), len(packet))
             return None
         header = header_of(packet)
-        what, fault = body_fault(header, packet, True)
+        what, fault = body_of(header, packet)
         if fault is not None:
             self.tell_fault(ch11.Fault(*fault, place.at), place.length)
         return packet[HEADER_LEN : HEADER_LEN + header.data_len] if isinstance(what, ch11.Frames) else None

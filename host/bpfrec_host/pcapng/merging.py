@@ -1,19 +1,29 @@
-"""The blocks of a capture: those that describe it, and the frames of all slices, merged by time."""
+"""The blocks of a capture: those that describe it, and the frames of all slices, in the order in which they came."""
 
 from __future__ import annotations
 
 import heapq
 import os
-from typing import Iterable, Iterator, NamedTuple, Optional
+from collections import Counter
+from typing import Iterable, Iterator, NamedTuple, Optional, Union
 
 from bpfrec_host.filter_texts import Texts
 from bpfrec_host.formats import pcapng_blocks
 from bpfrec_host.formats.ch11 import Program
+from bpfrec_host.formats.facts import Origin
+from bpfrec_host.formats.limits import NANOSECONDS_A_TICK
 from bpfrec_host.pcapng.index import Index
 from bpfrec_host.pcapng.slices import Frame, Slice
 from bpfrec_host.pcapng.times import Range, Times
 
 PROGRAM = "bpfrec-pcapng"
+
+
+class Recorder(NamedTuple):
+    """What recorded a channel: the host and its interface, by the facts; or an unknown one, of a recording alone."""
+
+    source: str
+    interface: Optional[str]
 
 
 class Recording(NamedTuple):
@@ -23,25 +33,43 @@ class Recording(NamedTuple):
     times: Times
     ranges: list[Range]
 
+    def interface_of(self, channel: int) -> Optional[str]:
+        """The interface that was a channel, by the facts."""
+        return self.times.facts.interfaces.get(channel) if self.times.facts else None
+
+    def recorder_of(self, channel: int) -> Recorder:
+        """What recorded a channel. Recordings without facts may be of any recorders."""
+        if self.times.facts is None:
+            return Recorder(os.path.basename(self.headers.path), self.headers.path)
+        return Recorder(self.times.facts.host, self.interface_of(channel))
+
+    def channels_of(self, asked: Union[int, str]) -> set[int]:
+        """The channels of an ID, or of an interface."""
+        return {it for it in self.headers.channels if asked in (it, self.interface_of(it))}
+
+
+class Part(NamedTuple):
+    """What a recording has of an interface."""
+
+    recording: Recording
+    slice: Slice
+
 
 class Interface:
-    """A channel of all recordings, which is an interface of the capture."""
+    """A channel of one recorder, which is an interface of the capture; its recordings may follow one another."""
 
     def __init__(self, number: int, channel: int, recordings: list[Recording]) -> None:
         self.number, self.channel = number, channel
-        self.recordings = recordings
-        self.slices = [Slice(it.headers, channel, it.ranges) for it in recordings]
+        self.parts = [Part(it, Slice(it.headers, channel, it.ranges)) for it in recordings]
         # The program that was told last.
-        self.told = next((it for it in map(first_program, self.slices) if it), None)
-
-    def name(self) -> str:
-        """The interface's name by the facts, or else the channel's."""
-        known = (it.times.facts.interfaces.get(self.channel) for it in self.recordings if it.times.facts)
-        return next((it for it in known if it), f"channel {self.channel}")
+        self.told = next((it for it in (first_program(part.slice) for part in self.parts) if it), None)
+        first = recordings[0]
+        self.name = first.interface_of(channel) or f"channel {channel}"
+        self.source = first.recorder_of(channel).source
 
     def counts(self) -> str:
         """How many frames were offered and kept, by the records of the channel's ends."""
-        found = [it.channel.end for it in self.slices]
+        found = [it.slice.channel.end for it in self.parts]
         ends = [it for it in found if it]
         if not ends:
             return f"channel {self.channel}: no end record"
@@ -49,15 +77,17 @@ class Interface:
         lacking = f", and {len(found) - len(ends)} recordings without its end" if len(found) > len(ends) else ""
         return f"channel {self.channel}: {told}{lacking}"
 
-    def description(self, texts: Texts) -> bytes:
-        """The block that describes it: its name, its counts and its first program."""
+    def description(self, texts: Texts, is_alone: bool) -> bytes:
+        """The block that describes it: its name, also by its recorder unless it is alone, its counts and its first
+        program."""
         # One comment, since some programs show no second.
         told = [self.counts()] + ([program_text(self.told, texts)] if self.told else [])
-        return pcapng_blocks.interface(self.name(), f"channel {self.channel}", ["\n".join(told)])
+        name = self.name if is_alone else f"{self.name} of {self.source}"
+        return pcapng_blocks.interface(name, f"channel {self.channel}", ["\n".join(told)])
 
-    def change(self, at: int, frame: Frame) -> Optional[Program]:
+    def change(self, part: Part, frame: Frame) -> Optional[Program]:
         """The program of a frame of a recording, where it is another one than was told last."""
-        programs = self.slices[at].channel.programs
+        programs = part.slice.channel.programs
         program = programs[frame.program] if frame.program >= 0 else None
         if program is None or program == self.told:
             return None
@@ -66,7 +96,7 @@ class Interface:
 
     def skipped(self) -> int:
         """How many frames no capture has."""
-        return sum(it.skipped for it in self.slices)
+        return sum(it.slice.skipped for it in self.parts)
 
 
 def first_program(chosen: Slice) -> Optional[Program]:
@@ -87,29 +117,59 @@ def recording_text(recording: Recording) -> str:
     return f"{name}: times {f'by its facts, of host {facts.host}' if facts else 'since counter 0, from 1970 on'}"
 
 
-def numbered(recording: Recording, at: int, interface: Interface) -> Iterator[tuple[int, int, int, Frame]]:
-    """The frames of an interface in a recording: each with its steady moment, and the numbers of both."""
-    number, steady_moment = interface.number, recording.times.steady_moment
-    for frame in interface.slices[at].frames():
-        yield steady_moment(frame.counter), number, at, frame
+def interfaces_of(recordings: list[Recording], asked: Optional[list[Union[int, str]]]) -> list[Interface]:
+    """The channels of recordings that are asked for by their IDs or interfaces, or else all, by recorder."""
+    found: dict[tuple[int, Recorder], list[Recording]] = {}
+    for it in recordings:
+        chosen = set(it.headers.channels) if asked is None else set().union(*map(it.channels_of, asked))
+        for channel in chosen:
+            found.setdefault((channel, it.recorder_of(channel)), []).append(it)
+    in_order = sorted(found.items(), key=lambda it: it[0][0])
+    return [Interface(number, channel, parts) for number, ((channel, _), parts) in enumerate(in_order)]
 
 
-def merged(recordings: list[Recording], interfaces: list[Interface]) -> Iterable[tuple[int, int, int, Frame]]:
-    """The frames of all slices by time; those of a channel stay in their order."""
-    streams = [numbered(it, at, each) for at, it in enumerate(recordings) for each in interfaces]
+# A frame with what it is sorted by, and where it stands.
+Sorted = tuple[int, Interface, Part, Frame]
+
+
+def numbered(interface: Interface, part: Part, first_moment: int) -> Iterator[Sorted]:
+    """The frames of an interface in a recording, each with its moment, as if that of counter 0 had always been so."""
+    for frame in part.slice.frames():
+        yield first_moment + frame.counter * NANOSECONDS_A_TICK, interface, part, frame
+
+
+def first_moments(recordings: list[Recording]) -> dict[tuple[str, int], int]:
+    """The moment of counter 0 of each run, by the last origin that any of its recordings knows: a clock that is set is
+    right from then on. Recordings of one run have the same host and the same first origin."""
+    known: dict[tuple[str, int], list[Origin]] = {}
+    for it in recordings:
+        known[run_of(it)] = max(known.get(run_of(it), []), it.times.known, key=len)
+    return {run: origins[-1].moment for run, origins in known.items()}
+
+
+def run_of(recording: Recording) -> tuple[str, int]:
+    """The run of a recorder that a recording is of."""
+    facts = recording.times.facts
+    return facts.host if facts else recording.headers.path, recording.times.known[0].moment
+
+
+def merged(recordings: list[Recording], interfaces: list[Interface]) -> Iterable[Sorted]:
+    """The frames of all slices in the order in which they came; those of a channel stay in their order."""
+    moments = first_moments(recordings)
+    streams = [numbered(it, part, moments[run_of(part.recording)]) for it in interfaces for part in it.parts]
     return heapq.merge(*streams, key=lambda it: it[0])
 
 
 def blocks(recordings: list[Recording], interfaces: list[Interface]) -> Iterator[bytes]:
     """The blocks of the capture; those from the second on that don't describe an interface are a frame each."""
-    texts = Texts()
+    texts, names = Texts(), Counter(it.name for it in interfaces)
     yield pcapng_blocks.section(PROGRAM, [recording_text(it) for it in recordings])
     for interface in interfaces:
-        yield interface.description(texts)
-    for _, number, at, frame in merged(recordings, interfaces):
-        moment = recordings[at].times.moment_of(frame.counter)
-        program = interfaces[number].change(at, frame)
+        yield interface.description(texts, names[interface.name] == 1)
+    for _, interface, part, frame in merged(recordings, interfaces):
+        moment = part.recording.times.moment_of(frame.counter)
+        program = interface.change(part, frame)
         options = b""
         if program or frame.marks:
             options = pcapng_blocks.packet_options(frame.marks, program_text(program, texts) if program else None)
-        yield pcapng_blocks.packet(number, moment, frame.bytes, options)
+        yield pcapng_blocks.packet(interface.number, moment, frame.bytes, options)

@@ -4,36 +4,25 @@ from __future__ import annotations
 
 import errno
 import os
-import stat
 import sys
 from typing import BinaryIO, Iterable
 
-from bpfrec_host.streams import Refused, force_folder_of
+from bpfrec_host.streams import STREAM, Refused, Taken, force_folder_of, input_at, refuse_overwriting
 
-STREAM = "-"
 # How many bytes are written at once.
 BUFFER_LEN = 1 << 20
 
 
-class Taken(Refused):
-    """An output that is there, and that may not be overwritten."""
-
-    status = 3
-
-
 def judge(path: str, inputs: Iterable[str], is_forced: bool) -> None:
-    """Refuses an output that is one of the inputs, one that is there, and a terminal."""
-    if path == STREAM:
-        if sys.stdout.isatty():
-            raise Refused("standard output is a terminal, which shows no capture")
-        return
-    if not os.path.exists(path):
-        return
-    for it in inputs:
-        if os.path.exists(it) and os.path.samefile(path, it):
-            raise Taken(f"{path}: it is {it} itself")
-    if stat.S_ISREG(os.stat(path).st_mode) and not is_forced:
-        raise Taken(f"{path} is there: give it another name, or --force")
+    """Refuses an output that is one of the inputs, also standard output, one that is there, and a terminal."""
+    if path == STREAM and sys.stdout.isatty():
+        raise Refused("standard output is a terminal, which shows no capture")
+    names = list(inputs)
+    for out in (path, STREAM):
+        taken = input_at(out, names)
+        if taken:
+            raise Taken(f"{out}: it is {taken} itself")
+    refuse_overwriting(path, is_forced)
 
 
 def create(path: str) -> BinaryIO:

@@ -32,8 +32,8 @@ class Slice:
         self.index, self.number, self.ranges = index, number, ranges
         self.channel = index.channels.get(number) or Channel()
         self.packets = places_in(self.channel.packets, ranges)
-        # How many frames are none with their check sequence, so that no capture has them; how many bytes are read.
-        self.skipped, self.done = 0, 0
+        # How many frames are none with their check sequence, so that no capture has them.
+        self.skipped = 0
 
     def size(self) -> int:
         """How many bytes its packets have."""
@@ -43,7 +43,6 @@ class Slice:
         """The frames, in the order of the recording, with one packet in memory."""
         for place in self.packets:
             data = self.index.body(place)
-            self.done += place.length
             if data is not None:
                 yield from self.frames_in(data, place.program)
 

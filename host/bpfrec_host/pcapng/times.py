@@ -38,7 +38,8 @@ def time_of(word: str) -> Time:
         rest = int((found[2] or "").ljust(9, "0"))
         return Time(int(found[1]) * NANOSECONDS_A_SECOND + rest, False)
     if not word.endswith("Z"):
-        raise argparse.ArgumentTypeError(f"{word} is no time, as 12.5 or 2025-12-01T12:00:00.25Z")
+        takes = "seconds since counter 0, or UTC with its date"
+        raise argparse.ArgumentTypeError(f"{word} is no time, as 12.5 or 2025-12-01T12:00:00.25Z: {takes}")
     return Time(moment_of(word), True)
 
 
@@ -47,7 +48,9 @@ class Times:
 
     def __init__(self, path: str, facts: Optional[Facts]) -> None:
         self.path, self.facts = path, facts
+        # Those that hold for some counter, and all that are known.
         self.origins = [NO_ORIGIN] if facts is None else facts.holding
+        self.known = [NO_ORIGIN] if facts is None else facts.origins
 
     def ranges(self, since: Optional[Time], until: Optional[Time]) -> list[Range]:
         """The counters whose times are from one on and before another, of each origin."""
@@ -73,10 +76,6 @@ class Times:
                 f"{self.path}: counter {counter} is {'before' if moment < 0 else 'past'} the times of a capture"
             )
         return moment
-
-    def steady_moment(self, counter: int) -> int:
-        """The moment of a counter, as if the clock had never been set: it rises with the counter."""
-        return self.origins[0].moment + counter * NANOSECONDS_A_TICK
 
 
 def counter_at(time: Time, origin: Origin) -> int:

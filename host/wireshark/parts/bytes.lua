@@ -38,8 +38,15 @@ local PIECE, MOST_HELD, MOST_IN_ROW = 65536, 1048576, 65536
 local MOST_LENGTH = 2147483647
 -- So many sequence numbers may be missing before a packet that is found by itself.
 local MOST_MISSING = 16
+-- So many bytes of data may be judged in vain in searches, and so many more for each byte that is passed over. The data
+-- of headers that lead to no other may use half of them, so that what is whole behind such headers is still found.
+local MOST_SPARE, SPARE_A_BYTE = 4194304, 4
 -- So many bytes are judged in a search before its damaged place gets a row; what follows is another row.
-local MOST_JUDGED = 268435456
+local MOST_JUDGED = 4194304
+-- So many bytes of packets that are longer than a search takes are summed in vain.
+local MOST_LONG = 268435456
+-- Sums are made of blocks so long; how many are kept before those behind are forgotten.
+local BLOCK, MOST_BLOCKS = 64, 65536
 -- A damaged beginning of a recording may be so long.
 local MOST_BEGINNING = 1048576
 
@@ -68,8 +75,8 @@ function Window.new()
   return setmetatable({ begin = 0, data = "" }, Window)
 end
 
--- Up to `count` bytes at a place, which are fewer where the file ends. What is held before them stays.
-function Window:bytes(at, count)
+-- Reads on until `count` bytes at a place are held, or the file ends: whether they are. What is held before them stays.
+function Window:fill(at, count)
   if at < self.begin or at > self.begin + #self.data then
     self.begin, self.data = at, ""
   end
@@ -84,6 +91,12 @@ function Window:bytes(at, count)
     end
     self.data = self.data .. piece
   end
+  return self.begin + #self.data >= at + count
+end
+
+-- Up to `count` bytes at a place, which are fewer where the file ends.
+function Window:bytes(at, count)
+  self:fill(at, count)
   return sub(self.data, at - self.begin + 1, at - self.begin + count)
 end
 
@@ -92,8 +105,11 @@ function Window:has(at)
   return #self:bytes(at, 1) == 1
 end
 
--- Lets go what stands before a place.
+-- Lets go what stands before a place, where it is much.
 function Window:drop(at)
+  if at >= self.begin and at - self.begin < PIECE then
+    return
+  end
   local is_near = at >= self.begin and at <= self.begin + #self.data
   self.begin, self.data = at, is_near and sub(self.data, at - self.begin + 1) or ""
 end

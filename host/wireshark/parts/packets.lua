@@ -19,23 +19,74 @@ local function word_sum(data)
   return total % 4294967296
 end
 
--- Whether the data checksum of a packet is the sum of its data.
-local function has_right_sum(window, packet)
-  local at, stop, total = packet.at + HEADER_LEN, packet.at + packet.packet_len - CHECKSUM_LEN, 0
-  if packet.packet_len <= MOST_HELD then
-    local data = packet.data
-    return word_sum(sub(data, HEADER_LEN + 1, -CHECKSUM_LEN - 1)) == number32(data, #data - CHECKSUM_LEN)
+-- Sums of many parts of the same bytes: by blocks, each of which is summed once, for words that begin at each of the four
+-- places of a word.
+local Sums = {}
+Sums.__index = Sums
+
+function Sums.new()
+  -- The place up to which packets that may be wrong were summed, and how many bytes of long ones may still be.
+  return setmetatable({ totals = {}, stop = 0, long = MOST_LONG }, Sums)
+end
+
+-- The sums of the blocks from a first one up to each, of which all up to the block `high` are known then.
+function Sums:known(window, turn, low, high)
+  local totals = self.totals[turn]
+  if not totals or not totals[low] or low - totals.first > MOST_BLOCKS then
+    totals = { first = low, last = low, [low] = 0 }
+    self.totals[turn] = totals
   end
+  for block = totals.last, high - 1 do
+    totals[block + 1] = (totals[block] + word_sum(window:bytes(block * BLOCK + turn, BLOCK))) % 4294967296
+  end
+  totals.last = max(totals.last, high)
+  return totals
+end
+
+-- The sum of the bytes from one place up to another, which are whole words.
+function Sums:of_part(window, begin, stop)
+  local turn = begin % 4
+  local low, high = floor((begin - turn + BLOCK - 1) / BLOCK), floor((stop - turn) / BLOCK)
+  if low >= high then
+    return word_sum(window:bytes(begin, stop - begin))
+  end
+  local totals, ahead, behind = self:known(window, turn, low, high), low * BLOCK + turn, high * BLOCK + turn
+  local ends = word_sum(window:bytes(begin, ahead - begin)) + word_sum(window:bytes(behind, stop - behind))
+  return (ends + totals[high] - totals[low]) % 4294967296
+end
+
+-- The sum of the bytes from one place up to another, which aren't held at once; nothing where the file ends before.
+local function long_sum(window, at, stop)
+  local total = 0
   while at < stop do
     local piece = window:bytes(at, min(PIECE, stop - at))
     if #piece < min(PIECE, stop - at) then
-      return false
+      return
     end
     total, at = (total + word_sum(piece)) % 4294967296, at + #piece
     window:drop(at)
   end
+  return total
+end
+
+-- Whether the data checksum of a packet is the sum of its data. Bytes that a wrong one before had are summed by blocks,
+-- so that such packets may overlap.
+local function has_right_sum(window, packet, sums)
+  local at, length, sum = packet.at + HEADER_LEN, packet.packet_len, nil
+  local stop = packet.at + length - CHECKSUM_LEN
+  if length > MOST_HELD then
+    sum = sums.long > 0 and long_sum(window, at, stop)
+    sums.long = sums.long - length
+  elseif at < sums.stop then
+    sum = sums:of_part(window, at, stop)
+  else
+    sum = word_sum(window:bytes(at, stop - at))
+  end
+  sums.stop = max(sums.stop, min(stop, packet.at + MOST_HELD))
   local last = window:bytes(stop, CHECKSUM_LEN)
-  return #last == CHECKSUM_LEN and number32(last, 0) == total
+  local is_right = #last == CHECKSUM_LEN and number32(last, 0) == sum
+  sums.long = sums.long + (is_right and length > MOST_HELD and length or 0)
+  return is_right
 end
 
 local function header_of(head)
@@ -132,26 +183,38 @@ local function take_record(packet)
   packet.of = channel
 end
 
+-- Whether the data of a packet may be frames or a record.
+local function has_judged_data(packet)
+  local is_record = packet.kind == COMPUTER_DATA and packet.channel == 0
+  return is_plain(packet.flags) and (packet.kind == ETHERNET_DATA or is_record)
+end
+
 -- Finds what a packet holds: its fault, where it has one.
-local function take_body(window, packet, is_summed)
-  local fault
+local function take_data(packet)
   packet.what, packet.count = "other", 0
-  if is_plain(packet.flags) and packet.kind == ETHERNET_DATA then
-    fault = take_frames(packet)
-  elseif is_plain(packet.flags) and packet.kind == COMPUTER_DATA and packet.channel == 0 then
-    fault = take_record(packet)
+  if not has_judged_data(packet) then
+    return
+  elseif packet.kind == ETHERNET_DATA then
+    return take_frames(packet)
   end
+  return take_record(packet)
+end
+
+-- The same with its data checksum, where there are sums.
+local function take_body(window, packet, sums)
+  local fault = take_data(packet)
   if packet.what == "other" and not fault then
     return
   end
-  if is_summed and is_summed_by(packet.flags) and not has_right_sum(window, packet) then
+  if sums and is_summed_by(packet.flags) and not has_right_sum(window, packet, sums) then
     return WRONG_SUM
   end
   return fault
 end
 
--- The packet that begins at a place, of at most `most` bytes, or its fault; nothing where the file ends there.
-local function judged(window, at, most, is_summed)
+-- The packet that begins at a place, or its fault; nothing where the file ends there. Without sums its data checksum
+-- isn't judged.
+local function judged(window, at, sums)
   local head = window:bytes(at, HEADER_LEN)
   if #head < HEADER_LEN then
     return nil, #head > 0 and TRUNCATED or nil
@@ -162,16 +225,15 @@ local function judged(window, at, most, is_summed)
   end
   local packet = header_of(head)
   local length = packet.packet_len
-  if length > most then
+  local held = min(length, MOST_HELD)
+  if not window:fill(at, held) or length > MOST_HELD and not window:has(at + length - 1) then
     return nil, TRUNCATED
   end
-  packet.at, packet.data = at, window:bytes(at, min(length, MOST_HELD))
-  if #packet.data < min(length, MOST_HELD) or length > MOST_HELD and not window:has(at + length - 1) then
-    return nil, TRUNCATED
-  end
-  fault = take_body(window, packet, is_summed)
+  packet.at, packet.data = at, window:bytes(at, min(HEADER_LEN + packet.data_len, MOST_HELD))
+  fault = take_body(window, packet, sums)
   if fault then
     return nil, fault
   end
+  packet.data = window:bytes(at, held)
   return packet
 end

@@ -157,7 +157,7 @@ function Recording:row_at(frame, place)
   local at = index_up_to(self.places, place)
   if not self.again or self.again.at ~= self.places[at] then
     self.window:drop(self.places[at])
-    self.again = judged(self.window, self.places[at], ANY_LENGTH, false)
+    self.again = judged(self.window, self.places[at])
   end
   local packet = self.again
   if packet and packet.count == 0 then

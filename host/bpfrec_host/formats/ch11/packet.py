@@ -3,7 +3,7 @@
 from __future__ import annotations
 
 import struct
-from typing import NamedTuple, Optional, Union
+from typing import Callable, NamedTuple, Optional, Union
 
 from bpfrec_host.formats.ch11.body import BadBody, What, frames_in, record_in
 from bpfrec_host.formats.limits import (
@@ -55,6 +55,11 @@ class Header(NamedTuple):
         """Whether it has no secondary header, and no data checksum or one of 32 bits."""
         return not self.flags & SECONDARY_HEADER and self.flags & CHECKSUM in (0, CHECKSUM)
 
+    def has_judged_data(self) -> bool:
+        """Whether its data may be frames or a record."""
+        is_record = self.kind == COMPUTER_GENERATED_DATA and self.channel == RECORD_CHANNEL
+        return self.is_plain() and (self.kind == ETHERNET_DATA or is_record)
+
     def has_checksum(self) -> bool:
         """Whether a data checksum of 32 bits ends the packet."""
         return self.flags & CHECKSUM == CHECKSUM
@@ -101,19 +106,24 @@ def has_right_sum(packet: Union[bytes, bytearray]) -> bool:
     return word_sum(body[:-CHECKSUM_LEN]) == int.from_bytes(body[-CHECKSUM_LEN:], "little")
 
 
-def header_fault(head: bytes) -> Optional[tuple[int, str]]:
-    """The fault of 24 bytes that are no header, as its number and name; None where they are one."""
-    words = WORDS.unpack_from(head)
+def header_or_fault(head: bytes) -> Union[Header, tuple[int, str]]:
+    """The header that 24 bytes are, or the fault of those that are none, as its number and name."""
     if head[:2] != SYNC:
         return 2, "Sync"
-    if sum(words) & 0xFFFF != head[22] | head[23] << 8:
+    if sum(WORDS.unpack_from(head)) & 0xFFFF != head[22] | head[23] << 8:
         return 3, "Checksum"
     header = header_of(head)
     room = header.packet_len - HEADER_LEN - (CHECKSUM_LEN if header.has_checksum() else 0)
     is_long = header.kind == ETHERNET_DATA and header.packet_len > MAX_ETHERNET_PACKET_LEN
     if header.packet_len % 4 or room < 0 or header.data_len > room or is_long:
         return 4, "Length"
-    return None
+    return header
+
+
+def header_fault(head: bytes) -> Optional[tuple[int, str]]:
+    """The fault of 24 bytes that are no header; None where they are one."""
+    found = header_or_fault(head)
+    return None if isinstance(found, Header) else found
 
 
 def header_of(head: bytes) -> Header:
@@ -124,24 +134,22 @@ def header_of(head: bytes) -> Header:
 
 def what_in(header: Header, data: bytes) -> What:
     """What a packet of this header holds; None where it is another's."""
-    if header.is_plain() and header.kind == ETHERNET_DATA:
-        return frames_in(data)
-    if header.is_plain() and header.kind == COMPUTER_GENERATED_DATA and header.channel == RECORD_CHANNEL:
-        return record_in(data)
-    return None
+    if not header.has_judged_data():
+        return None
+    return frames_in(data) if header.kind == ETHERNET_DATA else record_in(data)
 
 
-def body_fault(header: Header, packet: bytes, is_summed: bool) -> tuple[What, Optional[tuple[int, str]]]:
-    """What a packet holds, and the fault of its body, as its number and name. Its data are summed where `is_summed`
-    says so."""
+def body_fault(header: Header, data: bytes, is_sum_right: Callable[[], bool]) -> tuple[What, Optional[tuple[int, str]]]:
+    """What a packet holds, and the fault of its body, as its number and name. Of another's packet the data checksum
+    isn't judged."""
     what: What = None
     fault: Optional[tuple[int, str]] = None
     try:
-        what = what_in(header, packet[HEADER_LEN : HEADER_LEN + header.data_len])
+        what = what_in(header, data)
     except BadBody:
         fault = 5, "Body"
     if what is None and fault is None:
         return None, None
-    if is_summed and header.has_checksum() and not has_right_sum(packet):
+    if header.has_checksum() and not is_sum_right():
         return None, (8, "DataChecksum")
     return what, fault

@@ -5,11 +5,18 @@ Places are those of a file. A sum is that of little-endian words of 32 bits, mod
 
 from __future__ import annotations
 
+import struct
+
 from bpfrec_host.formats.ch11.packet import word_sum
 
-WORD_LEN, BLOCK = 4, 4096
+WORD_LEN, BLOCK = 4, 256
 # How many blocks are kept before those behind are forgotten.
-MOST_BLOCKS = 1024
+MOST_BLOCKS = 1 << 14
+
+
+def short_sum(part: memoryview) -> int:
+    """The sum of the words of at most a block."""
+    return sum(struct.unpack(f"<{len(part) // WORD_LEN}I", part))
 
 
 class BlockSums:
@@ -27,11 +34,13 @@ class BlockSums:
         low, high = -(-(begin - turn) // BLOCK), (end - turn) // BLOCK
         if low >= high:
             return word_sum(held[begin - at : end - at])
-        self.know(held, at, turn, low, high)
         totals, first = self.totals[turn], self.first[turn]
+        if not first <= low <= high < first + len(totals):
+            self.know(held, at, turn, low, high)
+            totals, first = self.totals[turn], self.first[turn]
         ahead = held[begin - at : low * BLOCK + turn - at]
         behind = held[high * BLOCK + turn - at : end - at]
-        return (word_sum(ahead) + totals[high - first] - totals[low - first] + word_sum(behind)) % (1 << 32)
+        return (short_sum(ahead) + totals[high - first] - totals[low - first] + short_sum(behind)) % (1 << 32)
 
     def know(self, held: memoryview, at: int, turn: int, low: int, high: int) -> None:
         """Sums the blocks up to one that weren't; those far behind are forgotten."""
@@ -43,4 +52,4 @@ class BlockSums:
         totals = self.totals[turn]
         for block in range(self.first[turn] + len(totals) - 1, high):
             begin = block * BLOCK + turn - at
-            totals.append(totals[-1] + word_sum(held[begin : begin + BLOCK]))
+            totals.append(totals[-1] + short_sum(held[begin : begin + BLOCK]))

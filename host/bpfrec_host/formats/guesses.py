@@ -1,0 +1,35 @@
+"""What a file may be that isn't what a tool reads, by its first bytes."""
+
+from __future__ import annotations
+
+import os
+
+from bpfrec_host.formats.ch11.packet import SYNC, header_fault
+from bpfrec_host.formats.limits import HEADER_LEN
+from bpfrec_host.formats.pcap import begins_classic
+from bpfrec_host.formats.pcapng import begins_pcapng
+
+# So many of a file's first bytes are looked at.
+HEAD_LEN = 64
+
+
+def begins_recording(head: bytes) -> bool:
+    """Whether bytes begin with the header of a packet."""
+    return len(head) >= HEADER_LEN and head[: len(SYNC)] == SYNC and header_fault(head[:HEADER_LEN]) is None
+
+
+def guess_of(head: bytes) -> str:
+    """What a file may be that is no recording, as a remark; none where that isn't known."""
+    if len(head) >= 4 and begins_classic(head[:4]):
+        return " (a pcap capture?)"
+    if len(head) >= 4 and begins_pcapng(head[:4]):
+        return " (a pcapng capture?)"
+    return " (a text?)" if head and head.isascii() and b"\0" not in head else ""
+
+
+def guess_at(path: str) -> str:
+    """The same of a file by its path; a pipe can't be read again."""
+    if not os.path.isfile(path):
+        return ""
+    with open(path, "rb") as file:
+        return guess_of(file.read(HEAD_LEN))
