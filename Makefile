@@ -38,7 +38,7 @@ trials: ## what runs the built program, its tools, interfaces and disks; one alo
 covered: build ## which lines of host/bin/live its trials run, 90 of 100 at least: ten minutes, in no other target
 	@dev/trials/covered.py
 
-test: ## all proofs, all tests and stored runs, over kept work, and the edits of what changed
+test: ## the proofs of what is shipped, all tests and stored runs, over kept work, and the edits of what changed
 	@dev/build/test.py $(if $(EDITS_WITHIN),--edits-within $(EDITS_WITHIN))
 
 gate: ## everything from nothing by the toolchain's gate: proofs, every edit, tests, two compilers

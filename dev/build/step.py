@@ -5,6 +5,8 @@
   program   proves the program, builds it at out/CRATE and runs it on its stored input
   twice     the same as two compilers build it, each run
   tests     proves CRATE with its tests, builds them and runs each
+  tried     compiles CRATE's tests, or a program that is not shipped, with checks and WITHOUT proof, and runs it as
+            `tests` and `program` do: an overflow, an index out of bounds or what is never reached ends it
   edits     tries the crate's edits of the part WORDS, as 2/3; the prover must refuse each
 
 What was never proved here is proved as a whole, and of a library the crates above it read what it states
@@ -25,6 +27,7 @@ import tempfile
 from groups import grouped, tried_together
 from repository import crates, edits_of, hash_of, toolchain
 from steps import Step
+from unproved import compiled
 
 rt = toolchain()
 rtlib = rt.rtlib
@@ -183,7 +186,26 @@ def tests(crate, flags, _words):
     return status or (0 if rt.run(crate, True) else 1)
 
 
-def tried(crate, mine, flags, kept):
+def tried(crate, flags, _words):
+    is_tests = not crate.is_program
+    made = f"{crate.folder}/out/{crate.name}{'_tests' * is_tests}"
+    could, said = compiled(crate, made, is_tests, int(flags[1]))
+    if not could:
+        print(said)
+    if not could or text_fault(crate):
+        return 1
+    return 0 if rt.run(crate, is_tests) else 1
+
+
+def text_fault(crate):
+    """Whether the text of tests has what it may not have; it is told."""
+    faults = list(text_faults(crate))
+    for it in faults:
+        print(f"rt: {crate.name}: {it}")
+    return bool(faults)
+
+
+def verdicts_of(crate, mine, flags, kept):
     """Tries edits, some in one check and the others alone: each with its verdict and what to say."""
     found = {}
     for group in grouped(crate.folder, mine):
@@ -207,7 +229,7 @@ def edits(crate, _flags, words):
     with tempfile.TemporaryDirectory(prefix="rt-edits-") as room:
         kept = f"{room}/kept"
         shutil.copytree(f"{crate.folder}/out/incremental", kept)
-        verdicts = tried(crate, mine, flags, kept)
+        verdicts = verdicts_of(crate, mine, flags, kept)
         whole = rt.checked(crate, {}, [*flags, *[LOOKS_FOR_EMPTY] * (part == 1)], kept)
     for edit in mine:
         verdict, text = verdicts[edit]
@@ -222,7 +244,7 @@ def edits(crate, _flags, words):
 
 
 def main():
-    kinds = {"library": library, "program": program, "twice": twice, "tests": tests, "edits": edits}
+    kinds = {"library": library, "program": program, "twice": twice, "tests": tests, "tried": tried, "edits": edits}
     parser = argparse.ArgumentParser(description=__doc__, formatter_class=argparse.RawDescriptionHelpFormatter)
     parser.add_argument("kind", choices=kinds, metavar="KIND")
     parser.add_argument("crate", choices=crates(), metavar="CRATE")

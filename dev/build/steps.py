@@ -15,6 +15,8 @@ from repository import ROOT, UNTESTED, below, crates, edits_of, hash_of, is_prog
 
 LOGS = ROOT / "bin" / "steps"
 COSTS = ROOT / "dev" / "build" / "costs.txt"
+# The program that is shipped; all others are tests.
+SHIPPED = "bpfrec"
 # How many edits one step tries.
 EDITS_A_STEP = 16
 # How much of a step that doesn't tell its functions may seem to be done before it has ended.
@@ -77,6 +79,7 @@ class Step:
     def name(self):
         """The step in words."""
         says = {"library": "{}", "program": "{}, built", "twice": "{}, built twice", "tests": "tests of {}"}
+        says["tried"] = "{}, not proved"
         return says.get(self.kind, "edits of {}").format(self.crate)
 
     def is_done(self):
@@ -139,12 +142,21 @@ def steps_for(names, kept=()):
     return [Step("library", it, waits=[f"library-{dep}" for dep in below(it)], keeps=it in kept) for it in wanted]
 
 
-def all_steps(kept):
-    """A step for each library, each program and each crate of tests; `kept` as in steps_for."""
+def all_steps(kept, proves_tests=False):
+    """A step for each library, each program and each crate of tests; `kept` as in steps_for. The tests' own code, and
+    programs that are not shipped, are compiled with checks and run, or proved too."""
     others = [it for it in crates() if it not in UNTESTED and it not in libraries()]
     waits = lambda it: [f"library-{dep}" for dep in below(it)]
-    kind = lambda it: "twice" if is_program(it) else "tests"
-    return [*steps_for(libraries(), kept), *(Step(kind(it), it, waits=waits(it)) for it in others)]
+    return [*steps_for(libraries(), kept), *(other_step(it, waits(it), proves_tests) for it in others)]
+
+
+def other_step(name, waits, proves_tests):
+    """The step of a program or of a crate of tests. What is only compiled waits for no proof."""
+    if name == SHIPPED:
+        return Step("twice" if proves_tests else "program", name, waits=waits)
+    if proves_tests:
+        return Step("twice" if is_program(name) else "tests", name, waits=waits)
+    return Step("tried", name)
 
 
 def edit_steps(name, turn, may_be_left=False):

@@ -1,6 +1,8 @@
 #!/usr/bin/env python3
-"""Proves every crate, runs all tests and stored runs, and tries the edits of what changed.
+"""Proves what is shipped, runs all tests and stored runs, and tries the edits of what changed.
 
+What is proved is each library, with the theorem and the callers that stand on it, and the program. The tests' own code
+is compiled with checks and run; --proves-tests proves it too, as make gate does, and builds programs by both compilers.
 Over the work that each crate's out/ keeps, so on a fresh checkout it proves all from nothing, and later what changed.
 A crate's edits are tried where dev/build/edits_seen.txt doesn't have the sum of all that they depend on: each must be
 refused by the prover, and then the sum is written there, to be committed; a run that is interrupted writes those that
@@ -50,6 +52,7 @@ def parse_words():
         prog="dev/build/test.py", description=__doc__, formatter_class=argparse.RawDescriptionHelpFormatter
     )
     parser.add_argument("--keep-costs", action="store_true", help="writes dev/build/costs.txt")
+    parser.add_argument("--proves-tests", action="store_true", help="proves the tests' own code, too")
     edits = parser.add_mutually_exclusive_group()
     edits.add_argument("--edits", action="store_true", help="tries all edits")
     edits.add_argument("--no-edits", action="store_true", help="tries none")
@@ -76,7 +79,7 @@ def main():
     words, began = parse_words(), time.monotonic()
     checks = [(it, subprocess.run([ROOT / it]).returncode) for it in CHECKS]
     tries = steps_of_edits(words)
-    steps = [*all_steps({it.crate for it in tries}), *tries]
+    steps = [*all_steps({it.crate for it in tries}, words.proves_tests), *tries]
     _ = toolchain().rtlib.lock(list(crates().values()))
     until = None if words.edits_within is None else began + 60 * words.edits_within
     try:
