@@ -26,7 +26,7 @@ build: ## proves the program and all that it stands on: bin/bpfrec, and bin/capt
 capture: ## bin/capture alone, which makes feeds of interfaces; it needs libpcap-dev
 	@$(MAKE) -s -C capture
 
-quick: ## all tests, compiled with checks and run, with no proof: minutes, also on a fresh checkout
+quick: ## all tests of the crates, with no proof, and the trials without root: minutes, also on a fresh checkout
 	@dev/build/quick.py
 
 crate: ## one crate: its proof, its edits that must fail, its tests: make crate C=rec_lane
