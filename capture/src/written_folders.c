@@ -96,9 +96,10 @@ static void cut_to_folder(char path[PATH_MAX]) {
     while (is_link_beside(path));
 }
 
-/* Folders of what isn't a file of anybody's: what stands there is allowed alone. */
-static int is_of_devices(const char *folder) {
-    return strcmp(folder, "/dev") == 0 || strcmp(folder, "/dev/fd") == 0 || strncmp(folder, "/proc", 5) == 0;
+/* Folders that hold devices or all that there is: what stands there is allowed alone. */
+static int holds_others(const char *folder) {
+    return strcmp(folder, "/") == 0 || strcmp(folder, "/dev") == 0 || strcmp(folder, "/dev/fd") == 0 ||
+           strncmp(folder, "/proc", 5) == 0;
 }
 
 /* Allows to make files and write them in the folder of a path, and below, and to write what the path names. */
@@ -112,7 +113,7 @@ static void allow_path(int ruleset, const char *path, const struct ruleset *refu
         close(fd);
     }
     cut_to_folder(folder);
-    fd = is_of_devices(folder) ? -1 : open(folder, O_PATH | O_DIRECTORY | O_CLOEXEC);
+    fd = holds_others(folder) ? -1 : open(folder, O_PATH | O_DIRECTORY | O_CLOEXEC);
     if (fd < 0)
         return;
     struct rule rule = {refused->files & (WRITE_FILE | TRUNCATE | MAKE_FILE), fd};

@@ -4,6 +4,7 @@ Builds under sanitizers are others, so they are not tried by this."""
 import ctypes
 import os
 import re
+import tempfile
 from pathlib import Path
 
 import pytest
@@ -179,6 +180,19 @@ def test_a_device_as_feed_opens_no_other_device(work: Path, tried_calls: Path) -
     running.interrupt()
     status, told = running.ended()[0], running.told()
     judge("another device isn't written", status == 0 and "tried open to be written: forbidden\n" in told, told)
+
+
+def test_a_feed_in_the_topmost_folder_opens_no_other_file(work: Path, tried_calls: Path) -> None:
+    if not has_landlock():
+        pytest.skip("the kernel has no Landlock")
+    (work / "other").touch()
+    with tempfile.NamedTemporaryFile(prefix="bpfrec_trial_", dir="/") as feed:
+        adds = {"LD_PRELOAD": str(tried_calls), "TRIED_FILE": str(work / "other")}
+        running = Running(work, CAPTURE, f"rx0={feed.name}", adds=adds)
+        running.wait_until_told("tried open to be made")
+        running.interrupt()
+        status, told = running.ended()[0], running.told()
+    judge("another file isn't written", status == 0 and "tried open to be written: forbidden\n" in told, told)
 
 
 # ---- a kernel without Landlock

@@ -84,7 +84,7 @@ def judge_tools(folder: Path, programs: Path) -> None:
     judge("salvage", by("salvage", "one.ch11", "kept.ch11")[1].endswith("lost 0 bytes at 0 places\n"))
     judge("convert", by("convert", "to-pcap", "one.feed", "one.pcap") == (0, "frames 60\n"))
     (folder / "one.ch11.json").write_text(FACTS)
-    told = by("convert", "to-pcap", "--facts", "one.ch11.json", "one.feed", "one.pcap")
+    told = by("convert", "to-pcap", "--force", "--facts", "one.ch11.json", "one.feed", "one.pcap")
     judge("convert finds what reads facts", told == (0, "frames 60\n"), told)
     told = by("info", "one.ch11")[1]
     judge("info too", "  first time                 2025-12-01T12:00:00.2500000Z\n" in told, told)
@@ -342,7 +342,9 @@ def test_the_unit_records_by_settings_that_are_installed(unpacked: Path) -> None
 
 def installed_words(text: str) -> list[str]:
     """What a document names that stands in the source tree alone."""
-    found = re.findall(r"(?<![\w/.-])(?:host|dev|crates|bench|capture|docs|man)/[\w./]+|\bmake (?:build|try|capture)\b", text)
+    found = re.findall(
+        r"(?<![\w/.-])(?:host|dev|crates|bench|capture|docs|man)/[\w./]+|\bmake (?:build|try|capture)\b", text
+    )
     return found + re.findall(r"(?<![\w/])bin/(?:bpfrec|capture)\b(?![-.\w])", text)
 
 

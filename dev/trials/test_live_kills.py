@@ -12,7 +12,18 @@ from pathlib import Path
 from typing import NamedTuple
 
 import pytest
-from recordings import RUN, Traffic, folder_of, is_recording, nothing_left, processes_of, recordings, runs, settings_of
+from recordings import (
+    RUN,
+    Traffic,
+    begin,
+    folder_of,
+    is_recording,
+    nothing_left,
+    processes_of,
+    recordings,
+    runs,
+    settings_of,
+)
 from support import BPFREC, CAPTURE, LIVE, Running, judge, judge_quietly, outcome, wait_for
 
 WANTED = {"bin/bpfrec": "make build", "bin/capture": "make build", "ip": "iproute2"}
@@ -177,3 +188,12 @@ def test_second_signal(work: Path, role: str) -> None:
     listed = outcome(BPFREC, "list", out)
     # Where the recorder had written nothing, OUT is removed.
     judge("and OUT is read, if it is there", listed.returncode == 0 if out.exists() else role == "recorder", listed)
+
+
+def test_a_signal_as_python_ends_changes_no_status(work: Path) -> None:
+    """Behind its last line live is there for a moment still, in which Python has its handlers taken away."""
+    late = "import builtins, os, signal\n\nclass Late:\n    def __del__(self):\n        os.kill(os.getpid(), signal.SIGINT)\n\n"
+    (work / "sitecustomize.py").write_text(f"{late}builtins.late = Late()\n")
+    running = begin(work, work / "late.ch11", "--quiet", adds={"PYTHONPATH": str(work)})
+    running.interrupt()
+    judge("status 0", running.ended()[0] == 0, running.told())

@@ -105,6 +105,17 @@ def test_the_next_recording_begins_where_one_may_follow_and_not_too_often(work: 
         judge_quietly(f"{it.name}: it is audited", facts["audit"][-1] == YES and is_approved(it), facts)
 
 
+def test_a_recording_that_is_not_on_its_disk_takes_no_others_place(work: Path) -> None:
+    """--keep counts those that are: else the last that are safe would be removed while the disk takes none."""
+    words = ["--quiet", "--every", 1, "--keep", 1]
+    running = begin(work, work / "bad.ch11", *words, adds=failing(work, 4, ALL))
+    wait_for("three fail", lambda: running.told().count("can't be forced") == 3, 20)
+    running.interrupt()
+    status, told = running.ended()[0], running.told()
+    safe = [it for it in recordings(work, "bad") if facts_of(it)["sync_fault"] is None]
+    judge("the last that is safe stays", status == 1 and len(safe) == 1 and safe[0].name not in told, told)
+
+
 def test_a_recording_that_is_not_on_its_disk_at_its_end_is_told(work: Path) -> None:
     out = work / "end.ch11"
     running = begin(work, out, "--quiet", "--sync", 1_000, adds=failing(work, 2, ALL))

@@ -1,5 +1,6 @@
 """Tries that no tool overwrites what is there unasked, and never what it reads, also as its standard output."""
 
+import os
 import shutil
 import subprocess
 from pathlib import Path
@@ -150,3 +151,14 @@ def test_a_recording_in_place_of_a_feed_is_refused_by_name(work: Path, command: 
     done = outcome(CONVERT, command, SAMPLES[1], *[work / "out"] * (command == "to-pcap"))
     told = f"convert: {SAMPLES[1]} is a recording: bpfrec extract makes a feed of it, or bpfrec-pcapng a capture\n"
     judge("refused", (done.returncode, done.stderr) == (1, told) and not (work / "out").exists(), done)
+
+
+@pytest.mark.parametrize("words", ["own.ch11 -", "- out < own.ch11"])
+def test_salvage_takes_no_standard_stream(work: Path, words: str) -> None:
+    """It made a file of the name `-`."""
+    shutil.copy(SAMPLES[0], work / "own.ch11")
+    done = outcome("sh", "-c", f"{SALVAGE} {words}", cwd=work)
+    told = "salvage: -: it is a standard stream, and salvage takes files\n"
+    judge(words, (done.returncode, done.stdout, done.stderr) == (3, "", told), done)
+    left = sorted(os.listdir(work))
+    judge("nothing is made", left == ["own.ch11", "private"], left)

@@ -15,11 +15,11 @@ WANTED = {"bin/bpfrec": "make build", "tshark": "tshark", "capinfos": "wireshark
 CHANNELS, PATIENCE = 65_535, 40
 
 
-def recording_at(path: Path, counters: list[int], mark: int, facts: dict | None = None) -> Path:
-    """A recording of channel 1, whose frames have a mark, with its facts."""
+def recording_at(path: Path, counters: list[int], mark: int, facts: dict | None = None, channel: int = 1) -> Path:
+    """A recording of a channel, whose frames have a mark, with its facts."""
     frames = [(it, 0, with_check_sequence(numbered(mark * 1_000 + at))) for at, it in enumerate(counters)]
-    packets = [packet_of(1, body_of([it]), at, FRAMES, it[0], True) for at, it in enumerate(frames)]
-    path.write_bytes(b"".join([program_packet(1, 0), *packets, end_packet(1, len(frames))]))
+    packets = [packet_of(channel, body_of([it]), at, FRAMES, it[0], True) for at, it in enumerate(frames)]
+    path.write_bytes(b"".join([program_packet(channel, 0), *packets, end_packet(channel, len(frames))]))
     if facts:
         Path(f"{path}.json").write_text(json.dumps(facts))
     return path
@@ -75,6 +75,48 @@ def test_a_clock_that_was_set_counts_as_right_among_recorders(work: Path) -> Non
     two = recording_at(work / "two.ch11", [10, 30, 50], 2, facts_by("fc2", "eth0"))
     _, seen = captured(work, one, two)
     judge("frames alternate", [it for it, _ in seen] == [0, 1, 0, 1, 0, 1], seen)
+
+
+def test_frames_stand_in_their_order_where_counters_begin_at_0_again(work: Path) -> None:
+    """Counters turn in the second recording of a run, as facts then say."""
+    whole, turn = 1 << 48, "1764590400.000000000"
+    before = [("1736442902.328934400", 0, None)]
+    after = [*before, (turn, 0, None), (before[0][0], whole >> 1, None)]
+    one = recording_at(work / "one.ch11", [whole - 40, whole - 30], 1, facts_by("fc1", "eth0", before))
+    two = recording_at(work / "two.ch11", [whole - 20, 10], 2, facts_by("fc1", "eth0", after))
+    three = recording_at(work / "three.ch11", [20, 30], 3, facts_by("fc1", "eth0", after))
+    _, seen = captured(work, three, one, two)
+    judge("in their order", [it for _, it in seen] == [1_000, 1_001, 2_000, 2_001, 3_000, 3_001], seen)
+
+
+def test_a_run_takes_no_origin_of_another_with_the_same_first_one(work: Path) -> None:
+    """Two recorders of one host with one origin, of which the second began once the clock had been set."""
+    set_on = [("1764590400.000000000", 0, None), ("1764594000.000000000", 15, "3600.000000000")]
+    hour = 3_600 * 10_000_000
+    one = recording_at(work / "one.ch11", [0, 20, 40], 1, facts_by("fc1", "eth0", set_on))
+    two = recording_at(work / "two.ch11", [hour + 10, hour + 30, hour + 50], 2, facts_by("fc1", "eth1"))
+    _, seen = captured(work, one, two)
+    judge("frames alternate", [it for it, _ in seen] == [0, 1, 0, 1, 0, 1], seen)
+
+
+def test_channels_of_feeds_are_of_their_runs(work: Path) -> None:
+    """Facts name no interface of a channel that has a feed: those of two runs stay apart."""
+    runs = [facts_by("fc1", "eth0", [(f"{moment}.000000000", 0, None)]) for moment in (1_764_590_400, 1_764_590_401)]
+    one = recording_at(work / "one.ch11", [0, 20], 1, {**runs[0], "interfaces": []})
+    two = recording_at(work / "two.ch11", [10, 30], 2, {**runs[1], "interfaces": []})
+    names, seen = captured(work, one, two)
+    judge("two interfaces", len(names) == 2 and {it for it, _ in seen} == {0, 1}, (names, seen))
+
+
+def test_interfaces_of_one_name_are_told_by_their_channels(work: Path) -> None:
+    """An interface that was channel 1 in one run and channel 2 in another."""
+    one = recording_at(work / "one.ch11", [0, 20], 1, facts_by("fc1", "eth0"))
+    facts = facts_by("fc1", "eth0", [("1764590401.000000000", 0, None)])
+    two = recording_at(
+        work / "two.ch11", [10, 30], 2, {**facts, "interfaces": [{"interface": "eth0", "channel": 2}]}, channel=2
+    )
+    names, _ = captured(work, one, two)
+    judge("each has another name", names == ["eth0 of fc1, channel 1", "eth0 of fc1, channel 2"], names)
 
 
 def test_recordings_without_facts_are_of_a_recorder_each(work: Path) -> None:

@@ -10,7 +10,7 @@ from bpfrec_host.ending import full_name, say, short_name, tell
 from bpfrec_host.formats import ch11
 from bpfrec_host.program import audit_of
 from bpfrec_host.progress import Progress, size_of
-from bpfrec_host.streams import STREAM, Refused, force, force_folder_of, input_at, refuse_overwriting
+from bpfrec_host.streams import STREAM, Refused, Unreadable, force, force_folder_of, input_at, refuse_overwriting
 from bpfrec_host.words import Parser
 
 ABOUT = """\
@@ -149,6 +149,8 @@ def run(words: list[str]) -> int:
     """Copies what is left of a recording: the status."""
     given = parser().parse_args(words)
     try:
+        if STREAM in (given.damaged, given.out):
+            raise Unreadable(f"{STREAM}: it is a standard stream, and salvage takes files")
         with open(given.damaged, "rb") as damaged:
             for it in (given.out, STREAM):
                 if input_at(it, [given.damaged]):

@@ -73,8 +73,9 @@ class Beside:
             about, noted, keeper = it.about, self.events.facts(it.about.feed), it.keeper
             keeper.write(lambda: self.writer.write(about, {**noted, "sync_fault": keeper.sync_fault}, None))
 
-    def end(self, it: Recorded, status: int) -> None:
-        """Has the last facts of a recording written, and its folder removed."""
+    def end(self, it: Recorded, status: int, ended: Callable[[], None]) -> None:
+        """Has the last facts of a recording written, and its folder removed; `ended` is called behind that, and once it
+        was forced to its disk a last time."""
         self.events.read()
         about, noted, keeper = it.about, self.events.facts(it.about.feed), it.keeper
         is_written = bool(self.events.origins) and it.is_created
@@ -85,6 +86,7 @@ class Beside:
                     self.writer.write(about, {**noted, "sync_fault": keeper.sync_fault}, status)
             finally:
                 self.writer.folder.remove(about.number)
+                self.loop.call_soon(ended)
 
         self.events.forget(about.feed)
         if keeper:
@@ -92,6 +94,7 @@ class Beside:
             keeper.end()
         else:
             self.writer.folder.remove(about.number)
+            ended()
 
     def join(self) -> None:
         """Waits until all is written."""

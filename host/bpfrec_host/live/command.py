@@ -60,6 +60,7 @@ def run_shown(recording: Run, status: Optional[Status]) -> int:
     try:
         return recording.run()
     finally:
+        recording.loop.signals.ignore()
         if status:
             status.close()
 

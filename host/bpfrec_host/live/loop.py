@@ -32,6 +32,11 @@ class Signals:
         for it in (signal.SIGTTIN, signal.SIGTTOU):
             signal.signal(it, signal.SIG_IGN)
 
+    def ignore(self) -> None:
+        """Has those that come from now on do nothing: all is over, and Python would be ended by one as it ends."""
+        for it in ENDING:
+            signal.signal(it, signal.SIG_IGN)
+
     def come(self) -> list[int]:
         """The signals that came, but for ends of programs."""
         try:

@@ -1,5 +1,5 @@
 """A ring of recordings: of those that followed one another the oldest are removed, where newer ones or the disk need
-their room. None is removed whose audit didn't say yes."""
+their room. None is removed whose audit didn't say yes, or for one that couldn't be forced to its disk."""
 
 from __future__ import annotations
 
@@ -31,6 +31,15 @@ class Kept(NamedTuple):
         return stat.S_ISREG(found.st_mode) and (found.st_dev, found.st_ino) == (self.device, self.number)
 
 
+def approved(it: Recorded, status: int) -> Optional[Kept]:
+    """A recording that has ended, and its audit too; None of one that wasn't approved."""
+    lines = it.text("audit").splitlines()
+    if status != 0 or not lines or not lines[-1].startswith("yes") or it.descriptor is None or not it.is_there():
+        return None
+    found = os.fstat(it.descriptor)
+    return Kept(it.about.out, found.st_dev, found.st_ino)
+
+
 class Ring:
     """The recordings of a run that may be removed. `keep` is how many of them stay at most, and `keep_free` how many
     bytes are to be free on their disk; `free` tells that, and `say` takes a line for each that is removed."""
@@ -43,13 +52,9 @@ class Ring:
         self.next_look = 0.0
         self.threads: list[threading.Thread] = []
 
-    def ended(self, it: Recorded, status: int) -> None:
-        """A recording has ended, and its audit too."""
-        lines = it.text("audit").splitlines()
-        if status != 0 or not lines or not lines[-1].startswith("yes") or it.descriptor is None or not it.is_there():
-            return
-        found = os.fstat(it.descriptor)
-        self.kept.append(Kept(it.about.out, found.st_dev, found.st_ino))
+    def add(self, kept: Kept) -> None:
+        """A recording counts from now on, since it is approved and on its disk."""
+        self.kept.append(kept)
         while self.keep is not None and len(self.kept) > self.keep:
             self.remove_oldest(f"--keep {self.keep}")
 

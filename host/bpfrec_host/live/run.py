@@ -26,7 +26,7 @@ from bpfrec_host.live.notify import Notifier
 from bpfrec_host.live.observer import Observer
 from bpfrec_host.live.recorder import Recorded
 from bpfrec_host.live.recordings import Recordings
-from bpfrec_host.live.ring import Ring
+from bpfrec_host.live.ring import Kept, Ring, approved
 from bpfrec_host.live.status import Terminal
 from bpfrec_host.live.telling import Telling
 from bpfrec_host.live.watches import Watches
@@ -353,7 +353,12 @@ class Run:
             self.telling.print(it.report)
         self.outputs.end(it)
         self.watching.ended(it, status)
-        self.ring.ended(it, status)
-        self.beside.end(it, status)
+        kept = approved(it, status)
+        self.beside.end(it, status, lambda: self.keep(recording, kept))
         if recording is not self.machine.now:
             self.recordings.forget(recording)
+
+    def keep(self, recording: Recording, kept: Optional[Kept]) -> None:
+        """A recording that was approved has been forced to its disk a last time."""
+        if kept and not recording.is_unforced:
+            self.ring.add(kept)

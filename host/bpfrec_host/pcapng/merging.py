@@ -4,6 +4,7 @@ from __future__ import annotations
 
 import heapq
 import os
+from bisect import bisect_right
 from collections import Counter
 from typing import Iterable, Iterator, NamedTuple, Optional, Union
 
@@ -11,7 +12,7 @@ from bpfrec_host.filter_texts import Texts
 from bpfrec_host.formats import pcapng_blocks
 from bpfrec_host.formats.ch11 import Program
 from bpfrec_host.formats.facts import Origin
-from bpfrec_host.formats.limits import NANOSECONDS_A_TICK
+from bpfrec_host.formats.limits import MAX_COUNTER, NANOSECONDS_A_TICK
 from bpfrec_host.pcapng.index import Index
 from bpfrec_host.pcapng.slices import Frame, Slice
 from bpfrec_host.pcapng.times import Range, Times
@@ -19,11 +20,24 @@ from bpfrec_host.pcapng.times import Range, Times
 PROGRAM = "bpfrec-pcapng"
 
 
+# The time after which counters begin at 0 again, in nanoseconds.
+TURN = (MAX_COUNTER + 1) * NANOSECONDS_A_TICK
+
+
+class Run(NamedTuple):
+    """A run of a recorder, whose recordings have one host, one first origin and the same interfaces, by their facts."""
+
+    host: str
+    origin: int
+    interfaces: tuple[tuple[int, str], ...] = ()
+
+
 class Recorder(NamedTuple):
-    """What recorded a channel: the host and its interface, by the facts; or an unknown one, of a recording alone."""
+    """What recorded a channel: the host and its interface, by the facts; a run, where the channel has a feed; or an
+    unknown one, of a recording alone."""
 
     source: str
-    interface: Optional[str]
+    interface: Union[str, Run]
 
 
 class Recording(NamedTuple):
@@ -41,7 +55,14 @@ class Recording(NamedTuple):
         """What recorded a channel. Recordings without facts may be of any recorders."""
         if self.times.facts is None:
             return Recorder(os.path.basename(self.headers.path), self.headers.path)
-        return Recorder(self.times.facts.host, self.interface_of(channel))
+        return Recorder(self.times.facts.host, self.interface_of(channel) or self.run())
+
+    def run(self) -> Run:
+        """The run that it is of."""
+        facts, origin = self.times.facts, self.times.known[0].moment
+        if facts is None:
+            return Run(self.headers.path, origin)
+        return Run(facts.host, origin, tuple(sorted(facts.interfaces.items())))
 
     def channels_of(self, asked: Union[int, str]) -> set[int]:
         """The channels of an ID, or of an interface."""
@@ -77,12 +98,14 @@ class Interface:
         lacking = f", and {len(found) - len(ends)} recordings without its end" if len(found) > len(ends) else ""
         return f"channel {self.channel}: {told}{lacking}"
 
-    def description(self, texts: Texts, is_alone: bool) -> bytes:
-        """The block that describes it: its name, also by its recorder unless it is alone, its counts and its first
-        program."""
+    def names(self) -> list[str]:
+        """Its name, and longer ones for where another interface has that too."""
+        return [self.name, f"{self.name} of {self.source}", f"{self.name} of {self.source}, channel {self.channel}"]
+
+    def description(self, texts: Texts, name: str) -> bytes:
+        """The block that describes it: its name, its counts and its first program."""
         # One comment, since some programs show no second.
         told = [self.counts()] + ([program_text(self.told, texts)] if self.told else [])
-        name = self.name if is_alone else f"{self.name} of {self.source}"
         return pcapng_blocks.interface(name, f"channel {self.channel}", ["\n".join(told)])
 
     def change(self, part: Part, frame: Frame) -> Optional[Program]:
@@ -132,40 +155,40 @@ def interfaces_of(recordings: list[Recording], asked: Optional[list[Union[int, s
 Sorted = tuple[int, Interface, Part, Frame]
 
 
-def numbered(interface: Interface, part: Part, first_moment: int) -> Iterator[Sorted]:
-    """The frames of an interface in a recording, each with its moment, as if that of counter 0 had always been so."""
+def numbered(interface: Interface, part: Part, last: int) -> Iterator[Sorted]:
+    """The frames of an interface in a recording, each with its moment, as if the last moment of counter 0 had always been
+    that, but for the turns of counters: no clock is set by as much as half of one."""
+    origins = part.recording.times.origins
+    moments = [last + (it.moment - last + TURN // 2) // TURN * TURN for it in origins]
+    counters = [it.counter for it in origins[1:]]
     for frame in part.slice.frames():
-        yield first_moment + frame.counter * NANOSECONDS_A_TICK, interface, part, frame
+        moment = moments[bisect_right(counters, frame.counter)]
+        yield moment + frame.counter * NANOSECONDS_A_TICK, interface, part, frame
 
 
-def first_moments(recordings: list[Recording]) -> dict[tuple[str, int], int]:
+def last_moments(recordings: list[Recording]) -> dict[Run, int]:
     """The moment of counter 0 of each run, by the last origin that any of its recordings knows: a clock that is set is
-    right from then on. Recordings of one run have the same host and the same first origin."""
-    known: dict[tuple[str, int], list[Origin]] = {}
+    right from then on."""
+    known: dict[Run, list[Origin]] = {}
     for it in recordings:
-        known[run_of(it)] = max(known.get(run_of(it), []), it.times.known, key=len)
+        known[it.run()] = max(known.get(it.run(), []), it.times.known, key=len)
     return {run: origins[-1].moment for run, origins in known.items()}
-
-
-def run_of(recording: Recording) -> tuple[str, int]:
-    """The run of a recorder that a recording is of."""
-    facts = recording.times.facts
-    return facts.host if facts else recording.headers.path, recording.times.known[0].moment
 
 
 def merged(recordings: list[Recording], interfaces: list[Interface]) -> Iterable[Sorted]:
     """The frames of all slices in the order in which they came; those of a channel stay in their order."""
-    moments = first_moments(recordings)
-    streams = [numbered(it, part, moments[run_of(part.recording)]) for it in interfaces for part in it.parts]
+    moments = last_moments(recordings)
+    streams = [numbered(it, part, moments[part.recording.run()]) for it in interfaces for part in it.parts]
     return heapq.merge(*streams, key=lambda it: it[0])
 
 
 def blocks(recordings: list[Recording], interfaces: list[Interface]) -> Iterator[bytes]:
     """The blocks of the capture; those from the second on that don't describe an interface are a frame each."""
-    texts, names = Texts(), Counter(it.name for it in interfaces)
+    texts, counts = Texts(), Counter(name for it in interfaces for name in it.names())
     yield pcapng_blocks.section(PROGRAM, [recording_text(it) for it in recordings])
     for interface in interfaces:
-        yield interface.description(texts, names[interface.name] == 1)
+        *names, longest = interface.names()
+        yield interface.description(texts, next((it for it in names if counts[it] == 1), longest))
     for _, interface, part, frame in merged(recordings, interfaces):
         moment = part.recording.times.moment_of(frame.counter)
         program = interface.change(part, frame)

@@ -21,7 +21,7 @@ def judge(path: str, inputs: Iterable[str], is_forced: bool) -> None:
     for out in (path, STREAM):
         taken = input_at(out, names)
         if taken:
-            raise Taken(f"{out}: it is {taken} itself")
+            raise Taken(f"{out}: it is {'standard input' if taken == STREAM else taken} itself")
     refuse_overwriting(path, is_forced)
 
 
