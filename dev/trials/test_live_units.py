@@ -48,8 +48,8 @@ def test_words(work: Path) -> None:
         ways = [tuple(it) for it in found.ways]
         judge_quietly(f"{given}: {found}", (found.settings, found.out, ways) == wanted)
     for given, line in [
-        (["s.toml", "out", "eth0=65536x"], "live: no INTERFACE=CHANNEL: eth0=65536x"),
-        (["s.toml", "out", "eth0=0"], "live: no INTERFACE=CHANNEL: eth0=0"),
+        (["s.toml", "out", "eth0=65536x"], "live: eth0=65536x: a channel ID is 1 to 65535"),
+        (["s.toml", "out", "eth0=0"], "live: eth0=0: a channel ID is 1 to 65535"),
         (["s.toml", "out", "=1"], "live: no INTERFACE=CHANNEL: =1"),
         (["s.toml", "out", "a=1", "b=1"], "live: channel 1 has two interfaces"),
         (["s.toml", "lo"], "live: OUT is missing: it stands between s.toml and lo"),
@@ -68,7 +68,7 @@ def test_options(capsys: pytest.CaptureFixture) -> None:
     for words_given, line in [
         (["--origin"], "live: --origin needs a value"),
         (["--every"], "live: --every needs a value"),
-        (["--size", "0"], "live: --size needs a number from 1 on"),
+        (["--size", "0"], "live: --size needs a number from 1 on, in bytes, or as 2G"),
         (["--nonsense", "x", "y"], "live: no such option: --nonsense"),
         (["-x", "a", "b"], "live: no such option: -x"),
         (["--eve", "3"], "live: no such option: --eve"),
@@ -109,7 +109,7 @@ def test_files(work: Path) -> None:
     with pytest.raises(OSError):
         Files(is_forced=True).create(str(work / "pipe"))
     judge("a folder isn't OUT", refused(lambda: Files(is_forced=True).refuse_overwriting(str(work)))[0] == 3)
-    judge("nor has it one", refused(lambda: names.refuse_folder(str(work / "no/x"))) == (3, f"file {work}/no/x"))
+    judge("nor has it one", refused(lambda: names.refuse_folder(str(work / "no/x"))) == (3, f"live: {work}/no/x: no such folder"))
 
 
 def test_settings_text() -> None:

@@ -52,13 +52,18 @@ def judge_lines(name: str, lines: list[str], wanted: list[str]) -> None:
     judge(name, holds, "\n".join(["it says", *lines, "where it should say", *wanted]))
 
 
+def count_of(faults: list[str]) -> str:
+    """The last line of a preflight that finds these."""
+    return f"{len(faults)} {'fault' if len(faults) == 1 else 'faults'}"
+
+
 def judge_case(folder: Path, case: Case) -> None:
     """The faults of a case, without the notes."""
     (folder / "s.toml").write_text(case.settings, encoding="utf-8", newline="")
     before = {path: os.lstat(path) for path in folder.iterdir()}
     done = preflight(folder, "s.toml", *case.words)
     faults = [line for line in done.stdout.splitlines() if ": note: " not in line]
-    judge_lines(case.name, faults, [*case.faults, f"{len(case.faults)} faults"])
+    judge_lines(case.name, faults, [*case.faults, count_of(case.faults)])
     after = {path: os.lstat(path) for path in folder.iterdir()}
     is_same = before.keys() == after.keys() and all(before[it].st_mtime_ns == after[it].st_mtime_ns for it in before)
     judge(
@@ -93,13 +98,13 @@ def test_notes(folder: Path) -> None:
         "s.toml:14: channel 3: note: filter live.feed is a pipe and was not opened",
         "s.toml:13: channel 3: note: feed head.feed: 1 frames",
         "s.toml:13: channel 3: note: feed head.feed: Truncated at byte 27, past the frames that are taken",
-        "s.toml: note: buffers of at most 786432 bytes (channels 3, of each 4, of 65536 bytes), "
-        "and <n> bytes are available",
+        "s.toml: note: buffers of at most 786 kB (786432 bytes; channels 3, of each 4, of 65536 bytes), "
+        "and <text> (<n> bytes) are available",
         "none.txt: channel 2: file none.txt: the output is this channel's filter, none.txt",
         "three.feed: note: feed three.feed: 3 frames",
         "s.toml:5: channel 1: note: filter arp.txt keeps 2 of 3 frames of three.feed",
         "s.toml:10: channel 2: note: filter none.txt keeps 0 of 3 frames of three.feed",
-        "1 faults",
+        "1 fault",
     ]
     judge_lines("notes", done.stdout.splitlines(), wanted)
 
@@ -125,12 +130,12 @@ def test_notes_of_room(folder: Path) -> None:
             before = free_on(out.parent), available()
             done = preflight(folder, "s.toml", "--out", str(out))
             behind = free_on(out.parent), available()
-            told = int(re.search(r"(\d+) bytes are free on its disk\n", done.stdout)[1])
+            told = int(re.search(r" [kMGT]?B \((\d+) bytes\) are free on its disk\n", done.stdout)[1])
             judge(f"{out.name}: {told} bytes", min(before[0], behind[0]) <= told <= max(before[0], behind[0]), before)
-            told = int(re.search(r"and (\d+) bytes are available\n", done.stdout)[1])
+            told = int(re.search(r" [MGT]B \((\d+) bytes\) are available\n", done.stdout)[1])
             near = min(before[1], behind[1]) - ABOUT <= told <= max(before[1], behind[1]) + ABOUT
             judge("memory as the kernel says", near, (before, told, behind))
-    buffers = "buffers of at most 67321976 bytes (channels 1, of each 4099, of 16424 bytes)"
+    buffers = "buffers of at most 67.3 MB (67321976 bytes; channels 1, of each 4099, of 16424 bytes)"
     judge("the buffers of its settings", f"s.toml: note: {buffers}, and " in done.stdout, done.stdout)
 
 
@@ -138,8 +143,8 @@ def test_memory(folder: Path) -> None:
     if available() > 0.9 * MOST_BUFFERS:
         pytest.skip("this machine has memory for all buffers that can be set")
     tables = "".join(GOOD.replace("id = 1", f"id = {id}") for id in range(1, 65))
-    what = f"buffers of at most {MOST_BUFFERS} bytes (channels 64, of each 4099, of 524284 bytes)"
-    fault = f"s.toml: memory: {what}, and <n> bytes are available"
+    what = f"buffers of at most 138 GB ({MOST_BUFFERS} bytes; channels 64, of each 4099, of 524284 bytes)"
+    fault = f"s.toml: memory: {what}, and <text> (<n> bytes) are available"
     judge_case(folder, Case("more buffers than memory", "limit = 524284\nring = 4096\n" + tables, [fault]))
 
 
@@ -147,7 +152,7 @@ def test_old_outputs(folder: Path) -> None:
     """An OUT that is there, and one that another program writes."""
     (folder / "old.ch11").write_bytes(bytes(10))
     (folder / "s.toml").write_text(GOOD)
-    note = "old.ch11: note: is there with 10 bytes, and will be emptied; <n> bytes are free on its disk"
+    note = "old.ch11: note: is there with 10 bytes, and will be emptied; <text> (<n> bytes) are free on its disk"
     lines = preflight(folder, "s.toml", "--out", "old.ch11").stdout.splitlines()
     judge_lines("OUT is there, with its note", lines[-2:], [note, "0 faults"])
     with open(folder / "old.ch11", "rb") as held:
@@ -167,7 +172,7 @@ def test_settings_files(folder: Path) -> None:
         ("longer.toml", "longer than 1048576 bytes"),
     ]:
         lines = preflight(folder, path).stdout.splitlines()
-        judge_lines(f"settings: {reason}", lines, [f"{path}: file {path}: {reason}", "1 faults"])
+        judge_lines(f"settings: {reason}", lines, [f"{path}: file {path}: {reason}", "1 fault"])
 
 
 def test_words(folder: Path) -> None:

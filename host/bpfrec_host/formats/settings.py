@@ -6,7 +6,7 @@ import importlib
 import re
 from typing import Any, Callable, NamedTuple, Optional
 
-from bpfrec_host.formats.limits import CHANNEL_KEYS, MAX_NUMBER, MIN_NUMBER, Range
+from bpfrec_host.formats.limits import CHANNEL_KEYS, MAX_CHANNELS, MAX_NUMBER, MIN_NUMBER, Range
 
 HEADER = re.compile(r"\s*\[")
 CHANNEL_HEADER = re.compile(r"""\s*\[\[\s*["']?channel["']?\s*\]\]""")
@@ -69,6 +69,10 @@ class Settings(NamedTuple):
     def line(self, key: str) -> Optional[int]:
         """The line that sets a key of the top."""
         return top_line(self.sections, key)
+
+    def recorded(self) -> list[Channel]:
+        """The channels that may be recorded, where there are more."""
+        return self.channels[:MAX_CHANNELS]
 
 
 def reader() -> Callable[[str], dict[str, Any]]:

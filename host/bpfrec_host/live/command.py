@@ -9,9 +9,10 @@ from typing import Optional
 from bpfrec_host import program
 from bpfrec_host.ending import tell
 from bpfrec_host.live.arguments import Arguments, parser, read
+from bpfrec_host.live.filters import judge_filters
 from bpfrec_host.live.folder import Folder, judge_settings, made_settings, read_settings
 from bpfrec_host.live.loop import Signals
-from bpfrec_host.live.names import Files, Names, Refusal, is_special, refuse_folder
+from bpfrec_host.live.names import Files, Names, Refusal, is_special, refuse_folder, refuse_long
 from bpfrec_host.live.observer import Observer
 from bpfrec_host.live.run import Programs, Run
 from bpfrec_host.live.status import BadEndpoint, NoServer, Status, Terminal, endpoint_in
@@ -30,6 +31,7 @@ def run(words: list[str], observer: Optional[Observer] = None) -> int:
         look_ahead(given)
         text, settings = read_settings(given.settings) if given.settings else made_settings(given.ways)
         judge_settings(settings, given)
+        judge_filters(settings, given)
         terminal = Terminal(2, "--quiet" in given.options)
         status = made_status(given, settings.document.get("limit"), terminal)
         folder = Folder(text, settings, given)
@@ -92,8 +94,7 @@ def find_programs(given: Arguments) -> Programs:
 def look_ahead(given: Arguments) -> None:
     """Refuses what can't be read, and an OUT that would be lost or can't be created."""
     if given.settings is not None:
-        if not os.access(given.settings, os.R_OK) or os.path.isdir(given.settings):
-            raise Refusal(3, f"file {given.settings}")
+        refuse_unreadable(given.settings)
         if os.path.exists(given.out) and os.path.samefile(given.out, given.settings):
             raise Refusal(3, f"file {given.out}")
     refuse_together(given)
@@ -101,12 +102,24 @@ def look_ahead(given: Arguments) -> None:
         Files(given.mode, given.is_forced).refuse_overwriting(given.out)
         if not is_special(given.out):
             refuse_folder(given.out)
+            refuse_long(given.out, bool(given.ways))
         return
     if not given.ways:
         raise Refusal(2, "live: --every and --size need an interface")
     if os.path.exists(given.out) and not os.path.isfile(given.out):
         raise Refusal(2, f"live: --every and --size make files, and {given.out} is not a file")
-    refuse_folder(Names(given.out).next()[1])
+    refuse_folder(given.out)
+    refuse_long(Names(given.out).next()[1], True)
+
+
+def refuse_unreadable(settings: str) -> None:
+    """Refuses SETTINGS that aren't there or can't be read."""
+    if not os.path.exists(settings):
+        raise Refusal(3, f"live: {settings}: no such file")
+    if os.path.isdir(settings):
+        raise Refusal(3, f"live: {settings}: it is a directory")
+    if not os.access(settings, os.R_OK):
+        raise Refusal(3, f"live: {settings}: it may not be read")
 
 
 def refuse_together(given: Arguments) -> None:
