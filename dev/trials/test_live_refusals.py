@@ -145,3 +145,39 @@ def test_times_and_sizes_have_units(work: Path) -> None:
     judge("minutes, G, s, k", (given.every, given.size, given.sync, given.keep_free) == (600, 2 * 10**9, 5, 10_000))
     given = arguments.read(["o.ch11", "rx0", "--every", "2h", "--flush", "1d", "--size", "3M"])
     judge("hours, days, M", (given.every, given.flush, given.size) == (7_200, 86_400, 3 * 10**6))
+
+
+# ---- names
+
+
+@pytest.mark.parametrize("options,most", [([], 246), (["--every", "1"], 240)], ids=["single", "every"])
+def test_an_out_whose_facts_would_have_too_long_a_name_is_refused(work: Path, options: list, most: int) -> None:
+    (work / "told").touch()
+    behind = "_00001" if options else ""
+    for length in (most + 1, 255 - len(behind), 255):
+        out = "x" * length
+        length += len(behind)
+        told = f"{out}{behind}: its name has {length} bytes, and may have 246 with its facts beside it"
+        judge_refused(work, [*options, out, "rx0"], 3, told)
+        done = outcome(PREFLIGHT, "--live", *options, out, "rx0", cwd=work)
+        judge("preflight says so too", done.returncode == 1 and told in done.stdout, done)
+    out = "x" * most
+    running = Running(work, LIVE, "--quiet", *options, out, "rx0", cwd=work)
+    running.wait_until_told("capture: origin")
+    wait_for("facts are there", (work / f"{out}{behind}.json").exists)
+    running.interrupt()
+    judge("one that is shorter by a byte is recorded", running.ended()[0] == 0 and nothing_left(work), running.told())
+    judge("with its facts", facts_of(work / f"{out}{behind}")["status"] == 0)
+
+
+def test_a_tmpdir_that_is_not_utf8_is_refused_by_name(work: Path) -> None:
+    holder = os.fsencode(work) + b"/t\xff\xfe"
+    os.mkdir(holder)
+    (work / "told").touch()
+    line = f"TMPDIR is not UTF-8: {holder!r}"
+    words = [work / "o.ch11", "rx0"]
+    running = Running(work, LIVE, *words, adds={RUN: str(work), "TMPDIR": holder})
+    judge("live refuses it", (running.ended()[0], running.told()) == (3, f"live: {line}\n"), running.told())
+    judge("and leaves nothing", os.listdir(holder) == [] and not (work / "o.ch11").exists())
+    done = outcome(PREFLIGHT, "--live", *words, env={**os.environ, "TMPDIR": holder})
+    judge("preflight says so too", done.returncode == 1 and line in done.stdout, done)

@@ -1,7 +1,9 @@
 """Tries parts of host/bin/live by themselves, without root: words, names, files, events and what is kept safe."""
 
+import contextlib
 import errno
 import os
+import resource
 import sys
 import time
 from pathlib import Path
@@ -11,7 +13,7 @@ from service import Manager
 from support import ROOT, judge, judge_quietly, wait_for
 
 sys.path.insert(0, str(ROOT / "host"))
-from bpfrec_host.live import arguments, expressions, names, notify, words
+from bpfrec_host.live import arguments, expressions, folder, names, notify, words
 from bpfrec_host.live.events import Events
 from bpfrec_host.live.keeper import Keeper
 from bpfrec_host.live.names import Files, Names, Refusal
@@ -115,6 +117,27 @@ def test_files(work: Path) -> None:
 def test_settings_text() -> None:
     text = expressions.settings_text([words.Way("eth0", 3, "udp\nport 5"), words.Way("eth1", 4)])
     judge("settings of none", text.count("[[channel]]") == 2 and "# udp port 5\n" in text and "# all frames\n" in text)
+
+
+def test_the_private_folder_is_removed_also_where_descriptors_are_short(
+    work: Path, monkeypatch: pytest.MonkeyPatch
+) -> None:
+    monkeypatch.setenv("TMPDIR", str(work / "private"))
+    given = arguments.read(["o.ch11", "lo"])
+    private = folder.Folder(*folder.made_settings(given.ways), given)
+    private.make_all()
+    before, held = resource.getrlimit(resource.RLIMIT_NOFILE), []
+    resource.setrlimit(resource.RLIMIT_NOFILE, (256, before[1]))
+    try:
+        with contextlib.suppress(OSError):
+            while True:
+                held.append(os.dup(1))
+        private.remove_all()
+    finally:
+        for it in held:
+            os.close(it)
+        resource.setrlimit(resource.RLIMIT_NOFILE, before)
+    judge("nothing of it is there", os.listdir(work / "private") == [])
 
 
 # ---- what is noted and kept

@@ -8,6 +8,7 @@ from typing import Optional
 
 from bpfrec_host import program
 from bpfrec_host.ending import tell
+from bpfrec_host.live.ahead import refuse_few_descriptors, refuse_holder
 from bpfrec_host.live.arguments import Arguments, parser, read
 from bpfrec_host.live.filters import judge_filters
 from bpfrec_host.live.folder import Folder, judge_settings, made_settings, read_settings
@@ -30,6 +31,7 @@ def run(words: list[str], observer: Optional[Observer] = None) -> int:
         programs = find_programs(given)
         look_ahead(given)
         text, settings = read_settings(given.settings) if given.settings else made_settings(given.ways)
+        refuse_few_descriptors(given, len(settings.recorded()))
         judge_settings(settings, given)
         judge_filters(settings, given)
         terminal = Terminal(2, "--quiet" in given.options)
@@ -44,6 +46,7 @@ def run(words: list[str], observer: Optional[Observer] = None) -> int:
     try:
         recording = Run(given, programs, folder, signals, observer or status, terminal)
     except Refusal as refusal:
+        folder.remove_all()
         tell(refusal.line)
         return refusal.status
     except BaseException:
@@ -98,6 +101,7 @@ def look_ahead(given: Arguments) -> None:
         if os.path.exists(given.out) and os.path.samefile(given.out, given.settings):
             raise Refusal(3, f"file {given.out}")
     refuse_together(given)
+    refuse_holder()
     if not given.is_rotating():
         Files(given.mode, given.is_forced).refuse_overwriting(given.out)
         if not is_special(given.out):
