@@ -6,18 +6,21 @@ Each case has the lines that preflight must say, written by hand.
 import fcntl
 import os
 import re
+import resource
 import subprocess
 from pathlib import Path
 
 import pytest
 from disks import memory_disk
-from preflight_cases import ALL_CASES, FILES, FORBIDDEN_CASES, GOOD, SECOND, Case
-from support import BPFREC, ROOT, judge, outcome
+from preflight_cases import ALL_CASES, FILES, FORBIDDEN_CASES, GOOD, HEAD, SECOND, Case
+from support import BPFREC, LIVE, MEBIBYTE, ROOT, judge, outcome
 
 WANTED = {"bin/bpfrec": "make build"}
 PREFLIGHT = ROOT / "host/bin/preflight"
 # 64 channels of 4,099 buffers of 524,284 bytes.
 MOST_BUFFERS = 137_538_567_424
+# What preflight and live may take of a processor for settings, with the recorder that reads them too.
+MOST_SECONDS = 15
 # By how much the memory that is available may change meanwhile.
 ABOUT = 256 << 20
 
@@ -173,6 +176,51 @@ def test_settings_files(folder: Path) -> None:
     ]:
         lines = preflight(folder, path).stdout.splitlines()
         judge_lines(f"settings: {reason}", lines, [f"{path}: file {path}: {reason}", "1 fault"])
+
+
+def nested(depth: int) -> str:
+    return f"a = {'[' * depth}{']' * depth}\n"
+
+
+def dotted(parts: int) -> str:
+    return f"a{'.a' * (parts - 1)} = 1\n"
+
+
+# Settings that take a reader long which isn't bounded, and what `record` says of them.
+HOSTILE = {
+    "90,000 keys": ("".join(f"k{it} = 1\n" for it in range(90_000)), "settings 2 Unknown k0"),
+    "90,000 keys of a channel": (HEAD + "".join(f"k{it} = 1\n" for it in range(90_000)), "settings 2 Unknown k0"),
+    "15,000 channels": ("".join(GOOD for _ in range(15_000)), "settings 5 Channels"),
+    "a key of 200,000 parts": (dotted(200_000), "settings 1 Syntax"),
+    "arrays without an end": ("a = " + "[" * 500_000, "settings 1 Syntax"),
+    "more than a mebibyte": ("#" * (MEBIBYTE + 1), "file s.toml"),
+    "81 parts": (dotted(81), "settings 1 Syntax"),
+    "80 parts": (dotted(80), "settings 2 Unknown a"),
+    "81 parts in quotes": ('"a" . ' * 80 + "a = 1", "settings 1 Syntax"),
+    "81 arrays": (nested(81), "settings 1 Syntax"),
+    "80 arrays": (nested(80), "settings 2 Unknown a"),
+    "81 braces": (f"a = {'{a = ' * 81}1{'}' * 81}", "settings 1 Syntax"),
+    "brackets and dots in texts": (f"a = '{'[' * 99}{'.' * 99}'\nb = \"\"\"{'[' * 99}\"\"\"\"\n", "settings 2 Unknown a"),
+    "brackets and dots in a comment": (f"# {'[' * 99}{'.' * 99}\na = 1\n", "settings 2 Unknown a"),
+}
+
+
+@pytest.mark.parametrize("what", HOSTILE)
+def test_settings_of_any_text_are_judged_in_seconds_as_record_judges_them(folder: Path, what: str) -> None:
+    """By preflight, and by live, which begins nothing then."""
+    text, answer = HOSTILE[what]
+    (folder / "s.toml").write_text(text)
+    done = outcome(BPFREC.absolute(), "record", "s.toml", "o.ch11", cwd=folder)
+    judge("so record says", (done.stdout + done.stderr).startswith(answer), done)
+    before = resource.getrusage(resource.RUSAGE_CHILDREN)
+    done = preflight(folder, "s.toml")
+    judge("preflight says it first", done.returncode == 1 and answer in done.stdout.splitlines()[0], done.stdout[:300])
+    done = outcome(LIVE, "s.toml", "o.ch11", cwd=folder, env={**os.environ, "TMPDIR": str(folder / "private")})
+    judge("live says it too", done.returncode != 0 and answer in done.stderr, done.stderr[:300])
+    behind = resource.getrusage(resource.RUSAGE_CHILDREN)
+    took = behind.ru_utime + behind.ru_stime - before.ru_utime - before.ru_stime
+    judge(f"both within seconds of processor time: {took}", took < MOST_SECONDS)
+    judge("nothing is left", not (folder / "o.ch11").exists() and os.listdir(folder / "private") == [])
 
 
 def test_words(folder: Path) -> None:

@@ -5,6 +5,7 @@ from __future__ import annotations
 import os
 import resource
 
+from bpfrec_host.formats.settings import Settings
 from bpfrec_host.live.arguments import Arguments
 from bpfrec_host.live.names import Refusal
 
@@ -25,6 +26,13 @@ def refuse_few_descriptors(given: Arguments, channels: int) -> None:
         resource.setrlimit(resource.RLIMIT_NOFILE, (hard, hard))
     elif is_under(soft, needed):
         raise Refusal(3, f"live: it needs {needed} descriptors, and may have {hard}: ulimit -n {needed}")
+
+
+def refuse_many_channels(settings: Settings) -> None:
+    """Refuses more channels than a recording has, before each of them is looked at."""
+    fault = settings.count_fault()
+    if fault:
+        raise Refusal(2, f"live: {settings.file}: {fault}")
 
 
 def is_under(limit: int, needed: int) -> bool:

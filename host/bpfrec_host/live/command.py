@@ -8,7 +8,7 @@ from typing import Optional
 
 from bpfrec_host import program
 from bpfrec_host.ending import tell
-from bpfrec_host.live.ahead import refuse_few_descriptors, refuse_holder
+from bpfrec_host.live.ahead import refuse_few_descriptors, refuse_holder, refuse_many_channels
 from bpfrec_host.live.arguments import Arguments, parser, read
 from bpfrec_host.live.filters import judge_filters
 from bpfrec_host.live.folder import Folder, judge_settings, made_settings, read_settings
@@ -31,7 +31,8 @@ def run(words: list[str], observer: Optional[Observer] = None) -> int:
         programs = find_programs(given)
         look_ahead(given)
         text, settings = read_settings(given.settings) if given.settings else made_settings(given.ways)
-        refuse_few_descriptors(given, len(settings.recorded()))
+        refuse_many_channels(settings)
+        refuse_few_descriptors(given, len(settings.channels))
         judge_settings(settings, given)
         judge_filters(settings, given)
         terminal = Terminal(2, "--quiet" in given.options)
