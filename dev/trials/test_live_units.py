@@ -111,7 +111,10 @@ def test_files(work: Path) -> None:
     with pytest.raises(OSError):
         Files(is_forced=True).create(str(work / "pipe"))
     judge("a folder isn't OUT", refused(lambda: Files(is_forced=True).refuse_overwriting(str(work)))[0] == 3)
-    judge("nor has it one", refused(lambda: names.refuse_folder(str(work / "no/x"))) == (3, f"live: {work}/no/x: no such folder"))
+    judge(
+        "nor has it one",
+        refused(lambda: names.refuse_folder(str(work / "no/x"))) == (3, f"live: {work}/no/x: no such folder"),
+    )
 
 
 def test_settings_text() -> None:

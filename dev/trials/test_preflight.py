@@ -200,7 +200,10 @@ HOSTILE = {
     "81 arrays": (nested(81), "settings 1 Syntax"),
     "80 arrays": (nested(80), "settings 2 Unknown a"),
     "81 braces": (f"a = {'{a = ' * 81}1{'}' * 81}", "settings 1 Syntax"),
-    "brackets and dots in texts": (f"a = '{'[' * 99}{'.' * 99}'\nb = \"\"\"{'[' * 99}\"\"\"\"\n", "settings 2 Unknown a"),
+    "brackets and dots in texts": (
+        f"a = '{'[' * 99}{'.' * 99}'\nb = \"\"\"{'[' * 99}\"\"\"\"\n",
+        "settings 2 Unknown a",
+    ),
     "brackets and dots in a comment": (f"# {'[' * 99}{'.' * 99}\na = 1\n", "settings 2 Unknown a"),
 }
 

@@ -64,7 +64,7 @@ class Channel(NamedTuple):
 
     def line(self, key: str) -> Optional[int]:
         """The line that sets a key, or else that of the table's header."""
-        return self.section and self.section.keys.get(key, self.section.first)
+        return self.section.keys.get(key, self.section.first) if self.section else None
 
     def path(self, key: str) -> Optional[str]:
         """The path that a key has, if it has one."""
