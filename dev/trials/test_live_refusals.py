@@ -123,6 +123,7 @@ def test_a_filter_that_can_not_be_installed_is_refused_ahead_by_its_channel(work
         (TEXT_FOR_ASM, 1, f"channel 2: {TEXT_FOR_ASM} is no listing: bpfrec asm makes one"),
         ("jump", 1, "channel 2: refused 6 JumpOut 0: filter jump"),
         ("none.txt", 3, "channel 2: none.txt: no such file"),
+        ("private", 3, "channel 2: private: it is a directory"),
     ]:
         settings = write_settings(work, f'id = 1\nfilter = "{work}/all"', f'id = 2\nfilter = "{path}"')
         judge_refused(work, [settings, "o.ch11", "rx0=1", "rx1=2"], status, told)

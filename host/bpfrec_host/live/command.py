@@ -13,7 +13,7 @@ from bpfrec_host.live.arguments import Arguments, parser, read
 from bpfrec_host.live.filters import judge_filters
 from bpfrec_host.live.folder import Folder, judge_settings, made_settings, read_settings
 from bpfrec_host.live.loop import Signals
-from bpfrec_host.live.names import Files, Names, Refusal, is_special, refuse_folder, refuse_long
+from bpfrec_host.live.names import Files, Names, Refusal, is_special, refuse_folder, refuse_long, unreadable
 from bpfrec_host.live.observer import Observer
 from bpfrec_host.live.run import Programs, Run
 from bpfrec_host.live.status import BadEndpoint, NoServer, Status, Terminal, endpoint_in
@@ -98,7 +98,9 @@ def find_programs(given: Arguments) -> Programs:
 def look_ahead(given: Arguments) -> None:
     """Refuses what can't be read, and an OUT that would be lost or can't be created."""
     if given.settings is not None:
-        refuse_unreadable(given.settings)
+        why = unreadable(given.settings)
+        if why:
+            raise Refusal(3, f"live: {why}")
         if os.path.exists(given.out) and os.path.samefile(given.out, given.settings):
             raise Refusal(3, f"file {given.out}")
     refuse_together(given)
@@ -115,16 +117,6 @@ def look_ahead(given: Arguments) -> None:
         raise Refusal(2, f"live: --every and --size make files, and {given.out} is not a file")
     refuse_folder(given.out)
     refuse_long(Names(given.out).next()[1], True)
-
-
-def refuse_unreadable(settings: str) -> None:
-    """Refuses SETTINGS that aren't there or can't be read."""
-    if not os.path.exists(settings):
-        raise Refusal(3, f"live: {settings}: no such file")
-    if os.path.isdir(settings):
-        raise Refusal(3, f"live: {settings}: it is a directory")
-    if not os.access(settings, os.R_OK):
-        raise Refusal(3, f"live: {settings}: it may not be read")
 
 
 def refuse_together(given: Arguments) -> None:

@@ -2,14 +2,11 @@
 
 from __future__ import annotations
 
-import os
-import stat
-
 from bpfrec_host import program
 from bpfrec_host.formats.listing import is_no_listing, no_listing
 from bpfrec_host.formats.settings import Settings
 from bpfrec_host.live.arguments import Arguments
-from bpfrec_host.live.names import Refusal
+from bpfrec_host.live.names import Refusal, is_special, unreadable
 
 
 def judge_filters(settings: Settings, given: Arguments) -> None:
@@ -25,17 +22,15 @@ def judge_filters(settings: Settings, given: Arguments) -> None:
 
 def judge_filter(name: str, path: str) -> None:
     """Refuses a file that is no valid listing; one that is a pipe is the recorder's to open."""
-    try:
-        mode = os.stat(path).st_mode
-    except (FileNotFoundError, NotADirectoryError):
-        raise Refusal(3, f"live: {name}: {path}: no such file") from None
-    except (OSError, ValueError):
-        raise Refusal(3, f"live: {name}: file {path}") from None
-    if not stat.S_ISREG(mode):
+    why = unreadable(path)
+    if why:
+        raise Refusal(3, f"live: {name}: {why}")
+    if is_special(path):
         return
     # A path that begins with - would be an option or standard input.
     done = program.run("verify", path if path.startswith("/") else f"./{path}")
-    if done.returncode != 0:
+    # One that a signal ended was ended with live.
+    if done.returncode > 0:
         answer = program.answer_of(done)
         what = no_listing(path) if is_no_listing(answer) else f"{answer}: filter {path}"
         raise Refusal(done.returncode, f"live: {name}: {what}")

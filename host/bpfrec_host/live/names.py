@@ -20,6 +20,19 @@ class Refusal(Exception):
         self.status, self.line = status, line
 
 
+def unreadable(path: str) -> Optional[str]:
+    """Why a file can't be read; None where it can."""
+    try:
+        mode = os.stat(path).st_mode
+    except (FileNotFoundError, NotADirectoryError):
+        return f"{path}: no such file"
+    except (OSError, ValueError):
+        return f"{path}: it may not be read"
+    if stat.S_ISDIR(mode):
+        return f"{path}: it is a directory"
+    return None if os.access(path, os.R_OK) else f"{path}: it may not be read"
+
+
 def facts_path(out: str) -> str:
     """The file of the facts beside a recording."""
     return f"{out}.json"
