@@ -39,6 +39,7 @@ def test_words(work: Path) -> None:
         ([str(work / "empty.ch11"), "lo"], (None, str(work / "empty.ch11"), [("lo", 1, None)])),
         (["new.ch11", "eht0"], (None, "new.ch11", [("eht0", 1, None)])),
         (["s.toml", "-x"], ("s.toml", "./-x", [])),
+        (["flight=3", "lo"], (None, "flight=3", [("lo", 1, None)])),
         (
             ["new.ch11", "lo", "e=3:tcp[0] = 5", "f=1"],
             (None, "new.ch11", [("lo", 2, None), ("e", 3, "tcp[0] = 5"), ("f", 1, None)]),

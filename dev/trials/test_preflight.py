@@ -20,7 +20,7 @@ PREFLIGHT = ROOT / "host/bin/preflight"
 # 64 channels of 4,099 buffers of 524,284 bytes.
 MOST_BUFFERS = 137_538_567_424
 # What preflight and live may take of a processor for settings, with the recorder that reads them too.
-MOST_SECONDS = 15
+MOST_SECONDS = 10
 # By how much the memory that is available may change meanwhile.
 ABOUT = 256 << 20
 

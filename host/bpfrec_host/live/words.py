@@ -41,22 +41,22 @@ def words_of(words: list[str]) -> Words:
         raise Refusal(2, f"live: it takes SETTINGS and OUT: {help_text}")
     if names_settings(words):
         settings, out, *rest = words
-        if is_way(settings):
-            raise Refusal(3, misplaced(settings))
+        refuse_interface(settings, 3)
         if is_way(out):
             raise Refusal(2, f"live: OUT is missing: it stands between {settings} and {out}")
         return Words(settings, dashed(out), ways_of(rest))
     out, *rest = words
-    if is_way(out):
-        raise Refusal(2, misplaced(out))
+    refuse_interface(out, 2)
     if not rest:
         raise Refusal(2, f"live: an INTERFACE is missing: it stands behind {out}")
     return Words(None, dashed(out), ways_of(numbered(rest)))
 
 
-def misplaced(word: str) -> str:
-    """What is said of an interface in the place of SETTINGS or OUT."""
-    return f"live: {word} is an interface: SETTINGS, OUT, then interfaces"
+def refuse_interface(word: str, status: int) -> None:
+    """Refuses an interface that is here in the place of SETTINGS or OUT."""
+    found = WAY.fullmatch(word)
+    if found and is_interface(found["interface"]) and not os.path.lexists(word):
+        raise Refusal(status, f"live: {word} is an interface: SETTINGS, OUT, then interfaces")
 
 
 def dashed(out: str) -> str:
