@@ -93,7 +93,7 @@ def judge_tools(folder: Path, programs: Path) -> None:
     judge("and names itself", "bpfrec-info: one.ch11.json: no facts of a recording: " in told, told)
     judge("preflight finds the program", by("preflight", "s.toml")[1].endswith("0 faults\n"))
     wanted = folder / "none.toml"
-    judge("live finds the program", by("live", wanted, "out") == (3, f"file {wanted}\n"))
+    judge("live finds the program", by("live", wanted, "out") == (3, f"live: {wanted}: no such file\n"))
 
 
 def judge_plugin(root: Path) -> None:
@@ -342,7 +342,9 @@ def test_the_unit_records_by_settings_that_are_installed(unpacked: Path) -> None
 
 def installed_words(text: str) -> list[str]:
     """What a document names that stands in the source tree alone."""
-    found = re.findall(r"(?<![\w/.-])(?:host|dev|crates|bench|capture|docs|man)/[\w./]+|\bmake (?:build|try|capture)\b", text)
+    found = re.findall(
+        r"(?<![\w/.-])(?:host|dev|crates|bench|capture|docs|man)/[\w./]+|\bmake (?:build|try|capture)\b", text
+    )
     return found + re.findall(r"(?<![\w/])bin/(?:bpfrec|capture)\b(?![-.\w])", text)
 
 
