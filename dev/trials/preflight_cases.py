@@ -160,7 +160,7 @@ FILE_CASES = [
             ("folder", "file folder: a directory"),
             ("latin.txt", "file latin.txt: no UTF-8 in line 3"),
             ("longer.txt", "file longer.txt: longer than 1048576 bytes"),
-            ("text.bpf", "listing 1 Syntax 0: filter text.bpf"),
+            ("text.bpf", "listing 1 Syntax 0: filter text.bpf is no listing: bpfrec asm makes one"),
             ("count.txt", "listing 2 Count 2 1: filter count.txt"),
             ("past.txt", "listing 3 Range 8: filter past.txt"),
             ("jump.txt", "refused 6 JumpOut 0: filter jump.txt"),

@@ -175,7 +175,7 @@ def refusals(work: Path, settings: Path, out: Path) -> list[tuple]:
         (["--quiet", settings, out, "nowhere0=1"], 3, "capture: nowhere0: no such interface"),
         ([settings, out, "rx0=2"], 2, f"live: {settings} has no table [[channel]] with a line id = 2"),
         ([settings, out, "rx0=1", "rx1=1"], 2, "live: channel 1 has two interfaces"),
-        ([settings, out, "rx0"], 2, "live: no INTERFACE=CHANNEL: rx0"),
+        ([settings, out, "rx0"], 2, "live: rx0: with SETTINGS name its channel, as rx0=1"),
         (
             ["--origin", "yesterday", settings, out, "rx0=1"],
             2,
@@ -183,7 +183,7 @@ def refusals(work: Path, settings: Path, out: Path) -> list[tuple]:
             "with -r first too",
         ),
         ([settings, settings, "rx0=1"], 3, f"file {settings}"),
-        ([work / "missing.toml", out, "rx0=1"], 3, f"file {work / 'missing.toml'}"),
+        ([work / "missing.toml", out, "rx0=1"], 3, f"live: {work / 'missing.toml'}: no such file"),
         ([settings], 2, "live: it takes SETTINGS and OUT: host/bin/live --help has its arguments"),
     ]
 
@@ -246,12 +246,12 @@ def test_refused_prefilter(work: Path, name: str, listing: str) -> None:
 
 
 def test_fault_of_recorder(work: Path) -> None:
-    wrong = write_settings(work, 'id = 1\nfilter = "missing"')
+    wrong = write_settings(work, f'id = 1\nfilter = "{work}/all"\nmore = 1')
     running = Running(work, LIVE, "--quiet", wrong, work / "refused.ch11", "rx0=1")
     status, told = running.ended()[0], running.told()
     judge(
         "a fault of the recorder ends it",
-        status == 3 and "file missing\n" in told and nothing_left(work),
+        status == 2 and "settings 2 Unknown more\n" in told and nothing_left(work),
     )
 
 

@@ -156,15 +156,23 @@ def refusals(work: Path, settings: Path, out: Path) -> list[tuple]:
     needs = "live: --every and --size need an interface"
     return [
         (["--every", 1, own, out, "rx0=1"], 2, f"{needs} for each channel, and 5 of {own} has none"),
-        (["--every", 0, settings, out, "rx0=1", "rx1=2"], 2, "live: --every needs a number from 1 to 999999999"),
-        (["--size=1k", settings, out, "rx0=1", "rx1=2"], 2, "live: --size needs a number from 1 on"),
+        (
+            ["--every", 0, settings, out, "rx0=1", "rx1=2"],
+            2,
+            "live: --every needs a number from 1 to 999999999, in seconds, or as 10m",
+        ),
+        (
+            ["--size=1x", settings, out, "rx0=1", "rx1=2"],
+            2,
+            "live: --size needs a number from 1 on, in bytes, or as 2G",
+        ),
         (["--size", 5, settings, out], 2, needs),
         (
             ["--size", 5, settings, "/dev/null", "rx0=1", "rx1=2"],
             2,
             "live: --every and --size make files, and /dev/null is not a file",
         ),
-        (["--size", 5, settings, work / "no/x.ch11", "rx0=1", "rx1=2"], 3, f"file {work}/no/x_00001.ch11"),
+        (["--size", 5, settings, work / "no/x.ch11", "rx0=1", "rx1=2"], 3, f"live: {work}/no/x.ch11: no such folder"),
         (["--quiet", "--size", 5, settings, out, "rx0=1", "nowhere0=2"], 3, "capture: nowhere0: no such interface"),
     ]
 
@@ -176,13 +184,13 @@ def test_rotation_refusals(work: Path) -> None:
         judge(f"refused: {told}", running.ended()[0] == status and running.told() == told + "\n", running.told())
         judge_quietly("nothing is created or left", recordings(work, "none") == [] and nothing_left(work))
     (work / "none_00001.ch11").write_bytes(b"kept")
-    wrong = write_settings(work, 'id = 1\nfilter = "missing"')
+    wrong = write_settings(work, f'id = 1\nfilter = "{work}/all"\nmore = 1')
     running = Running(work, LIVE, "--quiet", "--size", 5, wrong, out, "rx0=1")
     status = running.ended()[0]
     judge(
         "a fault of the recorder ends it, and no file that is there is touched",
-        status == 3
-        and "file missing\n" in running.told()
+        status == 2
+        and "settings 2 Unknown more\n" in running.told()
         and [it.read_bytes() for it in recordings(work, "none")] == [b"kept"]
         and nothing_left(work),
     )

@@ -93,7 +93,7 @@ def judge_tools(folder: Path, programs: Path) -> None:
     judge("and names itself", "bpfrec-info: one.ch11.json: no facts of a recording: " in told, told)
     judge("preflight finds the program", by("preflight", "s.toml")[1].endswith("0 faults\n"))
     wanted = folder / "none.toml"
-    judge("live finds the program", by("live", wanted, "out") == (3, f"file {wanted}\n"))
+    judge("live finds the program", by("live", wanted, "out") == (3, f"live: {wanted}: no such file\n"))
 
 
 def judge_plugin(root: Path) -> None:

@@ -64,7 +64,7 @@ def test_set_clock(work: Path) -> None:
 def test_refused_numbers(work: Path) -> None:
     """The ranges of --every and --sync."""
     settings = settings_of(work)
-    every, sync = r"live: --every needs a number from 1 to 999999999\n", r"live: --sync needs .*\n"
+    every, sync = r"live: --every needs a number from 1 to 999999999, .*\n", r"live: --sync needs .*\n"
     cases = [("--every", value, every) for value in ("1234567890", "0", "1.5", "-1")]
     cases += [("--sync", value, sync) for value in ("1234567890", "-1", "x")]
     for word, value, line in cases:

@@ -106,8 +106,8 @@ def test_refused(work: Path) -> None:
             f"{together} remove what was audited, and --no-audit audits nothing",
         ),
         (["--keep", 0], "live: --keep needs a number from 1 to 999999999"),
-        (["--keep-free", "1k"], "live: --keep-free needs a number from 1 on"),
-        (["--flush", 0], "live: --flush needs a number from 1 to 999999999"),
+        (["--keep-free", "1x"], "live: --keep-free needs a number from 1 on, in bytes, or as 2G"),
+        (["--flush", 0], "live: --flush needs a number from 1 to 999999999, in seconds, or as 10m"),
         (["--mode", "999"], "live: --mode needs a mode of three octal digits, as 0640"),
         (["--mode", "0444"], "live: --mode needs a mode by which the owner may read and write, as 0640"),
     ]

@@ -1,7 +1,9 @@
 """Tries parts of host/bin/live by themselves, without root: words, names, files, events and what is kept safe."""
 
+import contextlib
 import errno
 import os
+import resource
 import sys
 import time
 from pathlib import Path
@@ -11,7 +13,7 @@ from service import Manager
 from support import ROOT, judge, judge_quietly, wait_for
 
 sys.path.insert(0, str(ROOT / "host"))
-from bpfrec_host.live import arguments, expressions, names, notify, words
+from bpfrec_host.live import arguments, expressions, folder, names, notify, words
 from bpfrec_host.live.events import Events
 from bpfrec_host.live.keeper import Keeper
 from bpfrec_host.live.names import Files, Names, Refusal
@@ -37,6 +39,7 @@ def test_words(work: Path) -> None:
         ([str(work / "empty.ch11"), "lo"], (None, str(work / "empty.ch11"), [("lo", 1, None)])),
         (["new.ch11", "eht0"], (None, "new.ch11", [("eht0", 1, None)])),
         (["s.toml", "-x"], ("s.toml", "./-x", [])),
+        (["flight=3", "lo"], (None, "flight=3", [("lo", 1, None)])),
         (
             ["new.ch11", "lo", "e=3:tcp[0] = 5", "f=1"],
             (None, "new.ch11", [("lo", 2, None), ("e", 3, "tcp[0] = 5"), ("f", 1, None)]),
@@ -48,8 +51,8 @@ def test_words(work: Path) -> None:
         ways = [tuple(it) for it in found.ways]
         judge_quietly(f"{given}: {found}", (found.settings, found.out, ways) == wanted)
     for given, line in [
-        (["s.toml", "out", "eth0=65536x"], "live: no INTERFACE=CHANNEL: eth0=65536x"),
-        (["s.toml", "out", "eth0=0"], "live: no INTERFACE=CHANNEL: eth0=0"),
+        (["s.toml", "out", "eth0=65536x"], "live: eth0=65536x: a channel ID is 1 to 65535"),
+        (["s.toml", "out", "eth0=0"], "live: eth0=0: a channel ID is 1 to 65535"),
         (["s.toml", "out", "=1"], "live: no INTERFACE=CHANNEL: =1"),
         (["s.toml", "out", "a=1", "b=1"], "live: channel 1 has two interfaces"),
         (["s.toml", "lo"], "live: OUT is missing: it stands between s.toml and lo"),
@@ -68,7 +71,7 @@ def test_options(capsys: pytest.CaptureFixture) -> None:
     for words_given, line in [
         (["--origin"], "live: --origin needs a value"),
         (["--every"], "live: --every needs a value"),
-        (["--size", "0"], "live: --size needs a number from 1 on"),
+        (["--size", "0"], "live: --size needs a number from 1 on, in bytes, or as 2G"),
         (["--nonsense", "x", "y"], "live: no such option: --nonsense"),
         (["-x", "a", "b"], "live: no such option: -x"),
         (["--eve", "3"], "live: no such option: --eve"),
@@ -109,12 +112,36 @@ def test_files(work: Path) -> None:
     with pytest.raises(OSError):
         Files(is_forced=True).create(str(work / "pipe"))
     judge("a folder isn't OUT", refused(lambda: Files(is_forced=True).refuse_overwriting(str(work)))[0] == 3)
-    judge("nor has it one", refused(lambda: names.refuse_folder(str(work / "no/x"))) == (3, f"file {work}/no/x"))
+    judge(
+        "nor has it one",
+        refused(lambda: names.refuse_folder(str(work / "no/x"))) == (3, f"live: {work}/no/x: no such folder"),
+    )
 
 
 def test_settings_text() -> None:
     text = expressions.settings_text([words.Way("eth0", 3, "udp\nport 5"), words.Way("eth1", 4)])
     judge("settings of none", text.count("[[channel]]") == 2 and "# udp port 5\n" in text and "# all frames\n" in text)
+
+
+def test_the_private_folder_is_removed_also_where_descriptors_are_short(
+    work: Path, monkeypatch: pytest.MonkeyPatch
+) -> None:
+    monkeypatch.setenv("TMPDIR", str(work / "private"))
+    given = arguments.read(["o.ch11", "lo"])
+    private = folder.Folder(*folder.made_settings(given.ways), given)
+    private.make_all()
+    before, held = resource.getrlimit(resource.RLIMIT_NOFILE), []
+    resource.setrlimit(resource.RLIMIT_NOFILE, (256, before[1]))
+    try:
+        with contextlib.suppress(OSError):
+            while True:
+                held.append(os.dup(1))
+        private.remove_all()
+    finally:
+        for it in held:
+            os.close(it)
+        resource.setrlimit(resource.RLIMIT_NOFILE, before)
+    judge("nothing of it is there", os.listdir(work / "private") == [])
 
 
 # ---- what is noted and kept

@@ -115,7 +115,7 @@ def test_forgotten_words(work: Path) -> None:
         ([settings, "rx0"], 2, f"live: OUT is missing: it stands between {settings} and rx0"),
         ([out], 2, f"live: an INTERFACE is missing: it stands behind {out}"),
         ([work / "none.toml", "rx0=1"], 2, f"live: OUT is missing: it stands between {work}/none.toml and rx0=1"),
-        ([work / "none.toml", out, "rx0=1"], 3, f"file {work}/none.toml"),
+        ([work / "none.toml", out, "rx0=1"], 3, f"live: {work}/none.toml: no such file"),
         ([out, "nowhere0"], 3, "capture: nowhere0: no such interface"),
         ([out, "nowhere0=1"], 3, "capture: nowhere0: no such interface"),
         ([out, "rx0=1", "rx1=1"], 2, "live: channel 1 has two interfaces"),
@@ -124,7 +124,7 @@ def test_forgotten_words(work: Path) -> None:
             2,
             "live: rx0=1:udp portt 5: tcpdump: can't parse filter expression: syntax error",
         ),
-        (["--quiet", out, "rx0=0"], 2, "live: no INTERFACE=CHANNEL: rx0=0"),
+        (["--quiet", out, "rx0=0"], 2, "live: rx0=0: a channel ID is 1 to 65535"),
     ]
     for words, status, told in cases:
         running = Running(work, LIVE, *words)

@@ -20,9 +20,11 @@ def told(*words: object) -> tuple[int, list[str], list[str]]:
     """The status, the faults and the notes of a run of live that is judged."""
     done = outcome(PREFLIGHT, "--live", *words)
     lines = done.stdout.splitlines()
-    judge_quietly(f"{words}: {done.stderr}", done.stderr == "" and lines and lines[-1].endswith(" faults"))
+    judge_quietly(
+        f"{words}: {done.stderr}", done.stderr == "" and lines and re.fullmatch("1 fault|[0-9]+ faults", lines[-1])
+    )
     faults = [it for it in lines[:-1] if ": note: " not in it]
-    judge_quietly(f"{words}: {lines[-1]}", lines[-1] == f"{len(faults)} faults")
+    judge_quietly(f"{words}: {lines[-1]}", lines[-1].split(" ")[0] == str(len(faults)))
     return done.returncode, faults, [it for it in lines[:-1] if ": note: " in it]
 
 

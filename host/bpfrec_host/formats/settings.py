@@ -6,10 +6,22 @@ import importlib
 import re
 from typing import Any, Callable, NamedTuple, Optional
 
-from bpfrec_host.formats.limits import CHANNEL_KEYS, MAX_NUMBER, MIN_NUMBER, Range
+from bpfrec_host.formats.limits import CHANNEL_KEYS, MAX_CHANNELS, MAX_NUMBER, MIN_NUMBER, Range
 
 HEADER = re.compile(r"\s*\[")
 CHANNEL_HEADER = re.compile(r"""\s*\[\[\s*["']?channel["']?\s*\]\]""")
+# A key on its own line, or in a header.
+KEY = r"""(?:"([^"\n]*)"|'([^'\n]*)'|([^\s=.,"'#\[\]{}]+))"""
+SET_KEY, HEADER_KEY = re.compile(rf"\s*{KEY}\s*[=.]"), re.compile(rf"\s*\[+\s*{KEY}\s*[].]")
+# What nests, and what a key consists of; anything else is `other`. Texts and comments may be without an end.
+TOKEN = re.compile(
+    r"""\#[^\n]*|[.\[\]{}]|[ \t]+
+    |"{3}(?:[^\\]|\\.)*?(?:"{3,5}|\Z)|'{3}.*?(?:'{3,5}|\Z)|"(?:[^"\\\n]|\\[^\n])*"?|'[^'\n]*'?
+    |[^\s.\[\]{}"'#=,]+|(?P<other>[=,\s])""",
+    re.DOTALL | re.VERBOSE,
+)
+# The program reads neither values that are nested deeper, nor keys of more parts.
+MAX_NESTING = 80
 # Python's module for TOML, and the package that it was before it became Python's.
 READERS = ("tomllib", "tomli")
 TYPE_NAMES = {
@@ -35,10 +47,12 @@ class NoToml(Exception):
 
 
 class Section(NamedTuple):
-    """Lines of settings, from a header on, and the number of the first of them."""
+    """A part of settings, from a header on: the number of its first line, that line, and which line sets which key
+    first."""
 
     first: int
-    lines: list[str]
+    header: str
+    keys: dict[str, int]
 
 
 class Channel(NamedTuple):
@@ -50,7 +64,7 @@ class Channel(NamedTuple):
 
     def line(self, key: str) -> Optional[int]:
         """The line that sets a key, or else that of the table's header."""
-        return self.section and (key_line(self.section, key) or self.section.first)
+        return self.section.keys.get(key, self.section.first) if self.section else None
 
     def path(self, key: str) -> Optional[str]:
         """The path that a key has, if it has one."""
@@ -62,13 +76,24 @@ class Settings(NamedTuple):
     """A document of settings, and the file that has it."""
 
     file: str
-    sections: list[Section]
     document: dict[str, Any]
     channels: list[Channel]
+    # The line that sets a key of the top: on its own, or as the first header of a table.
+    lines: dict[str, int]
 
     def line(self, key: str) -> Optional[int]:
         """The line that sets a key of the top."""
-        return top_line(self.sections, key)
+        return self.lines.get(key)
+
+    def recorded(self) -> list[Channel]:
+        """The channels that may be recorded, where there are more."""
+        return self.channels[:MAX_CHANNELS]
+
+    def count_fault(self) -> Optional[str]:
+        """What is wrong with how many channels there are."""
+        count = len(self.channels)
+        told = f"settings 5 Channels: {count} channels, and at most {MAX_CHANNELS} can be recorded"
+        return told if count > MAX_CHANNELS else None
 
 
 def reader() -> Callable[[str], dict[str, Any]]:
@@ -90,12 +115,32 @@ def settings_of(file: str, text: str) -> Settings:
     # The program passes over a mark of the byte order.
     text = text[1:] if text.startswith("\ufeff") else text
     loads = reader()
+    judge_depth(text)
     try:
         document = loads(text)
     except (ValueError, RecursionError) as fault:
         raise syntax_fault(text, str(fault)) from None
     sections = sections_of(text)
-    return Settings(file, sections, document, channels_of(sections, document))
+    return Settings(file, document, channels_of(sections, document), top_lines(sections))
+
+
+def judge_depth(text: str) -> None:
+    """Refuses what the program doesn't read as TOML, and on which Python's reader may take very long."""
+    depth = dots = 0
+    for found in TOKEN.finditer(text):
+        token = found[0]
+        if token == ".":
+            dots += 1
+        elif token in "[{":
+            depth += 1
+        elif token in "]}":
+            depth -= 1
+        dots = 0 if found["other"] else dots
+        if depth > MAX_NESTING or dots >= MAX_NESTING:
+            line = text.count("\n", 0, found.start()) + 1
+            column = found.start() - text.rfind("\n", 0, found.start())
+            what = "values are nested deeper than" if depth > MAX_NESTING else "the parts of a key are more than"
+            raise NoToml(line, column, f"{what} {MAX_NESTING}")
 
 
 def syntax_fault(text: str, fault: str) -> NoToml:
@@ -112,39 +157,39 @@ def syntax_fault(text: str, fault: str) -> NoToml:
 
 def sections_of(text: str) -> list[Section]:
     """The lines ahead of the first header, and then those of each header."""
-    found = [Section(1, [])]
+    found = [Section(1, "", {})]
     for number, line in enumerate(text.split("\n"), 1):
         if HEADER.match(line):
-            found.append(Section(number, []))
-        found[-1].lines.append(line)
+            found.append(Section(number, line, {}))
+        key = named(SET_KEY, line)
+        if key is not None:
+            found[-1].keys.setdefault(key, number)
     return found
 
 
-def key_line(section: Section, key: str) -> Optional[int]:
-    """The line of a section that sets a key."""
-    sets_key = re.compile(rf"""\s*(["']?){re.escape(key)}\1\s*[=.]""")
-    for number, line in enumerate(section.lines, section.first):
-        if sets_key.match(line):
-            return number
-    return None
+def named(pattern: re.Pattern[str], line: str) -> Optional[str]:
+    """The key that a line begins with."""
+    found = pattern.match(line)
+    return next((it for it in found.groups() if it is not None), None) if found else None
 
 
-def top_line(sections: list[Section], key: str) -> Optional[int]:
-    """The line that sets a key of the top: by itself, or as the header of a table."""
-    names_key = re.compile(rf"""\s*\[+\s*(["']?){re.escape(key)}\1\s*[].]""")
-    for section in sections[1:]:
-        if names_key.match(section.lines[0]):
-            return key_line(sections[0], key) or section.first
-    return key_line(sections[0], key)
+def top_lines(sections: list[Section]) -> dict[str, int]:
+    """Which line sets which key of the top."""
+    headers = ((named(HEADER_KEY, it.header), it.first) for it in sections[1:])
+    lines = dict(sections[0].keys)
+    for key, line in headers:
+        if key is not None:
+            lines.setdefault(key, line)
+    return lines
 
 
 def channels_of(sections: list[Section], document: dict[str, Any]) -> list[Channel]:
     """The tables of the channels. Where they have no headers, each is in the line that sets `channel`."""
     tables = document.get("channel")
     tables = tables if isinstance(tables, list) else []
-    headed = [section for section in sections[1:] if CHANNEL_HEADER.match(section.lines[0])]
-    line = key_line(sections[0], "channel")
-    unheaded = None if line is None else Section(line, [])
+    headed = [section for section in sections[1:] if CHANNEL_HEADER.match(section.header)]
+    line = sections[0].keys.get("channel")
+    unheaded = None if line is None else Section(line, "", {})
     found = []
     for index, table in enumerate(tables):
         if isinstance(table, dict):

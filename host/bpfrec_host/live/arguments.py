@@ -18,6 +18,10 @@ MAX_SECONDS, MAX_BYTES = 999_999_999, 10**15 - 1
 # The options that are the capture's own: those with a value, and those without.
 VALUED = ("--origin", "--buffer", "--direction", "--clock", "--check-sequence")
 PLAIN = ("--quiet", "--no-promiscuous")
+# What may stand behind a number: in seconds, and in bytes.
+TIMES = {"": 1, "s": 1, "m": 60, "h": 3_600, "d": 86_400}
+SIZES = {"": 1, "k": 10**3, "M": 10**6, "G": 10**9}
+IN_SECONDS, IN_BYTES = ", in seconds, or as 10m", ", in bytes, or as 2G"
 
 
 class Arguments(NamedTuple):
@@ -80,14 +84,16 @@ def fault_of(message: str) -> str:
     return f"no such option: {found[1]}" if found else message
 
 
-def number(least: int, most: int, digits: int, said: str) -> Callable[[str], int]:
-    """What reads a number of a range, without zeros ahead."""
+def number(least: int, most: int, said: str, units: Optional[dict[str, int]] = None) -> Callable[[str], int]:
+    """What reads a number of a range, without zeros ahead, and the unit behind it."""
+    factors = units or {"": 1}
 
     def read(word: str) -> int:
-        is_one = re.fullmatch(rf"0|[1-9][0-9]{{0,{digits - 1}}}", word) is not None
-        if not is_one or not least <= int(word) <= most:
+        found = re.fullmatch(rf"(0|[1-9][0-9]{{0,{len(str(most)) - 1}}})([a-zA-Z]?)", word)
+        value = int(found[1]) * factors.get(found[2], -1) if found else -1
+        if not least <= value <= most:
             raise argparse.ArgumentTypeError(f"needs a number {said}")
-        return int(word)
+        return value
 
     return read
 
@@ -111,18 +117,17 @@ def parser() -> Parser:
         epilog=MORE,
         allow_abbrev=False,
     )
-    seconds = number(1, MAX_SECONDS, 9, f"from 1 to {MAX_SECONDS}")
+    seconds = number(1, MAX_SECONDS, f"from 1 to {MAX_SECONDS}{IN_SECONDS}", TIMES)
     made.add_argument("--force", action="store_true", help="overwrites an OUT that exists")
     made.add_argument("--every", metavar="SECONDS", type=seconds, help="begins a new recording after this time")
-    size = number(1, MAX_BYTES, 15, "from 1 on")
+    size = number(1, MAX_BYTES, f"from 1 on{IN_BYTES}", SIZES)
     made.add_argument("--size", metavar="BYTES", type=size, help="begins a new recording at BYTES bytes")
-    sync = number(0, MAX_SECONDS, 9, f"from 0 to {MAX_SECONDS}")
+    sync = number(0, MAX_SECONDS, f"from 0 to {MAX_SECONDS}{IN_SECONDS}", TIMES)
     made.add_argument("--sync", metavar="SECONDS", type=sync, default=1, help="how often OUT is forced to its disk")
     made.add_argument("--flush", metavar="SECONDS", type=seconds, help="closes packets that are open for this time")
-    count = number(1, MAX_SECONDS, 9, f"from 1 to {MAX_SECONDS}")
+    count = number(1, MAX_SECONDS, f"from 1 to {MAX_SECONDS}")
     made.add_argument("--keep", metavar="N", type=count, help="keeps the last N recordings of --every or --size")
-    free = number(1, MAX_BYTES, 15, "from 1 on")
-    made.add_argument("--keep-free", metavar="BYTES", type=free, help="removes the oldest until this much is free")
+    made.add_argument("--keep-free", metavar="BYTES", type=size, help="removes the oldest until this much is free")
     made.add_argument("--mode", metavar="MODE", type=file_mode, help="who may read OUT and its facts")
     made.add_argument("--status", metavar="[ADDRESS:]PORT", help="serves a page that shows how the recording goes")
     named = "a name by which browsers ask for it; may be given again"
@@ -136,7 +141,7 @@ def parser() -> Parser:
     for option in PLAIN:
         made.add_argument(option, nargs=0, action=kept(options), help="as for capture")
     made.set_defaults(options=options)
-    made.add_argument("words", nargs=argparse.REMAINDER, help=argparse.SUPPRESS)
+    made.add_argument("words", nargs="*", help=argparse.SUPPRESS)
     return made
 
 
@@ -154,8 +159,9 @@ def kept(options: list[str]) -> type[argparse.Action]:
 
 def read(words: list[str]) -> Arguments:
     """The arguments of a command line; one that is wrong ends live, or is a Refusal."""
-    given = parser().parse_args(words)
-    named = words_of(given.words[1:] if given.words[:1] == ["--"] else given.words)
+    end = words.index("--") if "--" in words else len(words)
+    given = parser().parse_intermixed_args(words[:end])
+    named = words_of([*given.words, *words[end + 1 :]])
     return Arguments(
         settings=named.settings,
         out=named.out,

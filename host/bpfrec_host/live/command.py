@@ -8,10 +8,12 @@ from typing import Optional
 
 from bpfrec_host import program
 from bpfrec_host.ending import tell
+from bpfrec_host.live.ahead import refuse_few_descriptors, refuse_holder, refuse_many_channels
 from bpfrec_host.live.arguments import Arguments, parser, read
+from bpfrec_host.live.filters import judge_filters
 from bpfrec_host.live.folder import Folder, judge_settings, made_settings, read_settings
 from bpfrec_host.live.loop import Signals
-from bpfrec_host.live.names import Files, Names, Refusal, is_special, refuse_folder
+from bpfrec_host.live.names import Files, Names, Refusal, is_special, refuse_folder, refuse_long, unreadable
 from bpfrec_host.live.observer import Observer
 from bpfrec_host.live.run import Programs, Run
 from bpfrec_host.live.status import BadEndpoint, NoServer, Status, Terminal, endpoint_in
@@ -29,7 +31,10 @@ def run(words: list[str], observer: Optional[Observer] = None) -> int:
         programs = find_programs(given)
         look_ahead(given)
         text, settings = read_settings(given.settings) if given.settings else made_settings(given.ways)
+        refuse_many_channels(settings)
+        refuse_few_descriptors(given, len(settings.channels))
         judge_settings(settings, given)
+        judge_filters(settings, given)
         terminal = Terminal(2, "--quiet" in given.options)
         status = made_status(given, settings.document.get("limit"), terminal)
         folder = Folder(text, settings, given)
@@ -42,6 +47,7 @@ def run(words: list[str], observer: Optional[Observer] = None) -> int:
     try:
         recording = Run(given, programs, folder, signals, observer or status, terminal)
     except Refusal as refusal:
+        folder.remove_all()
         tell(refusal.line)
         return refusal.status
     except BaseException:
@@ -93,21 +99,25 @@ def find_programs(given: Arguments) -> Programs:
 def look_ahead(given: Arguments) -> None:
     """Refuses what can't be read, and an OUT that would be lost or can't be created."""
     if given.settings is not None:
-        if not os.access(given.settings, os.R_OK) or os.path.isdir(given.settings):
-            raise Refusal(3, f"file {given.settings}")
+        why = unreadable(given.settings)
+        if why:
+            raise Refusal(3, f"live: {why}")
         if os.path.exists(given.out) and os.path.samefile(given.out, given.settings):
             raise Refusal(3, f"file {given.out}")
     refuse_together(given)
+    refuse_holder()
     if not given.is_rotating():
         Files(given.mode, given.is_forced).refuse_overwriting(given.out)
         if not is_special(given.out):
             refuse_folder(given.out)
+            refuse_long(given.out, bool(given.ways))
         return
     if not given.ways:
         raise Refusal(2, "live: --every and --size need an interface")
     if os.path.exists(given.out) and not os.path.isfile(given.out):
         raise Refusal(2, f"live: --every and --size make files, and {given.out} is not a file")
-    refuse_folder(Names(given.out).next()[1])
+    refuse_folder(given.out)
+    refuse_long(Names(given.out).next()[1], True)
 
 
 def refuse_together(given: Arguments) -> None:

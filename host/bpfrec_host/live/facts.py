@@ -16,7 +16,7 @@ from bpfrec_host.formats.limits import MAX_LISTING_LEN
 from bpfrec_host.live.adapters import adapter_of
 from bpfrec_host.live.arguments import Arguments
 from bpfrec_host.live.folder import Folder, listing_in
-from bpfrec_host.live.names import Files, facts_path, remove
+from bpfrec_host.live.names import FOLLOWING, Files, facts_path, remove
 from bpfrec_host.live.synchronisation import synchronisation
 from bpfrec_host.streams import force_folder
 
@@ -145,12 +145,12 @@ def replace(path: str, files: Files, data: bytes) -> None:
 def created_beside(path: str, files: Files) -> tuple[str, int]:
     """Creates a file that is to take another one's place, under a name that nobody has: that and its descriptor."""
     for number in itertools.chain([""], range(2, MOST_NAMES)):
-        following = f"{path}.new{number}"
+        following = f"{path}{FOLLOWING}{number}"
         try:
             return following, Files(files.mode).create(following)
         except FileExistsError:
             continue
-    raise FileExistsError(errno.EEXIST, os.strerror(errno.EEXIST), f"{path}.new")
+    raise FileExistsError(errno.EEXIST, os.strerror(errno.EEXIST), f"{path}{FOLLOWING}")
 
 
 def lines_of(path: Path) -> Optional[list[str]]:

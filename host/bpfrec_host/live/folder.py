@@ -101,6 +101,7 @@ class Folder:
         self.holder = os.environ.get("TMPDIR") or "/tmp"
         self.top = Path(self.holder, f"bpfrec.{secrets.token_hex(8)}")
         self.events, self.kept = self.top / "events", self.top / "kept"
+        self.held: Optional[int] = None
 
     def make_all(self) -> None:
         """Makes the folder and what all recordings share, once there is somebody who removes it where live is
@@ -125,8 +126,8 @@ class Folder:
     def hold(self) -> None:
         """Has the folder known as one of a run that goes on, as long as this process does."""
         try:
-            descriptor = os.open(self.top, os.O_RDONLY | os.O_DIRECTORY | os.O_CLOEXEC)
-            fcntl.flock(descriptor, fcntl.LOCK_SH)
+            self.held = os.open(self.top, os.O_RDONLY | os.O_DIRECTORY | os.O_CLOEXEC)
+            fcntl.flock(self.held, fcntl.LOCK_SH)
         except OSError:
             pass
 
@@ -166,8 +167,12 @@ class Folder:
         remove_folder(self.of(number))
 
     def remove_all(self) -> None:
-        """Removes all of it."""
+        """Removes all of it, also where descriptors are short: then by the one that was held."""
         remove_folder(self.top)
+        if self.held is not None:
+            os.close(self.held)
+            self.held = None
+            remove_folder(self.top)
 
     def point_to(self, name: str) -> None:
         """Has the capture find the pipes of this folder."""

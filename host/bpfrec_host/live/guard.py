@@ -76,6 +76,8 @@ def watch(writer: Writer, own: int, everybody: int, either: int) -> None:
     os.setpgid(0, 0)
     for it in (*ENDING, signal.SIGTTOU):
         signal.signal(it, signal.SIG_IGN)
+    # So that there is one, where they are short.
+    close(0)
     for descriptor in (int(it) for it in os.listdir("/proc/self/fd")):
         if descriptor not in (own, everybody, either):
             close(descriptor)

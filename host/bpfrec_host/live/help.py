@@ -2,8 +2,9 @@
 
 ABOUT = """\
 Records each INTERFACE as a channel, until Ctrl-C, TERM or HUP. Then it records what is in the kernel's buffers, prints
-the report, and audits OUT if it is a file.
-
+the report, and audits OUT if it is a file. Options may stand anywhere; `--` ends them.
+"""
+MORE = """\
 Without SETTINGS all frames are recorded: the first interface is channel 1, the next channel 2, or the one that
 INTERFACE=CHANNEL names by its channel ID. With SETTINGS each interface is one of their channels, which then needs no
 feed; a channel without an interface keeps the feed that SETTINGS gives it. INTERFACE=CHANNEL:EXPRESSION gives a channel
@@ -19,6 +20,8 @@ one of the 1,024 filters of a channel that a recording has room for; the last 25
 The facts of a recording of interfaces are in OUT.json beside it: the origin of its relative time counter (RTC, 10 MHz),
 interfaces, settings, filters, what was lost and when, and in the end the report and the audit. `info` and
 `convert to-pcap --facts` take times from it.
+
+SECONDS may end with s, m, h or d, and BYTES with k, M or G (powers of 1,000), as 10m and 2G.
 
 With --every SECONDS or --size BYTES it begins a new recording when SECONDS have gone by since the last began, or when
 that has at least BYTES bytes; with both, at the first of them. Each recording is complete and audited on its own. A
@@ -42,8 +45,7 @@ it, or by a NAME of --status-name. The port serves the data too: /status.json as
 
 With --no-audit nothing is audited. With --strict the exit status is 5 if an interface lost frames; either way the last
 lines say how many.
-"""
-MORE = """\
+
 The options with `as for capture` are those of bin/capture, whose help explains them. It prints on standard error, a
 line each second for each interface if there is no table; a line that standard error has no room for is left out and
 counted.

@@ -8,6 +8,8 @@ from typing import NamedTuple, Optional
 
 # Who may read a recording and its facts, but for what umask takes away.
 USUAL_MODE = 0o640
+# What a file's name ends with that is to take the place of facts.
+FOLLOWING = ".new"
 
 
 class Refusal(Exception):
@@ -16,6 +18,19 @@ class Refusal(Exception):
     def __init__(self, status: int, line: str) -> None:
         super().__init__(line)
         self.status, self.line = status, line
+
+
+def unreadable(path: str) -> Optional[str]:
+    """Why a file can't be read; None where it can."""
+    try:
+        mode = os.stat(path).st_mode
+    except (FileNotFoundError, NotADirectoryError):
+        return f"{path}: no such file"
+    except (OSError, ValueError):
+        return f"{path}: it may not be read"
+    if stat.S_ISDIR(mode):
+        return f"{path}: it is a directory"
+    return None if os.access(path, os.R_OK) else f"{path}: it may not be read"
 
 
 def facts_path(out: str) -> str:
@@ -91,8 +106,19 @@ def checked(descriptor: int, path: str) -> int:
 def refuse_folder(out: str) -> None:
     """Refuses an OUT in a folder that isn't there, or in which nothing can be created."""
     folder = os.path.dirname(out) or "."
-    if not os.path.isdir(folder) or not os.access(folder, os.W_OK | os.X_OK):
-        raise Refusal(3, f"file {out}")
+    if not os.path.isdir(folder):
+        raise Refusal(3, f"live: {out}: no such folder")
+    if not os.access(folder, os.W_OK | os.X_OK):
+        raise Refusal(3, f"live: {out}: nothing can be created in its folder")
+
+
+def refuse_long(out: str, has_facts: bool) -> None:
+    """Refuses an OUT whose name is longer than its disk takes, with what is behind it in the names of its facts."""
+    length = len(os.fsencode(os.path.basename(out)))
+    most = os.pathconf(os.path.dirname(out) or ".", "PC_NAME_MAX") - (len(facts_path(FOLLOWING)) if has_facts else 0)
+    if length > most:
+        beside = " with its facts beside it" if has_facts else ""
+        raise Refusal(3, f"live: {out}: its name has {length} bytes, and may have {most}{beside}")
 
 
 class Names:

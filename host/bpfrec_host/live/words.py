@@ -8,10 +8,12 @@ import socket
 from typing import NamedTuple, Optional
 
 from bpfrec_host.ending import full_name
+from bpfrec_host.formats.limits import MAX_CHANNEL_ID
 from bpfrec_host.live.names import Refusal
 
 # A name of an interface has neither `=` nor `/`.
-WAY = re.compile(r"(?P<interface>[^=/\s]+)(?:=(?P<channel>[1-9][0-9]{0,4})(?::(?P<expression>.+))?)?", re.DOTALL)
+WAY = re.compile(r"(?P<interface>[^=/\s]+)(?:=(?P<channel>[^:]*)(?::(?P<expression>.*))?)?", re.DOTALL)
+CHANNEL_ID = re.compile(r"[1-9][0-9]{0,4}")
 # A recording begins with this.
 SYNC_PATTERN = b"\x25\xeb"
 
@@ -39,13 +41,22 @@ def words_of(words: list[str]) -> Words:
         raise Refusal(2, f"live: it takes SETTINGS and OUT: {help_text}")
     if names_settings(words):
         settings, out, *rest = words
+        refuse_interface(settings, 3)
         if is_way(out):
             raise Refusal(2, f"live: OUT is missing: it stands between {settings} and {out}")
         return Words(settings, dashed(out), ways_of(rest))
     out, *rest = words
+    refuse_interface(out, 2)
     if not rest:
         raise Refusal(2, f"live: an INTERFACE is missing: it stands behind {out}")
     return Words(None, dashed(out), ways_of(numbered(rest)))
+
+
+def refuse_interface(word: str, status: int) -> None:
+    """Refuses an interface that is here in the place of SETTINGS or OUT."""
+    found = WAY.fullmatch(word)
+    if found and is_interface(found["interface"]) and not os.path.lexists(word):
+        raise Refusal(status, f"live: {word} is an interface: SETTINGS, OUT, then interfaces")
 
 
 def dashed(out: str) -> str:
@@ -77,7 +88,12 @@ def is_way(word: str) -> bool:
     found = WAY.fullmatch(word)
     if not found or os.path.lexists(word):
         return False
-    return found["channel"] is not None or is_interface(word)
+    return is_channel_id(found["channel"] or "") or is_interface(found["interface"])
+
+
+def is_channel_id(word: str) -> bool:
+    """Whether a word is a channel ID."""
+    return CHANNEL_ID.fullmatch(word) is not None and int(word) <= MAX_CHANNEL_ID
 
 
 def is_interface(name: str) -> bool:
@@ -99,11 +115,25 @@ def ways_of(words: list[str]) -> list[Way]:
     """Which interface is which channel."""
     ways: list[Way] = []
     for word in words:
-        found = WAY.fullmatch(word)
-        if not found or found["channel"] is None:
-            raise Refusal(2, f"live: no INTERFACE=CHANNEL: {word}")
-        channel = int(found["channel"])
-        if any(it.channel == channel for it in ways):
-            raise Refusal(2, f"live: channel {channel} has two interfaces")
-        ways.append(Way(found["interface"], channel, found["expression"]))
+        way = way_of(word)
+        if any(it.channel == way.channel for it in ways):
+            raise Refusal(2, f"live: channel {way.channel} has two interfaces")
+        ways.append(way)
     return ways
+
+
+def way_of(word: str) -> Way:
+    """The interface, the channel and the expression of a word."""
+    found = WAY.fullmatch(word)
+    if not found:
+        raise Refusal(2, f"live: no INTERFACE=CHANNEL: {word}")
+    interface, channel, expression = found["interface"], found["channel"], found["expression"]
+    if interface.startswith("-"):
+        raise Refusal(2, f"live: {interface}: the name of an interface doesn't begin with -")
+    if channel is None:
+        raise Refusal(2, f"live: {word}: with SETTINGS name its channel, as {word}=1")
+    if not is_channel_id(channel):
+        raise Refusal(2, f"live: {word}: a channel ID is 1 to {MAX_CHANNEL_ID}")
+    if expression is not None and not expression.strip():
+        raise Refusal(2, f"live: {interface}={channel}: the expression is empty")
+    return Way(interface, int(channel), expression)

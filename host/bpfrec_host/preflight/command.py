@@ -40,8 +40,8 @@ the pipe's other end.
 """
 MORE = """\
 Each finding is a line on standard output, `FILE[:LINE]: [channel ID: ]what`; a channel without an ID
-is `channel table N`. What is no fault begins with `note:`. The last line is `N faults`. The status is
-0 without faults, 1 with faults, 2 if nothing was judged, 3 if the findings can't be printed, and
+is `channel table N`. What is no fault begins with `note:`. The last line is `N faults`; of one
+`1 fault`. The status is 0 without faults, 1 with faults, 2 if nothing was judged, 3 if the findings can't be printed, and
 4 if it is out of memory. Nothing is judged if the arguments are wrong, the program is missing,
 SETTINGS is a pipe, or TOML can't be read. That is so if Python has no tomllib (3.11 is the first that
 has it) and no tomli, or its tomllib doesn't read what is new in TOML 1.1, which bpfrec reads.
@@ -89,7 +89,7 @@ def judge_settings(settings: Settings, report: Report, piped: Container[int] = (
         judge_channel_keys(settings, channel, report)
     judge_ids(settings, report)
     valid = []
-    for channel in settings.channels:
+    for channel in settings.recorded():
         if judge_filter(settings, channel, report):
             valid.append(channel)
         if channel.table.get("id") not in piped:
@@ -104,7 +104,10 @@ def run(words: list[str]) -> int:
     # A reader of the findings may leave, as `head` does.
     signal.signal(signal.SIGPIPE, signal.SIG_DFL)
     made, report = parser(), Report()
-    given = made.parse_args(words)
+    at = words.index("--live") if "--live" in words else len(words)
+    given = made.parse_args(words[:at])
+    # As they are, with the end of their options too.
+    given.live = words[at + 1 :] if at < len(words) else None
     if given.settings is None and given.live is None:
         made.error("the following arguments are required: SETTINGS")
     try:
@@ -114,5 +117,5 @@ def run(words: list[str]) -> int:
     except (NoReader, NotJudged, program.Missing) as why:
         tell(f"preflight: {why}")
         return 2
-    say(f"{report.faults} faults\n")
+    say(f"{report.ending()}\n")
     return 1 if report.faults else 0

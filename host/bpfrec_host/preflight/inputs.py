@@ -12,6 +12,7 @@ from typing import Optional
 from bpfrec_host import program
 from bpfrec_host.formats import feed
 from bpfrec_host.formats.limits import CHANNEL_KEYS, MAX_NUMBER
+from bpfrec_host.formats.listing import is_no_listing, no_listing
 from bpfrec_host.formats.settings import Channel, Settings, number_fault
 from bpfrec_host.preflight.files import Unread, file_id, kind_of, read_text
 from bpfrec_host.preflight.keys import place_in
@@ -35,10 +36,11 @@ def judge_filter(settings: Settings, channel: Channel, report: Report) -> bool:
         return False
     # A path that begins with - would be an option or standard input.
     done = program.run("verify", path if path.startswith("/") else f"./{path}")
+    answer = program.answer_of(done)
     if done.returncode == 0:
-        report.note(at, f"filter {path}: {program.answer_of(done)}")
+        report.note(at, f"filter {path}: {answer}")
     else:
-        report.fault(at, f"{program.answer_of(done)}: filter {path}")
+        report.fault(at, f"{answer}: filter {no_listing(path) if is_no_listing(answer) else path}")
     return done.returncode == 0
 
 

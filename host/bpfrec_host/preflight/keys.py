@@ -65,9 +65,8 @@ def judge_top(settings: Settings, report: Report) -> None:
         report.fault(at("channel"), "settings 4 Value channel: each channel must be a table, as [[channel]] begins it")
     elif not tables:
         report.fault(at("channel"), "settings 5 Channels: no [[channel]]")
-    elif len(tables) > MAX_CHANNELS:
-        past = place_in(settings, settings.channels[MAX_CHANNELS], "id")
-        report.fault(past, f"settings 5 Channels: {len(tables)} channels, and at most {MAX_CHANNELS} can be recorded")
+    elif settings.count_fault():
+        report.fault(place_in(settings, settings.channels[MAX_CHANNELS], "id"), settings.count_fault() or "")
 
 
 def place_in(settings: Settings, channel: Channel, key: str) -> str:

@@ -25,11 +25,12 @@ from bpfrec_host.formats.limits import (
 )
 from bpfrec_host.formats.settings import Settings
 from bpfrec_host.live.adapters import asked
+from bpfrec_host.live.ahead import refuse_few_descriptors, refuse_holder
 from bpfrec_host.live.arguments import Arguments, read
 from bpfrec_host.live.expressions import listing_of
 from bpfrec_host.live.folder import is_channel
 from bpfrec_host.live.folder import judge_settings as refuse_settings
-from bpfrec_host.live.names import Files, Names, Refusal, is_special
+from bpfrec_host.live.names import Files, Names, Refusal, is_special, refuse_long
 from bpfrec_host.preflight.keys import read_settings
 from bpfrec_host.preflight.output import available_memory, judge_out
 from bpfrec_host.preflight.report import Report
@@ -55,10 +56,12 @@ def judge_live(words: list[str], judge: Callable[[Settings, Report, set[int]], o
     """Judges the arguments of a run of live. `judge` takes settings, and the channels that have interfaces."""
     try:
         given = read(words)
+        refuse_holder()
         settings = read_settings(given.settings, report) if given.settings is not None else None
         if settings:
             with_pipes(settings, given)
             refuse_settings(settings, given)
+        refuse_few_descriptors(given, max(len(given.ways), len(settings.recorded()) if settings else 0))
     except Refusal as refusal:
         report.fault("live", without_name(refusal))
         return
@@ -103,6 +106,8 @@ def judge_live_out(given: Arguments, settings: Optional[Settings], report: Repor
     out = Names(given.out).next()[1] if given.is_rotating() else given.out
     try:
         Files(given.mode, given.is_forced).refuse_overwriting(out)
+        if os.path.isdir(os.path.dirname(out) or ".") and not is_special(out):
+            refuse_long(out, bool(given.ways))
     except Refusal as refusal:
         report.fault(out, without_name(refusal))
         return

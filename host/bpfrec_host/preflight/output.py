@@ -13,6 +13,7 @@ from bpfrec_host.formats.limits import BUFFERS_BESIDE_RING, TOP_KEYS
 from bpfrec_host.formats.settings import Channel, Settings, number_fault
 from bpfrec_host.preflight.files import file_id
 from bpfrec_host.preflight.report import Report, place
+from bpfrec_host.progress import size_text
 
 
 def judge_memory(settings: Settings, report: Report) -> None:
@@ -22,13 +23,14 @@ def judge_memory(settings: Settings, report: Report) -> None:
         return
     channels, buffers = len(settings.channels), ring + BUFFERS_BESIDE_RING
     total, available = channels * buffers * limit, available_memory()
-    what = f"buffers of at most {total} bytes (channels {channels}, of each {buffers}, of {limit} bytes)"
+    parts = f"channels {channels}, of each {buffers}, of {limit} bytes"
+    what = f"buffers of at most {size_text(total)} ({total} bytes; {parts})"
     if available is None:
         report.note(settings.file, f"{what}; /proc/meminfo doesn't say how many are available")
     elif total > available:
-        report.fault(settings.file, f"memory: {what}, and {available} bytes are available")
+        report.fault(settings.file, f"memory: {what}, and {bytes_text(available)} are available")
     else:
-        report.note(settings.file, f"{what}, and {available} bytes are available")
+        report.note(settings.file, f"{what}, and {bytes_text(available)} are available")
 
 
 def available_memory() -> Optional[int]:
@@ -78,7 +80,12 @@ def judge_old_out(out: str, folder: str, report: Report) -> None:
 def free_room(folder: str) -> str:
     """How much room the disk of a folder has."""
     status = os.statvfs(folder)
-    return f"{status.f_bavail * status.f_frsize} bytes are free on its disk"
+    return f"{bytes_text(status.f_bavail * status.f_frsize)} are free on its disk"
+
+
+def bytes_text(count: int) -> str:
+    """A number of bytes, for people and as it is."""
+    return f"{size_text(count)} ({count} bytes)"
 
 
 def is_input_beside(out: str, settings_file: str, channels: list[Channel], report: Report) -> bool:

@@ -22,6 +22,10 @@ class Report:
         self.faults += 1
         say(one_line(f"{where}: {what}") + "\n")
 
+    def ending(self) -> str:
+        """The last line."""
+        return f"{self.faults} {'fault' if self.faults == 1 else 'faults'}"
+
     def note(self, where: str, what: str) -> None:
         """Tells what is no fault."""
         say(one_line(f"{where}: note: {what}") + "\n")

@@ -1,0 +1,57 @@
+"""What a run needs of the system, which is judged before anything is begun: descriptors, and a folder of its own."""
+
+from __future__ import annotations
+
+import os
+import resource
+
+from bpfrec_host.formats.settings import Settings
+from bpfrec_host.live.arguments import Arguments
+from bpfrec_host.live.names import Refusal
+
+# How many descriptors live has open at most: while it records, while recordings follow one another, and for browsers.
+RECORDING, ROTATING, SERVING = 32, 48, 40
+# How many the capture and the recorder have open, and how many more for each channel.
+CAPTURING, FOR_A_CHANNEL = 24, 4
+# The standard streams, and what signals are read from.
+OPEN_BY_NOW = 5
+
+
+def refuse_few_descriptors(given: Arguments, channels: int) -> None:
+    """Takes as many descriptors as are allowed where the usual number is too small, and refuses where that is too."""
+    soft, hard = resource.getrlimit(resource.RLIMIT_NOFILE)
+    own = (ROTATING if given.is_rotating() else RECORDING) + (SERVING if given.status is not None else 0)
+    needed = max(own, CAPTURING + FOR_A_CHANNEL * channels) + inherited()
+    if is_under(soft, needed) and not is_under(hard, needed):
+        resource.setrlimit(resource.RLIMIT_NOFILE, (hard, hard))
+    elif is_under(soft, needed):
+        raise Refusal(3, f"live: it needs {needed} descriptors, and may have {hard}: ulimit -n {needed}")
+
+
+def refuse_many_channels(settings: Settings) -> None:
+    """Refuses more channels than a recording has, before each of them is looked at."""
+    fault = settings.count_fault()
+    if fault:
+        raise Refusal(2, f"live: {settings.file}: {fault}")
+
+
+def is_under(limit: int, needed: int) -> bool:
+    """Whether a limit is less than what is needed."""
+    return limit != resource.RLIM_INFINITY and limit < needed
+
+
+def inherited() -> int:
+    """How many descriptors live was given beside the standard streams."""
+    try:
+        return max(0, len(os.listdir("/proc/self/fd")) - 1 - OPEN_BY_NOW)
+    except OSError:
+        return 0
+
+
+def refuse_holder() -> None:
+    """Refuses a TMPDIR whose name settings can't have, in which the recorder finds its pipes."""
+    holder = os.environ.get("TMPDIR", "")
+    try:
+        holder.encode()
+    except UnicodeEncodeError:
+        raise Refusal(3, f"live: TMPDIR is not UTF-8: {os.fsencode(holder)!r}") from None
