@@ -332,7 +332,7 @@ def test_the_unit_records_by_settings_that_are_installed(unpacked: Path) -> None
     unit = (unpacked / "usr/lib/systemd/system/bpfrec.service").read_text()
     judge("it runs what is installed", "ExecStart=/usr/bin/bpfrec-live " in unit and "host/bin" not in unit, unit)
     judge("the page is for this machine alone", "IPAddressAllow=localhost\nIPAddressDeny=any\n" in unit, unit)
-    judge("and a part of the disk stays free", re.search(r" --every \d+ --keep-free \d+ ", unit), unit)
+    judge("and a part of the disk stays free", re.search(r" --every \d+ --keep-free 10G ", unit), unit)
     named = re.findall(r"\S+/wire.toml", unit)
     judge("its comments name an example", "/usr/share/doc/bpfrec/examples/wire.toml" in named, named)
     example = (unpacked / "usr/share/doc/bpfrec/examples/wire.toml").read_text()

@@ -182,3 +182,20 @@ def test_a_tmpdir_that_is_not_utf8_is_refused_by_name(work: Path) -> None:
     judge("and leaves nothing", os.listdir(holder) == [] and not (work / "o.ch11").exists())
     done = outcome(PREFLIGHT, "--live", *words, env={**os.environ, "TMPDIR": holder})
     judge("preflight says so too", done.returncode == 1 and line in done.stdout, done)
+
+
+@pytest.mark.parametrize(
+    "words, told",
+    [
+        (["--keep", 2, "x.ch11", "rx0"], "--keep and --keep-free need --every or --size"),
+        (["--keep", 2, "--every", 1, "--no-audit", "x.ch11", "rx0"], "--no-audit audits nothing"),
+        (["--status-name", "a.lan", "x.ch11", "rx0"], "--status-name needs --status"),
+        (["--status", "127.0.0.1:99999", "x.ch11", "rx0"], "127.0.0.1:99999"),
+        (["-", "rx0"], "-: OUT is a file or a named pipe"),
+    ],
+)
+def test_preflight_says_what_live_refuses(work: Path, words: list, told: str) -> None:
+    refused = outcome(LIVE, *words, cwd=work)
+    judge("live does", refused.returncode == 2 and told in refused.stderr, refused)
+    ahead = outcome(PREFLIGHT, "--live", *words, cwd=work)
+    judge("so does preflight", ahead.returncode == 1 and told in ahead.stdout, ahead)

@@ -55,3 +55,16 @@ def refuse_holder() -> None:
         holder.encode()
     except UnicodeEncodeError:
         raise Refusal(3, f"live: TMPDIR is not UTF-8: {os.fsencode(holder)!r}") from None
+
+
+def refuse_together(given: Arguments) -> None:
+    """Refuses options that don't go together."""
+    is_ring = given.keep is not None or given.keep_free is not None
+    if is_ring and not given.is_rotating():
+        raise Refusal(2, "live: --keep and --keep-free need --every or --size")
+    if is_ring and not given.is_audited:
+        raise Refusal(2, "live: --keep and --keep-free remove what was audited, and --no-audit audits nothing")
+    if given.status_names and given.status is None:
+        raise Refusal(2, "live: --status-name needs --status")
+    if given.flush is not None and not given.ways:
+        raise Refusal(2, "live: --flush needs an interface")

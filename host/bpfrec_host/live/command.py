@@ -8,7 +8,7 @@ from typing import Optional
 
 from bpfrec_host import program
 from bpfrec_host.ending import tell
-from bpfrec_host.live.ahead import refuse_few_descriptors, refuse_holder, refuse_many_channels
+from bpfrec_host.live.ahead import refuse_few_descriptors, refuse_holder, refuse_many_channels, refuse_together
 from bpfrec_host.live.arguments import Arguments, parser, read
 from bpfrec_host.live.filters import judge_filters
 from bpfrec_host.live.folder import Folder, judge_settings, made_settings, read_settings
@@ -118,16 +118,3 @@ def look_ahead(given: Arguments) -> None:
         raise Refusal(2, f"live: --every and --size make files, and {given.out} is not a file")
     refuse_folder(given.out)
     refuse_long(Names(given.out).next()[1], True)
-
-
-def refuse_together(given: Arguments) -> None:
-    """Refuses options that don't go together."""
-    is_ring = given.keep is not None or given.keep_free is not None
-    if is_ring and not given.is_rotating():
-        raise Refusal(2, "live: --keep and --keep-free need --every or --size")
-    if is_ring and not given.is_audited:
-        raise Refusal(2, "live: --keep and --keep-free remove what was audited, and --no-audit audits nothing")
-    if given.status_names and given.status is None:
-        raise Refusal(2, "live: --status-name needs --status")
-    if given.flush is not None and not given.ways:
-        raise Refusal(2, "live: --flush needs an interface")

@@ -61,6 +61,8 @@ def refuse_interface(word: str, status: int) -> None:
 
 def dashed(out: str) -> str:
     """OUT as a path that no program takes for an option."""
+    if out == "-":
+        raise Refusal(2, "live: -: OUT is a file or a named pipe, since standard output has the report")
     return f"./{out}" if out.startswith("-") else out
 
 

@@ -25,12 +25,13 @@ from bpfrec_host.formats.limits import (
 )
 from bpfrec_host.formats.settings import Settings
 from bpfrec_host.live.adapters import asked
-from bpfrec_host.live.ahead import refuse_few_descriptors, refuse_holder
+from bpfrec_host.live.ahead import refuse_few_descriptors, refuse_holder, refuse_together
 from bpfrec_host.live.arguments import Arguments, read
 from bpfrec_host.live.expressions import listing_of
 from bpfrec_host.live.folder import is_channel
 from bpfrec_host.live.folder import judge_settings as refuse_settings
 from bpfrec_host.live.names import Files, Names, Refusal, is_special, refuse_long
+from bpfrec_host.live.status import BadEndpoint, endpoint_in
 from bpfrec_host.preflight.keys import read_settings
 from bpfrec_host.preflight.output import available_memory, judge_out
 from bpfrec_host.preflight.report import Report
@@ -56,6 +57,8 @@ def judge_live(words: list[str], judge: Callable[[Settings, Report, set[int]], o
     """Judges the arguments of a run of live. `judge` takes settings, and the channels that have interfaces."""
     try:
         given = read(words)
+        refuse_together(given)
+        refuse_endpoint(given)
         refuse_holder()
         settings = read_settings(given.settings, report) if given.settings is not None else None
         if settings:
@@ -75,6 +78,15 @@ def judge_live(words: list[str], judge: Callable[[Settings, Report, set[int]], o
         judge_origin(given, report)
         judge_permission(report)
         judge_buffers(given, report)
+
+
+def refuse_endpoint(given: Arguments) -> None:
+    """Refuses an address of the status that is none."""
+    try:
+        if given.status is not None:
+            endpoint_in(given.status, given.status_names)
+    except BadEndpoint as why:
+        raise Refusal(why.status, f"live: {why}") from None
 
 
 def without_name(refusal: Refusal) -> str:
