@@ -300,6 +300,16 @@ def test_copyright() -> None:
         judge(f"the licence of {known} is named", re.search(rf"\b{known}\s+\([-\w.]+\)", text), text)
 
 
+def test_each_crate_that_is_linked_into_the_program_is_named() -> None:
+    """Those of the toolchain that what is shipped uses, with whose they are."""
+    rows = [it.split(":") for it in (ROOT / "crates.txt").read_text().splitlines() if not it.startswith("#")]
+    own = {name.split()[0]: used.split() for name, used in rows}
+    shipped = {it for name, used in own.items() if not name.startswith(("test_", "bench")) for it in used} - set(own)
+    paragraph = (ROOT / "dev/package/copyright").read_text().split("Files: usr/bin/bpfrec")[1].split("\n\n")[0]
+    lacking = {it for it in shipped if len(re.findall(rf"\b{it}\b", paragraph)) < 2}
+    judge(f"{len(shipped)} crates are named twice", shipped and not lacking, lacking)
+
+
 @pytest.mark.parametrize("mask", [0o077, 0o002])
 def test_the_callers_umask_is_in_no_package(packages: dict[str, Path], mask: int) -> None:
     """The same sources and programs make the same bytes, whatever modes the caller's files get."""
