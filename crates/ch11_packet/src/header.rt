@@ -139,7 +139,8 @@ impl Header {
             → IsOkAnd result (λ read. header_data read ≡ header) }
 
         // At a fault.
-        ensures fault { (fault : HeaderFault) → (result ≡ Err fault) ↔ HeaderHasFault bytes.now fault }
+        ensures fault { (fault : HeaderFault)
+            → (result ≡ Err fault) ↔ HeaderHasFault bytes.now fault }
     {
         if u16::from_le_bytes([bytes[0], bytes[1]]) != SYNC_PATTERN {
             return Err(HeaderFault::Sync);

@@ -103,7 +103,8 @@ fn interface_head(len: u32, link_type: u16, snap_len: u32) -> [u8; INTERFACE_HEA
 fn packet_head(len: u32, interface: u32, time: u64, captured: u32) -> [u8; PACKET_HEAD_LEN]
     ensures { result ≡ to_le_bytes w32 ENHANCED_PACKET ++ (to_le_bytes w32 len
         ++ (to_le_bytes w32 interface ++ (to_le_bytes w32 (time / 2 ^ 32)
-        ++ (to_le_bytes w32 (time % 2 ^ 32) ++ (to_le_bytes w32 captured ++ to_le_bytes w32 captured))))) }
+        ++ (to_le_bytes w32 (time % 2 ^ 32)
+        ++ (to_le_bytes w32 captured ++ to_le_bytes w32 captured))))) }
 {
     let [k0, k1, k2, k3] = ENHANCED_PACKET.to_le_bytes();
     let [l0, l1, l2, l3] = len.to_le_bytes();

@@ -91,7 +91,8 @@ impl Channel {
             → BeginsList self.old.ring.pieces self.new.ring.pieces }
         // The writer stays one of the same channels.
         ensures version { writer.new.version ≡ writer.old.version }
-        ensures channels { numbered_channels writer.new.numbers ≡ numbered_channels writer.old.numbers }
+        ensures channels { numbered_channels writer.new.numbers
+            ≡ numbered_channels writer.old.numbers }
     {
         match event {
             Event::Take { frame, .. } => self.take(&frame.frame()),
@@ -170,7 +171,8 @@ impl Channel {
         ensures front { writer.new.failed ≡ true
             → BeginsList self.old.ring.pieces self.new.ring.pieces }
         ensures version { writer.new.version ≡ writer.old.version }
-        ensures channels { numbered_channels writer.new.numbers ≡ numbered_channels writer.old.numbers }
+        ensures channels { numbered_channels writer.new.numbers
+            ≡ numbered_channels writer.old.numbers }
     {
         pieces_are_of_their_channel();
         pieces_so_far_begin_all_pieces();

@@ -77,9 +77,11 @@ fn write_captured<W: Write>(
     requires options { AreOptions (options_data options.now) }
     requires fits { length (options_bytes (options_data options.now)) < 2 ^ 17 }
     ensures whole { OnOk result (Appends (W.contents out.old) (W.contents out.new)
-        (block_bytes (packet_with interface (read_frame_data frame.now) (options_data options.now)))) }
+        (block_bytes
+        (packet_with interface (read_frame_data frame.now) (options_data options.now)))) }
     ensures part { OnErr result (TakesStart (W.contents out.old) (W.contents out.new)
-        (block_bytes (packet_with interface (read_frame_data frame.now) (options_data options.now)))) }
+        (block_bytes
+        (packet_with interface (read_frame_data frame.now) (options_data options.now)))) }
 {
     let block = Block::Packet {
         interface,

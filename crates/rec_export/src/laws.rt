@@ -46,7 +46,8 @@ pub fn an_export_shows_its_recording()
         → (exported : IsExported origin recording old new) → ShowsPackets exported.packets old new }
     ensures part { (origin : Option ℕ) (recording : List ℕ) (end : ReadEnd)
         (old new : Option (List ℕ))
-        → (stopped : StopsExport origin recording end old new) → ShowsPackets stopped.packets old new }
+        → (stopped : StopsExport origin recording end old new)
+        → ShowsPackets stopped.packets old new }
 {
     an_export_is_read_as_its_blocks();
 }

@@ -84,7 +84,8 @@ fn write_round<S: FrameSource + Drop, W: Write + Drop>(
     requires { IsReady lines.old tape.old.writer }
     ensures lines { (channels lines.new ≡ channels lines.old)
         × (handles lines.new ≡ handles lines.old) }
-    ensures numbers { numbered_channels tape.new.writer.numbers ≡ numbered_channels tape.old.writer.numbers }
+    ensures numbers { numbered_channels tape.new.writer.numbers
+        ≡ numbered_channels tape.old.writer.numbers }
     ensures version { tape.new.writer.version ≡ tape.old.writer.version }
     ensures wrote { (first : Option (List ℕ)) → Writes first tape.old.writer tape.old.bytes
         lines.old → WroteSo result first tape.new.writer tape.new.bytes lines.new }
@@ -109,7 +110,8 @@ fn write_one<S: FrameSource + Drop, W: Write + Drop>(
     requires { Contains (numbered_channels tape.old.writer.numbers) line.old.channel }
     ensures channel { line.new.channel ≡ line.old.channel }
     ensures handle { line.new.handle ≡ line.old.handle }
-    ensures numbers { numbered_channels tape.new.writer.numbers ≡ numbered_channels tape.old.writer.numbers }
+    ensures numbers { numbered_channels tape.new.writer.numbers
+        ≡ numbered_channels tape.old.writer.numbers }
     ensures version { tape.new.writer.version ≡ tape.old.writer.version }
     ensures wrote { WroteOne result line.old line.new tape.old.writer tape.new.writer
         tape.old.bytes tape.new.bytes }

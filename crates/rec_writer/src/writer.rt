@@ -143,8 +143,10 @@ impl<W: Write> Writer<W> {
     /// [`WriteFault::Output`] if the flush fails, [`WriteFault::Failed`] if the output has failed
     /// before, each with the output; then nothing is flushed.
     pub fn finish(self) -> Result<W, (WriteFault, W)>
-        ensures whole { IfOk result (λ out. (self.failed ≡ false) × Keeps self.held (W.contents out)) }
-        ensures fault { IfErr result (λ e. FinishFails self e.0 × Keeps self.held (W.contents e.1)) }
+        ensures whole { IfOk result (λ out.
+            (self.failed ≡ false) × Keeps self.held (W.contents out)) }
+        ensures fault { IfErr result (λ e.
+            FinishFails self e.0 × Keeps self.held (W.contents e.1)) }
     {
         let Writer {
             mut out,
@@ -260,7 +262,8 @@ fn count_packet(numbers: &mut ArrayVec<Numbered, MAX_NUMBERS>, at: usize)
 
 /// Where the number of a channel ID stands.
 fn position_of(numbers: &[Numbered], channel: u16) -> Option<usize>
-    ensures found { IfSome result (λ at. slice_get (numbered_channels numbers.now) at ≡ Some channel) }
+    ensures found { IfSome result (λ at.
+        slice_get (numbered_channels numbers.now) at ≡ Some channel) }
     ensures within { IfSome result (λ at. at < length numbers.now) }
     ensures none { IfNone result (¬ Contains (numbered_channels numbers.now) channel) }
 {

@@ -8,6 +8,7 @@ mod audits;
 mod cases;
 mod exports;
 mod extracts;
+mod limits;
 mod records;
 mod run;
 mod scripts;
@@ -19,6 +20,7 @@ use audits::show_audits;
 use cases::{CHECKED, HELP, PROGRAMS, RECORDINGS, REFUSED};
 use exports::{EXPORTS, ExportCase};
 use extracts::{EXTRACTS, ExtractCase};
+use limits::show_limits;
 use rec_cli::LockFile;
 use records::show_records;
 use run::{Input, NOTHING, run_program, show_closed, show_run, title};
@@ -51,7 +53,8 @@ fn main(rt: HostRuntime) -> io::Result<()> {
     show_records(&rt)?;
     show_audits(&rt)?;
     show_scripts(&rt)?;
-    show_values(&rt)
+    show_values(&rt)?;
+    show_limits(&rt)
 }
 
 /// Each table has a function of its own, since its check takes time and memory for each row.

@@ -429,7 +429,7 @@ fn read_again(alloc: Global, bytes: &[u8], len: u64) -> Result<Recording<'_>, Fa
     }
 }
 
-/// `dev/trials/refused_growth.py` refuses each growth of this test in turn: a call that lacked memory is
+/// `dev/trials/long/refused_growth.py` refuses each growth of this test in turn: a call that lacked memory is
 /// answered as ever when it is made again.
 #[test]
 fn a_call_without_memory_is_made_again(rt: HostRuntime) -> Result<(), Fail> {

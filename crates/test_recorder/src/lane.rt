@@ -28,7 +28,7 @@ pub(crate) fn lane(alloc: Global, limit: u32) -> Result<Lane, Fail> {
 
 /// Draws a frame from the slot and offers it to the lane, which has met all frames drawn before. A
 /// lane without memory for its buffer is as before, and gets it when it is asked again:
-/// `dev/trials/refused_growth.py` refuses it.
+/// `dev/trials/long/refused_growth.py` refuses it.
 pub(crate) fn offer(lane: &mut Lane, slot: &mut Slot, frame: &Frame<'_>) -> Result<Offered, Fail> {
     let before = (lane.offered(), lane.kept(), false);
     if lane.ready().is_err() {

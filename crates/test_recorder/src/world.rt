@@ -292,7 +292,7 @@ fn done_again<W: Write + Drop>(
     Ok(())
 }
 
-/// `dev/trials/refused_growth.py` refuses each growth of this test in turn.
+/// `dev/trials/long/refused_growth.py` refuses each growth of this test in turn.
 #[test]
 fn an_event_without_memory_is_done_again(rt: HostRuntime) -> Result<(), Fail> {
     let alloc = rt.alloc();

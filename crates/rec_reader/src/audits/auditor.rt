@@ -128,7 +128,8 @@ fn take_said(
     channel: u16,
     said: &Said<'_>,
 ) -> Result<(), AuditFault>
-    ensures judged { JudgesState number (state_of channels.old channel) (said_data said.now) result }
+    ensures judged { JudgesState number (state_of channels.old channel)
+        (said_data said.now) result }
     ensures set { OnOk result (SetsState channels.old channel
         (state_after (state_of channels.old channel) (said_data said.now)) channels.new) }
 {

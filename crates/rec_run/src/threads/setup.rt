@@ -40,7 +40,8 @@ pub fn the_spare_buffers_are_enough()
         → All (λ (f : FlowState). f.stage ≡ NeedsBuffer → f.held ≡ 1 → 0 < f.returned) new.flows }
     ensures room { (ring : ℕ) (specs : List FlowSpec) (moves : List Move) (new : FlowWorld)
         → LeadTo ring SPARE_BUFFERS specs moves new
-        → All (λ (f : FlowState). f.returned + f.hand < return_places ring SPARE_BUFFERS) new.flows }
+        → All (λ (f : FlowState). f.returned + f.hand < return_places ring SPARE_BUFFERS)
+        new.flows }
 {
     no_channel_stands_still();
     buffers_are_neither_lost_nor_doubled();

@@ -140,7 +140,8 @@ fn last_pieces<R: Wait>(
     end: WorkerEnd,
 ) -> WorkerEnd
     ensures ring { SameProducer ring.old ring.new }
-    ensures last { SendsLast lane end result (pieces_data (sent ring.old)) (pieces_data (sent ring.new)) }
+    ensures last { SendsLast lane end result
+        (pieces_data (sent ring.old)) (pieces_data (sent ring.new)) }
 {
     match end {
         WorkerEnd::Ended(ending) if ending.is_over() => {

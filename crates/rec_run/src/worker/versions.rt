@@ -33,7 +33,8 @@ pub(crate) fn last_version(met: &[MetVersion]) -> Option<u32>
 
 /// Adds the version that a frame met, unless the last one is the same; `false` if there is no room.
 pub(crate) fn meet<R: Wait>(rt: &R, met: &mut Vec<MetVersion>, drawn: &Drawn) -> bool
-    ensures met { result ≡ true → versions_met met.new.items ≡ met_after (versions_met met.old.items)
+    ensures met { result ≡ true → versions_met met.new.items
+        ≡ met_after (versions_met met.old.items)
         drawn.now.version drawn.now.number (arc_value drawn.now.program) }
     ensures kept { result ≡ false → met.new.items ≡ met.old.items }
 {
