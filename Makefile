@@ -7,7 +7,7 @@ DESTDIR ?=
 C_FLAGS := -std=gnu11 -O2 -Wall -Wextra -Wconversion -Wshadow -Werror
 export PREFIX DESTDIR
 
-.PHONY: help try demo build capture quick crate test trials covered lint gate install uninstall deb \
+.PHONY: help try demo build texts capture packages quick mutants crate test trials lint gate install uninstall deb \
 	refused-growth fuzz bench clean
 
 help: ## lists the targets
@@ -23,23 +23,32 @@ demo: build ## builds the program, and shows a recording from filter to extracte
 build: ## proves the program and all that it stands on: bin/bpfrec, and bin/capture if libpcap-dev is installed
 	@dev/build/build.py $(if $(KEEP_COSTS),--keep-costs)
 
+texts: ## the manual page, the completions and the plugin for Wireshark, in bin/: they need no build
+	@dev/package/make_texts.py
+
+# They stand beside the program where it is built, and where it is tried.
+try build test trials: texts
+
 capture: ## bin/capture alone, which makes feeds of interfaces; it needs libpcap-dev
 	@$(MAKE) -s -C capture
 
-quick: ## all tests of the crates, with no proof, and the trials without root: minutes, also on a fresh checkout
+packages: ## installs Debian's packages that builds and tests need, by apt-get, as root
+	@dev/package/install_packages.sh
+
+quick: ## five minutes, without root or a build: tests, checks, and the crates' tests with no proof
 	@dev/build/quick.py
+
+mutants: ## wrong bodies that tests have to refuse, planted one by one: NAMES=rattle/ring, or SECONDS=60 for a draw
+	@dev/build/mutants.py $(NAMES) $(if $(SECONDS),--seconds $(SECONDS)) $(if $(SEED),--seed $(SEED))
 
 crate: ## one crate: its proof, its edits that must fail, its tests: make crate C=rec_lane
 	@dev/build/crate.py $(C)
 
-trials: ## what runs the built program, its tools, interfaces and disks; one alone: pytest dev/trials -k NAME
-	@dev/trials/run.py
+trials: ## what runs the built program, its tools, interfaces and disks; some alone: make trials PATHS=dev/trials/read
+	@dev/build/trials.py $(PATHS)
 
-covered: build ## which lines of host/bin/live its trials run, 90 of 100 at least: ten minutes, in no other target
-	@dev/trials/covered.py
-
-test: ## the proofs of what is shipped, all tests and stored runs, over kept work, and the edits of what changed
-	@dev/build/test.py $(if $(EDITS_WITHIN),--edits-within $(EDITS_WITHIN))
+test: ## all: the proofs of what is shipped, tests, stored runs, the edits of what changed, and trials
+	@dev/build/test.py
 
 gate: ## everything from nothing by the toolchain's gate: proofs, every edit, tests, two compilers
 	@dev/build/gate.py
@@ -56,10 +65,10 @@ deb: ## Debian packages of the same: bin/bpfrec_<version>_<architecture>.deb, an
 refused-growth: build ## refuses each growth of memory of each command, in turn
 	cd crates/test_recorder && $(RT) test -- without_memory
 	cd crates/test_reader && $(RT) test -- without_memory
-	dev/trials/refused_growth.py
+	dev/trials/long/refused_growth.py
 
 fuzz: build ## drawn and damaged inputs for an hour; SECONDS=60 for a minute, SEED=2 for others
-	dev/trials/fuzz.py --seed $(or $(SEED),1) --seconds $(or $(SECONDS),3600)
+	dev/trials/long/fuzz.py --seed $(or $(SEED),1) --seconds $(or $(SECONDS),3600)
 
 bench: build bin/pcap_filter bin/record_feed ## times the filter machine and the whole recorder beside libpcap's
 	@command -v python3 || { echo "make bench needs libpcap-dev, python3 and cc: python3 is missing"; exit 1; }
@@ -82,8 +91,8 @@ bin/send_frames: bench/send_frames.c
 	@mkdir -p bin
 	$(CC) $(C_FLAGS) -o $@ $<
 
-lint: ## how Python, C and shell scripts are written, by Debian's tools: black, mypy, shellcheck, clang-tidy and others
-	@dev/checks/style.py
+lint: ## how Python, C, scripts and English are written, and that pages are up to date; WITHOUT=mypy leaves it out
+	@dev/checks/style.py $(addprefix --without=,$(WITHOUT))
 
 clean: ## removes what a build has made
 	rm -rf bin crates/*/out

@@ -64,11 +64,13 @@ BENCH = Path(__file__).resolve().parent
 # the frames on which the filters of examples/ and of filters.txt are timed
 FILTERED_LENGTH = 300
 MOST_INSNS = 4096
+# what both programs take: a listing, frames, and the length of a frame
+Words = tuple[Path, Path, int]
 
 
-def straight_line(length):
+def straight_line(length: int) -> list[str]:
     """Loads, arithmetic and tests; X stays below 16, so that an indexed load finds its byte."""
-    line = []
+    line: list[str] = []
     while len(line) < length - 1:
         insn = random.choice(STRAIGHT)
         if insn != TO_X:
@@ -78,7 +80,7 @@ def straight_line(length):
     return line + ["22 0 0 0"]
 
 
-def scratch_line(length):
+def scratch_line(length: int) -> list[str]:
     """Every other instruction is a store to or a load from the first four scratch words."""
     line = [f"2 0 0 {word}" for word in range(4)]
     while len(line) < length - 1:
@@ -89,7 +91,7 @@ def scratch_line(length):
     return line + ["22 0 0 0"]
 
 
-def programs():
+def programs() -> dict[str, list[str]]:
     return {
         "accept all": ["6 0 0 262144"],
         "ARP": ARP,
@@ -101,7 +103,7 @@ def programs():
     }
 
 
-def frame(length):
+def frame(length: int) -> bytes:
     """A frame of one of the kinds that the programs ask for, its other bytes by chance."""
     bytes_ = bytearray(random.randbytes(length))
     kind = random.randrange(4)
@@ -113,25 +115,25 @@ def frame(length):
     return bytes(bytes_)
 
 
-def make_frames(path, length, count):
+def make_frames(path: Path, length: int, count: int) -> None:
     kinds = [frame(length) for _ in range(min(count, 4096))]
     path.write_bytes(b"".join(kinds[i % len(kinds)] for i in range(count)))
 
 
-def output_of(*words):
+def output_of(*words: object) -> str:
     done = subprocess.run([str(it) for it in words], capture_output=True, text=True, check=True)
     return done.stdout
 
 
-def measured(*words):
+def measured(*words: object) -> dict[str, tuple[float, str]]:
     """The nanoseconds and the sum of each line of a bench's output, by the line's name."""
     rows = [line.split() for line in output_of(*words).splitlines()]
     return {name.split(".")[1]: (float(nanos), total) for name, _, nanos, total in rows}
 
 
-def ready_filters(bpfrec):
+def ready_filters(bpfrec: str) -> dict[str, list[str]]:
     """The listed instructions of each filter of examples/filters, and of filters.txt."""
-    filters = {}
+    filters: dict[str, list[str]] = {}
     for path in sorted((BENCH.parent / "examples" / "filters").glob("*.bpf")):
         # a listing's count, and its instructions with a comma after each
         filters[path.name] = output_of(bpfrec, "asm", path).strip().strip(",").split(",")[1:]
@@ -144,7 +146,7 @@ def ready_filters(bpfrec):
     return filters
 
 
-def medians(ours, theirs, words, count, rounds):
+def medians(ours: list[str], theirs: list[str], words: Words, count: int, rounds: int) -> tuple[list[float], str]:
     """The medians of a frame's nanoseconds, prepared, plain and libpcap's, of the two ratios, and
     the steps, over rounds in turn."""
     turns = 1
@@ -152,7 +154,7 @@ def medians(ours, theirs, words, count, rounds):
         if measured(*ours, "time", *words, turns)["frame"][0] * count * turns >= NANOS_OF_A_ROUND:
             break
         turns *= 2
-    rows, steps = [], 0
+    rows, steps = [], ""
     for _ in range(rounds):
         our = measured(*ours, "time", *words, turns)
         their = measured(*theirs, "time", *words, turns)
@@ -165,7 +167,7 @@ def medians(ours, theirs, words, count, rounds):
     return [statistics.median(column) for column in zip(*rows)], steps
 
 
-def write_listing(work, name, lines):
+def write_listing(work: Path, name: str, lines: list[str]) -> Path:
     """A file with these instructions as a listing."""
     kept = "".join(it if it.isalnum() else "_" for it in name)
     path = work / f"{kept}.txt"
@@ -173,7 +175,9 @@ def write_listing(work, name, lines):
     return path
 
 
-def compare_one(ours, theirs, name, insns, words, where, count, rounds):
+def compare_one(
+    ours: list[str], theirs: list[str], name: str, insns: int, words: Words, where: str, count: int, rounds: int
+) -> float:
     """Prints a program's row; where the frames are in cache, each value is compared before."""
     if count == CACHED_FRAMES:
         our_values = output_of(*ours, "values", *words)
@@ -186,7 +190,7 @@ def compare_one(ours, theirs, name, insns, words, where, count, rounds):
     return times[3]
 
 
-def compare(ours, theirs, work, rounds):
+def compare(ours: list[str], theirs: list[str], work: Path, rounds: int) -> None:
     """A row for each made program, length of a frame and set of frames."""
     listings = {it: (write_listing(work, it, lines), len(lines)) for it, lines in programs().items()}
     for length in LENGTHS:
@@ -199,7 +203,7 @@ def compare(ours, theirs, work, rounds):
             frames.unlink()
 
 
-def compare_filters(ours, theirs, work, rounds, bpfrec):
+def compare_filters(ours: list[str], theirs: list[str], work: Path, rounds: int, bpfrec: str) -> None:
     """A row for each ready filter, and the median of their ratios; then a longest program's time."""
     frames = work / "frames_of_filters"
     make_frames(frames, FILTERED_LENGTH, CACHED_FRAMES)
@@ -216,7 +220,7 @@ def compare_filters(ours, theirs, work, rounds, bpfrec):
     print(f"a program of {MOST_INSNS} instructions is prepared in {prepare / 1000:.1f} us")
 
 
-def main():
+def main() -> None:
     shape = argparse.RawDescriptionHelpFormatter
     parser = argparse.ArgumentParser(description=__doc__, formatter_class=shape)
     parser.add_argument("bench", metavar="BENCH", help="the program of crates/bench")

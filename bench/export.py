@@ -16,7 +16,7 @@ import sys
 import tempfile
 from pathlib import Path
 
-sys.path.insert(0, str(Path(__file__).resolve().parent.parent / "dev/trials"))
+sys.path.insert(0, str(Path(__file__).resolve().parent.parent / "dev/trials/lib"))
 from frames import frames_packet
 from upgrade import copying, memory_of, show, times_of, write_packets
 
@@ -28,20 +28,20 @@ MOST_MORE = 1
 PACKET_LENGTH, FRAME_HEADER = 65_536, 12
 
 
-def packet(length):
+def packet(length: int) -> bytes:
     """A packet that is full of frames of this length."""
     frame = bytes(at % 251 for at in range(length))
     count = PACKET_LENGTH // (FRAME_HEADER + length + length % 2) - 1
     return frames_packet([(0, 0, frame)] * count, 0, 0, True)
 
 
-def main():
+def main() -> int:
     parser = argparse.ArgumentParser(description=__doc__, formatter_class=argparse.RawDescriptionHelpFormatter)
-    parser.add_argument("bpfrec", type=os.path.abspath, metavar="BPFREC")
+    parser.add_argument("bpfrec", metavar="BPFREC")
     parser.add_argument("megabytes", nargs="?", type=int, default=1024, metavar="MEGABYTES", help="1024 (default)")
     parser.add_argument("length", nargs="?", type=int, default=1_518, metavar="LENGTH", help="1518 (default)")
     words = parser.parse_args()
-    bpfrec, megabytes = words.bpfrec, words.megabytes
+    bpfrec, megabytes = os.path.abspath(words.bpfrec), words.megabytes
     with tempfile.TemporaryDirectory() as work:
         one, whole, out = (f"{work}/{it}" for it in ("one.ch11", "whole.ch11", "out"))
         content = packet(words.length)

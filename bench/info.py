@@ -17,17 +17,18 @@ import subprocess
 import sys
 import tempfile
 import time
+from collections.abc import Sequence
 from pathlib import Path
 
 ROOT = Path(__file__).resolve().parent.parent
-sys.path.insert(0, str(ROOT / "dev/trials"))
+sys.path.insert(0, str(ROOT / "dev/trials/lib"))
 from frames import HEAD, record_of
 
 BPFREC, INFO, SALVAGE = (ROOT / it for it in ("bin/bpfrec", "host/bin/info", "host/bin/salvage"))
 LENGTHS = {"64": (64, 64), "60 to 80": (60, 80), "300": (300, 300), "1,500": (1_500, 1_500)}
 
 
-def write_feed(path, least, most, size):
+def write_feed(path: Path, least: int, most: int, size: int) -> None:
     """A feed of so many bytes, of frames of drawn lengths and at drawn moments."""
     draw, counter, parts, written = random.Random(1), 0, [], 0
     frames = {length: HEAD + bytes(length - len(HEAD)) for length in range(least, most + 1)}
@@ -41,7 +42,7 @@ def write_feed(path, least, most, size):
                 parts.clear()
 
 
-def record(work, least, most, size):
+def record(work: Path, least: int, most: int, size: int) -> Path:
     # In a process of its own: a program that is started later is counted with the memory that this one has then.
     process = os.fork()
     if process == 0:
@@ -60,7 +61,8 @@ def record(work, least, most, size):
     return work / "ch11"
 
 
-def timed(words, env):
+def timed(words: Sequence[object], env: dict[str, str] | None) -> tuple[float, float, int]:
+    """The seconds of a run by the clock and of processors, and its most memory in KiB."""
     begin = time.monotonic()
     process = subprocess.Popen([str(it) for it in words], stdout=subprocess.DEVNULL, env=env)
     _, status, used = os.wait4(process.pid, 0)
@@ -69,7 +71,7 @@ def timed(words, env):
     return time.monotonic() - begin, used.ru_utime + used.ru_stime, used.ru_maxrss
 
 
-def main():
+def main() -> None:
     parser = argparse.ArgumentParser(description=__doc__, formatter_class=argparse.RawDescriptionHelpFormatter)
     parser.add_argument("--megabytes", type=int, default=200)
     parser.add_argument("--rounds", type=int, default=3)
@@ -80,7 +82,7 @@ def main():
         with tempfile.TemporaryDirectory() as folder:
             recording = record(Path(folder), least, most, words.megabytes * 1_000_000)
             size = recording.stat().st_size / 1e6
-            programs = {
+            programs: dict[str, tuple[list[object], dict[str, str] | None]] = {
                 "info": ([INFO, recording], None),
                 "info without audit": ([INFO, recording], without),
                 "salvage": ([SALVAGE, recording, "/dev/null"], None),

@@ -30,7 +30,7 @@ MOST_TIMES = 2
 FILTER = "4,40 0 0 12,21 0 1 23130,6 0 0 4294967295,6 0 0 0,"
 
 
-def run(words, output):
+def run(words: list[str], output: str) -> float:
     """The seconds that a run takes."""
     with open(output, "wb") as out:
         begin = time.monotonic()
@@ -41,14 +41,14 @@ def run(words, output):
     return spent
 
 
-def memory_of(words):
+def memory_of(words: list[str]) -> float:
     """The most memory of a run in megabytes. A child of this script would have the script's own."""
     timed = ["/usr/bin/time", "-f", "%M", *words]
     ran = subprocess.run(timed, stdout=subprocess.DEVNULL, stderr=subprocess.PIPE, text=True, check=True)
     return int(ran.stderr.split()[-1]) * 1024 / 1e6
 
 
-def filter_runs(bench, work, length, count):
+def filter_runs(bench: str, work: str, length: int, count: int) -> float:
     """The milliseconds of so many runs of the filter on the view of a frame of this length."""
     view = length - 4
     with open(f"{work}/filter", "w") as listing:
@@ -60,7 +60,7 @@ def filter_runs(bench, work, length, count):
     return min(float(line.split()[2]) for line in lines if line.startswith("machine.frame")) * count / 1e6
 
 
-def convert(path, out, with_sums):
+def convert(path: str, out: str, with_sums: bool) -> None:
     """Writes the same recording with or without a data checksum of 32 bits in each packet."""
     with open(path, "rb") as recording, open(out, "wb") as converted:
         while header := bytearray(recording.read(24)):
@@ -75,7 +75,7 @@ def convert(path, out, with_sums):
             converted.write(header + body + trailer)
 
 
-def commands_on(bpfrec, recording, checked, feed):
+def commands_on(bpfrec: str, recording: str, checked: str, feed: str) -> dict[str, list[str]]:
     """What is timed, by its name."""
     return {
         "cat": ["cat", recording],
@@ -88,16 +88,16 @@ def commands_on(bpfrec, recording, checked, feed):
     }
 
 
-def times_of(commands, work):
+def times_of(commands: dict[str, list[str]], work: str) -> dict[str, list[float]]:
     """The milliseconds of each command, in turn with the others."""
-    runs = {name: [] for name in commands}
+    runs: dict[str, list[float]] = {name: [] for name in commands}
     for _ in range(ROUNDS):
         for name, words in commands.items():
             runs[name].append(run(words, f"{work}/{name}.out") * 1000)
     return runs
 
 
-def print_times(runs, memory):
+def print_times(runs: dict[str, list[float]], memory: dict[str, float]) -> None:
     for name, times in runs.items():
         best, median = min(times), statistics.median(times)
         print(f"{name:14} best {best:7.1f} ms  median {median:7.1f} ms  memory {memory[name]:6.1f} MB")
@@ -105,7 +105,7 @@ def print_times(runs, memory):
         print(f"{name:14} {min(runs[f'{name}, sums']) / min(runs[name]):.2f} times as long with data checksums")
 
 
-def is_within(runs, memory, alone):
+def is_within(runs: dict[str, list[float]], memory: dict[str, float], alone: float) -> bool:
     """Whether `list` and `audit` take no more than they may, which is printed."""
     within = True
     for name in ("list", "audit"):
@@ -117,26 +117,27 @@ def is_within(runs, memory, alone):
     return within
 
 
-def main():
+def main() -> int:
     parser = argparse.ArgumentParser(description=__doc__, formatter_class=argparse.RawDescriptionHelpFormatter)
-    parser.add_argument("bpfrec", type=os.path.abspath)
-    parser.add_argument("bench", type=os.path.abspath)
+    parser.add_argument("bpfrec")
+    parser.add_argument("bench")
     parser.add_argument("length", nargs="?", default="1518", help="bytes of a frame (default 1518)")
     parser.add_argument("megabytes", nargs="?", default="100", help="of the recording (default 100)")
     words = parser.parse_args()
+    bpfrec, bench = (os.path.abspath(it) for it in (words.bpfrec, words.bench))
     with tempfile.TemporaryDirectory() as work:
         made, recording, checked = (f"{work}/{it}.ch11" for it in ("made", "recording", "checked"))
-        subprocess.run([words.bench, "recording", made, words.length, words.megabytes], check=True)
+        subprocess.run([bench, "recording", made, words.length, words.megabytes], check=True)
         convert(made, recording, False)
         convert(made, checked, True)
         os.remove(made)
         print(f"a recording of {os.path.getsize(recording):,} bytes, frames of {words.length}")
-        commands = commands_on(words.bpfrec, recording, checked, f"{work}/feed")
+        commands = commands_on(bpfrec, recording, checked, f"{work}/feed")
         runs = times_of(commands, work)
         memory = {name: memory_of(it) for name, it in commands.items()}
         print_times(runs, memory)
         count = int(open(f"{work}/audit.out").read().split()[5])
-        alone = filter_runs(words.bench, work, int(words.length), count)
+        alone = filter_runs(bench, work, int(words.length), count)
         print(f"filter         {count:,} runs by themselves {alone:7.1f} ms")
         return 0 if is_within(runs, memory, alone) else 1
 

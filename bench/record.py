@@ -24,22 +24,26 @@ import subprocess
 import sys
 import tempfile
 import time
+from collections.abc import Iterable, Iterator, Sequence
 from dataclasses import dataclass
 from pathlib import Path
+from typing import IO
 
 ROOT = Path(__file__).resolve().parent.parent
-sys.path.insert(0, str(ROOT / "dev/trials"))
+sys.path.insert(0, str(ROOT / "dev/trials/lib"))
 from frames import with_check_sequence, write_feed
 
 LENGTHS = {"64": [64], "300": [300], "1500": [1500], "mix": [64, 64, 64, 300, 300, 600, 1500]}
 POOL = 4_096
 PORT = 53
 HOSTS = 31  # a list of so many hosts is a filter of about a hundred instructions
+# What is timed, by its name.
+Commands = dict[str, list[object]]
 
 # ---- frames
 
 
-def ethernet_frame(draw, length, port):
+def ethernet_frame(draw: random.Random, length: int, port: int) -> bytes:
     """A UDP datagram in a frame of this many bytes, its check sequence included."""
     udp = struct.pack(">HHHH", 40_000, port, length - 38, 0)
     ip = struct.pack(
@@ -59,14 +63,14 @@ def ethernet_frame(draw, length, port):
     return with_check_sequence(view)
 
 
-def frames_of(lengths, count):
+def frames_of(lengths: list[int], count: int) -> Iterator[tuple[int, bytes]]:
     """Frames with counters 0, 10, 20, ..: a pool of different ones, over and over."""
     draw = random.Random(2)
     pool = [ethernet_frame(draw, draw.choice(lengths), PORT if at % 32 == 0 else 1_024 + at) for at in range(POOL)]
     return ((10 * at, pool[at % POOL]) for at in range(count))
 
 
-def write_capture(path, frames):
+def write_capture(path: Path, frames: Iterable[tuple[int, bytes]]) -> None:
     """The same frames as a capture, without their check sequences."""
     with open(path, "wb", buffering=1 << 20) as capture:
         capture.write(struct.pack("<IHHiIII", 0xA1B2C3D4, 2, 4, 0, 0, 65_535, 1))
@@ -78,12 +82,12 @@ def write_capture(path, frames):
 # ---- filters
 
 
-def expressions():
+def expressions() -> dict[str, str]:
     hosts = " or ".join(f"host 10.0.0.{at}" for at in range(1, HOSTS + 1))
     return {"all": "", "port": f"udp port {PORT}", "hosts": f"ip and ({hosts})"}
 
 
-def write_filters(work, tcpdump):
+def write_filters(work: Path, tcpdump: str | None) -> None:
     """Each expression's program, as tcpdump lists it; without tcpdump, programs of the same kind and length."""
     for name, expression in expressions().items():
         listing = "1,6 0 0 4294967295,"
@@ -105,12 +109,12 @@ def write_filters(work, tcpdump):
 class Runs:
     """What the runs of one command took: seconds by the clock, seconds of processors, and the most memory."""
 
-    seconds: list
-    processors: list
+    seconds: list[float]
+    processors: list[float]
     kilobytes: int
 
 
-def run_once(words, output, stdin=subprocess.DEVNULL):
+def run_once(words: Sequence[object], output: Path, stdin: IO | int = subprocess.DEVNULL) -> tuple[float, float, int]:
     """The seconds by the clock and of processors, and the peak memory in kilobytes, of a run; what it
     prints on standard error is not kept."""
     with open(output, "wb") as out, tempfile.NamedTemporaryFile("r") as told:
@@ -124,7 +128,7 @@ def run_once(words, output, stdin=subprocess.DEVNULL):
     return spent, float(user) + float(system), int(kilobytes)
 
 
-def run_in_turn(commands, rounds, work):
+def run_in_turn(commands: Commands, rounds: int, work: Path) -> dict[str, Runs]:
     """Each command as often as there are rounds, in turn with the others."""
     done = {name: Runs([], [], 0) for name in commands}
     for _ in range(rounds):
@@ -136,7 +140,7 @@ def run_in_turn(commands, rounds, work):
     return done
 
 
-def print_runs(title, done, frames, size, beside):
+def print_runs(title: str, done: dict[str, Runs], frames: int, size: int, beside: str) -> None:
     """A table of the runs, with the ratio of the first command's median to each other one's."""
     print(
         f"\n{title}\n\n| Command | ns a frame | Least, greatest | Million frames a second | MB/s "
@@ -154,7 +158,7 @@ def print_runs(title, done, frames, size, beside):
         )
 
 
-def write_settings(path, feeds, filters, limit=65_536):
+def write_settings(path: Path, feeds: list[Path], filters: list[Path], limit: int = 65_536) -> Path:
     tables = [
         f'[[channel]]\nid = {id}\nfeed = "{feed}"\nfilter = "{filter}"\n'
         for id, (feed, filter) in enumerate(zip(feeds, filters), 1)
@@ -166,7 +170,7 @@ def write_settings(path, feeds, filters, limit=65_536):
 # ---- parts
 
 
-def time_peers(words, work, lengths_name, tcpdump):
+def time_peers(words: argparse.Namespace, work: Path, lengths_name: str, tcpdump: str | None) -> None:
     """One channel: the recorder, the C program with and without sharing, tcpdump, and cat."""
     feed, capture = work / "feed", work / "capture"
     write_feed(feed, frames_of(LENGTHS[lengths_name], words.frames))
@@ -174,7 +178,7 @@ def time_peers(words, work, lengths_name, tcpdump):
         write_capture(capture, frames_of(LENGTHS[lengths_name], words.frames))
     for name, expression in expressions().items():
         settings = write_settings(work / "settings", [feed], [work / name])
-        commands = {
+        commands: Commands = {
             "record": [words.bpfrec, "record", settings, work / "recording"],
             "C": [words.record_feed, work / name, feed, work / "kept"],
             "C, shared": [words.record_feed, work / name, feed, work / "kept", "shared"],
@@ -192,7 +196,7 @@ def time_peers(words, work, lengths_name, tcpdump):
         print_runs(title, done, words.frames, feed.stat().st_size, "record")
 
 
-def time_channels(words, work, lengths_name):
+def time_channels(words: argparse.Namespace, work: Path, lengths_name: str) -> None:
     """Four channels of a quarter of the frames each, beside one of all."""
     quarter = words.frames // 4
     write_feed(work / "feed", frames_of(LENGTHS[lengths_name], 4 * quarter))
@@ -200,7 +204,7 @@ def time_channels(words, work, lengths_name):
     for name in expressions():
         one = write_settings(work / "one", [work / "feed"], [work / name])
         four = write_settings(work / "four", [work / "quarter"] * 4, [work / name] * 4)
-        commands = {
+        commands: Commands = {
             "four channels": [words.bpfrec, "record", four, work / "recording"],
             "one channel": [words.bpfrec, "record", one, work / "recording"],
             "C": [words.record_feed, work / name, work / "feed", work / "kept"],
@@ -210,7 +214,7 @@ def time_channels(words, work, lengths_name):
         print_runs(title, done, 4 * quarter, (work / "feed").stat().st_size, "four channels")
 
 
-def time_before(words, work, lengths_name):
+def time_before(words: argparse.Namespace, work: Path, lengths_name: str) -> None:
     """This build of the program and another one, in turn: one channel, and four of a quarter each."""
     quarter = words.frames // 4
     write_feed(work / "feed", frames_of(LENGTHS[lengths_name], 4 * quarter))
@@ -219,7 +223,7 @@ def time_before(words, work, lengths_name):
         one = write_settings(work / "one", [work / "feed"], [work / name])
         four = write_settings(work / "four", [work / "quarter"] * 4, [work / name] * 4)
         for channels, settings in (("One channel", one), ("Four channels", four)):
-            commands = {
+            commands: Commands = {
                 "record": [words.bpfrec, "record", settings, work / "recording"],
                 "before": [words.before, "record", settings, work / "recording"],
             }
@@ -228,7 +232,7 @@ def time_before(words, work, lengths_name):
             print_runs(title, done, 4 * quarter, (work / "feed").stat().st_size, "record")
 
 
-def time_growth(words, work):
+def time_growth(words: argparse.Namespace, work: Path) -> None:
     """The time a frame and the memory: at more frames, more versions and more channels."""
     print("\n| Frames | Versions | Channels | ns a frame | Least, greatest | Memory, KiB |\n|---|---|---|---|---|---|")
     changes = work / "changes"
@@ -255,13 +259,13 @@ def time_growth(words, work):
         )
 
 
-def time_reading(words, work, lengths_name):
+def time_reading(words: argparse.Namespace, work: Path, lengths_name: str) -> None:
     """What reads the recording of one channel, beside cat of it."""
     write_feed(work / "feed", frames_of(LENGTHS[lengths_name], words.frames))
     settings = write_settings(work / "settings", [work / "feed"], [work / "all"])
     recording = work / "recording"
     run_once([words.bpfrec, "record", settings, recording], work / "printed")
-    commands = {
+    commands: Commands = {
         "cat": ["cp", recording, work / "copied"],
         "list": [words.bpfrec, "list", recording],
         "audit": [words.bpfrec, "audit", recording],
@@ -271,7 +275,7 @@ def time_reading(words, work, lengths_name):
     print_runs(f"Reading frames of {lengths_name} bytes", done, words.frames, recording.stat().st_size, "cat")
 
 
-def main():
+def main() -> None:
     parser = argparse.ArgumentParser(description=__doc__, formatter_class=argparse.RawDescriptionHelpFormatter)
     parser.add_argument("--frames", type=int, default=1_000_000)
     parser.add_argument("--rounds", type=int, default=7)

@@ -18,7 +18,7 @@ import tempfile
 import time
 from pathlib import Path
 
-sys.path.insert(0, str(Path(__file__).resolve().parent.parent / "dev/trials"))
+sys.path.insert(0, str(Path(__file__).resolve().parent.parent / "dev/trials/lib"))
 from frames import frames_packet
 
 ROUNDS = 5
@@ -31,13 +31,13 @@ MOST_MORE = 1
 FRAMES, LENGTH = 42, 1_518
 
 
-def packet():
+def packet() -> bytes:
     """A packet of frames without a data checksum."""
     frame = bytes(at % 251 for at in range(LENGTH))
     return frames_packet([(0, 0, frame)] * FRAMES, 0, 0, False)
 
 
-def seconds_of(words, out):
+def seconds_of(words: list[str], out: str) -> float:
     """The seconds that a run takes that writes this file, which is removed then."""
     begin = time.monotonic()
     ran = subprocess.run(words, capture_output=True)
@@ -48,7 +48,7 @@ def seconds_of(words, out):
     return spent
 
 
-def memory_of(words):
+def memory_of(words: list[str]) -> float:
     """The most memory of a run in megabytes. A child of this script would have the script's own."""
     ran = subprocess.run(
         ["/usr/bin/time", "-f", "%M", *words], stdout=subprocess.DEVNULL, stderr=subprocess.PIPE, text=True, check=True
@@ -56,40 +56,40 @@ def memory_of(words):
     return int(ran.stderr.split()[-1]) * 1024 / 1e6
 
 
-def write_packets(path, content, count):
+def write_packets(path: str, content: bytes, count: int) -> None:
     """Writes a recording of so many packets."""
     with open(path, "wb") as recording:
         for _ in range(count):
             recording.write(content)
 
 
-def times_of(runs, out):
+def times_of(runs: dict[str, list[str]], out: str) -> dict[str, list[float]]:
     """The seconds that each of some runs takes that write a file, in turn."""
-    times = {name: [] for name in runs}
+    times: dict[str, list[float]] = {name: [] for name in runs}
     for _ in range(ROUNDS):
         for name, command in runs.items():
             times[name].append(seconds_of(command, out))
     return times
 
 
-def show(times, megabytes, count, content):
+def show(times: dict[str, list[float]], megabytes: int, count: int, content: bytes) -> None:
     """Prints what was measured, of so many packets."""
     print(f"{megabytes} MiB, {count} packets of {len(content)} bytes")
     for name, spent in times.items():
         print(f"{name:8} {statistics.median(spent):.2f} s ({min(spent):.2f} to {max(spent):.2f})")
 
 
-def copying(whole, out):
+def copying(whole: str, out: str) -> list[str]:
     """The copy of a file that is forced to its disk."""
     return ["sh", "-c", 'cp --reflink=never "$0" "$1" && sync "$1"', whole, out]
 
 
-def main():
+def main() -> int:
     parser = argparse.ArgumentParser(description=__doc__, formatter_class=argparse.RawDescriptionHelpFormatter)
-    parser.add_argument("bpfrec", type=os.path.abspath, metavar="BPFREC")
+    parser.add_argument("bpfrec", metavar="BPFREC")
     parser.add_argument("megabytes", nargs="?", type=int, default=1024, metavar="MEGABYTES", help="1024 (default)")
     words = parser.parse_args()
-    bpfrec, megabytes = words.bpfrec, words.megabytes
+    bpfrec, megabytes = os.path.abspath(words.bpfrec), words.megabytes
     with tempfile.TemporaryDirectory() as work:
         one, old, out = (f"{work}/{it}" for it in ("one.ch11", "old.ch11", "out"))
         content = packet()

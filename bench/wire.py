@@ -30,7 +30,7 @@ import time
 from pathlib import Path
 
 ROOT = Path(__file__).resolve().parent.parent
-sys.path.insert(0, str(ROOT / "dev/trials"))
+sys.path.insert(0, str(ROOT / "dev/trials/lib"))
 import namespace
 from frames import HEAD
 
@@ -41,20 +41,25 @@ WANTED = {"ip": "iproute2", "tcpdump": "tcpdump", "dumpcap": "wireshark-common"}
 INSIDE = "BPFREC_WIRE_INSIDE"
 LENGTHS = (64, 300, 1_500)
 FILTERS = {"all": "1,6 0 0 4294967295,", "port": "4,40 0 0 36,21 0 1 53,6 0 0 4294967295,6 0 0 0,"}
-EXPRESSIONS = {"all": [], "port": ["udp[2:2] = 53"]}
+EXPRESSIONS: dict[str, list[str]] = {"all": [], "port": ["udp[2:2] = 53"]}
 KEPT_SHARE = {"all": "all", "port": "3 %"}
 # What bin/capture takes by itself.
 BUFFER_MIB = 256
 PATIENCE = 120
+# What records, by the name of the program and of the filter: its words, and what it says once it is ready.
+Key = tuple[str, str]
+Commands = dict[Key, tuple[list[object], str]]
+# Seconds of the sender, seconds until all was recorded, of processors, frames kept and dropped.
+Taken = tuple[float, float, float, int, int]
 
 # ---- the namespace
 
 
-def run(*words):
+def run(*words: object) -> str:
     return subprocess.run([str(it) for it in words], check=True, capture_output=True, text=True).stdout
 
 
-def make_pair():
+def make_pair() -> None:
     run("ip", "link", "set", "lo", "up")
     namespace.make_pair(0)
     time.sleep(0.5)
@@ -63,10 +68,9 @@ def make_pair():
 # ---- recordings
 
 
-def commands(work, buffer, before):
-    """What records, by the name of the program and of the filter: its words, and what it says once it is ready. With
-    another checkout its host/bin/live and ours, in turn, and no other program."""
-    made = {}
+def commands(work: Path, buffer: int, before: Path | None) -> Commands:
+    """What records; with another checkout its host/bin/live and ours, in turn, and no other program."""
+    made: Commands = {}
     for name in FILTERS:
         (work / name).write_text(FILTERS[name])
         (work / f"{name}.toml").write_text(f'[[channel]]\nid = 1\nfilter = "{work / name}"\n')
@@ -102,7 +106,7 @@ def commands(work, buffer, before):
     return made
 
 
-def counts_of(program, told, printed):
+def counts_of(program: str, told: str, printed: str) -> tuple[int, int]:
     """How many frames a program recorded, and how many the kernel dropped, by its own words."""
     if program.startswith("host/bin/live"):
         dropped = re.search(r"rx0 frames \d+ bytes \d+ dropped (\d+)", told)
@@ -118,13 +122,14 @@ def counts_of(program, told, printed):
     return int(kept[1]), int(dropped[1])
 
 
-def go_ahead():
+def go_ahead() -> None:
     """Puts this process, and those that it starts, ahead of the machine's other work."""
     Path("/proc/self/autogroup").write_text("-20")
 
 
-def record_once(work, program, words, ready, length, frames, is_ahead=False):
-    """A recording: seconds of the sender, seconds until all was recorded, of processors, frames kept and dropped."""
+def record_once(
+    work: Path, program: str, words: list[object], ready: str, length: int, frames: int, is_ahead: bool = False
+) -> Taken:
     for path in work.glob("out*"):
         path.unlink()
     with open(work / "told", "w+") as told, open(work / "printed", "w+") as printed:
@@ -154,12 +159,12 @@ def record_once(work, program, words, ready, length, frames, is_ahead=False):
     return sending, spent, used.ru_utime + used.ru_stime, kept, dropped
 
 
-def empty_cost(work, program, words, ready):
+def empty_cost(work: Path, program: str, words: list[object], ready: str) -> float:
     """The seconds of processors that a recording of no frame takes: the median of three."""
     return statistics.median(record_once(work, program, words, ready, LENGTHS[0], 0, True)[2] for _ in range(3))
 
 
-def tell_changes(length, runs, frames):
+def tell_changes(length: int, runs: dict[Key, list[Taken]], frames: int) -> None:
     """What the other checkout took, and what ours does: medians over the rounds, in which the two went in turn."""
     for before, after in [(key, (key[0].replace(", before", ""), key[1])) for key in runs if ", before" in key[0]]:
         rates = [one[0] / other[0] for one, other in zip(runs[before], runs[after])]
@@ -171,7 +176,7 @@ def tell_changes(length, runs, frames):
         )
 
 
-def with_and_without_syncs(work, buffer):
+def with_and_without_syncs(work: Path, buffer: int) -> Commands:
     """Recordings by host/bin/live that are forced to the disk each second, and only at their end."""
     listing = work / "all"
     listing.write_text(FILTERS["all"])
@@ -183,7 +188,7 @@ def with_and_without_syncs(work, buffer):
     }
 
 
-def time_wire(work, words, made):
+def time_wire(work: Path, words: argparse.Namespace, made: Commands) -> None:
     frames, rounds = words.frames, words.rounds
     print(
         "| Bytes | Program | Keeps | Frames sent a second | Taken a second | Dropped by the kernel | least, greatest "
@@ -191,7 +196,7 @@ def time_wire(work, words, made):
     )
     empty = {key: empty_cost(work, key[0], *it) for key, it in made.items()}
     for length in LENGTHS:
-        runs = {key: [] for key in made}
+        runs: dict[Key, list[Taken]] = {key: [] for key in made}
         for turn in range(rounds):
             for key, (command, ready) in list(made.items())[:: 1 if turn % 2 == 0 else -1]:
                 runs[key].append(record_once(work, key[0], command, ready, length, frames, words.ahead))
@@ -212,7 +217,7 @@ def time_wire(work, words, made):
 # ---- files
 
 
-def write_capture(path, length, frames):
+def write_capture(path: Path, length: int, frames: int) -> None:
     """A capture of numbered frames without their check sequences."""
     with open(path, "wb", buffering=1 << 20) as capture:
         capture.write(struct.pack("<IHHiIII", 0xA1B23C4D, 2, 4, 0, 0, 262_144, 1))
@@ -223,17 +228,17 @@ def write_capture(path, length, frames):
             )
 
 
-def time_files(work, frames, rounds):
+def time_files(work: Path, frames: int, rounds: int) -> None:
     print("| Bytes | Program | Frames a second | Processor, ns a frame | MB/s |\n|---|---|---|---|---|")
     for length in LENGTHS:
         capture, feed = work / "capture.pcap", work / "made.feed"
         write_capture(capture, length, frames)
-        programs = {
+        programs: dict[str, list[object]] = {
             "capture -r": [CAPTURE, "-r", f"{capture}={feed}"],
             "host/bin/convert": [FEED, "from-pcap", capture, feed],
             "cp": ["cp", capture, feed],
         }
-        runs = {name: [] for name in programs}
+        runs: dict[str, list[tuple[float, float]]] = {name: [] for name in programs}
         for _ in range(rounds):
             for name, words in programs.items():
                 feed.unlink(missing_ok=True)
@@ -242,8 +247,8 @@ def time_files(work, frames, rounds):
                 _, status, used = os.wait4(done.pid, 0)
                 done.returncode = status
                 runs[name].append((time.monotonic() - begin, used.ru_utime + used.ru_stime))
-        for name, done in runs.items():
-            seconds, processors = (statistics.median(it[at] for it in done) for at in (0, 1))
+        for name, taken in runs.items():
+            seconds, processors = (statistics.median(it[at] for it in taken) for at in (0, 1))
             print(
                 f"| {length} | {name} | {frames / seconds:,.0f} | {1e9 * processors / frames:,.0f} "
                 f"| {capture.stat().st_size / seconds / 1e6:,.0f} |",
@@ -255,14 +260,14 @@ def time_files(work, frames, rounds):
 # ---- words
 
 
-def missing():
+def missing() -> list[str]:
     found = [str(it.relative_to(ROOT)) for it in (ROOT / "bin/bpfrec", CAPTURE, SENDER) if not it.exists()]
     packages = sorted({package for program, package in WANTED.items() if not shutil.which(program)})
     found += [f"apt-get install {' '.join(packages)}"] if packages else []
     return found + (["root"] if os.geteuid() != 0 else [])
 
 
-def main():
+def main() -> int:
     parser = argparse.ArgumentParser(description=__doc__, formatter_class=argparse.RawDescriptionHelpFormatter)
     parser.add_argument("--frames", type=int, default=1_000_000)
     parser.add_argument("--rounds", type=int, default=5)

@@ -13,29 +13,30 @@ import os
 import re
 import statistics
 import tempfile
+from collections.abc import Iterator, Sequence
 from pathlib import Path
 
 from info import ROOT, record, timed
 
-PLUGIN, PCAPNG = ROOT / "host/wireshark/bpfrec.lua", ROOT / "host/bin/pcapng"
+PLUGIN, PCAPNG = ROOT / "bin/bpfrec.lua", ROOT / "host/bin/pcapng"
 LENGTHS = {"64": 64, "300": 300, "1,500": 1_500}
-READINGS = {
+READINGS: dict[str, tuple[list[str], list[str]]] = {
     "list": ([], []),
     "io,stat": (["-q", "-z", "io,stat,0"], ["-q", "-z", "io,stat,0"]),
     "filter": (["-Y", "ch11.number == 5"], ["-Y", "frame.number == 5"]),
 }
 
 
-def median(words, env, rounds):
+def median(words: Sequence[object], env: dict[str, str], rounds: int) -> tuple[float, float]:
     """The processor time of a program, and its memory in KiB, as medians."""
     runs = [timed(words, env) for _ in range(rounds)]
     return statistics.median(it[1] for it in runs), statistics.median(it[2] for it in runs)
 
 
-def rows_of(name, recording, capture, rounds, env):
+def rows_of(name: str, recording: Path, capture: Path, rounds: int, env: dict[str, str]) -> Iterator[str]:
     """The rows of a table, of recordings of one length of frames."""
     made = median([PCAPNG, "--quiet", "--force", capture, recording], env, rounds)[0]
-    frames = int(re.search(r"[0-9]+", os.popen(f"{PCAPNG} --force {capture} {recording}").read())[0])
+    frames = int(re.findall(r"[0-9]+", os.popen(f"{PCAPNG} --force {capture} {recording}").read())[0])
     yield f"| {name} | host/bin/pcapng | {frames / made:,.0f} | | |"
     for reading, (of_recording, of_capture) in READINGS.items():
         tshark = ["tshark", "-n"]
@@ -45,7 +46,7 @@ def rows_of(name, recording, capture, rounds, env):
         yield f"| {name} | tshark, {reading} | {told} |"
 
 
-def main():
+def main() -> None:
     parser = argparse.ArgumentParser(description=__doc__, formatter_class=argparse.RawDescriptionHelpFormatter)
     parser.add_argument("--megabytes", type=int, default=60)
     parser.add_argument("--rounds", type=int, default=3)

@@ -1,5 +1,5 @@
-/* Gives drawn bytes to the readers of capture files, as libFuzzer asks for it; dev/trials/test_sanitized.py builds and
- * runs it. */
+/* Gives drawn bytes to the readers of capture files, as libFuzzer asks for it; dev/trials/capture/test_sanitized.py
+ * builds and runs it. */
 #define _GNU_SOURCE
 #include "../src/capture_file.h"
 #include "../src/feed.h"
@@ -19,7 +19,7 @@ static void read_frames(const char *path) {
     struct feed feed = {.output.fd = -1};
     struct file_frame frame;
     if (open_file(&file, path, EVERY_INTERFACE) && open_feed(&feed, "/dev/null"))
-        while (next_frame(&file, &frame) > 0 && put_frame(&feed, 0, &frame.captured))
+        while (next_frame(&file, &frame) == READING_SOME && put_frame(&feed, 0, &frame.captured))
             ;
     flush_feed(&feed);
     close_feed(&feed);

@@ -1,6 +1,6 @@
 #define _GNU_SOURCE
 #include "adapter.h"
-#include "arguments.h"
+#include "log.h"
 
 #include <inttypes.h>
 #include <linux/ethtool.h>
@@ -44,7 +44,7 @@ static uint32_t count_features(int socket, const char *interface) {
 
 static void note(struct adapter *adapter, const char *name) {
     if (strcmp(name, "rx-fcs") == 0)
-        adapter->gives_check_sequences = 1;
+        adapter->gives_check_sequences = true;
     for (size_t i = 0; i < sizeof JOINING / sizeof *JOINING; i++) {
         size_t len = strlen(adapter->joining);
         if (strcmp(name, JOINING[i]) == 0)
@@ -89,13 +89,13 @@ void ask_adapter(const char *interface, struct adapter *adapter) {
     close(socket_fd);
 }
 
-int is_interface_up(const char *name) {
+bool is_interface_up(const char *name) {
     int socket_fd = socket(AF_INET, SOCK_DGRAM | SOCK_CLOEXEC, 0);
     struct ifreq request = {0};
     if (socket_fd < 0)
-        return 0;
+        return false;
     snprintf(request.ifr_name, sizeof request.ifr_name, "%s", name);
-    int is_up = ioctl(socket_fd, SIOCGIFFLAGS, &request) == 0 && (request.ifr_flags & IFF_UP) != 0;
+    bool is_up = ioctl(socket_fd, SIOCGIFFLAGS, &request) == 0 && (request.ifr_flags & IFF_UP) != 0;
     close(socket_fd);
     return is_up;
 }
@@ -107,7 +107,7 @@ uint64_t ring_len(int socket) {
     FILE *maps = fopen("/proc/self/maps", "r");
     if (maps == NULL)
         return 0;
-    int is_known = fstat(socket, &kind) == 0;
+    bool is_known = fstat(socket, &kind) == 0;
     snprintf(name, sizeof name, "socket:[%" PRIu64 "]", is_known ? (uint64_t)kind.st_ino : 0);
     while (is_known && fgets(line, sizeof line, maps) != NULL)
         if (strstr(line, name) != NULL) {
@@ -125,29 +125,29 @@ static int tai_ahead(void) {
     return adjtimex(&times) >= 0 && times.tai != 0 ? times.tai : TAI_AHEAD_SECONDS;
 }
 
-void tell_clock(const char *interface, int number, enum stamping stamping) {
+void log_clock(const char *interface, int number, enum stamping stamping) {
     char clock[CLOCK_LEN] = "";
     if (number >= 0)
         snprintf(clock, sizeof clock, " /dev/ptp%d", number);
     if (stamping == BY_HOST)
-        tell("%s clock host: UTC", interface);
+        log_line("%s clock host: UTC", interface);
     else if (stamping == BY_DISCIPLINED_ADAPTER)
-        tell("%s clock adapter%s, which follows the host's: UTC", interface, clock);
+        log_line("%s clock adapter%s, which follows the host's: UTC", interface, clock);
     else
-        tell("%s clock adapter%s: its first frame shows the scale", interface, clock);
+        log_line("%s clock adapter%s: its first frame shows the scale", interface, clock);
 }
 
-void tell_adapter_clock(const char *interface, nanoseconds stamp) {
+void log_adapter_clock(const char *interface, nanoseconds stamp) {
     struct timespec now;
     clock_gettime(CLOCK_REALTIME, &now);
     nanoseconds wall = (nanoseconds)now.tv_sec * NANOSECONDS_PER_SECOND + now.tv_nsec;
     double ahead = (double)(stamp - wall) / NANOSECONDS_PER_SECOND, tai = tai_ahead();
     if (ahead > tai - 1 && ahead < tai + 1)
-        tell("%s: the adapter's clock runs TAI, %.0f s ahead of UTC, and so do the times of its frames", interface,
-             tai);
+        log_line("%s: the adapter's clock runs TAI, %.0f s ahead of UTC, and so do the times of its frames", interface,
+                 tai);
     else if (ahead > 1 || ahead < -1)
-        tell("%s: the adapter's clock is %+.3f s ahead of the host's, and so are the times of its frames", interface,
-             ahead);
+        log_line("%s: the adapter's clock is %+.3f s ahead of the host's, and so are the times of its frames",
+                 interface, ahead);
     else
-        tell("%s: the adapter's clock runs UTC, and so do the times of its frames", interface);
+        log_line("%s: the adapter's clock runs UTC, and so do the times of its frames", interface);
 }

@@ -4,12 +4,14 @@
 
 #include "moment.h"
 
+#include <stdbool.h>
+
 enum { JOINING_LEN = 128 };
 
 struct adapter {
-    int gives_check_sequences; /* frames come with their check sequences */
-    char joining[JOINING_LEN]; /* the features by which frames are joined to longer ones, as `ethtool -k` names them */
-    int clock;                 /* the number of its clock, as of /dev/ptp0; -1 where it has none that is known */
+    bool gives_check_sequences; /* frames come with their check sequences */
+    char joining[JOINING_LEN];  /* the features by which frames are joined to longer ones, as `ethtool -k` names them */
+    int clock;                  /* the number of its clock, as of /dev/ptp0; -1 where it has none that is known */
 };
 
 /* Whose clock frames are stamped by. */
@@ -23,16 +25,16 @@ enum stamping {
 void ask_adapter(const char *interface, struct adapter *adapter);
 
 /* Whether there is an interface of this name, and it is up. */
-int is_interface_up(const char *name);
+bool is_interface_up(const char *name);
 
 /* How many bytes of memory the kernel has for the frames of a packet socket; 0 where it doesn't say. */
 uint64_t ring_len(int socket);
 
-/* Tells which clock stamps the frames of an interface, by the number of the adapter's, and in which scale where that is
+/* Logs which clock stamps the frames of an interface, by the number of the adapter's, and in which scale where that is
  * known. */
-void tell_clock(const char *interface, int number, enum stamping stamping);
+void log_clock(const char *interface, int number, enum stamping stamping);
 
-/* Tells in which scale an adapter's own clock runs, by a frame that comes now. */
-void tell_adapter_clock(const char *interface, nanoseconds stamp);
+/* Logs in which scale an adapter's own clock runs, by a frame that comes now. */
+void log_adapter_clock(const char *interface, nanoseconds stamp);
 
 #endif

@@ -1,18 +1,16 @@
 #define _GNU_SOURCE
 #include "arguments.h"
 #include "capture_file.h"
+#include "log.h"
+#include "usage.h"
 
 #include <errno.h>
 #include <fcntl.h>
 #include <getopt.h>
 #include <limits.h>
-#include <poll.h>
-#include <pthread.h>
-#include <stdarg.h>
 #include <stdio.h>
 #include <stdlib.h>
 #include <string.h>
-#include <sys/stat.h>
 #include <unistd.h>
 
 enum {
@@ -25,80 +23,8 @@ enum {
     MOST_HOLD = 60,
     BYTES_A_MIB = 1 << 20,
     MOST_INTERFACE = 65535,
-    /* A pipe that has room takes so many bytes without waiting. */
-    LINE_LEN = PIPE_BUF,
-    /* Any text with two paths. */
-    TEXT_LEN = 3 * PATH_MAX,
+    WRONG_ARGUMENTS = 2,
 };
-
-static const char USAGE[] =
-    "usage: capture [OPTION..] INTERFACE=PIPE..\n"
-    "       capture [OPTION..] -r FILE=FEED..\n"
-    "\n"
-    "Makes feeds for bpfrec of the frames of interfaces, as they come, or of capture files (pcap or pcapng).\n"
-    "A PIPE is a named pipe, which is waited for until it has a reader, or a file; - is standard output, and\n"
-    "as FILE standard input. INT, TERM and HUP end it: what is in the kernel's buffers is written; a second\n"
-    "signal, a second later or more, ends it at once. USR1 has each interface's feed go over, between two\n"
-    "frames, to what its path names by then; to a named pipe once that has a reader.\n"
-    "\n"
-    "Each frame has a value of the relative time counter (RTC): the ticks of 100 ns since the origin. Counters\n"
-    "run on if the host's clock is set: a line prints the origin that is right from then on. An interface that\n"
-    "is removed is taken again once it is back.\n"
-    "\n"
-    "Once all are open the program gives up most calls of the kernel and its privileges, root's too, so a feed\n"
-    "has to be where its user may write. By Landlock, where the kernel has it, nothing else can be written. It\n"
-    "keeps cap_net_raw, in force only while an interface is opened again; with -r those alone by which root opens\n"
-    "the files of others.\n"
-    "\n"
-    "  --origin WHEN          the moment at which counters are 0: now (default of interfaces), zero (1970-01-01),\n"
-    "                         first (default of files: their first frame), or a time, as\n"
-    "                         1764590400.25 or 2025-12-01T12:00:00.25Z. Counters begin at 0 again after 325\n"
-    "                         days: of interfaces a line prints the origin that is right by now, and an origin\n"
-    "                         that lies ahead is refused\n"
-    "  --buffer MIB           kernel buffer per interface in MiB, 1 to 2047 (default 256, or less, so that all have\n"
-    "                         a quarter of the memory at most). The kernel makes up to twice as much of it; a line\n"
-    "                         prints what it has\n"
-    "  --direction WHICH      both (default), in, or out: the frames that the host sends\n"
-    "  --prefilter INTERFACE=LISTING\n"
-    "                         frames that the listed program drops don't leave the kernel: they are neither\n"
-    "                         counted nor offered to the recorder. A listing is what `bpfrec asm` or\n"
-    "                         `tcpdump -ddd` prints. Frames that the kernel sees differently from the recorder,\n"
-    "                         with a VLAN tag or of fewer than 60 bytes, always leave it\n"
-    "  --kept FILE            keeps in FILE how many frames the listing of each --judge has kept, a line for each\n"
-    "                         interface in their order: 20 digits, written anew every 100 ms where one changed\n"
-    "  --judge INTERFACE=LISTING\n"
-    "                         the listing by which frames are counted for --kept, which judges what the feed has;\n"
-    "                         without one, or where it is no listing, all frames count. A listing whose file is\n"
-    "                         replaced is taken within 100 ms, and counts one more\n"
-    "  --no-promiscuous       only frames that are meant for the host\n"
-    "  --clock WHICH          host (default) or adapter: whose clock stamps frames, which a line prints with its\n"
-    "                         scale: UTC, or atomic time (TAI), as by the precision time protocol (PTP). An\n"
-    "                         adapter's may need cap_net_admin too\n"
-    "  --check-sequence WHICH given, missing, or adapter (default): whether frames come with their frame check\n"
-    "                         sequences (FCS). Missing ones are computed, wrong ones get error flag bit 0\n"
-    "  --interface N          of a pcapng file the frames of each section's interface N, from 0 on\n"
-    "  --quiet                no lines each second\n"
-    "  --strict               status 5 if an interface lost frames\n"
-    "  --hold SECONDS         how long an interface whose reader has left waits for USR2 (0 to 60, default 0): by\n"
-    "                         that it goes on with the next feed, and the kernel keeps its frames until then\n"
-    "  --events FILE          notes origins, losses and counts behind what FILE has, as lines of JSON, and prints\n"
-    "                         no losses at the end\n"
-    "  --parent PID           ends, as by TERM, once the process has died that started it\n"
-    "  --version              prints the version\n"
-    "\n"
-    "Once a second and at the end it prints a line for each interface on standard error, with these counts:\n"
-    "  frames, bytes          what its feed has\n"
-    "  dropped                frames that the kernel dropped, since its buffer was full\n"
-    "  missed                 frames that the interface itself lost\n"
-    "  skipped                frames that were left out: cut short, or of a length that can't be recorded\n"
-    "  waited                 milliseconds that the pipe was full, where that goes on for a tenth of a second\n"
-    "At the very end it prints a line for each interface that lost frames:\n"
-    "eth0 LOST 16801 dropped 322 skipped (dropped by the kernel).\n"
-    "Lines that standard error has no room for are left out and counted.\n"
-    "\n"
-    "Status: 0 it ended as asked, or its readers left, 1 an interface, a file or a feed failed,\n"
-    "2 the arguments are wrong, 5 frames were lost (--strict). With 3 nothing was begun: an interface can't be\n"
-    "opened, or privileges can't be given up.\n";
 
 enum {
     FIRST_LONG = 256,
@@ -116,6 +42,7 @@ enum {
     STRICT,
     HOLD,
     EVENTS,
+    COUNTS,
     PARENT,
     VERSION_ASKED,
     HELP
@@ -136,6 +63,7 @@ static const struct option OPTIONS[] = {
     {"strict", no_argument, NULL, STRICT},
     {"hold", required_argument, NULL, HOLD},
     {"events", required_argument, NULL, EVENTS},
+    {"counts", required_argument, NULL, COUNTS},
     {"parent", required_argument, NULL, PARENT},
     {"version", no_argument, NULL, VERSION_ASKED},
     {"help", no_argument, NULL, HELP},
@@ -159,6 +87,8 @@ static const char *taken_by(int option) {
         return "given, missing or adapter";
     case HOLD:
         return "0 to 60 seconds";
+    case COUNTS:
+        return "the number of a descriptor that is open for writing, 3 or more";
     case PARENT:
         return "the number of a process";
     case PREFILTER:
@@ -169,94 +99,62 @@ static const char *taken_by(int option) {
     }
 }
 
-static int error_fd = STDERR_FILENO;
-
-void open_standard_error(void) {
-    struct stat kind;
-    int is_shared = fstat(STDERR_FILENO, &kind) == 0 && (S_ISFIFO(kind.st_mode) || isatty(STDERR_FILENO));
-    int fd = is_shared ? open("/proc/self/fd/2", O_WRONLY | O_NONBLOCK | O_NOCTTY | O_CLOEXEC) : -1;
-    error_fd = fd >= 0 ? fd : STDERR_FILENO;
-}
-
-/* Writes a line, where standard error has room for it. Whether it had: a terminal may have room for a part. */
-static int write_line(const char *line) {
-    static int is_cut;
-    struct pollfd error = {.fd = error_fd, .events = POLLOUT};
-    ssize_t len = (ssize_t)strlen(line), count = 0;
-    if (poll(&error, 1, 0) <= 0 || (error.revents & POLLOUT) == 0)
-        return 0;
-    if (!is_cut || write(error_fd, "\n", 1) == 1)
-        count = write(error_fd, line, (size_t)len);
-    is_cut = count < len && (is_cut || count > 0);
-    return count == len;
-}
-
-/* Puts a text into a line behind what stands there: of one that is too long its beginning and its end. */
-static void put_text(char line[LINE_LEN], const char *text) {
-    static const char GAP[] = "...";
-    size_t begin = strlen(line), room = LINE_LEN - begin - 2, len = strlen(text);
-    size_t front = len <= room ? len : (room - strlen(GAP)) / 2, tail = len <= room ? 0 : room - strlen(GAP) - front;
-    snprintf(line + begin, room + 2, "%.*s%s%s\n", (int)front, text, tail > 0 ? GAP : "", text + len - tail);
-}
-
-void tell(const char *format, ...) {
-    static pthread_mutex_t lock = PTHREAD_MUTEX_INITIALIZER;
-    static unsigned left_out;
-    char text[TEXT_LEN], line[LINE_LEN] = "capture: ", count_line[LINE_LEN];
-    va_list values;
-    va_start(values, format);
-    vsnprintf(text, sizeof text, format, values);
-    va_end(values);
-    put_text(line, text);
-    pthread_mutex_lock(&lock);
-    snprintf(count_line, sizeof count_line, "capture: %u lines were left out: standard error had no room\n", left_out);
-    if (left_out > 0 && write_line(count_line))
-        left_out = 0;
-    left_out += left_out > 0 || !write_line(line);
-    pthread_mutex_unlock(&lock);
-}
-
 /* Reads a number in a range; whether it is one. */
-static int number_of(const char *word, int least, int most, int *number) {
+static bool number_of(const char *text, int least, int most, int *number) {
     char *end;
-    long value = strtol(word, &end, 10);
-    if (*word < '0' || *word > '9' || *end != 0 || value < least || value > most)
-        return 0;
+    long value = strtol(text, &end, 10);
+    if (*text < '0' || *text > '9' || *end != 0 || value < least || value > most)
+        return false;
     *number = (int)value;
-    return 1;
+    return true;
 }
 
-/* Finds a word among those of a choice, which end with NULL; whether it is there. */
-static int choice_of(const char *word, const char *const *choices, int *choice) {
+/* Reads the number of a descriptor that was given open for writing, and lets no write of it wait. Whether it is one:
+ * those of the program itself are closed by execve. */
+static bool take_descriptor(const char *text, int *descriptor) {
+    if (!number_of(text, STDERR_FILENO + 1, INT_MAX, descriptor))
+        return false;
+    int flags = fcntl(*descriptor, F_GETFD), mode = fcntl(*descriptor, F_GETFL);
+    return flags >= 0 && (flags & FD_CLOEXEC) == 0 && (mode & O_ACCMODE) != O_RDONLY &&
+           fcntl(*descriptor, F_SETFL, mode | O_NONBLOCK) == 0;
+}
+
+/* Finds a text among those of a choice, which end with NULL; whether it is there. */
+static bool choice_of(const char *text, const char *const *choices, int *choice) {
     for (*choice = 0; choices[*choice] != NULL; (*choice)++)
-        if (strcmp(word, choices[*choice]) == 0)
-            return 1;
-    return 0;
+        if (strcmp(text, choices[*choice]) == 0)
+            return true;
+    return false;
 }
 
-/* Takes INTERFACE=LISTING apart, for when its way is known. Whether it is one. */
-static int take_listing(int option, char *given, struct arguments *arguments) {
+/* Takes INTERFACE=LISTING apart, for when its route is known. Whether it is one. */
+static bool take_listing(int option, char *given, struct arguments *arguments) {
     char *sign = strchr(given, '=');
     if (sign == NULL || sign == given || sign[1] == 0)
-        return 0;
+        return false;
     *sign = 0;
     arguments->listings[arguments->listing_count++] = (struct given_listing){given, sign + 1, option == JUDGE};
-    return 1;
+    return true;
 }
 
-/* Takes an option without a value: 1. */
-static int take_flag(int option, struct arguments *arguments) {
+/* Takes a path, or an option without a value: true. */
+static bool take_any(int option, const char *value, struct arguments *arguments) {
     arguments->is_promiscuous &= option != NO_PROMISCUOUS;
     arguments->is_strict |= option == STRICT;
     arguments->is_quiet |= option == QUIET;
-    return 1;
+    if (option == KEPT)
+        arguments->kept = value;
+    if (option == EVENTS)
+        arguments->events = value;
+    return true;
 }
 
 /* Takes an option's value; whether it is one. */
-static int take_option(int option, char *value, struct arguments *arguments) {
+static bool take_option(int option, char *value, struct arguments *arguments) {
     static const char *const DIRECTIONS[] = {"both", "in", "out", NULL}, *const CLOCKS[] = {"host", "adapter", NULL};
     static const char *const CHECK_SEQUENCES[] = {"adapter", "given", "missing", NULL};
-    int choice, is_right = 1;
+    bool is_right;
+    int choice;
     switch (option) {
     case ORIGIN:
         return origin_of(value, &arguments->origin);
@@ -269,41 +167,40 @@ static int take_option(int option, char *value, struct arguments *arguments) {
         arguments->direction = (enum direction)choice;
         return is_right;
     case CLOCK:
-        return choice_of(value, CLOCKS, &arguments->uses_adapter_clock);
+        is_right = choice_of(value, CLOCKS, &choice);
+        arguments->uses_adapter_clock = choice != 0;
+        return is_right;
     case CHECK_SEQUENCE:
         is_right = choice_of(value, CHECK_SEQUENCES, &choice);
         arguments->check_sequences = (enum check_sequences)choice;
         return is_right;
     case HOLD:
         return number_of(value, 0, MOST_HOLD, &arguments->hold_seconds);
+    case COUNTS:
+        return take_descriptor(value, &arguments->counts);
     case PARENT:
         return number_of(value, 1, INT_MAX, &arguments->parent);
     case PREFILTER:
     case JUDGE:
         return take_listing(option, value, arguments);
-    case KEPT:
-        arguments->kept = value;
-        return 1;
-    case EVENTS:
-        arguments->events = value;
-        return 1;
     default:
-        return take_flag(option, arguments);
+        return take_any(option, value, arguments);
     }
 }
 
-static int wrong(const char *what, const char *word) {
-    tell("%s%s: capture --help has its arguments", what, word);
-    return 2;
+/* Says what is wrong, of which argument: the status. */
+static int wrong(const char *what, const char *argument) {
+    log_line("%s%s: capture --help has its arguments", what, argument);
+    return WRONG_ARGUMENTS;
 }
 
-/* Says what an option takes, where its value is not that. */
+/* Says what an option takes, where its value is not that: the status. */
 static int wrong_value(int option, const char *value) {
     const struct option *known = OPTIONS;
     while (known->val != option)
         known++;
-    tell("--%s %s: %s", known->name, value, taken_by(option));
-    return 2;
+    log_line("--%s %s: %s", known->name, value, taken_by(option));
+    return WRONG_ARGUMENTS;
 }
 
 /* Takes apart INTERFACE=PIPE at its first sign, and FILE=FEED at its last. */
@@ -316,20 +213,20 @@ static int take_route(char *given, struct arguments *arguments) {
     return 0;
 }
 
-/* Gives each way of an interface a listing. Whether there is one. */
-static int place_listing(const struct given_listing *listing, struct arguments *arguments) {
-    int is_placed = 0;
+/* Gives each route of an interface a listing. Whether there is one. */
+static bool place_listing(const struct given_listing *listing, struct arguments *arguments) {
+    bool is_placed = false;
     for (int at = 0; at < arguments->count && !arguments->are_files; at++) {
         struct route *route = &arguments->routes[at];
         if (strcmp(route->from, listing->interface) != 0)
             continue;
         *(listing->is_judge ? &route->judge : &route->prefilter) = listing->path;
-        is_placed = 1;
+        is_placed = true;
     }
     return is_placed;
 }
 
-/* 0, or the status where a listing is of no way. */
+/* 0, or the status where a listing is of no route. */
 static int place_listings(struct arguments *arguments) {
     for (int i = 0; i < arguments->listing_count; i++) {
         const struct given_listing *listing = &arguments->listings[i];
@@ -361,16 +258,16 @@ static int usual_buffer(int count) {
 static int show(const char *text) {
     if (fputs(text, stdout) >= 0 && fflush(stdout) == 0)
         return 0;
-    tell("file -: %s", strerror(errno));
+    log_line("file -: %s", strerror(errno));
     return 1;
 }
 
 /* Reads the options. 0, or the status with which to end. `origin` is the one that is given, NULL where none is. */
-static int read_options(int argc, char **argv, struct arguments *arguments, int *is_done, const char **origin) {
+static int read_options(int argc, char **argv, struct arguments *arguments, bool *is_done, const char **origin) {
     int option, status = 0;
     while (status == 0 && (option = getopt_long(argc, argv, "r:", OPTIONS, NULL)) != -1) {
         if (option == HELP || option == VERSION_ASKED) {
-            *is_done = 1;
+            *is_done = true;
             return show(option == HELP ? USAGE : "capture " VERSION "\n");
         }
         if (option == '?' || arguments->routes == NULL || arguments->listings == NULL)
@@ -393,22 +290,22 @@ static int place_origin(const char *given, struct arguments *arguments) {
     struct origin now;
     char at_text[SECONDS_TEXT_LEN], now_text[SECONDS_TEXT_LEN];
     if (arguments->origin.is_first_frame) {
-        tell("--origin first: it needs -r, since the first frames of interfaces aren't known");
-        return 2;
+        log_line("--origin first: it needs -r, since the first frames of interfaces aren't known");
+        return WRONG_ARGUMENTS;
     }
     origin_of("now", &now);
     print_seconds(arguments->origin.at, at_text);
     print_seconds(now.at, now_text);
     if (add_turns(&arguments->origin, now.at))
         return 0;
-    tell("--origin %s: %s lies ahead of now, which is %s", given, at_text, now_text);
-    return 2;
+    log_line("--origin %s: %s lies ahead of now, which is %s", given, at_text, now_text);
+    return WRONG_ARGUMENTS;
 }
 
-int read_arguments(int argc, char **argv, struct arguments *arguments, int *is_done) {
+int read_arguments(int argc, char **argv, struct arguments *arguments, bool *is_done) {
     const char *origin = NULL;
-    *arguments = (struct arguments){.interface = EVERY_INTERFACE, .is_promiscuous = 1};
-    *is_done = 0;
+    *arguments = (struct arguments){.interface = EVERY_INTERFACE, .is_promiscuous = true};
+    *is_done = false;
     arguments->routes = calloc((size_t)argc, sizeof *arguments->routes);
     arguments->listings = calloc((size_t)argc, sizeof *arguments->listings);
     int status = read_options(argc, argv, arguments, is_done, &origin);

@@ -4,6 +4,8 @@
 
 #include "moment.h"
 
+#include <stdbool.h>
+
 enum direction { BOTH_DIRECTIONS, INWARD, OUTWARD };
 enum check_sequences { AS_THE_ADAPTER_SAYS, GIVEN, MISSING };
 
@@ -18,19 +20,20 @@ struct route {
 /* A listing for an interface, as it was given. */
 struct given_listing {
     const char *interface, *path;
-    int is_judge;
+    bool is_judge;
 };
 
 struct arguments {
-    int are_files;
+    bool are_files;
     int buffer_mib;
     int interface;
-    int is_promiscuous;
-    int is_quiet;
-    int is_strict;
-    int uses_adapter_clock;
+    bool is_promiscuous;
+    bool is_quiet;
+    bool is_strict;
+    bool uses_adapter_clock;
     int hold_seconds;   /* how long a feed whose reader has left waits for word that the next one is to go on */
     int parent;         /* the process whose end ends the run too; 0 where there is none */
+    int counts;         /* the descriptor on which counts are written; 0 where there is none */
     const char *events; /* the file in which the facts of the run are noted; NULL where there is none */
     const char *kept;   /* the file that has how many frames listings kept; NULL where there is none */
     enum direction direction;
@@ -43,14 +46,6 @@ struct arguments {
 };
 
 /* Reads the arguments. 0, or the status with which to end: 0 is for help too, so `is_done` says which. */
-int read_arguments(int argc, char **argv, struct arguments *arguments, int *is_done);
-
-/* Opens standard error anew where it is a pipe or a terminal, before any line: then no write waits, and whoever shares
- * it keeps one that does. */
-void open_standard_error(void);
-
-/* A line on standard error, written at once: `capture: ` and what the format makes. A line that finds no room is left
- * out and counted, so that nobody waits for whoever reads it. */
-void tell(const char *format, ...) __attribute__((format(printf, 1, 2)));
+int read_arguments(int argc, char **argv, struct arguments *arguments, bool *is_done);
 
 #endif

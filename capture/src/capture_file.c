@@ -11,24 +11,24 @@ enum { LINK_TYPE_ETHERNET = 1, MAGIC_LEN = 4 };
 
 /* ---- interfaces */
 
-int is_interface_read(const struct capture_file *file, uint32_t number) {
+bool is_interface_read(const struct capture_file *file, uint32_t number) {
     return file->chosen == EVERY_INTERFACE || (uint32_t)file->chosen == number;
 }
 
-int judge_interface(struct capture_file *file, uint32_t number) {
-    const struct file_interface *it = &file->interfaces[number];
-    if (it->link_type != LINK_TYPE_ETHERNET)
-        return refuse(&file->input, "link type %u of interface %" PRIu32 ", where Ethernet is 1", it->link_type,
+bool judge_interface(struct capture_file *file, uint32_t number) {
+    const struct file_interface *interface = &file->interfaces[number];
+    if (interface->link_type != LINK_TYPE_ETHERNET)
+        return refuse(&file->input, "link type %u of interface %" PRIu32 ", where Ethernet is 1", interface->link_type,
                       number);
-    if (it->units_per_second == 0)
-        return refuse(&file->input, "time resolution %u of interface %" PRIu32, it->resolution, number);
-    return 1;
+    if (interface->units_per_second == 0)
+        return refuse(&file->input, "time resolution %u of interface %" PRIu32, interface->resolution, number);
+    return true;
 }
 
-int judge_check_sequence(struct capture_file *file, unsigned len) {
+bool judge_check_sequence(struct capture_file *file, unsigned len) {
     if (len != 0 && len != CHECK_SEQUENCE_LEN)
         return refuse(&file->input, "check sequences of %u bytes, where Ethernet has 4", len);
-    return 1;
+    return true;
 }
 
 struct file_interface *add_interface(struct capture_file *file) {
@@ -41,30 +41,27 @@ struct file_interface *add_interface(struct capture_file *file) {
         file->room = room;
     }
     file->is_found |= is_interface_read(file, file->count);
-    struct file_interface *it = &file->interfaces[file->count++];
-    *it = (struct file_interface){.units_per_second = 1000000, .resolution = 6};
-    return it;
+    struct file_interface *interface = &file->interfaces[file->count++];
+    *interface = (struct file_interface){.units_per_second = 1000000, .resolution = 6};
+    return interface;
 }
 
 /* ---- files */
 
-int open_file(struct capture_file *file, const char *path, int chosen) {
+bool open_file(struct capture_file *file, const char *path, int chosen) {
     struct input *input = &file->input;
     file->chosen = chosen;
     if (!open_input(input, path))
-        return 0;
-    int found = have(input, MAGIC_LEN);
-    if (found < 0)
-        return 0;
-    if (found > 0 && is_pcap(file))
-        return open_pcap(file) > 0;
-    if (found > 0 && is_pcapng(file))
-        return 1;
-    refuse(input, "no pcap or pcapng file");
-    return 0;
+        return false;
+    enum reading magic = read_ahead(input, MAGIC_LEN);
+    if (magic == READING_FAULT)
+        return false;
+    if (magic == READING_SOME && is_pcap(file))
+        return open_pcap(file);
+    return (magic == READING_SOME && is_pcapng(file)) || refuse(input, "no pcap or pcapng file");
 }
 
-int next_frame(struct capture_file *file, struct file_frame *frame) {
+enum reading next_frame(struct capture_file *file, struct file_frame *frame) {
     return file->is_pcap ? next_pcap_frame(file, frame) : next_pcapng_frame(file, frame);
 }
 

@@ -6,6 +6,7 @@
 #include "input.h"
 #include "moment.h"
 
+#include <stdbool.h>
 #include <stdint.h>
 
 enum { EVERY_INTERFACE = -1 };
@@ -22,9 +23,9 @@ struct file_interface {
 
 struct capture_file {
     struct input input;
-    int chosen;   /* the number of the interface whose frames are read, or EVERY_INTERFACE */
-    int is_found; /* whether some section has the chosen interface */
-    int is_pcap;
+    int chosen;    /* the number of the interface whose frames are read, or EVERY_INTERFACE */
+    bool is_found; /* whether some section has the chosen interface */
+    bool is_pcap;
     uint32_t nanoseconds_per_unit;
     struct file_interface *interfaces;
     uint32_t count, room;
@@ -33,15 +34,15 @@ struct capture_file {
 /* A frame of a file; a simple packet block has no time. */
 struct file_frame {
     struct captured captured;
-    int has_time;
+    bool has_time;
     nanoseconds moment;
 };
 
 /* Opens a file, where `-` is standard input, and reads its head. Whether it is a capture. */
-int open_file(struct capture_file *file, const char *path, int chosen);
+bool open_file(struct capture_file *file, const char *path, int chosen);
 
-/* Reads the next frame, whose bytes stay until the next call: 1, or 0 at the end, or -1 at a fault. */
-int next_frame(struct capture_file *file, struct file_frame *frame);
+/* Reads the next frame, whose bytes stay until the next call. */
+enum reading next_frame(struct capture_file *file, struct file_frame *frame);
 
 void close_file(struct capture_file *file);
 

@@ -1,7 +1,7 @@
 #define _GNU_SOURCE
 #include "clock.h"
-#include "arguments.h"
 #include "events.h"
+#include "log.h"
 
 #include <inttypes.h>
 #include <pthread.h>
@@ -13,7 +13,7 @@ static const int64_t LEAST_STEP = NANOSECONDS_PER_SECOND / 2000;
 /* Frames that come so soon one after the other show no setting that the next look wouldn't. */
 static const int64_t SOON = NANOSECONDS_PER_SECOND / 1000;
 /* How long frames are waited for that show when a setting was. */
-static const int64_t BEFORE_TOLD = NANOSECONDS_PER_SECOND / 10;
+static const int64_t BEFORE_REPORT = NANOSECONDS_PER_SECOND / 10;
 
 /* Counters in their upper half are of before, for 162 days after they have begun at 0 again. */
 static const uint64_t UPPER_HALF = (uint64_t)1 << (COUNTER_BITS - 1);
@@ -28,7 +28,7 @@ enum { MOST_NOTED = 16 };
 struct setting {
     int64_t ahead;                       /* how far the wall clock is ahead from then on */
     int64_t after, before;               /* it was between these: when its look before and the one that saw it were */
-    uint64_t counter;                    /* from which on it was told to hold */
+    uint64_t counter;                    /* from which on it was reported to hold */
     _Atomic int64_t last_old, first_new; /* the last frame that was stamped before it, and the first after it */
 };
 
@@ -41,7 +41,7 @@ static struct setting settings[KEPT_SETTINGS];
 static int64_t first_ahead;       /* how far the wall clock was ahead at the beginning */
 static atomic_uint newest;        /* the number of the last setting */
 static _Atomic int64_t last_look; /* which saw no setting */
-static unsigned told;             /* the number of the last setting that was told */
+static unsigned reported;         /* the number of the last setting that was reported */
 static struct origin origin;
 static nanoseconds turned;      /* by how much counters have begun at 0 again since the beginning */
 static uint64_t counter_before; /* at the last look */
@@ -74,7 +74,7 @@ static struct look look_at_clocks(void) {
     return best;
 }
 
-static int shows_setting(const struct look *look) {
+static bool shows_setting(const struct look *look) {
     int64_t step = look->ahead - setting_of(atomic_load(&newest))->ahead, least = LEAST_STEP + look->took;
     return step > least || step < -least;
 }
@@ -110,7 +110,7 @@ void follow_clock(void) {
     pthread_mutex_unlock(&lock);
 }
 
-/* ---- what is told */
+/* ---- what is reported */
 
 /* The counter at a moment of the clock that runs on. */
 static uint64_t counter_of(int64_t steady) {
@@ -129,10 +129,10 @@ static int64_t greatest(int64_t one, int64_t other) {
     return one > other ? one : other;
 }
 
-/* From when on a setting is told to hold: a moment before the first frame that is known to come after it, since others
- * may wait that came a little sooner, but not before the last look that didn't see it, nor before the last frame that
- * is known to come before it. */
-static int64_t told_from(const struct setting *setting) {
+/* From when on a setting is reported to hold: a moment before the first frame that is known to come after it, since
+ * others may wait that came a little sooner, but not before the last look that didn't see it, nor before the last frame
+ * that is known to come before it. */
+static int64_t holds_from(const struct setting *setting) {
     int64_t new = least(atomic_load(&setting->first_new), setting->before);
     int64_t old = greatest(atomic_load(&setting->last_old) + NANOSECONDS_PER_TICK, setting->after);
     return greatest(setting->after, least(new, greatest(new - SOON, old)));
@@ -142,7 +142,7 @@ static int64_t told_from(const struct setting *setting) {
 static void note_origin(unsigned number, nanoseconds since, uint64_t counter) {
     char text[SECONDS_TEXT_LEN];
     print_seconds(origin.at + since + set_by(number), text);
-    tell_event("{\"origin\": \"%s\", \"counter\": %" PRIu64 "}", text, counter);
+    note_event("{\"origin\": \"%s\", \"counter\": %" PRIu64 "}", text, counter);
 }
 
 /* Notes again, where counters have begun at 0 again and are in their lower half, what holds for those in the upper
@@ -157,17 +157,17 @@ static void note_upper_half(void) {
     }
 }
 
-static void tell_setting(unsigned number) {
+static void report_setting(unsigned number) {
     struct setting *setting = setting_of(number);
-    setting->counter = counter_of(told_from(setting));
+    setting->counter = counter_of(holds_from(setting));
     int64_t by = setting->ahead - setting_of(number - 1)->ahead;
-    int is_before = turned != 0 && counter_before < UPPER_HALF && setting->counter >= UPPER_HALF;
+    bool is_before = turned != 0 && counter_before < UPPER_HALF && setting->counter >= UPPER_HALF;
     char text[SECONDS_TEXT_LEN], by_text[SECONDS_TEXT_LEN];
     print_seconds(origin.at + turned - (is_before ? COUNTER_TURN : 0) + set_by(number), text);
     print_seconds(by, by_text);
-    tell("origin %s from counter %" PRIu64 " on: the clock was set by %s%s s", text, setting->counter,
-         by < 0 ? "" : "+", by_text);
-    tell_event("{\"origin\": \"%s\", \"counter\": %" PRIu64 ", \"set_by\": \"%s\"}", text, setting->counter, by_text);
+    log_line("origin %s from counter %" PRIu64 " on: the clock was set by %s%s s", text, setting->counter,
+             by < 0 ? "" : "+", by_text);
+    note_event("{\"origin\": \"%s\", \"counter\": %" PRIu64 ", \"set_by\": \"%s\"}", text, setting->counter, by_text);
     /* It came just before counters began at 0 again, and holds for those too. */
     if (is_before) {
         last_before = number;
@@ -176,40 +176,40 @@ static void tell_setting(unsigned number) {
     note_upper_half();
 }
 
-/* Tells the origin that is right once counters have begun at 0 again. */
+/* Reports the origin that is right once counters have begun at 0 again. */
 static void follow_counter(void) {
     uint64_t before = counter_before;
     counter_before = counter_now();
     if (counter_before < before) {
         char text[SECONDS_TEXT_LEN];
         turned += COUNTER_TURN;
-        last_before = told;
-        print_seconds(origin.at + turned + set_by(told), text);
-        tell("origin %s from counter 0 on: counters have begun at 0 again", text);
-        note_origin(told, turned, 0);
+        last_before = reported;
+        print_seconds(origin.at + turned + set_by(reported), text);
+        log_line("origin %s from counter 0 on: counters have begun at 0 again", text);
+        note_origin(reported, turned, 0);
         note_upper_half();
     } else if (before < UPPER_HALF && counter_before >= UPPER_HALF) {
-        first_high = told;
+        first_high = reported;
         if (turned != 0)
-            note_origin(told, turned, UPPER_HALF);
+            note_origin(reported, turned, UPPER_HALF);
     }
 }
 
-void tell_settings(int is_end) {
+void report_settings(bool is_end) {
     follow_counter();
-    while (told != atomic_load(&newest)) {
-        if (!is_end && steady_now() - setting_of(told + 1)->before < BEFORE_TOLD)
+    while (reported != atomic_load(&newest)) {
+        if (!is_end && steady_now() - setting_of(reported + 1)->before < BEFORE_REPORT)
             return;
-        tell_setting(++told);
+        report_setting(++reported);
     }
 }
 
 /* ---- frames */
 
-/* Whether a frame may have come at a moment that is by a setting: in its time, and not before the frame before. */
-static int could_be(unsigned number, unsigned last, int64_t moment, int64_t frame_before) {
+/* Whether a frame may have come at a moment that is by a setting: in its time, and not before the earliest one. */
+static bool could_be(unsigned number, unsigned last, int64_t moment, int64_t earliest) {
     int64_t end = number == last ? steady_now() : setting_of(number + 1)->before;
-    return moment >= setting_of(number)->after && moment <= end + LEAST_STEP && moment >= frame_before - LEAST_STEP;
+    return moment >= setting_of(number)->after && moment <= end + LEAST_STEP && moment >= earliest - LEAST_STEP;
 }
 
 /* A moment that is counted from the beginning's wall clock, by the clock that runs on. */
@@ -234,15 +234,19 @@ static void note_frames(unsigned first, unsigned last, int64_t before, int64_t m
 static unsigned setting_by_which(const struct frame_clock *clock, nanoseconds stamp) {
     unsigned last = atomic_load(&newest), found = last;
     unsigned first = last - clock->setting < KEPT_SETTINGS ? clock->setting : last;
-    int64_t earliest = INT64_MAX, frame_before = steady_of(clock->last);
+    int64_t first_fit = INT64_MAX, earliest = greatest(steady_of(clock->last), clock->none_before);
     for (unsigned number = first; number - first <= last - first; number++) {
         int64_t moment = (int64_t)(stamp - setting_of(number)->ahead);
-        if (moment < earliest && could_be(number, last, moment, frame_before)) {
-            earliest = moment;
+        if (moment < first_fit && could_be(number, last, moment, earliest)) {
+            first_fit = moment;
             found = number;
         }
     }
     return found;
+}
+
+void note_none_before(struct frame_clock *clock, int64_t moment) {
+    clock->none_before = moment;
 }
 
 /* The same where a frame doesn't follow the one before closely, or the clock was set. */

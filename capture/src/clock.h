@@ -8,6 +8,7 @@
 struct frame_clock {
     unsigned setting;
     nanoseconds last;
+    int64_t none_before; /* frames that are taken from now on came later, by the clock that runs on */
 };
 
 /* Notes where the wall clock stands beside the one that runs on, and the origin of counters. */
@@ -16,12 +17,15 @@ void start_clock(const struct origin *origin);
 /* Sees whether the wall clock was set since somebody looked last. */
 void follow_clock(void);
 
-/* Tells the settings that weren't told, each with the origin from then on: those that are a moment old, since frames
- * show when a setting was, or at the end all; and the origin once counters have begun at 0 again. */
-void tell_settings(int is_end);
+/* Reports the settings that weren't reported, each with the origin from then on: those that are a moment old, since
+ * frames show when a setting was, or at the end all; and the origin once counters have begun at 0 again. */
+void report_settings(bool is_end);
 
 /* The moment of a frame by the clock that runs on: what the wall clock would have said if it hadn't been set. */
 nanoseconds steady_moment(struct frame_clock *clock, nanoseconds stamp);
+
+/* Notes that no frame of an interface waits that came before a moment of the clock that runs on. */
+void note_none_before(struct frame_clock *clock, int64_t moment);
 
 /* The counter of a frame that came now. */
 uint64_t counter_now(void);

@@ -1,49 +1,51 @@
 #define _GNU_SOURCE
 #include "convert.h"
+#include "log.h"
 #include "signals.h"
 
 #include <inttypes.h>
 #include <string.h>
 #include <sys/stat.h>
 
-static int is_regular(const char *path) {
+static bool is_regular(const char *path) {
     struct stat kind;
     return strcmp(path, "-") != 0 && stat(path, &kind) == 0 && S_ISREG(kind.st_mode);
 }
 
-/* The moment of a file's first frame that has one: 1, or 0 where none has, which is told where the file is unreadable
- * once it is converted. */
-static int first_moment(const struct arguments *arguments, const char *path, nanoseconds *moment) {
+/* The moment of a file's first frame that has one. Whether one has; why the file can't be read is said once it is
+ * converted. */
+static bool first_moment(const struct arguments *arguments, const char *path, nanoseconds *moment) {
     struct capture_file file = {.input.fd = -1};
     struct file_frame frame = {0};
     if (open_file(&file, path, arguments->interface))
-        while (next_frame(&file, &frame) > 0 && !frame.has_time)
+        while (next_frame(&file, &frame) == READING_SOME && !frame.has_time)
             ;
     close_file(&file);
     *moment = frame.moment;
     return frame.has_time;
 }
 
-int find_origin(struct arguments *arguments) {
+bool find_origin(struct arguments *arguments) {
     if (!arguments->origin.is_first_frame || arguments->count < 2)
-        return 1;
+        return true;
     for (int i = 0; i < arguments->count; i++) {
         nanoseconds moment;
         if (!is_regular(arguments->routes[i].from)) {
-            tell("%s: beside other files it needs --origin, since it can't be read twice", arguments->routes[i].from);
-            return 0;
+            log_line("%s: beside other files it needs --origin, since it can't be read twice",
+                     arguments->routes[i].from);
+            return false;
         }
         if (!first_moment(arguments, arguments->routes[i].from, &moment))
             continue;
         if (arguments->origin.is_first_frame || moment < arguments->origin.at)
-            arguments->origin = (struct origin){0, moment};
+            arguments->origin = (struct origin){false, moment};
     }
-    arguments->origin.is_first_frame = 0;
-    return 1;
+    arguments->origin.is_first_frame = false;
+    return true;
 }
 
-static void flush_before_waiting(void *it) {
-    struct conversion *conversion = it;
+static void flush_before_waiting(void *listener) {
+    struct conversion *conversion = listener;
     flush_feed(&conversion->feed);
 }
 
@@ -52,26 +54,26 @@ static uint64_t counter_of(struct conversion *conversion, const struct file_fram
     if (!frame->has_time)
         return conversion->counter;
     if (conversion->origin.is_first_frame)
-        conversion->origin = (struct origin){0, frame->moment};
+        conversion->origin = (struct origin){false, frame->moment};
     conversion->counter = counter_at(frame->moment, &conversion->origin);
     return conversion->counter;
 }
 
 /* Whether a run that is stopped leaves the rest of a file: of a pipe it still takes what has come. */
-static int is_left(const struct capture_file *file) {
+static bool is_left(const struct capture_file *file) {
     return is_hurried() || (is_stopping() && !file->input.waits);
 }
 
 static void convert(struct conversion *conversion) {
     struct file_frame frame;
-    int more = 1;
+    enum reading reading = READING_SOME;
     if (!conversion->file.input.waits)
         write_beside(&conversion->feed);
-    while (more > 0 && !is_left(&conversion->file) && (more = next_frame(&conversion->file, &frame)) > 0)
+    while (!is_left(&conversion->file) && (reading = next_frame(&conversion->file, &frame)) == READING_SOME)
         if (!put_frame(&conversion->feed, counter_of(conversion, &frame), &frame.captured))
             break;
     flush_feed(&conversion->feed);
-    conversion->is_well = more >= 0;
+    conversion->is_well = reading != READING_FAULT;
 }
 
 void run_conversion(struct conversion *conversion) {
@@ -84,13 +86,13 @@ void run_conversion(struct conversion *conversion) {
     if (open_file(file, conversion->from, conversion->arguments->interface) && open_feed(feed, conversion->to))
         convert(conversion);
     if (file->input.fault[0] != 0)
-        tell("%s: %s", conversion->from, file->input.fault);
+        log_line("%s: %s", conversion->from, file->input.fault);
     close_feed(feed);
     if (!is_open(output)) {
         conversion->is_well &= output->state == OUTPUT_LEFT;
-        tell("%s: %s", conversion->to, output_fault(output));
+        log_line("%s: %s", conversion->to, output_fault(output));
     }
-    tell("%s frames %" PRIu64 " bytes %" PRIu64 " skipped %" PRIu64 " waited %" PRId64, conversion->from, feed->frames,
-         feed->frame_bytes, feed->skipped, output->waited / (NANOSECONDS_PER_SECOND / 1000));
+    log_line("%s frames %" PRIu64 " bytes %" PRIu64 " skipped %" PRIu64 " waited %" PRId64, conversion->from,
+             feed->frames, feed->frame_bytes, feed->skipped, output->waited / (NANOSECONDS_PER_SECOND / 1000));
     close_file(file);
 }

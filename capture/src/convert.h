@@ -6,6 +6,8 @@
 #include "capture_file.h"
 #include "feed.h"
 
+#include <stdbool.h>
+
 struct conversion {
     const char *from;
     const char *to;
@@ -14,14 +16,14 @@ struct conversion {
     struct feed feed;
     struct origin origin;
     uint64_t counter; /* of the frame before */
-    int is_well;
+    bool is_well;
 };
 
 /* Finds the earliest first frame of several files, where their origin is that. Whether it is known;
  * else a line has said why not. */
-int find_origin(struct arguments *arguments);
+bool find_origin(struct arguments *arguments);
 
-/* Writes the feed and tells the counts. */
+/* Writes the feed and logs the counts. */
 void run_conversion(struct conversion *conversion);
 
 #endif

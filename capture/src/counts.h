@@ -1,14 +1,21 @@
-/* What an interface's frames came to: the line each second, what was lost, and the facts of both. */
+/* What an interface's frames came to: what is reported each second, what was lost, and the facts of both. */
 #ifndef COUNTS_H
 #define COUNTS_H
 
+#include "feed.h"
+#include "rings.h"
+
+#include <stdbool.h>
 #include <stdint.h>
 
-struct interface;
-
 struct counts {
+    const char *interface; /* its name */
+    const struct feed *feed;
+    struct rings *rings;
+    bool is_quiet;            /* no line each second */
+    int descriptor;           /* that of --counts; 0 where there is none */
     uint64_t dropped, missed; /* by the kernel, and by the interface; of all times that it was open */
-    int64_t next_line;
+    int64_t next_report;
     int64_t next_note;
     unsigned notes;
     struct {
@@ -17,21 +24,25 @@ struct counts {
 };
 
 /* Begins to count, now. */
-void begin_counts(struct interface *interface);
+void begin_counts(struct counts *counts);
 
 /* Takes what the rings have lost since they were asked last. */
-void count_drops(struct interface *interface);
+void count_drops(struct counts *counts);
 
-/* Tells the counts in a line. */
-void tell_counts(struct interface *interface);
+/* Whether they are reported each second, in a line or on the descriptor. */
+bool are_reported(const struct counts *counts);
 
-/* Tells the counts where a second has gone by, and notes what was lost meanwhile; `it` is the interface. */
-void tell_in_time(void *it);
+/* Reports the counts where a second has gone by, and notes what was lost meanwhile. */
+void report_in_time(struct counts *counts);
 
 /* Notes what was lost until now, and the counts, for the facts. */
-void note_counts(struct interface *interface);
+void note_counts(struct counts *counts);
 
-/* Tells what an interface has lost in all, where it lost any, or notes it for the facts. Whether it lost any. */
-int tell_lost(const struct interface *interface);
+/* Reports and notes the counts at the end of a feed. */
+void report_last(struct counts *counts);
+
+/* Reports what an interface has lost in all, where it lost any: for the facts, or else in a line. Whether it lost any.
+ */
+bool report_lost(const struct counts *counts);
 
 #endif

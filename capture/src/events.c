@@ -1,6 +1,6 @@
 #define _GNU_SOURCE
 #include "events.h"
-#include "arguments.h"
+#include "log.h"
 
 #include <errno.h>
 #include <fcntl.h>
@@ -15,33 +15,33 @@ enum { EVENT_LEN = 512, ESCAPE_LEN = 6 };
 static int events = -1;
 static atomic_flag has_failed = ATOMIC_FLAG_INIT;
 
-int open_events(const char *path) {
+bool open_events(const char *path) {
     events = open(path, O_WRONLY | O_APPEND | O_CREAT | O_CLOEXEC, 0666);
     if (events < 0)
-        tell("%s: %s", path, strerror(errno));
+        log_line("%s: %s", path, strerror(errno));
     return events >= 0;
 }
 
-int has_events(void) {
+bool has_events(void) {
     return events >= 0;
 }
 
-int tell_event(const char *format, ...) {
+bool note_event(const char *format, ...) {
     char line[EVENT_LEN];
     va_list values;
     if (events < 0)
-        return 0;
+        return false;
     va_start(values, format);
     int len = vsnprintf(line, sizeof line, format, values);
     va_end(values);
     if (len < 0 || len >= EVENT_LEN)
-        return 0;
+        return false;
     line[len] = '\n';
     if (write(events, line, (size_t)len + 1) == len + 1)
-        return 1;
+        return true;
     if (!atomic_flag_test_and_set(&has_failed))
-        tell("events can't be written: the facts beside the recording lack losses");
-    return 0;
+        log_line("events can't be written: the facts beside the recording lack losses");
+    return false;
 }
 
 void print_json_name(const char *name, char text[JSON_NAME_LEN]) {

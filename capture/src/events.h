@@ -2,17 +2,19 @@
 #ifndef EVENTS_H
 #define EVENTS_H
 
+#include <stdbool.h>
+
 enum { JSON_NAME_LEN = 128 };
 
 /* Opens the file at `path`, behind whose bytes events are put. Whether it could; else a line has said why not. */
-int open_events(const char *path);
+bool open_events(const char *path);
 
 /* Whether events are noted. */
-int has_events(void);
+bool has_events(void);
 
 /* Notes an event, where events are noted: whether it was. It is put behind the others at once; where that fails, a line
  * says so, once. */
-int tell_event(const char *format, ...) __attribute__((format(printf, 1, 2)));
+bool note_event(const char *format, ...) __attribute__((format(printf, 1, 2)));
 
 /* An interface's name as JSON has it, without the quotation marks. Bytes that are no ASCII stay as they are. */
 void print_json_name(const char *name, char text[JSON_NAME_LEN]);

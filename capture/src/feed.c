@@ -22,7 +22,7 @@ enum {
 
 static const int64_t OLD = 1000000;
 
-int open_feed(struct feed *feed, const char *path) {
+bool open_feed(struct feed *feed, const char *path) {
     feed->room = FIRST_ROOM;
     feed->bytes = malloc(feed->room);
     if (feed->bytes == NULL)
@@ -55,7 +55,7 @@ static void keep_unwritten(struct feed *feed, size_t len, uint64_t taken) {
     feed->len = len - at;
 }
 
-int flush_feed(struct feed *feed) {
+bool flush_feed(struct feed *feed) {
     size_t len = feed->len;
     feed->len = 0;
     if (feed->writer.is_started)
@@ -63,13 +63,13 @@ int flush_feed(struct feed *feed) {
     uint64_t taken = feed->output.taken;
     if (write_all(&feed->output, feed->bytes, len)) {
         feed->waiting = 0;
-        return 1;
+        return true;
     }
     keep_unwritten(feed, len, feed->output.taken - taken);
-    return 0;
+    return false;
 }
 
-int flush_old(struct feed *feed) {
+bool flush_old(struct feed *feed) {
     if (feed->len > 0 && steady_now() - feed->since > OLD)
         return flush_feed(feed);
     return is_open(&feed->output);
@@ -91,7 +91,7 @@ static void put_check_sequence(unsigned char *at, uint32_t value) {
         at[i] = (unsigned char)(value >> 8 * i);
 }
 
-static int is_check_sequence_wrong(const unsigned char *frame, size_t len) {
+static bool is_check_sequence_wrong(const unsigned char *frame, size_t len) {
     unsigned char right[CHECK_SEQUENCE_LEN];
     put_check_sequence(right, check_sequence(frame, len - CHECK_SEQUENCE_LEN));
     return memcmp(right, frame + len - CHECK_SEQUENCE_LEN, CHECK_SEQUENCE_LEN) != 0;
@@ -118,16 +118,16 @@ static void put_head(unsigned char *record, uint64_t counter, unsigned marks, si
 
 /* Makes room for records that wait for another output, as those of a turn may that came when the output failed. Whether
  * it could. */
-static int lengthen_room(struct feed *feed) {
+static bool lengthen_room(struct feed *feed) {
     unsigned char *more = feed->room < MOST_ROOM ? realloc(feed->bytes, 2 * feed->room) : NULL;
     if (more == NULL)
-        return 0;
+        return false;
     feed->bytes = more;
     feed->room *= 2;
-    return 1;
+    return true;
 }
 
-static int has_room(const struct feed *feed, size_t len) {
+static bool has_room(const struct feed *feed, size_t len) {
     return feed->len + RECORD_HEAD_LEN + len <= feed->room;
 }
 
@@ -154,16 +154,16 @@ static void put_record(struct feed *feed, uint64_t counter, const struct capture
     feed->frame_bytes += len;
 }
 
-int put_frame(struct feed *feed, uint64_t counter, const struct captured *captured) {
+bool put_frame(struct feed *feed, uint64_t counter, const struct captured *captured) {
     size_t len = wire_len(captured);
     if (len == 0) {
         feed->skipped++;
-        return 1;
+        return true;
     }
-    int goes_on = has_room(feed, len) || flush_feed(feed);
+    bool goes_on = has_room(feed, len) || flush_feed(feed);
     if (!goes_on && (feed->writer.is_started || (!has_room(feed, len) && !lengthen_room(feed)))) {
         feed->lost++;
-        return 0;
+        return false;
     }
     put_record(feed, counter, captured, len);
     return goes_on;

@@ -1,4 +1,4 @@
-/* A feed that is written: the records of frames, by docs/user/FORMATS.md. */
+/* A feed that is written: the records of frames, by docs/user/formats/filters.md. */
 #ifndef FEED_H
 #define FEED_H
 
@@ -6,6 +6,7 @@
 #include "output.h"
 #include "output_thread.h"
 
+#include <stdbool.h>
 #include <stddef.h>
 #include <stdint.h>
 
@@ -18,6 +19,7 @@ struct feed {
     unsigned char *bytes;
     size_t len, room;
     int64_t since; /* when the first of the waiting bytes came */
+    int switched;  /* how many of the switches that were asked for are done, or can't be */
     uint64_t frames, frame_bytes;
     uint64_t skipped; /* frames that no feed takes */
     uint64_t lost;    /* frames for which there was no room once the output had failed */
@@ -28,22 +30,21 @@ struct feed {
 struct captured {
     const unsigned char *bytes;
     size_t len;
-    int is_whole;
-    int has_check_sequence;
+    bool is_whole;
+    bool has_check_sequence;
     unsigned marks;
 };
 
 /* Opens the feed at `path`, as `open_output` does. Whether it is open. */
-int open_feed(struct feed *feed, const char *path);
+bool open_feed(struct feed *feed, const char *path);
 
 /* Has a thread of its own write what is full, for a feed whose frames come as fast as they are taken. */
 void write_beside(struct feed *feed);
 
 /* Puts the record of a frame behind the others: padded to the least length on the wire and with its check sequence
  * where it came without, marked where that is wrong. A frame that was cut short, or has a length that no feed takes,
- * is counted as skipped. 0 where the feed was found to be open no more: the frame waits, or where it can't it is lost.
- */
-int put_frame(struct feed *feed, uint64_t counter, const struct captured *captured);
+ * is counted as skipped. Whether the feed is still open: else the frame waits, or where it can't it is lost. */
+bool put_frame(struct feed *feed, uint64_t counter, const struct captured *captured);
 
 /* How many frames were lost since this was asked. */
 uint64_t take_lost(struct feed *feed);
@@ -58,10 +59,10 @@ enum switching switch_feed(struct feed *feed);
 
 /* Writes what waits, or hands it to the thread. Whether the feed is still open: else the records that weren't taken
  * whole wait for another feed. */
-int flush_feed(struct feed *feed);
+bool flush_feed(struct feed *feed);
 
 /* Writes what has waited for a millisecond. Whether the feed is still open. */
-int flush_old(struct feed *feed);
+bool flush_old(struct feed *feed);
 
 /* Closes it once all that was flushed is written. */
 void close_feed(struct feed *feed);

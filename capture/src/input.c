@@ -19,45 +19,48 @@ enum {
     LAST_WAIT_MS = 300,
 };
 
-int refuse(struct input *input, const char *format, ...) {
+bool refuse(struct input *input, const char *format, ...) {
     va_list values;
     va_start(values, format);
     vsnprintf(input->fault, sizeof input->fault, format, values);
     va_end(values);
-    return -1;
+    return false;
 }
 
-int open_input(struct input *input, const char *path) {
+static enum reading failed(struct input *input, int error) {
+    refuse(input, "%s", strerror(error));
+    return READING_FAULT;
+}
+
+bool open_input(struct input *input, const char *path) {
     struct stat kind;
     input->size = FIRST_ROOM;
     input->bytes = malloc(input->size);
     /* Without waiting for a writer of a pipe: its bytes are waited for, and meanwhile a signal is heard. */
     input->fd = strcmp(path, "-") == 0 ? dup(STDIN_FILENO) : open(path, O_RDONLY | O_NONBLOCK | O_CLOEXEC);
-    if (input->fd < 0 || input->bytes == NULL || fstat(input->fd, &kind) != 0) {
-        refuse(input, "%s", strerror(errno));
-        return 0;
-    }
+    if (input->fd < 0 || input->bytes == NULL || fstat(input->fd, &kind) != 0)
+        return refuse(input, "%s", strerror(errno));
     input->waits = !S_ISREG(kind.st_mode);
-    return 1;
+    return true;
 }
 
 /* Moves what is left to the front, where there is room for `len` bytes. Whether there is. */
-static int make_room(struct input *input, size_t len) {
+static bool make_room(struct input *input, size_t len) {
     memmove(input->bytes, next_bytes(input), count_next(input));
     input->end -= input->begin;
     input->begin = 0;
     if (len <= input->size)
-        return 1;
+        return true;
     unsigned char *more = realloc(input->bytes, len);
     if (more == NULL)
-        return 0;
+        return false;
     input->bytes = more;
     input->size = len;
-    return 1;
+    return true;
 }
 
 /* Waits for bytes of a pipe, as long as the run goes on, and then for what is on its way. Whether there are some. */
-static int wait_for_bytes(struct input *input) {
+static bool wait_for_bytes(struct input *input) {
     struct pollfd waits[2] = {{.fd = input->fd, .events = POLLIN}, {.fd = stop_fd}};
     if (input->before_waiting)
         input->before_waiting(input->listener);
@@ -66,31 +69,38 @@ static int wait_for_bytes(struct input *input) {
     return waits[0].revents != 0 || poll(waits, 1, LAST_WAIT_MS) > 0;
 }
 
-int have(struct input *input, size_t len) {
+enum reading read_ahead(struct input *input, size_t len) {
     if (count_next(input) >= len)
-        return 1;
+        return READING_SOME;
     if (!make_room(input, len))
-        return refuse(input, "%s", strerror(ENOMEM));
+        return failed(input, ENOMEM);
     while (input->end < len) {
         if (input->waits && !wait_for_bytes(input))
-            return 0;
+            return READING_END;
         ssize_t count = read(input->fd, input->bytes + input->end, input->size - input->end);
         if (count < 0 && (errno == EINTR || (errno == EAGAIN && input->waits)))
             continue;
         if (count < 0)
-            return refuse(input, "%s", strerror(errno));
+            return failed(input, errno);
         if (count == 0)
-            return 0;
+            return READING_END;
         input->end += (size_t)count;
     }
-    return 1;
+    return READING_SOME;
 }
 
-int want(struct input *input, size_t len) {
-    int found = have(input, len);
-    if (found == 0)
+bool require(struct input *input, size_t len) {
+    enum reading reading = read_ahead(input, len);
+    if (reading == READING_END)
         return refuse(input, "cut short at byte %" PRIu64, input->at + count_next(input));
-    return found;
+    return reading == READING_SOME;
+}
+
+enum reading read_head(struct input *input, size_t len) {
+    enum reading reading = read_ahead(input, len);
+    if (reading != READING_END || count_next(input) == 0)
+        return reading;
+    return require(input, len) ? READING_SOME : READING_FAULT;
 }
 
 void close_input(struct input *input) {

@@ -1,6 +1,7 @@
 #define _GNU_SOURCE
 #include "interface.h"
 #include "adapter.h"
+#include "log.h"
 #include "signals.h"
 
 #include <errno.h>
@@ -15,49 +16,52 @@ enum {
     SWITCH_PAUSE_MS = 2,
 };
 
+/* By then the kernel has handed over the frames that wait in a block. */
+static const int64_t LAST_BLOCK = 50 * (int64_t)NANOSECONDS_PER_MS;
+
 /* Whether it is up, by whichever name it has by now. */
-static int is_up(const struct interface *interface) {
+static bool is_up(const struct interface *interface) {
     char name[IF_NAMESIZE];
     return if_indextoname(interface->number, name) != NULL && is_interface_up(name);
 }
 
 /* ---- frames */
 
-static void take_frame(unsigned char *it, const struct pcap_pkthdr *head, const unsigned char *bytes) {
-    struct interface *interface = (struct interface *)it;
+static void take_frame(unsigned char *user, const struct pcap_pkthdr *head, const unsigned char *bytes) {
+    struct interface *interface = (struct interface *)user;
     const struct captured captured = {bytes, head->caplen, head->caplen >= head->len, interface->has_check_sequences,
                                       0};
     nanoseconds moment = (nanoseconds)head->ts.tv_sec * NANOSECONDS_PER_SECOND +
                          (nanoseconds)head->ts.tv_usec * interface->nanoseconds_per_unit;
     /* Frames of before may come once it is down. */
     if (interface->is_down && is_up(interface)) {
-        interface->is_down = 0;
-        tell("%s: it is up again", interface->name);
+        interface->is_down = false;
+        log_line("%s: it is up again", interface->name);
     }
     if (interface->is_scale_unknown) {
-        interface->is_scale_unknown = 0;
-        tell_adapter_clock(interface->name, moment);
+        interface->is_scale_unknown = false;
+        log_adapter_clock(interface->name, moment);
     }
     if (!interface->arguments->uses_adapter_clock)
         moment = steady_moment(&interface->clock, moment);
     put_frame(&interface->feed, counter_at(moment, &interface->arguments->origin), &captured);
 }
 
-static void count_lost_frame(unsigned char *it, const struct pcap_pkthdr *head, const unsigned char *bytes) {
+static void count_lost_frame(unsigned char *user, const struct pcap_pkthdr *head, const unsigned char *bytes) {
     (void)head;
     (void)bytes;
-    ((struct interface *)it)->counts.dropped++;
+    ((struct interface *)user)->counts.dropped++;
 }
 
 /* ---- interfaces that go and come */
 
 static void lose_interface(struct interface *interface) {
-    interface->is_down = 0;
+    interface->is_down = false;
     take_all_rest(&interface->rings, take_frame, interface);
-    count_drops(interface);
+    count_drops(&interface->counts);
     close_rings(&interface->rings);
-    interface->is_gone = 1;
-    tell("%s: the interface is gone, and is taken again once it is back", interface->name);
+    interface->is_gone = true;
+    log_line("%s: the interface is gone, and is taken again once it is back", interface->name);
 }
 
 /* Sees whether an interface that failed is only down, or gone. One that was renamed while it was down fails whenever it
@@ -67,31 +71,31 @@ static void look_at_interface(struct interface *interface) {
     if (if_indextoname(interface->number, name) == NULL) {
         lose_interface(interface);
     } else if (!interface->is_down && !is_up(interface)) {
-        tell("%s: it is down, and is recorded on once it is up", interface->name);
-        interface->is_down = 1;
+        log_line("%s: it is down, and is recorded on once it is up", interface->name);
+        interface->is_down = true;
     }
 }
 
 /* Waits a moment for an interface that is gone. Whether the run goes on. */
-static int wait_until_back(struct interface *interface) {
+static bool wait_until_back(struct interface *interface) {
     struct pollfd stop = {.fd = stop_fd};
     if (!flush_feed(&interface->feed) || is_stopping())
-        return 0;
-    tell_in_time(interface);
-    poll(&stop, 1, interface->switched != switches_asked() ? SWITCH_PAUSE_MS : MOST_PAUSE_MS);
+        return false;
+    report_in_time(&interface->counts);
+    poll(&stop, 1, interface->feed.switched != switches_asked() ? SWITCH_PAUSE_MS : MOST_PAUSE_MS);
     if (is_interface_up(interface->name) && open_again(interface)) {
-        interface->is_gone = 0;
-        tell("%s: it is back", interface->name);
+        interface->is_gone = false;
+        log_line("%s: it is back", interface->name);
     }
-    return 1;
+    return true;
 }
 
 /* What is done while no frames are taken: the pipe is full, or has no reader. */
-static void while_waiting(void *it) {
-    struct interface *interface = it;
+static void while_waiting(void *listener) {
+    struct interface *interface = listener;
     if (!interface->is_gone)
         relieve_quiet_ring(&interface->rings);
-    tell_in_time(interface);
+    report_in_time(&interface->counts);
 }
 
 /* ---- other feeds */
@@ -99,22 +103,22 @@ static void while_waiting(void *it) {
 /* Keeps that a switch was done, or can't be, by this error. */
 static void note_switch(struct interface *interface, int asked, enum switching switching, int error) {
     if (switching == SWITCH_FAILED)
-        tell("%s: %s: %s, and it goes on as before", interface->name, interface->route->to, strerror(error));
+        log_line("%s: %s: %s, and it goes on as before", interface->name, interface->route->to, strerror(error));
     if (switching != SWITCH_LATER)
-        interface->switched = asked;
+        interface->feed.switched = asked;
 }
 
 /* Goes over to another feed where that was asked for and can be done. */
 static void follow_switches(struct interface *interface) {
     int asked = switches_asked();
-    if (asked == interface->switched)
+    if (asked == interface->feed.switched)
         return;
     enum switching switching = switch_feed(&interface->feed);
     int error = errno;
     if (switching == SWITCHED)
         interface->counts.dropped += take_lost(&interface->feed);
     if (switching != SWITCH_LATER)
-        note_counts(interface);
+        note_counts(&interface->counts);
     note_switch(interface, asked, switching, error);
 }
 
@@ -127,32 +131,32 @@ static void drop_waiting(struct interface *interface) {
 
 /* Waits, where the reader of the feed has left or failed, for word that the next feed is to go on, and for that feed.
  * Whether it goes on. Meanwhile the kernel keeps the frames. */
-static int wait_for_next_feed(struct interface *interface) {
+static bool wait_for_next_feed(struct interface *interface) {
     const struct output *output = &interface->feed.output;
-    if (output->state != OUTPUT_LEFT && !is_held(interface->switched))
-        return 0;
+    if (output->state != OUTPUT_LEFT && !is_held(interface->feed.switched))
+        return false;
     int64_t until = steady_now() + interface->arguments->hold_seconds * (int64_t)NANOSECONDS_PER_SECOND;
-    while (!is_stopping() && (is_held(interface->switched) || (!is_open(output) && steady_now() < until))) {
+    while (!is_stopping() && (is_held(interface->feed.switched) || (!is_open(output) && steady_now() < until))) {
         struct pollfd stop = {.fd = stop_fd};
         poll(&stop, 1, SWITCH_PAUSE_MS);
         while_waiting(interface);
-        if (is_held(interface->switched))
+        if (is_held(interface->feed.switched))
             follow_switches(interface);
     }
-    if (!is_held(interface->switched))
+    if (!is_held(interface->feed.switched))
         return is_open(output);
     drop_waiting(interface);
-    return 0;
+    return false;
 }
 
 /* ---- turns */
 
 /* How long to wait for frames, in milliseconds. */
 static int pause_of(const struct interface *interface) {
-    int64_t left = (interface->counts.next_line - steady_now()) / 1000000 + 1;
-    if (interface->switched != switches_asked())
+    int64_t left = (interface->counts.next_report - steady_now()) / 1000000 + 1;
+    if (interface->feed.switched != switches_asked())
         return SWITCH_PAUSE_MS;
-    if (interface->arguments->is_quiet || left > MOST_PAUSE_MS)
+    if (!are_reported(&interface->counts) || left > MOST_PAUSE_MS)
         return MOST_PAUSE_MS;
     return left > 0 ? (int)left : 0;
 }
@@ -167,7 +171,10 @@ static void wait_for_frames(struct interface *interface) {
         [STOP] = {.fd = stop_fd},
     };
     note_all_written(&interface->feed.output);
+    int64_t begin = steady_now();
     int ready = poll(waits, WAITS, pause_of(interface));
+    if (ready == 0)
+        note_none_before(&interface->clock, begin - LAST_BLOCK);
     /* libpcap says nothing of an interface that is only down, and the kernel nothing of one that goes once it is. */
     if ((waits[IN_USE].revents & (POLLERR | POLLHUP)) != 0 || (ready == 0 && interface->is_down))
         look_at_interface(interface);
@@ -178,31 +185,31 @@ static void wait_for_frames(struct interface *interface) {
 }
 
 /* Takes what the kernel has. Whether there is more to come. */
-static int turn(struct interface *interface) {
+static bool turn(struct interface *interface) {
     struct rings *rings = &interface->rings;
     follow_switches(interface);
     if (interface->feed.judge != NULL)
         follow_listing(interface->feed.judge);
-    if (is_held(interface->switched))
-        return 0;
+    if (is_held(interface->feed.switched))
+        return false;
     if (interface->is_gone)
         return wait_until_back(interface);
     if (is_stopping()) {
         take_all_rest(rings, take_frame, interface);
-        return 0;
+        return false;
     }
     int count = take_frames_in_use(rings, take_frame, interface);
-    tell_in_time(interface);
+    report_in_time(&interface->counts);
     follow_rate(rings, take_frame, interface);
     if (count == FRAMES_A_TURN)
         return flush_old(&interface->feed);
     if (count < 0)
         look_at_interface(interface);
     if (!flush_feed(&interface->feed))
-        return 0;
+        return false;
     if (!interface->is_gone)
         wait_for_frames(interface);
-    return 1;
+    return true;
 }
 
 /* Says why a feed is open no more, and accounts for the frames that it has not taken: those of a reader that left were
@@ -211,39 +218,38 @@ static void account_for_fault(struct interface *interface) {
     const struct output *output = &interface->feed.output;
     const char *path = interface->route->to, *fault = output_fault(output);
     if (output->state != OUTPUT_LEFT) {
-        tell("%s: %s %s", interface->name, path, fault);
+        log_line("%s: %s %s", interface->name, path, fault);
         drop_waiting(interface);
         return;
     }
     uint64_t unwritten = take_unwritten(&interface->feed);
     if (unwritten > 0)
-        tell("%s: %s %s, which %" PRIu64 " frames were for", interface->name, path, fault, unwritten);
+        log_line("%s: %s %s, which %" PRIu64 " frames were for", interface->name, path, fault, unwritten);
     else
-        tell("%s: %s %s", interface->name, path, fault);
+        log_line("%s: %s %s", interface->name, path, fault);
 }
 
-/* Ends a feed, and tells the counts before its pipe is closed, so that they come ahead of what its reader tells then.
+/* Ends a feed, and reports the counts before its pipe is closed, so that they come ahead of what its reader says then.
  */
 static void end_feed(struct interface *interface) {
     struct feed *feed = &interface->feed;
     flush_feed(feed);
-    int was_open = is_open(&feed->output);
+    bool was_open = is_open(&feed->output);
     if (interface->is_gone)
-        tell("%s: the interface is gone", interface->name);
+        log_line("%s: the interface is gone", interface->name);
     if (!was_open)
         account_for_fault(interface);
-    tell_counts(interface);
-    note_counts(interface);
+    report_last(&interface->counts);
     close_feed(feed);
     if (was_open && !is_open(&feed->output))
-        tell("%s: %s %s", interface->name, interface->route->to, output_fault(&feed->output));
+        log_line("%s: %s %s", interface->name, interface->route->to, output_fault(&feed->output));
 }
 
 void run_interface(struct interface *interface) {
     struct feed *feed = &interface->feed;
     feed->output.while_waiting = while_waiting;
     feed->output.listener = interface;
-    begin_counts(interface);
+    begin_counts(&interface->counts);
     if (open_feed(feed, interface->route->to))
         do
             while (turn(interface))
@@ -258,16 +264,16 @@ void pass_later_feeds(struct interface *interface, const atomic_int *running) {
      * and so would an interface that has gone over already. */
     while (atomic_load(running) > 0 && !is_hurried()) {
         int asked = switches_asked();
-        if (asked != interface->switched) {
+        if (asked != interface->feed.switched) {
             enum switching switching = pass_next(&interface->feed.output);
             note_switch(interface, asked, switching, errno);
         }
         struct pollfd stop = {.fd = is_stopping() ? hurry_fd : stop_fd};
-        poll(&stop, 1, is_stopping() || asked != interface->switched ? SWITCH_PAUSE_MS : MOST_PAUSE_MS);
+        poll(&stop, 1, is_stopping() || asked != interface->feed.switched ? SWITCH_PAUSE_MS : MOST_PAUSE_MS);
     }
 }
 
-int is_well(const struct interface *interface) {
+bool is_well(const struct interface *interface) {
     enum output_state state = interface->feed.output.state;
     return !interface->is_gone && (state == OUTPUT_OPEN || state == OUTPUT_LEFT);
 }

@@ -11,6 +11,7 @@
 #include "rings.h"
 
 #include <stdatomic.h>
+#include <stdbool.h>
 
 struct interface {
     const char *name;
@@ -18,37 +19,36 @@ struct interface {
     const struct arguments *arguments;
     struct rings rings; /* closed while it is gone */
     unsigned number;    /* the kernel's */
-    int has_check_sequences;
+    bool has_check_sequences;
     int nanoseconds_per_unit;
     enum stamping stamping;
-    int clock_number;     /* of the adapter, as of /dev/ptp0; -1 where it has none that is known */
-    int is_scale_unknown; /* frames have the adapter's time as it runs, and none has shown its scale yet */
+    int clock_number;      /* of the adapter, as of /dev/ptp0; -1 where it has none that is known */
+    bool is_scale_unknown; /* frames have the adapter's time as it runs, and none has shown its scale yet */
     struct frame_clock clock;
     struct feed feed;
     struct counts counts;
-    int switched; /* how many switches of the feed were done */
-    int is_down;
-    int is_gone;
+    bool is_down;
+    bool is_gone;
 };
 
 /* Begins to capture an interface's frames, which the kernel keeps until they are taken. Whether it could;
  * else a line has said why not. */
-int open_interface(struct interface *interface, const struct route *route, const struct arguments *arguments);
+bool open_interface(struct interface *interface, const struct route *route, const struct arguments *arguments);
 
-/* Tells how much memory the kernel really has for its frames, and whose clock stamps them. */
-void tell_opened(const struct interface *interface);
+/* Logs how much memory the kernel really has for its frames, and whose clock stamps them. */
+void log_opened(const struct interface *interface);
 
-/* Opens an interface again that was gone, where one of its name is there and up. */
-int open_again(struct interface *interface);
+/* Opens an interface again that was gone, where one of its name is there and up. Whether it could. */
+bool open_again(struct interface *interface);
 
-/* Writes the frames into the feed until the run is stopped or the feed is gone, and tells the counts. */
+/* Writes the frames into the feed until the run is stopped or the feed is gone, and reports the counts. */
 void run_interface(struct interface *interface);
 
-/* What an interface does once it has ended, until all have or the run is to end at once: whatever its path names later
- * gets nothing and is closed. `running` is how many haven't ended. */
+/* After its end: opens and closes each later pipe, so that no recorder waits for it, until all have ended or the run is
+ * to end at once. `running` is how many haven't ended. */
 void pass_later_feeds(struct interface *interface, const atomic_int *running);
 
 /* Whether the interface ended as it should. */
-int is_well(const struct interface *interface);
+bool is_well(const struct interface *interface);
 
 #endif

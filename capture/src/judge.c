@@ -21,7 +21,7 @@ static void take_listing(struct judge *judge, const struct stat *seen) {
                       bpf_validate(judge->listing.insns, (int)judge->listing.count);
 }
 
-static int is_replaced(const struct stat *before, const struct stat *now) {
+static bool is_replaced(const struct stat *before, const struct stat *now) {
     return now->st_ino != before->st_ino || now->st_dev != before->st_dev || now->st_size != before->st_size ||
            now->st_mtim.tv_sec != before->st_mtim.tv_sec || now->st_mtim.tv_nsec != before->st_mtim.tv_nsec;
 }

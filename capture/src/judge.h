@@ -5,6 +5,7 @@
 #include "listing.h"
 
 #include <stdatomic.h>
+#include <stdbool.h>
 #include <stdint.h>
 #include <sys/stat.h>
 
@@ -12,7 +13,7 @@ struct judge {
     const char *path; /* of the listing; NULL where all frames are kept */
     struct listing listing;
     struct stat seen; /* the file, when it was read last */
-    int is_valid;     /* else all frames are kept */
+    bool is_valid;    /* else all frames are kept */
     int64_t next_look;
     _Atomic uint64_t kept; /* which one thread alone changes */
 };

@@ -9,6 +9,7 @@
 #include "events.h"
 #include "interface.h"
 #include "kept.h"
+#include "log.h"
 #include "privileges.h"
 #include "signals.h"
 #include "system_calls.h"
@@ -31,15 +32,15 @@ enum { WELL = 0, FAILED = 1, NOT_BEGUN = 3, LOST = 5 };
 struct work {
     struct interface interface;
     struct conversion conversion;
-    int is_file, is_started;
+    bool is_file, is_started;
     pthread_t thread;
 };
 
 static atomic_int running;
 static int ended_writer = -1;
 
-static void *run(void *it) {
-    struct work *work = it;
+static void *run(void *argument) {
+    struct work *work = argument;
     if (work->is_file)
         run_conversion(&work->conversion);
     else
@@ -52,15 +53,15 @@ static void *run(void *it) {
 }
 
 /* Whether two paths are one pipe or one file, whose records would stand within one another. */
-static int is_same(const char *path, const char *other) {
+static bool is_same(const char *path, const char *other) {
     struct stat first, second;
     if (strcmp(path, other) == 0)
-        return 1;
+        return true;
     return stat(path, &first) == 0 && stat(other, &second) == 0 && first.st_dev == second.st_dev &&
            first.st_ino == second.st_ino && !S_ISCHR(first.st_mode);
 }
 
-/* The first feed that is another one too, or the input of its way; NULL where there is none. */
+/* The first feed that is another one too, or the input of its route; NULL where there is none. */
 static const char *shared_path(const struct arguments *arguments) {
     for (int i = 0; i < arguments->count; i++) {
         const struct route *route = &arguments->routes[i];
@@ -76,57 +77,57 @@ static const char *shared_path(const struct arguments *arguments) {
 }
 
 /* Opens all interfaces, so that nothing is begun where one can't be. Whether they are open. */
-static int open_all(struct work *works, const struct arguments *arguments) {
+static bool open_all(struct work *works, const struct arguments *arguments) {
     for (int i = 0; i < arguments->count; i++) {
         const struct route *route = &arguments->routes[i];
         works[i].is_file = arguments->are_files;
         if (arguments->are_files)
             works[i].conversion = (struct conversion){.from = route->from, .to = route->to, .arguments = arguments};
         else if (!open_interface(&works[i].interface, route, arguments))
-            return 0;
+            return false;
     }
-    return 1;
+    return true;
 }
 
-/* Tells what interfaces have lost. Whether one has. */
-static int tell_all_lost(const struct work *works, const struct arguments *arguments) {
-    int has_lost = 0;
+/* Reports what interfaces have lost. Whether one has. */
+static bool report_all_lost(const struct work *works, const struct arguments *arguments) {
+    bool has_lost = false;
     for (int i = 0; i < arguments->count && !arguments->are_files; i++)
-        has_lost |= tell_lost(&works[i].interface);
+        has_lost |= report_lost(&works[i].interface.counts);
     return has_lost;
 }
 
 /* What goes beside the threads: the clock that may be set, counters that begin at 0 again, and what is kept. */
 static void follow_settings(void) {
     follow_clock();
-    tell_settings(0);
-    write_kept(0);
+    report_settings(false);
+    write_kept(false);
 }
 
 /* The same where an adapter's clock stamps frames. */
 static void follow_counters(void) {
-    tell_settings(0);
-    write_kept(0);
+    report_settings(false);
+    write_kept(false);
 }
 
 /* Says why nothing can be begun: NOT_BEGUN. */
 static int not_begun(const char *what, int error) {
-    tell("%s: %s", what, strerror(error));
+    log_line("%s: %s", what, strerror(error));
     return NOT_BEGUN;
 }
 
 /* Starts a thread for each. Whether all could be started; else a line has said why not, and the others are to end. */
-static int start_all(struct work *works, int count) {
+static bool start_all(struct work *works, int count) {
     int error = 0, started = 0;
     atomic_store(&running, count);
     while (started < count && (error = pthread_create(&works[started].thread, NULL, run, &works[started])) == 0)
-        works[started++].is_started = 1;
+        works[started++].is_started = true;
     if (started == count)
-        return 1;
-    tell("no thread: %s", strerror(error));
+        return true;
+    log_line("no thread: %s", strerror(error));
     if (atomic_fetch_sub(&running, count - started) == count - started)
         close(ended_writer);
-    return 0;
+    return false;
 }
 
 /* Runs all to their ends; `beside` is called now and then, where it isn't NULL. The status. */
@@ -135,7 +136,7 @@ static int run_all(struct work *works, int count, void (*beside)(void)) {
     if (pipe2(ended, O_CLOEXEC) != 0)
         return not_begun("no pipe", errno);
     ended_writer = ended[1];
-    int is_all_well = start_all(works, count);
+    bool is_all_well = start_all(works, count);
     if (!is_all_well)
         stop_run();
     serve_signals(ended[0], beside);
@@ -148,11 +149,11 @@ static int run_all(struct work *works, int count, void (*beside)(void)) {
 
 /* Puts something in the place of a standard stream that is closed, where a file of ours would stand else: reads of it
  * and writes to it fail. */
-static int fill_streams(void) {
+static bool fill_streams(void) {
     for (int fd = STDIN_FILENO; fd <= STDERR_FILENO; fd++)
         if (fcntl(fd, F_GETFD) < 0 && open("/dev/null", fd == STDIN_FILENO ? O_WRONLY : O_RDONLY) != fd)
-            return 0;
-    return 1;
+            return false;
+    return true;
 }
 
 /* Has the kernel end the run once the process has died that started it, also where that was before this program ran, or
@@ -165,22 +166,22 @@ static void follow_parent(pid_t parent) {
 }
 
 /* Begins what interfaces need beside their frames: facts, counters, no privileges. Whether it could. */
-static int begin_live(struct work *works, const struct arguments *arguments) {
+static bool begin_live(struct work *works, const struct arguments *arguments) {
     char text[SECONDS_TEXT_LEN];
     for (int i = 0; i < arguments->count; i++)
-        tell_opened(&works[i].interface);
+        log_opened(&works[i].interface);
     if (!drop_privileges(arguments) || (arguments->events != NULL && !open_events(arguments->events)) ||
         !open_kept(arguments))
-        return 0;
+        return false;
     for (int i = 0; i < arguments->count; i++)
         works[i].interface.feed.judge = judge_of(i);
     follow_parent(arguments->parent);
     limit_writing(arguments);
     forbid_other_calls();
     print_seconds(arguments->origin.at, text);
-    tell("origin %s", text);
-    tell_event("{\"origin\": \"%s\", \"counter\": 0}", text);
-    return 1;
+    log_line("origin %s", text);
+    note_event("{\"origin\": \"%s\", \"counter\": 0}", text);
+    return true;
 }
 
 /* Records interfaces. The status. */
@@ -188,9 +189,9 @@ static int run_live(struct work *works, const struct arguments *arguments) {
     if (!begin_live(works, arguments))
         return NOT_BEGUN;
     int status = run_all(works, arguments->count, arguments->uses_adapter_clock ? follow_counters : follow_settings);
-    tell_settings(1);
-    write_kept(1);
-    int has_lost = tell_all_lost(works, arguments);
+    report_settings(true);
+    write_kept(true);
+    bool has_lost = report_all_lost(works, arguments);
     return status == WELL && has_lost && arguments->is_strict ? LOST : status;
 }
 
@@ -219,13 +220,14 @@ int main(int argc, char **argv) {
     struct arguments arguments;
     if (!fill_streams())
         return not_begun("/dev/null", errno);
-    open_standard_error();
-    int is_done, status = read_arguments(argc, argv, &arguments, &is_done);
+    open_log();
+    bool is_done;
+    int status = read_arguments(argc, argv, &arguments, &is_done);
     if (status != 0 || is_done)
         return status;
     const char *shared = shared_path(&arguments);
     if (shared != NULL) {
-        tell("%s: it is used twice", shared);
+        log_line("%s: it is used twice", shared);
         return NOT_BEGUN;
     }
     struct work *works = calloc((size_t)arguments.count, sizeof *works);

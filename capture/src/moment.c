@@ -20,12 +20,12 @@ static int digits(const char *text, int least, int most, int64_t *value) {
 }
 
 /* Reads what follows a second: nothing, or a point and its fraction. Whether only `end` follows. */
-static int fraction(const char *text, const char *end, int64_t *value) {
+static bool fraction(const char *text, const char *end, int64_t *value) {
     *value = 0;
     if (*text == '.') {
         int count = digits(text + 1, 1, MOST_FRACTION_DIGITS, value);
         if (count == 0)
-            return 0;
+            return false;
         text += 1 + count;
         for (; count < MOST_FRACTION_DIGITS; count++)
             *value *= 10;
@@ -42,8 +42,8 @@ static const char *field(const char *text, int width, char sign, int *value) {
     return text + width + (sign != 0);
 }
 
-/* Reads a date and a time of day in UTC. */
-static int calendar(const char *text, nanoseconds *at) {
+/* Reads a date and a time of day in UTC. Whether it is one. */
+static bool calendar(const char *text, nanoseconds *at) {
     struct tm day = {0}, back;
     int64_t rest;
     text = field(text, 4, '-', &day.tm_year);
@@ -53,7 +53,7 @@ static int calendar(const char *text, nanoseconds *at) {
     text = field(text, 2, ':', &day.tm_min);
     text = field(text, 2, 0, &day.tm_sec);
     if (text == NULL || !fraction(text, "Z", &rest))
-        return 0;
+        return false;
     day.tm_year -= 1900;
     day.tm_mon -= 1;
     struct tm given = day;
@@ -61,40 +61,40 @@ static int calendar(const char *text, nanoseconds *at) {
     /* A day that no month has becomes one of the next. */
     if (gmtime_r(&seconds, &back) == NULL || back.tm_mday != given.tm_mday || back.tm_hour != given.tm_hour ||
         back.tm_min != given.tm_min || back.tm_sec != given.tm_sec || back.tm_mon != given.tm_mon || seconds < 0)
-        return 0;
+        return false;
     *at = (nanoseconds)seconds * NANOSECONDS_PER_SECOND + rest;
-    return 1;
+    return true;
 }
 
-int origin_of(const char *word, struct origin *origin) {
-    *origin = (struct origin){0, 0};
-    if (strcmp(word, "zero") == 0)
-        return 1;
-    if (strcmp(word, "first") == 0) {
-        origin->is_first_frame = 1;
-        return 1;
+bool origin_of(const char *text, struct origin *origin) {
+    *origin = (struct origin){false, 0};
+    if (strcmp(text, "zero") == 0)
+        return true;
+    if (strcmp(text, "first") == 0) {
+        origin->is_first_frame = true;
+        return true;
     }
-    if (strcmp(word, "now") == 0) {
+    if (strcmp(text, "now") == 0) {
         struct timespec now;
         clock_gettime(CLOCK_REALTIME, &now);
         nanoseconds at = (nanoseconds)now.tv_sec * NANOSECONDS_PER_SECOND + now.tv_nsec;
         origin->at = at - at % NANOSECONDS_PER_TICK;
-        return 1;
+        return true;
     }
     int64_t seconds, rest;
-    int count = digits(word, 1, MOST_SECOND_DIGITS, &seconds);
-    if (count > 0 && fraction(word + count, "", &rest)) {
+    int count = digits(text, 1, MOST_SECOND_DIGITS, &seconds);
+    if (count > 0 && fraction(text + count, "", &rest)) {
         origin->at = (nanoseconds)seconds * NANOSECONDS_PER_SECOND + rest;
-        return 1;
+        return true;
     }
-    return calendar(word, &origin->at);
+    return calendar(text, &origin->at);
 }
 
-int add_turns(struct origin *origin, nanoseconds now) {
+bool add_turns(struct origin *origin, nanoseconds now) {
     if (origin->at > now)
-        return 0;
+        return false;
     origin->at += (now - origin->at) / COUNTER_TURN * COUNTER_TURN;
-    return 1;
+    return true;
 }
 
 uint64_t counter_at(nanoseconds moment, const struct origin *origin) {

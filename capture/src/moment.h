@@ -2,6 +2,7 @@
 #ifndef MOMENT_H
 #define MOMENT_H
 
+#include <stdbool.h>
 #include <stdint.h>
 
 /* Nanoseconds since 1970-01-01, as wide as the times of any capture file. */
@@ -16,19 +17,19 @@ enum {
 
 /* The moment at which the counter is 0; the first frame of a file, until that is known. */
 struct origin {
-    int is_first_frame;
+    bool is_first_frame;
     nanoseconds at;
 };
 
 /* Reads `now`, `zero` (1970-01-01), `first`, seconds since 1970 or `2026-03-01T12:00:00.5Z`; whether it is one. */
-int origin_of(const char *word, struct origin *origin);
+bool origin_of(const char *text, struct origin *origin);
 
 /* The time after which counters begin at 0 again. */
 static const int64_t COUNTER_TURN = ((int64_t)1 << COUNTER_BITS) * NANOSECONDS_PER_TICK;
 
 /* Adds to an origin the turns that counters have made since then, so that a counter of now counts from it; no counter
- * changes by that. 0 where it lies ahead. */
-int add_turns(struct origin *origin, nanoseconds now);
+ * changes by that. Whether it could: an origin may lie ahead. */
+bool add_turns(struct origin *origin, nanoseconds now);
 
 /* The 48 bits of the 10 MHz relative time counter at a moment. */
 uint64_t counter_at(nanoseconds moment, const struct origin *origin);

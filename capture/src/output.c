@@ -18,17 +18,17 @@ static const int64_t LAST_WAIT = 2 * (int64_t)NANOSECONDS_PER_SECOND;
 /* How long a reader may have more to read than it takes. */
 static const int64_t TOO_SLOW = NANOSECONDS_PER_SECOND / 10;
 
-static int ended(struct output *output, enum output_state state, int error) {
+static bool ended(struct output *output, enum output_state state, int error) {
     output->state = state;
     output->error = error;
-    return 0;
+    return false;
 }
 
-int is_open(const struct output *output) {
+bool is_open(const struct output *output) {
     return output->state == OUTPUT_OPEN;
 }
 
-int fail_output(struct output *output, int error) {
+bool fail_output(struct output *output, int error) {
     return ended(output, OUTPUT_FAILED, error);
 }
 
@@ -59,12 +59,12 @@ static int open_path(struct output *output, const char *path) {
     }
 }
 
-int open_output(struct output *output, const char *path) {
+bool open_output(struct output *output, const char *path) {
     output->path = path;
     output->fd = open_path(output, path);
     if (output->fd < 0)
         return is_stopping() ? ended(output, OUTPUT_ABANDONED, 0) : fail_output(output, errno);
-    return 1;
+    return true;
 }
 
 void note_all_written(struct output *output) {
@@ -96,7 +96,7 @@ static void wait_for_room(struct output *output) {
         output->while_waiting(output->listener);
 }
 
-int write_all(struct output *output, const unsigned char *bytes, size_t len) {
+bool write_all(struct output *output, const unsigned char *bytes, size_t len) {
     while (is_open(output) && len > 0) {
         ssize_t count = write(output->fd, bytes, len);
         if (count >= 0) {
@@ -129,7 +129,7 @@ static enum switching switching_of(int error) {
 }
 
 /* Whether two descriptors are of one file or pipe. */
-static int is_one(int first, int second) {
+static bool is_one(int first, int second) {
     struct stat kinds[2];
     return fstat(first, &kinds[0]) == 0 && fstat(second, &kinds[1]) == 0 && kinds[0].st_dev == kinds[1].st_dev &&
            kinds[0].st_ino == kinds[1].st_ino;

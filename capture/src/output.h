@@ -2,6 +2,7 @@
 #ifndef OUTPUT_H
 #define OUTPUT_H
 
+#include <stdbool.h>
 #include <stddef.h>
 #include <stdint.h>
 
@@ -21,26 +22,26 @@ struct output {
     int64_t behind_since;          /* from when on there was always more to write */
     int64_t waited_so_far;         /* of that time, as long as it is short */
     uint64_t taken;                /* bytes that went out */
-    void (*while_waiting)(void *); /* called now and then while the pipe is full */
+    void (*while_waiting)(void *); /* called now and then with the listener, while the pipe is full */
     void *listener;
 };
 
 /* Opens what is at `path`, where `-` is standard output. A named pipe is waited for until it has a reader. Whether it
  * is open; else `state` says why not. */
-int open_output(struct output *output, const char *path);
+bool open_output(struct output *output, const char *path);
 
 /* Whether it is open; else why not. */
-int is_open(const struct output *output);
+bool is_open(const struct output *output);
 
-/* The output failed with this error. It is no more open: 0. */
-int fail_output(struct output *output, int error);
+/* The output failed with this error. It is no more open: false. */
+bool fail_output(struct output *output, int error);
 
 /* Notes that all is written for now. A pipe is full each time that many frames come at once; its reader is too slow
  * where there is always more to write for a tenth of a second, and only such waits are counted. */
 void note_all_written(struct output *output);
 
 /* Writes all the bytes. Whether it is still open. */
-int write_all(struct output *output, const unsigned char *bytes, size_t len);
+bool write_all(struct output *output, const unsigned char *bytes, size_t len);
 
 enum switching {
     SWITCHED,

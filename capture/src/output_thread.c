@@ -2,8 +2,8 @@
 
 #include <stdlib.h>
 
-static void *write_on(void *it) {
-    struct output_thread *writer = it;
+static void *write_on(void *argument) {
+    struct output_thread *writer = argument;
     pthread_mutex_lock(&writer->lock);
     while (writer->count > 0 || !writer->is_ending) {
         if (writer->count == 0) {
@@ -12,7 +12,7 @@ static void *write_on(void *it) {
         }
         unsigned at = writer->first;
         pthread_mutex_unlock(&writer->lock);
-        int goes_on = write_all(writer->output, writer->blocks[at].bytes, writer->blocks[at].len);
+        bool goes_on = write_all(writer->output, writer->blocks[at].bytes, writer->blocks[at].len);
         pthread_mutex_lock(&writer->lock);
         writer->is_open = goes_on;
         writer->first = (at + 1) % BLOCKS;
@@ -24,7 +24,7 @@ static void *write_on(void *it) {
 }
 
 void start_output_thread(struct output_thread *writer, struct output *output, size_t room) {
-    int has_room = 1;
+    bool has_room = true;
     *writer = (struct output_thread){.output = output, .is_open = is_open(output)};
     for (int i = 0; i < BLOCKS; i++)
         has_room &= (writer->blocks[i].bytes = malloc(room)) != NULL;
@@ -33,11 +33,11 @@ void start_output_thread(struct output_thread *writer, struct output *output, si
     writer->is_started = has_room && pthread_create(&writer->thread, NULL, write_on, writer) == 0;
 }
 
-int hand_over(struct output_thread *writer, unsigned char **bytes, size_t len) {
+bool hand_over(struct output_thread *writer, unsigned char **bytes, size_t len) {
     pthread_mutex_lock(&writer->lock);
     while (writer->count == BLOCKS)
         pthread_cond_wait(&writer->changed, &writer->lock);
-    int was_open = writer->is_open;
+    bool was_open = writer->is_open;
     unsigned at = (writer->first + writer->count++) % BLOCKS;
     unsigned char *room = writer->blocks[at].bytes;
     writer->blocks[at].bytes = *bytes;
@@ -51,11 +51,11 @@ int hand_over(struct output_thread *writer, unsigned char **bytes, size_t len) {
 void end_output_thread(struct output_thread *writer) {
     if (writer->is_started) {
         pthread_mutex_lock(&writer->lock);
-        writer->is_ending = 1;
+        writer->is_ending = true;
         pthread_cond_signal(&writer->changed);
         pthread_mutex_unlock(&writer->lock);
         pthread_join(writer->thread, NULL);
-        writer->is_started = 0;
+        writer->is_started = false;
     }
     for (int i = 0; i < BLOCKS; i++) {
         free(writer->blocks[i].bytes);

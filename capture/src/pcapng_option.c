@@ -1,15 +1,15 @@
 #include "pcapng_option.h"
 
-int next_option(const struct input *input, const unsigned char **at, const unsigned char *end,
-                struct pcapng_option *it) {
+bool next_option(const struct input *input, const unsigned char **at, const unsigned char *end,
+                 struct pcapng_option *option) {
     if (end - *at < 4)
-        return 0;
-    it->code = half(input, *at);
-    it->len = half(input, *at + 2);
-    it->value = *at + 4;
-    size_t padded = (it->len + 3) & ~(size_t)3;
-    if (it->code == 0 || padded > (size_t)(end - it->value))
-        return 0;
-    *at = it->value + padded;
-    return 1;
+        return false;
+    option->code = uint16_at(input, *at);
+    option->len = uint16_at(input, *at + 2);
+    option->value = *at + 4;
+    size_t padded = (option->len + 3) & ~(size_t)3;
+    if (option->code == 0 || padded > (size_t)(end - option->value))
+        return false;
+    *at = option->value + padded;
+    return true;
 }

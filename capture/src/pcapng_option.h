@@ -11,7 +11,7 @@ struct pcapng_option {
 };
 
 /* The next of a block's options, which end at `end`: whether there is one. */
-int next_option(const struct input *input, const unsigned char **at, const unsigned char *end,
-                struct pcapng_option *it);
+bool next_option(const struct input *input, const unsigned char **at, const unsigned char *end,
+                 struct pcapng_option *option);
 
 #endif

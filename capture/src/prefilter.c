@@ -1,6 +1,6 @@
 #include "prefilter.h"
-#include "arguments.h"
 #include "listing.h"
+#include "log.h"
 
 #include <linux/filter.h>
 #include <string.h>
@@ -48,24 +48,24 @@ static void pass_what_differs(struct listing *program) {
     program->count += HEAD_INSNS;
 }
 
-int drop_by_listing(pcap_t *const *pcaps, int count, const char *interface, const char *path) {
+bool drop_by_listing(pcap_t *const *pcaps, int count, const char *interface, const char *path) {
     static struct listing program;
     const char *fault = read_listing(path, &program);
     if (fault != NULL) {
-        tell("%s: %s", path, fault);
-        return 0;
+        log_line("%s: %s", path, fault);
+        return false;
     }
     return_whole_frames(&program);
     pass_what_differs(&program);
     if (program.count > MOST_INSNS) {
-        tell("%s: %s: too long for the kernel: the recorder alone runs it", interface, path);
-        return 1;
+        log_line("%s: %s: too long for the kernel: the recorder alone runs it", interface, path);
+        return true;
     }
     struct bpf_program given = {program.count, program.insns};
     for (int at = 0; at < count; at++)
         if (pcap_setfilter(pcaps[at], &given) != 0) {
-            tell("%s: %s: %s", interface, path, pcap_geterr(pcaps[at]));
-            return 0;
+            log_line("%s: %s: %s", interface, path, pcap_geterr(pcaps[at]));
+            return false;
         }
-    return 1;
+    return true;
 }

@@ -3,9 +3,10 @@
 #define PREFILTER_H
 
 #include <pcap/pcap.h>
+#include <stdbool.h>
 
 /* Has the kernel drop what the program of a listing drops, of all these sources of an interface's frames. Whether it
  * could; else a line has said why not. */
-int drop_by_listing(pcap_t *const *pcaps, int count, const char *interface, const char *path);
+bool drop_by_listing(pcap_t *const *pcaps, int count, const char *interface, const char *path);
 
 #endif

@@ -49,17 +49,17 @@ void shut_ring(const struct ring *ring) {
 struct taker {
     struct ring *ring;
     pcap_handler take;
-    void *of;
+    void *user;
 };
 
-static void count_frame(unsigned char *it, const struct pcap_pkthdr *head, const unsigned char *bytes) {
-    const struct taker *taker = (const struct taker *)it;
+static void count_frame(unsigned char *user, const struct pcap_pkthdr *head, const unsigned char *bytes) {
+    const struct taker *taker = (const struct taker *)user;
     taker->ring->taken++;
-    taker->take(taker->of, head, bytes);
+    taker->take(taker->user, head, bytes);
 }
 
-int take_frames(struct ring *ring, pcap_handler take, void *of) {
-    struct taker taker = {ring, take, of};
+int take_frames(struct ring *ring, pcap_handler take, void *user) {
+    struct taker taker = {ring, take, user};
     return pcap_dispatch(ring->pcap, FRAMES_A_TURN, count_frame, (unsigned char *)&taker);
 }
 
@@ -75,11 +75,12 @@ static unsigned count_given(const struct ring *ring) {
     return pcap_stats(ring->pcap, &now) == 0 ? now.ps_recv - now.ps_drop : ring->taken;
 }
 
-void take_rest(struct ring *ring, pcap_handler take, void *of) {
+void take_rest(struct ring *ring, pcap_handler take, void *user) {
     int64_t end = steady_now() + LAST_BLOCK;
-    int count, has_all;
+    bool has_all;
+    int count;
     do {
-        count = take_frames(ring, take, of);
+        count = take_frames(ring, take, user);
         has_all = ring->kind == QUIET_RING || count_given(ring) == ring->taken || steady_now() > end;
         if (count <= 0 && !has_all)
             nanosleep(&(struct timespec){0, NANOSECONDS_PER_MS}, NULL);
@@ -88,7 +89,7 @@ void take_rest(struct ring *ring, pcap_handler take, void *of) {
     ring->taken = count_given(ring);
 }
 
-int is_filling(const struct ring *ring) {
+bool is_filling(const struct ring *ring) {
     unsigned slots = (unsigned)ring->len / (unsigned)pcap_bufsize(ring->pcap);
     struct pcap_stat now;
     return pcap_stats(ring->pcap, &now) == 0 &&

@@ -3,6 +3,7 @@
 #define RING_H
 
 #include <pcap/pcap.h>
+#include <stdbool.h>
 
 enum ring_kind {
     QUIET_RING, /* gives each frame as it comes, for which the kernel wakes the program */
@@ -33,17 +34,18 @@ void prepare_ring(struct ring *ring, int buffer_mib);
  * take those in the ring for unwanted too. */
 void shut_ring(const struct ring *ring);
 
-/* Takes frames that the kernel has handed over, FRAMES_A_TURN at most. How many; below 0 the interface failed. */
-int take_frames(struct ring *ring, pcap_handler take, void *of);
+/* Takes frames that the kernel has handed over, FRAMES_A_TURN at most: `take` gets each with `user`. How many; below 0
+ * the interface failed. */
+int take_frames(struct ring *ring, pcap_handler take, void *user);
 
 /* Takes all frames of a ring that gets no more, for which none is on its way; also those of a block that isn't full. */
-void take_rest(struct ring *ring, pcap_handler take, void *of);
+void take_rest(struct ring *ring, pcap_handler take, void *user);
 
 /* Forgets that the interface failed, where this ring was told of it too. */
 void forget_fault(const struct ring *ring);
 
 /* Whether frames fill a ring that has slots: three quarters of them do, or some frames had no room. */
-int is_filling(const struct ring *ring);
+bool is_filling(const struct ring *ring);
 
 /* What was lost since the last look. */
 struct ring_losses look_at_losses(struct ring *ring);

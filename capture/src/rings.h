@@ -9,41 +9,42 @@
 
 #include "ring.h"
 
+#include <stdbool.h>
 #include <stdint.h>
 
 struct rings {
     struct ring each[RINGS];
     enum ring_kind in_use; /* the ring that frames are taken of */
     enum ring_kind filled; /* the ring that frames go into, which is taken of once the other is empty */
-    int are_exchanged;     /* the kernel has their places exchanged */
+    bool are_exchanged;    /* the kernel has their places exchanged */
     int64_t since;         /* from when on frames are counted */
     unsigned frames;       /* that came since then */
 };
 
 /* Makes a group of two rings that are active, of which the quiet one gets all frames. Those that came before are passed
  * over. Whether it could; else `errno` says why not. */
-int group_rings(struct rings *rings);
+bool group_rings(struct rings *rings);
 
 struct ring *ring_in_use(struct rings *rings);
 
 struct ring *other_ring(struct rings *rings);
 
 /* Takes frames of the ring in use, as `take_frames` does. */
-int take_frames_in_use(struct rings *rings, pcap_handler take, void *of);
+int take_frames_in_use(struct rings *rings, pcap_handler take, void *user);
 
 /* Has frames go into the other ring where they come that fast or slowly by now, and takes the rest of the ring before.
  */
-void follow_rate(struct rings *rings, pcap_handler take, void *of);
+void follow_rate(struct rings *rings, pcap_handler take, void *user);
 
 /* Has frames go into the burst ring where the quiet one fills, while none can be taken. */
 void relieve_quiet_ring(struct rings *rings);
 
 /* Goes over to the other ring, which has frames though they were to go into the one in use, once that one's rest is
  * taken. That is so after the interface was down: the kernel may exchange the places of both as it comes up. */
-void exchange_rings(struct rings *rings, pcap_handler take, void *of);
+void exchange_rings(struct rings *rings, pcap_handler take, void *user);
 
 /* Shuts both rings and takes all that is in them. */
-void take_all_rest(struct rings *rings, pcap_handler take, void *of);
+void take_all_rest(struct rings *rings, pcap_handler take, void *user);
 
 void close_rings(struct rings *rings);
 

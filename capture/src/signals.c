@@ -15,16 +15,17 @@
 int stop_fd = -1, hurry_fd = -1;
 
 static int stop_writer = -1, hurry_writer = -1, signals = -1, followed = -1;
-static atomic_int stopping, hurried, switches, held = -1;
+static atomic_bool stopping, hurried;
+static atomic_int switches, held = -1;
 enum { PAUSE_MS = 20 };
 /* A signal that comes twice within this time is one: a terminal and a script may send the same. */
 static const int64_t ONE_SIGNAL = NANOSECONDS_PER_SECOND;
 
-int is_stopping(void) {
+bool is_stopping(void) {
     return atomic_load_explicit(&stopping, memory_order_relaxed);
 }
 
-int is_hurried(void) {
+bool is_hurried(void) {
     return atomic_load_explicit(&hurried, memory_order_relaxed);
 }
 
@@ -32,17 +33,17 @@ int switches_asked(void) {
     return atomic_load_explicit(&switches, memory_order_relaxed);
 }
 
-int is_held(int switched) {
+bool is_held(int switched) {
     return atomic_load_explicit(&held, memory_order_relaxed) == switched;
 }
 
 /* Whether HUP was ignored when the program was started. */
-static int is_hang_up_ignored(void) {
+static bool is_hang_up_ignored(void) {
     struct sigaction given;
     return sigaction(SIGHUP, NULL, &given) == 0 && given.sa_handler == SIG_IGN;
 }
 
-int prepare_stop(void) {
+bool prepare_stop(void) {
     sigset_t set;
     int stop[2], hurry[2];
     sigemptyset(&set);
@@ -58,7 +59,7 @@ int prepare_stop(void) {
     signal(SIGTERM, SIG_DFL);
     errno = pthread_sigmask(SIG_BLOCK, &set, NULL);
     if (errno != 0 || pipe2(stop, O_CLOEXEC) != 0 || pipe2(hurry, O_CLOEXEC) != 0)
-        return 0;
+        return false;
     stop_fd = stop[0];
     stop_writer = stop[1];
     hurry_fd = hurry[0];
@@ -74,7 +75,7 @@ void follow_process(int process) {
 }
 
 void stop_run(void) {
-    if (atomic_exchange(&stopping, 1) == 0)
+    if (!atomic_exchange(&stopping, true))
         close(stop_writer);
 }
 
@@ -88,7 +89,7 @@ static void serve(int signal, int64_t *first) {
         *first = steady_now();
         stop_run();
     } else if (!is_hurried() && steady_now() - *first > ONE_SIGNAL) {
-        atomic_store(&hurried, 1);
+        atomic_store(&hurried, true);
         close(hurry_writer);
     }
 }
@@ -97,12 +98,12 @@ void serve_signals(int ended_fd, void (*now_and_then)(void)) {
     struct pollfd waits[] = {{.fd = signals, .events = POLLIN}, {.fd = ended_fd}, {.fd = followed, .events = POLLIN}};
     int64_t first = 0;
     while (waits[1].revents == 0) {
-        struct signalfd_siginfo told;
+        struct signalfd_siginfo signal;
         int ready = poll(waits, sizeof waits / sizeof *waits, now_and_then != NULL ? PAUSE_MS : -1);
         if (now_and_then != NULL)
             now_and_then();
-        if (ready > 0 && waits[0].revents != 0 && read(signals, &told, sizeof told) > 0)
-            serve((int)told.ssi_signo, &first);
+        if (ready > 0 && waits[0].revents != 0 && read(signals, &signal, sizeof signal) > 0)
+            serve((int)signal.ssi_signo, &first);
         if (ready > 0 && waits[2].revents != 0) {
             waits[2].fd = -1;
             serve(SIGTERM, &first);

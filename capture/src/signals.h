@@ -2,15 +2,17 @@
 #ifndef SIGNALS_H
 #define SIGNALS_H
 
+#include <stdbool.h>
+
 /* Ends that can be polled: each is readable (hung up) once the run is to end, or to end at once. */
 extern int stop_fd, hurry_fd;
 
 /* Makes these ends and keeps INT, TERM, HUP, USR1 and USR2 from all threads that start later; whether it could. HUP is
  * ignored where it was, as nohup does it. */
-int prepare_stop(void);
+bool prepare_stop(void);
 
-int is_stopping(void);
-int is_hurried(void);
+bool is_stopping(void);
+bool is_hurried(void);
 
 /* Has the run end, as INT does. */
 void stop_run(void);
@@ -20,7 +22,7 @@ int switches_asked(void);
 
 /* Whether it was said, by USR2, that feeds whose readers leave are to go on with the next ones; `switched` is how many
  * switches a feed has done. */
-int is_held(int switched);
+bool is_held(int switched);
 
 /* Ends the run, as TERM does, once a process has ended; at once where there is none by now. */
 void follow_process(int process);

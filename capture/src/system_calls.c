@@ -1,6 +1,6 @@
 #define _GNU_SOURCE
 #include "system_calls.h"
-#include "arguments.h"
+#include "log.h"
 
 #ifdef WITH_SECCOMP
 
@@ -163,7 +163,7 @@ void forbid_other_calls(void) {
     int error = filter != NULL ? load(filter) : -ENOMEM;
     seccomp_release(filter);
     if (error != 0)
-        tell("calls of the kernel aren't limited: %s", strerror(-error));
+        log_line("calls of the kernel aren't limited: %s", strerror(-error));
 }
 
 #else

@@ -1,5 +1,6 @@
 #define _GNU_SOURCE
 #include "written_folders.h"
+#include "log.h"
 
 #include <errno.h>
 #include <fcntl.h>
@@ -51,7 +52,7 @@ static int version(void) {
     return (int)syscall(CREATE_RULESET, NULL, (size_t)0, ASK_VERSION);
 }
 
-int has_landlock(void) {
+bool has_landlock(void) {
     return version() > 0;
 }
 
@@ -82,7 +83,7 @@ static void cut_last(char path[PATH_MAX]) {
 }
 
 /* Whether a path is a link to what stands beside it, in a folder that isn't the topmost one. */
-static int is_link_beside(const char *path) {
+static bool is_link_beside(const char *path) {
     char to[PATH_MAX];
     ssize_t len = readlink(path, to, sizeof to);
     return len > 0 && memchr(to, '/', (size_t)len) == NULL && strrchr(path, '/') != path;
@@ -97,7 +98,7 @@ static void cut_to_folder(char path[PATH_MAX]) {
 }
 
 /* Folders that hold devices or all that there is: what stands there is allowed alone. */
-static int holds_others(const char *folder) {
+static bool holds_others(const char *folder) {
     return strcmp(folder, "/") == 0 || strcmp(folder, "/dev") == 0 || strcmp(folder, "/dev/fd") == 0 ||
            strncmp(folder, "/proc", 5) == 0;
 }
@@ -146,7 +147,7 @@ void limit_writing(const struct arguments *arguments) {
     if (ruleset >= 0)
         allow_all(ruleset, arguments, &refused);
     if (ruleset < 0 || syscall(RESTRICT_SELF, ruleset, 0) != 0)
-        tell("what may be written isn't limited: %s", strerror(errno));
+        log_line("what may be written isn't limited: %s", strerror(errno));
     if (ruleset >= 0)
         close(ruleset);
 }

@@ -4,8 +4,10 @@
 
 #include "arguments.h"
 
+#include <stdbool.h>
+
 /* Whether the kernel has Landlock, by which a program limits what it may write. */
-int has_landlock(void);
+bool has_landlock(void);
 
 /* Has the kernel refuse all writing but below the folders of what the arguments name, by Landlock; reading isn't
  * limited. Where that can't be done a line says so, and the run goes on. */

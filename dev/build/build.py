@@ -19,7 +19,7 @@ from repository import ROOT, below, crates, toolchain
 from steps import Step, keep_costs, steps_for
 
 
-def build(top, keeps):
+def build(top: str, keeps: bool) -> int:
     """Proves the crates, builds the program and runs it once: the status."""
     steps = [*steps_for(below(top)), Step("program", top, waits=[f"library-{it}" for it in below(top)])]
     _ = toolchain().rtlib.lock([crates()[it.crate] for it in steps])
@@ -35,7 +35,7 @@ def build(top, keeps):
     return 0
 
 
-def main():
+def main() -> int:
     parser = argparse.ArgumentParser(description=__doc__, formatter_class=argparse.RawDescriptionHelpFormatter)
     parser.add_argument("--keep-costs", action="store_true", help="writes dev/build/costs.txt")
     programs = [name for name, it in crates().items() if it.is_program]

@@ -14,7 +14,7 @@ from repository import ROOT, RT, below, crates, libraries, toolchain
 from steps import Step, counts_of, edit_steps, steps_for
 
 
-def steps_of(name):
+def steps_of(name: str) -> list[Step]:
     """What is proved, run and tried of a crate."""
     crate, waits = crates()[name], [f"library-{it}" for it in below(name)]
     if crate.is_program:
@@ -24,12 +24,12 @@ def steps_of(name):
     return [*steps_for([name], [name]), *edit_steps(name, 0)]
 
 
-def tests_of(name):
+def tests_of(name: str) -> list[str]:
     """The crates of tests whose tests call a crate."""
     return [it for it in crates() if crates()[it].has_tests() and crates()[name] in crates()[it].deps]
 
 
-def main():
+def main() -> int:
     parser = argparse.ArgumentParser(description=__doc__, formatter_class=argparse.RawDescriptionHelpFormatter)
     parser.add_argument("crate", choices=crates(), metavar="CRATE", help="a crate of crates.txt")
     crate = parser.parse_args().crate
@@ -37,9 +37,9 @@ def main():
     _ = toolchain().rtlib.lock(list(crates().values()))
     in_lanes(steps, every=("edits",))
     done, wrong = counts_of(steps)
-    for it in tests_of(crate):
-        print(f"== tests of {it}", flush=True)
-        status = subprocess.run([*RT, "try", "--test", "--seconds", "600"], cwd=ROOT / "crates" / it).returncode
+    for test in tests_of(crate):
+        print(f"== tests of {test}", flush=True)
+        status = subprocess.run([*RT, "try", "--test", "--seconds", "600"], cwd=ROOT / "crates" / test).returncode
         done, wrong = done + (status == 0), wrong + (status != 0)
     print(f"{done} passed, {wrong} failed")
     return 1 if wrong else 0

@@ -9,15 +9,22 @@ All others are tried alone, as the toolchain does it: what changes a definition,
 """
 import functools
 import re
+from collections.abc import Iterator
 from pathlib import Path
-from typing import NamedTuple
+from typing import Any, NamedTuple, Optional
 
 from repository import toolchain
 
 # How many edits are tried in one check. Of nine edits of bpf_verify three at a time took 46 % of the time.
 TOGETHER = 3
 HEAD = re.compile(r"^( *)(?:pub(?:\([\w ]+\))? )?(?:const )?fn (\w+)")
+# A line of a check on a goal that is not proved.
+GOAL = re.compile(r"note: (\S+?):(\d+):\d+: it is not proved ")
 OF_TRAIT = re.compile(r"^( *)impl\b.* for .*[\w>]")
+
+
+# The edits of a group, each with the body that it changes: None of one that is tried alone.
+Group = list[tuple[str, Optional["Body"]]]
 
 
 class Body(NamedTuple):
@@ -29,7 +36,7 @@ class Body(NamedTuple):
     last: int
 
 
-def spans(lines, head):
+def spans(lines: list[str], head: re.Pattern[str]) -> Iterator[tuple[re.Match[str], int, int]]:
     """The lines of what begins with each line that `head` matches, from 1 on, with the match."""
     for at, line in enumerate(lines):
         found = head.match(line)
@@ -40,21 +47,21 @@ def spans(lines, head):
                 yield found, at + 1, last
 
 
-def first_of_item(lines, first):
+def first_of_item(lines: list[str], first: int) -> int:
     """The line where a function begins with its attributes, by which the prover names its goals."""
     while first > 1 and lines[first - 2].lstrip().startswith("#["):
         first -= 1
     return first
 
 
-def begin_of_body(lines, first, indent):
+def begin_of_body(lines: list[str], first: int, indent: str) -> int:
     """The line of the brace behind which the body of a function begins."""
     braces = (number for number, it in enumerate(lines[first - 1 :], first) if it == f"{indent}{{")
     return first if lines[first - 1].endswith(" {") else next(braces, first)
 
 
 @functools.lru_cache(maxsize=None)
-def bodies(folder, path):
+def bodies(folder: str, path: str) -> list[tuple[Body, int]]:
     """The functions of a file of code that are no methods of a trait and make no constants, each with the line where
     its body begins."""
     lines = Path(folder, path).read_text(encoding="utf-8").split("\n")
@@ -68,9 +75,9 @@ def bodies(folder, path):
 
 
 @functools.lru_cache(maxsize=None)
-def names_in_bodies(folder):
+def names_in_bodies(folder: str) -> dict[str, set[str]]:
     """The names of a crate's functions, each with the words of all functions of that name."""
-    found = {}
+    found: dict[str, set[str]] = {}
     for file in sorted(Path(folder, "src").rglob("*.rt")):
         lines = file.read_text(encoding="utf-8").split("\n")
         for match, first, last in spans(lines, HEAD):
@@ -79,17 +86,18 @@ def names_in_bodies(folder):
 
 
 @functools.lru_cache(maxsize=None)
-def reached(folder, name):
+def reached(folder: str, name: str) -> set[str]:
     """The functions that one names, near or far, by their names."""
-    named, found, waiting = names_in_bodies(folder), set(), [name]
+    named, waiting = names_in_bodies(folder), [name]
+    found: set[str] = set()
     while waiting:
-        for it in named.get(waiting.pop(), set()) & named.keys() - found:
-            found.add(it)
-            waiting.append(it)
+        for callee in named.get(waiting.pop(), set()) & named.keys() - found:
+            found.add(callee)
+            waiting.append(callee)
     return found - {name} if name not in named.get(name, set()) else found
 
 
-def body_of(folder, edit):
+def body_of(folder: str, edit: str) -> Optional[Body]:
     """The function whose body an edit changes, in one line; None of any other edit."""
     text = Path(edit).read_text(encoding="utf-8")
     paths = re.findall(r"(?m)^file: (src/\S+\.rt)$", text)
@@ -104,7 +112,7 @@ def body_of(folder, edit):
     return holding[0] if len(holding) == 1 else None
 
 
-def are_apart(folder, one, other):
+def are_apart(folder: str, one: Body, other: Body) -> bool:
     """Whether neither of two functions names the other."""
     return (
         one.name != other.name
@@ -113,35 +121,41 @@ def are_apart(folder, one, other):
     )
 
 
-def grouped(folder, edits):
+def has_room(folder: str, group: Group, body: Body) -> bool:
+    """Whether a body may join a group."""
+    return len(group) < TOGETHER and all(other and are_apart(folder, body, other) for _, other in group)
+
+
+def grouped(folder: str, edits: list[str]) -> list[Group]:
     """The edits in groups, each edit with its body: of several where they can be tried together, else of one."""
-    groups, alone = [], []
+    groups: list[Group] = []
+    alone: list[Group] = []
     for edit in edits:
         body = body_of(folder, edit)
         if body is None:
             alone.append([(edit, None)])
             continue
-        room = (it for it in groups if len(it) < TOGETHER and all(are_apart(folder, body, other) for _, other in it))
-        group = next(room, None)
+        group = next((it for it in groups if has_room(folder, it, body)), None)
         if group is None:
-            groups.append(group := [])
+            group = []
+            groups.append(group)
         group.append((edit, body))
     return groups + alone
 
 
-def is_goal_of(line, body):
+def is_goal_of(line: str, body: Body) -> bool:
     """Whether a line of a check says that a goal of this function isn't proved."""
-    found = re.match(r"note: (\S+?):(\d+):\d+: it is not proved ", line)
-    return bool(found) and found[1] == body.path and body.first <= int(found[2]) <= body.last
+    found = GOAL.match(line)
+    return found is not None and found[1] == body.path and body.first <= int(found[2]) <= body.last
 
 
-def refused_names(lines, name):
+def refused_names(lines: list[str], name: str) -> set[str]:
     """The functions of a crate that a check refuses for goals of their own, by their last names."""
     refused = re.compile(rf"fn {name}::(?:\S+::)?([^\s:]+): (?:no proof|not proved|could not)(?!: it calls )")
     return {it[1] for it in map(refused.match, lines) if it}
 
 
-def refusals(lines, name, group):
+def refusals(lines: list[str], name: str, group: list[tuple[str, Body]]) -> dict[str, str]:
     """The edits of a group that a check refuses, each with the goal that is false; none where something else is
     wrong."""
     refused = refused_names(lines, name)
@@ -151,16 +165,20 @@ def refusals(lines, name, group):
     return {edit: goals[edit] for edit, body in group if goals[edit] and body.name in refused}
 
 
-def texts_of(rt, crate, group):
+def line_in(edit: str, head: str) -> str:
+    """What stands behind a head in an edit, in one line."""
+    found = re.search(rf"(?m)^{head}: ?(.*)$", edit)
+    return found[1] if found else ""
+
+
+def texts_of(rt: Any, crate: Any, group: list[tuple[str, Body]]) -> Optional[dict[str, str]]:
     """The files that a group of edits changes, as they are then; None where two of them don't go together."""
-    texts = {}
+    texts: dict[str, str] = {}
     for edit, body in group:
         changed, why = rt.read_edit(edit, crate.folder)
         if why or list(changed) != [body.path]:
             return None
-        old, new = (
-            re.search(rf"(?m)^{it}: ?(.*)$", Path(edit).read_text(encoding="utf-8"))[1] for it in ("old", "new")
-        )
+        old, new = (line_in(Path(edit).read_text(encoding="utf-8"), it) for it in ("old", "new"))
         text = texts.get(body.path) or Path(crate.folder, body.path).read_text(encoding="utf-8")
         if text.count(old) != 1:
             return None
@@ -168,9 +186,10 @@ def texts_of(rt, crate, group):
     return texts
 
 
-def tried_together(crate, group, flags, kept):
+def tried_together(crate: Any, edits: Group, flags: list[str], kept: str) -> dict[str, str]:
     """The edits of a group that one check of all of them refuses, each with what to say."""
     rt = toolchain()
+    group = [(edit, body) for edit, body in edits if body]
     texts = texts_of(rt, crate, group) if len(group) > 1 else None
     if texts is None:
         return {}

@@ -2,9 +2,11 @@
 import os
 import sys
 import time
+from collections.abc import Callable, Sequence
+from typing import Optional
 
 from repository import ROOT, toolchain
-from steps import LOGS
+from steps import LOGS, Step
 
 # How many processes of checks run side by side, for each processor.
 LANES_PER_PROCESSOR = 1
@@ -23,14 +25,14 @@ ON_A_TERMINAL, ELSEWHERE = 1, 60
 class Progress:
     """Says how far a run is: on a terminal in one line that is written anew, else in lines."""
 
-    def __init__(self, steps):
+    def __init__(self, steps: list[Step]) -> None:
         self.steps, self.began, self.said = steps, time.monotonic(), 0.0
         self.is_terminal = sys.stdout.isatty()
 
-    def line(self):
+    def line(self) -> str:
         ended = [it for it in self.steps if it.status is not None]
         running = [it for it in self.steps if it.process and it.status is None]
-        checked = sum(it.spent.functions for it in ended)
+        checked = sum(it.spent.functions for it in ended if it.spent)
         done = checked + sum(it.functions()[0] for it in running)
         total = checked + sum(it.functions()[1] for it in self.steps if it not in ended)
         gone = time.monotonic() - self.began
@@ -41,17 +43,16 @@ class Progress:
             f"{self.left(running)}: {now}"
         )
 
-    def left(self, running):
+    def left(self, running: list[Step]) -> str:
         """How long the rest is likely to take, by the measured costs and by this machine's pace."""
-        share = lambda it: it.functions()[0] / max(it.functions()[1], 1)
         if sum(it.cost.seconds for it in self.steps if it.spent) < LEAST_WORK:
             return "some time left"
         rest = [it for it in self.steps if it.status is None]
-        work = sum(it.cost.seconds * (1 - share(it) * bool(it.process)) for it in rest)
+        work = sum(it.cost.seconds * (1 - share_of(it) * bool(it.process)) for it in rest)
         chain = max((it.behind for it in rest), default=0) / 2
         return f"about {minutes(pace(self.steps) * max(work / processors(), chain))} left"
 
-    def say(self, text=None):
+    def say(self, text: Optional[str] = None) -> None:
         """Prints a line that stays, or how far the run is."""
         pause = ON_A_TERMINAL if self.is_terminal else ELSEWHERE
         if text is None and time.monotonic() - self.said < pause:
@@ -64,23 +65,28 @@ class Progress:
         print(f"\r\033[K{text}\n" if text else f"\r\033[K{self.line()[:width]}", end="", flush=True)
 
 
-def minutes(seconds):
+def share_of(step: Step) -> float:
+    """Which part of a step seems to be done."""
+    return step.functions()[0] / max(step.functions()[1], 1)
+
+
+def minutes(seconds: float) -> str:
     return f"{seconds:.0f} s" if seconds < 100 else f"{seconds / 60:.0f} min"
 
 
-def pace(steps):
+def pace(steps: list[Step]) -> float:
     """How long this machine takes for what was measured in a second, by the steps that have ended."""
-    ended = [it for it in steps if it.spent]
-    measured = sum(it.cost.seconds for it in ended)
-    return sum(it.spent.seconds for it in ended) / measured if measured >= LEAST_WORK else 1
+    spent = [(it.spent.seconds, it.cost.seconds) for it in steps if it.spent]
+    measured = sum(it for _, it in spent)
+    return sum(it for it, _ in spent) / measured if measured >= LEAST_WORK else 1
 
 
-def processors():
+def processors() -> int:
     """How many processors there are to use."""
     return int(os.environ.get("RT_JOBS") or toolchain().processors())
 
 
-def in_lanes(steps, every=(), until=None):
+def in_lanes(steps: list[Step], every: Sequence[str] = (), until: Optional[float] = None) -> list[Step]:
     """Does the steps side by side, each once those that it waits for are done, first those with the
     longest way to the end behind them, and those that have a turn after all others, in its order. Steps that
     an earlier run did are passed over, but for those of the kinds `every`. Of those that may be left none is
@@ -88,82 +94,95 @@ def in_lanes(steps, every=(), until=None):
     isn't done."""
     LOGS.mkdir(parents=True, exist_ok=True)
     steps = [it for it in steps if it.kind in every or not it.is_done()]
-    by_key = {it.key: it for it in steps}
-    for it in steps:
-        it.waits, it.behind = [key for key in it.waits if key in by_key], 0.0
-    for it in reversed(steps):
-        it.behind += it.cost.seconds
-        for key in it.waits:
-            by_key[key].behind = max(by_key[key].behind, it.behind)
-    progress, running, failed = Progress(steps), [], []
-    waiting = sorted(steps, key=lambda it: (it.turn, -it.behind))
+    by_key = ordered(steps)
+    progress = Progress(steps)
+    running: list[Step] = []
+    failed: list[Step] = []
+    waiting = sorted(steps, key=lambda step: (step.turn, -step.behind))
     memory = 0.85 * toolchain().free() / 1e6
-    may_begin = lambda it: is_ready(it, by_key) and has_time(it, until, pace(steps))
+
+    def may_begin(step: Step) -> bool:
+        return is_ready(step, by_key) and has_time(step, until, pace(steps))
+
     while running or any(may_begin(it) for it in waiting):
         start_ready(waiting, running, may_begin, memory)
         pause(running)
-        for it in [it for it in running if it.ended()]:
-            running.remove(it)
-            if it.status == -9 and it.jobs > 1:  # most likely for memory: once more, by one process
-                it.status = None
-                it.start(1)
-                running.append(it)
+        for ended in [it for it in running if it.ended()]:
+            running.remove(ended)
+            if ended.status == -9 and ended.jobs > 1:  # most likely for memory: once more, by one process
+                ended.status = None
+                ended.start(1)
+                running.append(ended)
                 continue
-            failed += [it] * bool(it.status)
-            progress.say(f"{it.name()}: {'done' if not it.status else 'FAILED'} ({minutes(it.spent.seconds)})")
+            failed += [ended] * bool(ended.status)
+            took = minutes(ended.spent.seconds if ended.spent else 0)
+            progress.say(f"{ended.name()}: {'FAILED' if ended.status else 'done'} ({took})")
         progress.say()
-    for it in failed:
-        print(f"\n{it.text()[-4000:]}\n{it.key} failed; {it.log.relative_to(ROOT)} has all that it printed")
+    for ended in failed:
+        print(f"\n{ended.text()[-4000:]}\n{ended.key} failed; {ended.log.relative_to(ROOT)} has all that it printed")
     return failed
 
 
-def pause(running):
+def ordered(steps: list[Step]) -> dict[str, Step]:
+    """Has each step wait for these steps alone, and know how much is behind it: the steps by their keys."""
+    by_key = {it.key: it for it in steps}
+    for step in steps:
+        step.waits, step.behind = [key for key in step.waits if key in by_key], 0.0
+    for step in reversed(steps):
+        step.behind += step.cost.seconds
+        for key in step.waits:
+            by_key[key].behind = max(by_key[key].behind, step.behind)
+    return by_key
+
+
+def pause(running: list[Step]) -> None:
     """Waits a moment. Where the run is interrupted, ends what is running."""
     try:
         time.sleep(0.2)
     except KeyboardInterrupt:
-        for it in running:
-            it.process.terminate()
+        for lane in running:
+            if lane.process:
+                lane.process.terminate()
         sys.exit("interrupted: what was proved is kept, and the next run goes on from there")
 
 
-def is_ready(step, by_key):
+def is_ready(step: Step, by_key: dict[str, Step]) -> bool:
     return step.process is None and all(by_key[it].status == 0 for it in step.waits)
 
 
-def has_time(step, until, pace):
+def has_time(step: Step, until: Optional[float], pace: float) -> bool:
     """Whether a step must be done, or is likely to end before the clock is at `until`."""
     return until is None or not step.may_be_left or time.monotonic() + step.cost.seconds * pace < until
 
 
-def start_ready(waiting, running, may_begin, memory):
+def start_ready(waiting: list[Step], running: list[Step], may_begin: Callable[[Step], bool], memory: float) -> None:
     """Starts what can be started: each step gets a lane, and those with the longest way behind them get
     the lanes that the others leave."""
     lanes = max(int(LANES_PER_PROCESSOR * processors()), 1)
     ready = [it for it in waiting if may_begin(it)]
-    for at, it in enumerate(ready):
+    for at, step in enumerate(ready):
         idle = lanes - sum(other.jobs for other in running)
         room = memory - sum(memory_of(other, other.jobs) for other in running)
-        if it.turn and any(not other.turn for other in waiting):
+        if step.turn and any(not other.turn for other in waiting):
             return  # what goes first has not begun, or it may lack the room
-        if idle < 1 or running and memory_of(it, 1) > room:
+        if idle < 1 or running and memory_of(step, 1) > room:
             continue
         jobs = max(idle - (len(ready) - 1 - at), 1)
-        jobs = min(jobs, jobs_for(it), processors())
-        while jobs > 1 and memory_of(it, jobs) > room:
+        jobs = min(jobs, jobs_for(step), processors())
+        while jobs > 1 and memory_of(step, jobs) > room:
             jobs -= 1
-        it.start(jobs)
-        waiting.remove(it)
-        running.append(it)
+        step.start(jobs)
+        waiting.remove(step)
+        running.append(step)
 
 
-def jobs_for(step):
+def jobs_for(step: Step) -> int:
     """How many processes a step gains from."""
     if step.kind not in ("library", "tests"):
         return 1
     return min(1 + step.cost.functions // FUNCTIONS_A_JOB, MOST_JOBS)
 
 
-def memory_of(step, jobs):
+def memory_of(step: Step, jobs: int) -> float:
     """The megabytes that a step takes by so many processes."""
     return step.cost.megabytes * (1 + MEMORY_OF_A_JOB * (jobs - 1))

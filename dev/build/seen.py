@@ -2,17 +2,19 @@
 tried.
 
 An edit is refused because a search for a proof fails, so it depends on the files of its crate, on what the crates
-below state, on the prover, and on the libraries of the toolchain that the crate reaches. A toolchain that differs in
-nothing of this has another version and the same sums.
+below state (stated.py: no body and no proof), on the prover, and on the libraries of the toolchain that the crate
+reaches. A toolchain that differs in nothing of this has another version and the same sums.
 """
 import functools
 import hashlib
 import os
 import subprocess
+from collections.abc import Iterable
 from pathlib import Path
 from typing import NamedTuple
 
 from repository import EDITS, READ, ROOT, below, crates, line_of, table_in, toolchain, version
+from stated import stated_sum
 
 SEEN = ROOT / "dev" / "build" / "edits_seen.txt"
 # The crates whose edits the last run on this machine had no time for.
@@ -33,13 +35,13 @@ class Sums(NamedTuple):
 
 
 @functools.lru_cache(maxsize=None)
-def prover():
+def prover() -> str:
     """A sum of the prover's program."""
     return toolchain().rtlib.sum_of(f"{toolchain().rtlib.KIT}/bin/rattle")
 
 
 @functools.lru_cache(maxsize=None)
-def prover_of(name):
+def prover_of(name: str) -> str:
     """A sum of the prover and of the toolchain's libraries that a crate reaches, each by its file `format`, which names
     the prover's build and holds a sum of the library."""
     names = {"core", "std", *(library for it in [*below(name), name] for library in crates()[it].of_kit)}
@@ -48,51 +50,58 @@ def prover_of(name):
 
 
 @functools.lru_cache(maxsize=None)
-def files_sum(name, with_edits):
-    """A sum of the files of a crate that its proof reads, or its edits too, and of its line of crates.txt."""
+def own_sum(name: str) -> str:
+    """A sum of the files of a crate that its edits read, and of its line of crates.txt."""
     found = hashlib.sha256(line_of(name).encode())
     for file in sorted((ROOT / "crates" / name).rglob("*")):
         inside = file.relative_to(ROOT / "crates" / name)
-        if file.is_file() and inside.parts[0] in (*READ, *[EDITS] * with_edits):
+        if file.is_file() and inside.parts[0] in (*READ, EDITS):
             found.update(repr((str(inside), file.read_bytes())).encode())
     return found.hexdigest()
 
 
-def sums_of(name):
+@functools.lru_cache(maxsize=None)
+def sum_below(name: str) -> str:
+    """A sum of what a crate states to those above it."""
+    return stated_sum(name, ROOT / "crates" / name)
+
+
+def sums_of(name: str) -> Sums:
     """The sums of a crate's edits as the files are now."""
-    own = files_sum(name, True)
+    own = own_sum(name)
     found = hashlib.sha256(repr((own, prover_of(name))).encode())
-    for it in below(name):
-        found.update(files_sum(it, False).encode())
+    for crate in below(name):
+        found.update(sum_below(crate).encode())
     return Sums(found.hexdigest(), own, version().split()[0])
 
 
-def forget():
+def forget() -> None:
     """Has the sums computed anew, of the files as they are by then."""
-    files_sum.cache_clear()
+    own_sum.cache_clear()
+    sum_below.cache_clear()
 
 
-def seen():
+def seen() -> dict[str, Sums]:
     """The crates whose edits were all seen refused, with their sums."""
     return {name: Sums(*row) for name, row in table_in(SEEN).items()}
 
 
-def write_seen(sums):
+def write_seen(sums: dict[str, Sums]) -> None:
     """Writes these crates' sums beside those of the others, and drops crates that are gone."""
     kept = {name: found for name, found in {**seen(), **sums}.items() if name in crates()}
     SEEN.write_text(HEAD + "".join(f"{name} {' '.join(kept[name])}\n" for name in sorted(kept)))
 
 
-def in_turn(names):
+def in_turn(names: Iterable[str]) -> list[str]:
     """Crates in the order in which their edits are tried where time may run out: first those that the last run had no
     time for, then in an order that each commit draws anew."""
     words = ["git", "rev-parse", "HEAD"]
     head = subprocess.run(words, cwd=ROOT, text=True, stdout=subprocess.PIPE, stderr=subprocess.DEVNULL).stdout
     before = LEFT.read_text().split() if LEFT.exists() else []
-    return sorted(names, key=lambda it: (it not in before, hashlib.sha256(f"{head} {it}".encode()).digest()))
+    return sorted(names, key=lambda name: (name not in before, hashlib.sha256(f"{head} {name}".encode()).digest()))
 
 
-def write_left(names):
+def write_left(names: Iterable[str]) -> None:
     """Keeps the names of the crates whose edits a run had no time for. Where that can't be done, the next run draws."""
     try:
         LEFT.parent.mkdir(parents=True, exist_ok=True)

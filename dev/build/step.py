@@ -23,6 +23,8 @@ import re
 import shutil
 import sys
 import tempfile
+from collections.abc import Callable, Iterator
+from typing import Any, Optional
 
 from groups import grouped, tried_together
 from repository import crates, edits_of, hash_of, toolchain
@@ -45,22 +47,22 @@ TOOLCHAIN = ["--toolchain", f"{rtlib.KIT}/toolchain"]
 class Printed:
     """Standard output, with all that was written to it."""
 
-    def __init__(self):
+    def __init__(self) -> None:
         self.text = ""
 
-    def write(self, text):
+    def write(self, text: str) -> int:
         self.text += text
-        sys.stdout.write(text)
+        return sys.stdout.write(text)
 
-    def flush(self):
+    def flush(self) -> None:
         sys.stdout.flush()
 
-    def fileno(self):
+    def fileno(self) -> int:
         self.flush()
         return sys.stdout.fileno()
 
 
-def text_faults(crate):
+def text_faults(crate: Any) -> Iterator[str]:
     """What the text of a crate may not have, whatever its proof says."""
     code = rtlib.code_of(crate.folder)
     reached = [it for it, words in rt.REACHES.items() if it not in crate.allowed and re.search(words, code)]
@@ -77,7 +79,7 @@ def text_faults(crate):
     rt.stop_on_words(crate)
 
 
-def proof_faults(crate, printed, tests):
+def proof_faults(crate: Any, printed: str, tests: bool) -> Iterator[str]:
     """What a proof may not have said, beside that the crate is proved."""
     last = ([it for it in printed.split("\n") if it.startswith("logic=")] or [""])[-1]
     if rtlib.chose_a_term(printed, crate.makes_rlib() and not tests):
@@ -102,23 +104,23 @@ def proof_faults(crate, printed, tests):
         yield empty
 
 
-def empty_contract(printed):
+def empty_contract(printed: str) -> Optional[str]:
     """What a proof said of a contract that no call can meet, if it found one."""
     found = rtlib.EMPTY.search(printed)
     return found and printed[found.start() :].split("\n", 1)[0]
 
 
-def judged(crate, status, tests=False):
+def judged(crate: Any, status: int, tests: bool = False) -> int:
     """The status of a proof, 1 where the crate or what was printed of it has a fault."""
     if status:
         return status
     faults = [*([] if tests else text_faults(crate)), *proof_faults(crate, crate.out.text, tests)]
-    for it in faults:
-        print(f"rt: {crate.name}: {it}")
+    for fault in faults:
+        print(f"rt: {crate.name}: {fault}")
     return 1 if faults else 0
 
 
-def library(crate, flags, words):
+def library(crate: Any, flags: list[str], words: list[str]) -> int:
     if Step("library", crate.name).is_done():  # only the kept work is lacking
         return crate.call(rtlib.RATTLE, "check", *crate.words(flags), *rtlib.KEPT)
     # what was built by hand was not judged: it is built once more, over what that run kept
@@ -128,12 +130,12 @@ def library(crate, flags, words):
     return judged(crate, crate.build_rlib(flags, anew=False))
 
 
-def is_first(kind, crate):
+def is_first(kind: str, crate: Any) -> bool:
     """Whether such a step of a crate was never done here."""
     return not glob.glob(f"{crate.folder}/out/{kind}-*.done") and not crate.has_kept()
 
 
-def whole(crate, flags):
+def whole(crate: Any, flags: list[str]) -> int:
     """Proves a library from nothing, and leaves its statements without its proofs: the status."""
     stamp, words = crate.stamp(), crate.words(flags, keeps=False)
     os.makedirs(f"{crate.folder}/out/rlib", exist_ok=True)
@@ -145,7 +147,7 @@ def whole(crate, flags):
     return status
 
 
-def built(kind, crate, flags, made, is_tests=False):
+def built(kind: str, crate: Any, flags: list[str], made: str, is_tests: bool = False) -> int:
     """Proves and builds a program, or a crate's tests: the status."""
     flags = [*flags, "--backend", "llvm", *["--test", LOOKS_FOR_EMPTY] * is_tests]
     if is_first(kind, crate):
@@ -157,36 +159,34 @@ def built(kind, crate, flags, made, is_tests=False):
     return judged(crate, status or crate.link(f"{made}.o", made), is_tests)
 
 
-def program(crate, flags, _words):
+def program(crate: Any, flags: list[str], _words: list[str]) -> int:
     status = built("program", crate, flags, f"out/{crate.name}")
     return status or (0 if rt.run(crate, False) else 1)
 
 
-def twice(crate, flags, _words):
+def twice(crate: Any, flags: list[str], _words: list[str]) -> int:
     """Proves a program as a whole, since no proof over kept work can be handed on, and builds it by both
     compilers from that proof."""
     words = crate.words(flags, keeps=False)
     with tempfile.TemporaryDirectory(dir=f"{crate.folder}/out") as proof:
         checked = crate.call(rtlib.RATTLE, "check", *words, LOOKS_FOR_EMPTY, "-o", f"{proof}/checked")
         status = judged(crate, checked)
-        for it in ("--logic-built", "--jobs"):  # a build that takes a proof takes neither
-            del words[words.index(it) : words.index(it) + 2]
+        for option in ("--logic-built", "--jobs"):  # a build that takes a proof takes neither
+            del words[words.index(option) : words.index(option) + 2]
         for backend, ending in rt.BACKENDS.items():
             made, by = f"out/{crate.name}{ending}", ["--backend", backend, *TOOLCHAIN]
-            build = lambda: crate.call(
-                rtlib.RATTLE, "build", *words, *by, "--crate-checked", f"{proof}/checked", "-o", f"{made}.o"
-            )
-            status = status or build() or crate.link(f"{made}.o", made)
+            build = ["build", *words, *by, "--crate-checked", f"{proof}/checked", "-o", f"{made}.o"]
+            status = status or crate.call(rtlib.RATTLE, *build) or crate.link(f"{made}.o", made)
             status = status or (0 if rt.run(crate, False, ending) else 1)
     return status
 
 
-def tests(crate, flags, _words):
+def tests(crate: Any, flags: list[str], _words: list[str]) -> int:
     status = built("tests", crate, flags, f"out/{crate.name}_tests", is_tests=True)
     return status or (0 if rt.run(crate, True) else 1)
 
 
-def tried(crate, flags, _words):
+def tried(crate: Any, flags: list[str], _words: list[str]) -> int:
     is_tests = not crate.is_program
     made = f"{crate.folder}/out/{crate.name}{'_tests' * is_tests}"
     could, said = compiled(crate, made, is_tests, int(flags[1]))
@@ -197,17 +197,17 @@ def tried(crate, flags, _words):
     return 0 if rt.run(crate, is_tests) else 1
 
 
-def text_fault(crate):
+def text_fault(crate: Any) -> bool:
     """Whether the text of tests has what it may not have; it is told."""
     faults = list(text_faults(crate))
-    for it in faults:
-        print(f"rt: {crate.name}: {it}")
+    for fault in faults:
+        print(f"rt: {crate.name}: {fault}")
     return bool(faults)
 
 
-def verdicts_of(crate, mine, flags, kept):
+def verdicts_of(crate: Any, mine: list[str], flags: list[str], kept: str) -> dict[str, tuple[Any, str]]:
     """Tries edits, some in one check and the others alone: each with its verdict and what to say."""
-    found = {}
+    found: dict[str, tuple[Any, str]] = {}
     for group in grouped(crate.folder, mine):
         together = tried_together(crate, group, flags, kept)
         found.update({edit: (REFUSED[1], text) for edit, text in together.items()})
@@ -218,13 +218,13 @@ def verdicts_of(crate, mine, flags, kept):
     return found
 
 
-def edits(crate, _flags, words):
+def edits(crate: Any, _flags: list[str], words: list[str]) -> int:
     """Tries a part of the crate's edits, over the work of those before them, which begins with what the
     crate's own proof keeps; with the first part, whether a contract is one that no call can meet."""
     part, parts = map(int, words[0].split("/"))
     good, bad = edits_of(crate.name)
-    for it in bad:
-        print(f"rt: {it}: BAD EDIT: an edit stands right in must-fail/ and its name ends in .edit")
+    for bad_edit in bad:
+        print(f"rt: {bad_edit}: BAD EDIT: an edit stands right in must-fail/ and its name ends in .edit")
     mine, flags, refused = good[part - 1 :: parts], ["--jobs", "1"], 0
     with tempfile.TemporaryDirectory(prefix="rt-edits-") as room:
         kept = f"{room}/kept"
@@ -243,8 +243,15 @@ def edits(crate, _flags, words):
     return 0 if refused == len(mine) and not bad and not empty else 1
 
 
-def main():
-    kinds = {"library": library, "program": program, "twice": twice, "tests": tests, "tried": tried, "edits": edits}
+def main() -> int:
+    kinds: dict[str, Callable[[Any, list[str], list[str]], int]] = {
+        "library": library,
+        "program": program,
+        "twice": twice,
+        "tests": tests,
+        "tried": tried,
+        "edits": edits,
+    }
     parser = argparse.ArgumentParser(description=__doc__, formatter_class=argparse.RawDescriptionHelpFormatter)
     parser.add_argument("kind", choices=kinds, metavar="KIND")
     parser.add_argument("crate", choices=crates(), metavar="CRATE")

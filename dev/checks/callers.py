@@ -8,6 +8,7 @@ block or a file has no other half.
 import argparse
 import re
 import sys
+from collections.abc import Iterator
 from pathlib import Path
 
 ROOT = Path(__file__).resolve().parents[2]
@@ -15,7 +16,7 @@ CALLERS = ROOT / "crates/test_callers/src"
 MAIN = ROOT / "crates/bpfrec/src/main.rt"
 
 
-def blocks():
+def blocks() -> Iterator[tuple[Path, str]]:
     """The blocks of code of the pages' sections, each with its page."""
     for page in sorted((ROOT / "crates").glob("*/README.md")):
         section = page.read_text().partition("\n## A caller\n")[2].partition("\n## ")[0]
@@ -23,13 +24,13 @@ def blocks():
             yield page, block
 
 
-def callers():
+def callers() -> dict[Path, str]:
     """The files of callers, each with its text behind the lines that say whose it is."""
     files = [it for it in sorted(CALLERS.glob("*.rt")) if it.stem != "lib"]
     return {it: re.sub(r"\A(//!.*\n)+\n", "", it.read_text()) for it in files}
 
 
-def main():
+def main() -> int:
     argparse.ArgumentParser(description=__doc__, formatter_class=argparse.RawDescriptionHelpFormatter).parse_args()
     proved, found, status = callers(), list(blocks()), 0
     for page, block in found:

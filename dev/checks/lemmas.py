@@ -8,13 +8,14 @@ long or a name stands twice.
 import argparse
 import sys
 from collections import defaultdict
+from collections.abc import Iterator
 from pathlib import Path
 
 ROOT = Path(__file__).resolve().parents[2]
 MOST_COLUMNS = 160
 
 
-def long_lines():
+def long_lines() -> Iterator[str]:
     """Each line that is too long, by its place, with its columns."""
     for file in sorted([*ROOT.glob("crates/*/specs/**/*.antt"), *ROOT.glob("crates/*/proofs/**/*.antt")]):
         for at, line in enumerate(file.read_text().splitlines(), 1):
@@ -22,7 +23,7 @@ def long_lines():
                 yield f"{file.relative_to(ROOT)}:{at}: {len(line)} columns"
 
 
-def shared_names():
+def shared_names() -> list[str]:
     """Each name of a file of lemmas that stands in several crates, with these."""
     crates = defaultdict(list)
     for file in sorted(ROOT.glob("crates/*/proofs/*.antt")):
@@ -31,7 +32,7 @@ def shared_names():
     return [f"proofs/{name}.antt stands in {', '.join(it)}" for name, it in crates.items() if len(it) > 1]
 
 
-def main():
+def main() -> int:
     argparse.ArgumentParser(description=__doc__, formatter_class=argparse.RawDescriptionHelpFormatter).parse_args()
     faults = [*long_lines(), *shared_names()]
     print("\n".join([*faults, f"{len(faults)} lines of proofs too long, or names of lemma files that stand twice"]))

@@ -8,8 +8,9 @@ Without a document it reads each *.md of the repository. It looks at each word i
   `pub` in that crate's src/;
 - a name right before its file, as "`name` (`path`)", must be declared in that file;
 - the target of a link, as `[text](path)`, must exist, from the document's folder;
-- on a crate's page, in a table with the column "Call, clause" or "Clause", each call must be a
-  function of the crate, and each word after it a clause of that function, or another function.
+- a tool, as host/bin/NAME, must exist, also in a block of code;
+- in a table with the column "Call, clause", each call must be a function of the crate that the last
+  title names, and each word after it a clause of that function, or another function.
 Passed over are blocks of code, commands, patterns, what a build makes (bin/, out/, /tmp/), and the
 folders that each crate has (specs/, proofs/, src/, must-fail/, data/). In docs/dev/STYLE.md, whose names
 of files are examples, only names of items are checked.
@@ -18,6 +19,7 @@ It prints each broken link as FILE:LINE: TEXT, and the status is 1 where there i
 import argparse
 import re
 import sys
+from collections.abc import Iterator
 from pathlib import Path
 
 ROOT = Path(__file__).resolve().parents[2]
@@ -29,18 +31,18 @@ ITEM = re.compile(r"(\w+)((?:::\w+)+)")
 CRATE_FOLDERS = {"specs/", "proofs/", "src/", "must-fail/", "data/"}
 EXAMPLES = {ROOT / "docs/dev/STYLE.md"}
 KINDS = r"(?:fn|struct|enum|trait|const|static|type|mod)"
-# A name with the file that has it; the columns of a crate's page that name clauses.
+# A name with the file that has it; the column that names clauses.
 IN_FILE = re.compile(r"`([\w:]+)` \(`([\w/.]+\.(?:rt|antt))`")
-CLAUSES = ("Call, clause", "Clause")
+CLAUSES = "Call, clause"
 
 
-def documents():
+def documents() -> list[Path]:
     """Each document of the repository, but for what a build or a tool keeps."""
     skipped = {"out", "bin", ".git", "node_modules"}
     return sorted(it for it in ROOT.rglob("*.md") if not skipped & set(it.relative_to(ROOT).parts))
 
 
-def words_of(text):
+def words_of(text: str) -> Iterator[tuple[int, str]]:
     """Each word in backticks with its line's number, outside of blocks of code."""
     is_code = False
     for number, line in enumerate(text.split("\n"), 1):
@@ -51,46 +53,46 @@ def words_of(text):
                 yield number, word[0] or word[1]
 
 
-def is_path(word):
+def is_path(word: str) -> bool:
     """Whether a word looks like a path that the repository keeps."""
     if NO_PATH.search(word) or MADE.search(word) or "::" in word or word in CRATE_FOLDERS:
         return False
     return word.endswith(ENDINGS) or "/" in word.strip("/") or word.endswith("/")
 
 
-def source_of(crate):
+def source_of(crate: str) -> str:
     """The code of a crate, without its comments and its tests."""
     files = sorted((ROOT / "crates" / crate / "src").rglob("*.rt"))
     kept = [it.read_text() for it in files if "tests" not in it.with_suffix("").parts]
     return "\n".join(re.sub(r"(?m)^\s*//.*$", "", it) for it in kept)
 
 
-def is_declared(source, name):
+def is_declared(source: str, name: str) -> bool:
     """Whether the code declares the name `pub`, or as a variant, or as what a trait has."""
     if re.search(rf"pub (?:const |unsafe )?{KINDS} {name}\b", source):
         return True
     open_to_all = "\n".join(re.findall(r"(?ms)^pub (?:enum|trait) .*?^}", source))
-    return re.search(rf"(?m)^\s+(?:{name}\b\s*[,({{=]|(?:fn|const|type) {name}\b)", open_to_all)
+    return bool(re.search(rf"(?m)^\s+(?:{name}\b\s*[,({{=]|(?:fn|const|type) {name}\b)", open_to_all))
 
 
-def is_item(word):
+def is_item(crate: str, names: str) -> bool:
     """Whether `crate::item`, or `crate::Type::method`, names what the crate has."""
-    crate, names = ITEM.fullmatch(word).groups()
     source = source_of(crate)
     first, *inner = names.strip(":").split("::")
     top = rf"pub (?:const |unsafe )?{KINDS} {first}\b|pub use [^;]*\b{first}\b|(?m:^mod {first};)"
-    return re.search(top, source) and all(is_declared(source, name) for name in inner)
+    return bool(re.search(top, source)) and all(is_declared(source, name) for name in inner)
 
 
-def declares(file, name):
+def declares(file: Path, name: str) -> bool:
     """Whether a file of code or of definitions declares a name, or the last part of `Type::method`."""
     last = re.escape(name.split("::")[-1])
-    if file.suffix == ".antt":
-        return re.search(rf"(?m)^\s*(?:pub |abbrev |unfoldable |record |data |ruleset )*{last}\b", file.read_text())
-    return re.search(rf"(?m)\b(?:{KINDS}|macro_rules!) {last}\b|^\s+{last}\b\s*[,({{]", file.read_text())
+    is_code = file.suffix != ".antt"
+    in_code = rf"(?m)\b(?:{KINDS}|macro_rules!) {last}\b|^\s+{last}\b\s*[,({{]"
+    in_definitions = rf"(?m)^\s*(?:pub |abbrev |unfoldable |record |data |ruleset )*{last}\b"
+    return bool(re.search(in_code if is_code else in_definitions, file.read_text()))
 
 
-def misplaced_in(document):
+def misplaced_in(document: Path) -> Iterator[tuple[int, str]]:
     """Each name that stands before a file which doesn't declare it."""
     for number, line in enumerate(document.read_text().split("\n"), 1):
         for name, path in IN_FILE.findall(line):
@@ -99,7 +101,7 @@ def misplaced_in(document):
                 yield number, f"`{name}`: {path} declares no such name"
 
 
-def contracts_of(crate):
+def contracts_of(crate: str) -> dict[str, set[str]]:
     """The functions and types of a crate's code, each with the names of its clauses or of its laws; a name
     may stand for several."""
     source = source_of(crate)
@@ -107,50 +109,52 @@ def contracts_of(crate):
     laws = set(re.findall(r"(?m)^\s+ghost (\w+)(?:: | = )\{", source))
     found = {it: set(laws) for it in names}
     for part in re.split(r"(?m)^(?=[ \t]*(?:pub(?:\([\w ]+\))? )?(?:const )?fn \w)", source)[1:]:
-        name = re.search(r"fn (\w+)", part)[1]
         clauses = re.findall(r"(?:ensures|requires) (\w+) \{", part)
-        found.setdefault(name, set()).update(clauses)
+        found.setdefault(re.findall(r"fn (\w+)", part)[0], set()).update(clauses)
     return found
 
 
-def rows_of(document):
-    """The rows of a page's tables that name clauses: the line's number, the first cell and the named one."""
-    column = None
+def rows_of(document: Path) -> Iterator[tuple[int, str, str]]:
+    """The rows of a page's tables that name clauses: the line's number, the crate whose they are, and the named cell."""
+    column, crate = None, ""
     for number, line in enumerate(document.read_text().split("\n"), 1):
         cells = [it.strip() for it in line.strip().strip("|").split(" | ")] if line.startswith("|") else []
+        if line.startswith("#"):
+            crate = next((it for it in re.findall(r"\w+", line) if it in CRATES), crate)
         if not cells:
             column = None
         elif column is None:
-            column = next((at for at, it in enumerate(cells) if it in CLAUSES), -1)
+            column = cells.index(CLAUSES) if CLAUSES in cells else -1
         elif 0 <= column < len(cells):
-            yield number, cells[0], cells[column]
+            yield number, crate, cells[column]
 
 
-def unclaused_in(document):
-    """Each word of a crate's page that is to be a call or a clause, and is none."""
-    crate = document.parent.name
-    if document.parent.parent != ROOT / "crates" or crate not in CRATES:
-        return
-    contracts = contracts_of(crate)
-    for number, first, cell in rows_of(document):
-        known = of_row = set().union(*(contracts.get(it, set()) for it in re.findall(r"(\w+)`", first)))
+def unclaused_in(document: Path) -> Iterator[tuple[int, str]]:
+    """Each word in a document that is to be a call or a clause, and is none."""
+    contracts: dict[str, dict[str, set[str]]] = {}
+    for number, crate, cell in rows_of(document):
+        calls = contracts.setdefault(crate, contracts_of(crate))
+        known: set[str] = set()
         for word in re.findall(r"`([\w:]+)`", re.sub(r"\([^)]*\)|`\w+` of `\w+`", "", cell)):
             name = word.split("::")[-1]
-            if name in contracts and (name not in known or "::" in word):
-                known = contracts[name]
-            elif name not in known | of_row:
+            if name in calls and (name not in known or "::" in word):
+                known = calls[name]
+            elif name not in known:
                 yield number, f"`{word}`: no function of {crate}, and no clause of the call before it"
 
 
-def lost_links_in(document):
-    """Each link of a document that leads to no file, with its line's number and a reason."""
+def lost_links_in(document: Path) -> Iterator[tuple[int, str]]:
+    """Each link of a document that leads to no file, and each tool that isn't there, with its line's number and a reason."""
     for number, line in enumerate(document.read_text().split("\n"), 1):
         for target in re.findall(r"\]\(([^)\s#]+)(?:#[^)\s]*)?\)", line):
             if "://" not in target and not (document.parent / target).exists():
                 yield number, f"`{target}`: the link leads to no file or folder"
+        for tool in re.findall(r"\bhost/bin/\w+", line):
+            if not (ROOT / tool).exists():
+                yield number, f"`{tool}`: no such tool"
 
 
-def broken_in(document):
+def broken_in(document: Path) -> Iterator[tuple[int, str]]:
     """Each word of a document that names nothing, with its line's number and a reason."""
     yield from lost_links_in(document)
     yield from misplaced_in(document)
@@ -159,14 +163,14 @@ def broken_in(document):
         name = word.split("(")[0]
         match = ITEM.fullmatch(name)
         if match and match[1] in CRATES:
-            if not is_item(name):
+            if not is_item(match[1], match[2]):
                 yield number, f"`{word}`: the crate {match[1]} has no such pub item"
         elif is_path(word) and document not in EXAMPLES:
             if not any((it / word).exists() for it in (ROOT, document.parent)):
                 yield number, f"`{word}`: no such file or folder"
 
 
-def main():
+def main() -> int:
     parser = argparse.ArgumentParser(description=__doc__, formatter_class=argparse.RawDescriptionHelpFormatter)
     parser.add_argument("documents", nargs="*", type=Path, metavar="DOCUMENT", help="these alone")
     chosen = [it.resolve() for it in parser.parse_args().documents] or documents()

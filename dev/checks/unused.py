@@ -14,11 +14,17 @@ import argparse
 import re
 import sys
 from collections import defaultdict
+from collections.abc import Iterator
 from pathlib import Path
 
 sys.path.insert(0, str(Path(__file__).resolve().parents[1] / "build"))
 from repository import ROOT, crates, is_program
 
+# An item of specs/ or proofs/: its file, its line, its name, whether it is public, its words; the words of each file of
+# code; what is reported.
+Item = tuple[Path, int, str, bool, set[str]]
+Code = list[tuple[Path, set[str]]]
+Place = tuple[Path, int, str]
 WORD = re.compile(r"[^\W\d][\w'-]*")
 ITEM = re.compile(
     r"(?:pub |abbrev |unfoldable |record |data |mutual )*(?!module\b|ruleset\b|abbrev\b)([^\W\d][\w'-]*)(?= |$)[^=]*:"
@@ -40,10 +46,11 @@ OFFERED = {
 }
 
 
-def items_of(file):
+def items_of(file: Path) -> dict[str, tuple[int, bool, set[str]]]:
     """The items of a file of definitions or lemmas: each name with its line, whether it is public, and
     the words of its text. What has no name, as a ruleset or a module, has its line in place of one."""
-    found, name = {}, None
+    found: dict[str, tuple[int, bool, set[str]]] = {}
+    name = ""
     for at, line in enumerate(file.read_text().split("\n"), 1):
         if line.startswith(OTHER_LINES) or not line.strip():
             continue
@@ -56,15 +63,15 @@ def items_of(file):
     return found
 
 
-def definitions():
-    """Each item of specs/ and proofs/: its file, its line, its name, whether it is public, its words."""
+def definitions() -> Iterator[Item]:
+    """Each item of specs/ and proofs/."""
     for part in ("specs", "proofs"):
         for file in sorted(ROOT.glob(f"crates/*/{part}/**/*.antt")):
             for name, (at, is_public, words) in items_of(file).items():
                 yield file, at, name, is_public, words
 
 
-def code_words():
+def code_words() -> Iterator[tuple[Path, set[str]]]:
     """The words of each file of code, without comments and imports."""
     for file in sorted(ROOT.glob("crates/*/src/**/*.rt")):
         text = "\n".join(line.split("//")[0] for line in file.read_text().split("\n"))
@@ -72,17 +79,17 @@ def code_words():
         yield file, set(WORD.findall(text))
 
 
-def crate_of(file):
+def crate_of(file: Path) -> str:
     return file.relative_to(ROOT).parts[1]
 
 
-def unused_definitions(items, code):
+def unused_definitions(items: list[Item], code: Code) -> Iterator[Place]:
     """The items that no other item and no code names."""
-    named = defaultdict(set)
+    named: dict[str, set[tuple[Path, str]]] = defaultdict(set)
     for file, _, name, _, words in items:
         for word in words:
             named[word].add((file, name))
-    in_code = set().union(*(words for _, words in code))
+    in_code = {word for _, words in code for word in words}
     for file, at, name, _, _ in items:
         if file.stem in GOALS or name.startswith("line ") or name in in_code:
             continue
@@ -90,7 +97,7 @@ def unused_definitions(items, code):
             yield file, at, name
 
 
-def unused_calls(code):
+def unused_calls(code: Code) -> Iterator[Place]:
     """The public functions of libraries that no other file calls, but for laws and what is offered."""
     tests = {it for it in crates() if crates()[it].has_tests()} | FOR_TESTS
     callers = [(file, words) for file, words in code if crate_of(file) not in tests]
@@ -102,7 +109,7 @@ def unused_calls(code):
                 yield file, at, name
 
 
-def calls_in(file):
+def calls_in(file: Path) -> Iterator[tuple[int, str]]:
     """The public functions of a file that are no laws: a law's doc begins with "Law"."""
     doc = ""
     for at, line in enumerate(file.read_text().split("\n"), 1):
@@ -113,9 +120,9 @@ def calls_in(file):
         doc = doc or said[4:] if said.startswith("///") else "" if not said.startswith("#[") else doc
 
 
-def doubles(items):
+def doubles(items: list[Item]) -> Iterator[Place]:
     """The public words of specs/ that stand in more than one crate."""
-    where = defaultdict(dict)
+    where: dict[str, dict[str, Place]] = defaultdict(dict)
     for file, at, name, is_public, _ in items:
         if is_public and "specs" in file.parts and not name.startswith("line "):
             where[name].setdefault(crate_of(file), (file, at, name))
@@ -124,13 +131,13 @@ def doubles(items):
             yield from places.values()
 
 
-def main():
+def main() -> int:
     argparse.ArgumentParser(description=__doc__, formatter_class=argparse.RawDescriptionHelpFormatter).parse_args()
     items, code = list(definitions()), list(code_words())
     found = [
         *((it, "nothing names it") for it in unused_definitions(items, code)),
         *((it, "nothing but tests calls it") for it in unused_calls(code)),
-        *((it, "another crate has this word too") for it in sorted(doubles(items), key=lambda it: it[2])),
+        *((it, "another crate has this word too") for it in sorted(doubles(items), key=lambda item: item[2])),
     ]
     for (file, at, name), reason in found:
         print(f"{file.relative_to(ROOT)}:{at} {name}: {reason}")

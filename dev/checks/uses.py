@@ -9,12 +9,13 @@ CRATE: LIBRARY, and the status is 1 where there is one.
 import argparse
 import re
 import sys
+from collections.abc import Iterator
 from pathlib import Path
 
 ROOT = Path(__file__).resolve().parents[2]
 
 
-def lines():
+def lines() -> Iterator[tuple[str, list[str]]]:
     """Each crate of crates.txt with the libraries that its line names."""
     for line in (ROOT / "crates.txt").read_text().split("\n"):
         head, colon, named = line.split("#")[0].partition(":")
@@ -22,7 +23,7 @@ def lines():
             yield head.split()[0], named.split()
 
 
-def uses(crate, library):
+def uses(crate: str, library: str) -> bool:
     """Whether a file of the crate names the library."""
     path = re.compile(rf"(?<![\w:]){library}::|\buse {library};|Rattle\.{library}\.")
     files = (ROOT / "crates" / crate).glob("*/**/*")
@@ -33,7 +34,7 @@ def uses(crate, library):
     )
 
 
-def main():
+def main() -> int:
     argparse.ArgumentParser(description=__doc__, formatter_class=argparse.RawDescriptionHelpFormatter).parse_args()
     unused = [(crate, it) for crate, named in lines() for it in named if not uses(crate, it)]
     for crate, library in unused:

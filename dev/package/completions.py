@@ -1,15 +1,17 @@
 """The completions of bash, zsh and fish, made of the program's help and of the arguments of the tools."""
+from __future__ import annotations
+
 import re
 
-from help_texts import TOOLS, kind_of
+from help_texts import TOOLS, Help, kind_of
 
 
-def commands_of(texts):
+def commands_of(texts: Help) -> list[tuple[str, str, list[str | None]]]:
     """The commands, and what completes their words: the kind of each."""
     return [(it.name, it.about, [kind_of(word) for word in it.words]) for it in texts.commands]
 
 
-BASH = """# bash completion for bpfrec and its tools; made by dev/package/make_man.py of the program's help.
+BASH = """# bash completion for bpfrec and its tools; made by dev/package/make_texts.py of the program's help.
 
 # _bpfrec_files KIND: files that end so, and folders; all files where there are none
 _bpfrec_files() {
@@ -56,7 +58,7 @@ complete -F _bpfrec_tool @TOOLS@
 """
 
 ZSH = """#compdef bpfrec @TOOLS@
-# zsh completion for bpfrec and its tools; made by dev/package/make_man.py of the program's help.
+# zsh completion for bpfrec and its tools; made by dev/package/make_texts.py of the program's help.
 
 _bpfrec_tool() {
   local -a options
@@ -103,14 +105,14 @@ _bpfrec "$@"
 """
 
 
-def filled_in(template, commands, words, options):
+def filled_in(template: str, commands: str, words: list[str], options: list[str]) -> str:
     """A template with what the program and its tools have."""
     tools = " ".join(f"bpfrec-{it}" for it in TOOLS)
     parts = {"@COMMANDS@": commands, "@WORDS@": "\n".join(words), "@OPTIONS@": "\n".join(options), "@TOOLS@": tools}
-    return re.sub("@[A-Z]+@", lambda it: parts[it[0]], template)
+    return re.sub("@[A-Z]+@", lambda found: parts[found[0]], template)
 
 
-def bash(texts):
+def bash(texts: Help) -> str:
     names = " ".join(it.name for it in texts.commands)
     words = [
         f"        {name}/{at}) _bpfrec_files {kind if kind != '*' else quoted(kind)} ;;"
@@ -125,7 +127,7 @@ def bash(texts):
     return filled_in(BASH, names, words, options)
 
 
-def zsh(texts):
+def zsh(texts: Help) -> str:
     described = "\n".join(
         "    " + quoted(f"{name}:" + about.replace(":", "\\:")) for name, about, _ in commands_of(texts)
     )
@@ -142,19 +144,19 @@ def zsh(texts):
     return filled_in(ZSH, described, words, options)
 
 
-def quoted(text):
+def quoted(text: str) -> str:
     """A text as one word of a shell."""
     inner = text.replace("'", "'\\''")
     return f"'{inner}'"
 
 
-def zsh_files(kind):
+def zsh_files(kind: str) -> str:
     return "_files" if kind == "*" else f"_files -g '*.{kind}'"
 
 
-def fish(texts):
+def fish(texts: Help) -> str:
     found = [
-        "# fish completion for bpfrec and its tools; made by dev/package/make_man.py of the program's help.",
+        "# fish completion for bpfrec and its tools; made by dev/package/make_texts.py of the program's help.",
         "",
         "# __bpfrec_at COMMAND N: whether the Nth word behind that command comes next",
         "function __bpfrec_at",

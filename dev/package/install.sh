@@ -4,8 +4,8 @@ set -euo pipefail
 
 usage='usage: PREFIX=.. DESTDIR=.. dev/package/install.sh [--uninstall]
 
-Installs bin/bpfrec, which make build makes, and bin/capture, where it is built, below PREFIX (/usr/local by
-default): programs in bin/, the tools in libexec/bpfrec/ with links in bin/ (bpfrec-convert, bpfrec-info and so on;
+Installs bin/bpfrec and what else make build makes there, and bin/capture, where it is built, below PREFIX (/usr/local
+by default): programs in bin/, the tools in libexec/bpfrec/ with links in bin/ (bpfrec-convert, bpfrec-info and so on;
 those in Python are one file, bpfrec-host.pyz), the page bpfrec(1), completions for bash, zsh and fish, examples
 and documents in share/doc/bpfrec/, a unit for systemd in lib/systemd/system/, and the plugin for Wireshark in
 share/bpfrec/, with a link in the folder of plugins that tshark names, or else in Debian'"'"'s. What stands in DESTDIR,
@@ -26,17 +26,18 @@ names=(capture "${tools[@]}")
 
 # Each file, as its mode, where it stands here or what it is made of, and where it goes.
 files() {
-    local file
+    local file at
     echo "755 bin/bpfrec bin/bpfrec"
     echo "755 bin/capture libexec/bpfrec/bpfrec-capture"
     echo "755 host/bpfrec_host libexec/bpfrec/bpfrec-host.pyz"
-    echo "644 man/bpfrec.1 share/man/man1/bpfrec.1"
-    echo "644 completions/bpfrec.bash share/bash-completion/completions/bpfrec"
-    echo "644 completions/_bpfrec $ZSH/_bpfrec"
-    echo "644 completions/bpfrec.fish share/fish/vendor_completions.d/bpfrec.fish"
-    echo "644 host/wireshark/bpfrec.lua share/bpfrec/bpfrec.lua"
-    for file in docs/user/*.md docs/user/*.png; do
-        echo "644 $file share/doc/bpfrec/$(basename "${file/INSTALLED/README}")"
+    echo "644 bin/bpfrec.1 share/man/man1/bpfrec.1"
+    echo "644 bin/completions/bpfrec.bash share/bash-completion/completions/bpfrec"
+    echo "644 bin/completions/_bpfrec $ZSH/_bpfrec"
+    echo "644 bin/completions/bpfrec.fish share/fish/vendor_completions.d/bpfrec.fish"
+    echo "644 bin/bpfrec.lua share/bpfrec/bpfrec.lua"
+    find docs/user -type f | sort | while read -r file; do
+        at=${file#docs/user/}
+        echo "644 $file share/doc/bpfrec/${at/INSTALLED/README}"
     done
     find examples -type f ! -name bpfrec.service | sort | while read -r file; do
         echo "644 $file share/doc/bpfrec/$file"
@@ -81,7 +82,8 @@ install_plugin() {
 # What an installation from before had, and none has any more.
 remove_old() {
     local name
-    rm -f "$to"/libexec/bpfrec/{ch11.py,facts.py,bpfrec-feed,bpfrec-info,bpfrec-live,bpfrec-preflight,bpfrec-salvage}
+    rm -f "$to"/libexec/bpfrec/{ch11.py,facts.py,bpfrec-feed,bpfrec-info,bpfrec-live,bpfrec-preflight,bpfrec-salvage} \
+        "$to"/share/doc/bpfrec/FORMATS.md
     for name in bin/bpfrec-feed share/man/man1/bpfrec-feed.1 share/bash-completion/completions/bpfrec-feed \
         share/fish/vendor_completions.d/bpfrec-feed.fish; do
         rm -f "$to/$name"
@@ -113,6 +115,9 @@ install_all() {
     elif ! is_proved bin/bpfrec; then
         echo "bin/bpfrec wasn't built from its proof, so it isn't installed: make build makes one that was" >&2
         exit 3
+    elif [[ ! -f bin/bpfrec.lua ]]; then
+        echo "bin/bpfrec.lua is missing: make texts makes it, with the manual page and the completions" >&2
+        exit 3
     fi
     remove_old
     while read -r mode from at; do
@@ -141,15 +146,16 @@ install_all() {
 install_names() {
     local file tool work
     work="in a folder with \`examples\`, a copy of $PREFIX/share/doc/bpfrec/examples, and an empty \`bin\`"
-    for file in "$to"/share/doc/bpfrec/*.md; do
-        sed -i '/^<!-- source tree -->$/,/^<!-- end -->$/d; s| (`bench/RESULTS.md`)||g' "$file"
+    for file in "$to"/share/doc/bpfrec/{*,formats/*,using/*}.md; do
+        sed -i '/^<!-- source tree -->$/,/^<!-- end -->$/d; s/<!--[A-Z_]*-->//g; /^<!-- .* -->$/d; s| (`bench/RESULTS.md`)||g' "$file"
         sed -i "/^sudo /s#bin/capture#$PREFIX/libexec/bpfrec/bpfrec-capture#g" "$file"
         for tool in "${tools[@]}"; do
             sed -i "s|host/bin/$tool\\b|bpfrec-$tool|g" "$file"
         done
+        sed -i "s|bin/bpfrec.lua|$PREFIX/share/bpfrec/bpfrec.lua|g" "$file"
         sed -Ei -e "s#(^|[^/[:alnum:]])bin/(bpfrec)([^-_/[:alnum:]]|\$)#\\1\\2\\3#g" \
-            -e 's#\bbin/capture\b#bpfrec-capture#g' -e 's#docs/user/([A-Za-z]*\.[a-z]*)#\1#g' "$file"
-        sed -i -e "s|/usr/local/share/|$PREFIX/share/|g" -e "s|host/wireshark/bpfrec.lua|$PREFIX/share/bpfrec/bpfrec.lua|g" \
+            -e 's#\bbin/capture\b#bpfrec-capture#g' -e 's#docs/user/##g' "$file"
+        sed -i -e "s|/usr/local/share/|$PREFIX/share/|g" \
             -e "s|examples/bpfrec.service|$PREFIX/lib/systemd/system/bpfrec.service|g" \
             -e "s|/usr/local/libexec/|$PREFIX/libexec/|g" \
             -e "s|at the top of the repository after \`make build\`,|$work,|" "$file"
@@ -167,8 +173,8 @@ uninstall_all() {
     done < <(links)
     at=$DESTDIR$(plugins)/bpfrec.lua
     [[ ! -L $at ]] || rm -f "$at"
-    for at in share/doc/bpfrec/examples/{filters,feeds} share/doc/bpfrec/examples share/doc/bpfrec share/bpfrec \
-        libexec/bpfrec; do
+    for at in share/doc/bpfrec/examples/{filters,feeds} share/doc/bpfrec/{examples,formats,using} share/doc/bpfrec \
+        share/bpfrec libexec/bpfrec; do
         [[ ! -d $to/$at ]] || rmdir --ignore-fail-on-non-empty "$to/$at"
     done
 }

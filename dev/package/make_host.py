@@ -31,7 +31,7 @@ SUFFIXES = (".py", ".html")
 TIME, MODE = (1980, 1, 1, 0, 0, 0), 0o644 << 16
 
 
-def archive():
+def archive() -> io.BytesIO:
     """The archive of the package and of what calls it."""
     parts = [it for it in PACKAGE.rglob("*") if it.suffix in SUFFIXES]
     files = {f"{PACKAGE.name}/{it.relative_to(PACKAGE)}": it.read_text(encoding="utf-8") for it in parts}
@@ -46,7 +46,7 @@ def archive():
     return made
 
 
-def main():
+def main() -> int:
     parser = argparse.ArgumentParser(description=__doc__, formatter_class=argparse.RawDescriptionHelpFormatter)
     parser.add_argument("file", metavar="FILE")
     zipapp.create_archive(archive(), parser.parse_args().file, INTERPRETER)

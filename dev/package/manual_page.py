@@ -1,11 +1,12 @@
-"""The page bpfrec(1), made of the program's help and of the tables of docs/user/FORMATS.md."""
+"""The page bpfrec(1), made of the program's help and of the tables of docs/user/formats/."""
 import re
 import textwrap
+from collections.abc import Iterator
 
-from help_texts import FORMATS, TOOLS
+from help_texts import FORMATS, TOOLS, Help
 
 # The day of the page's last change, which pages have.
-DATE = "2026-11-25"
+DATE = "2026-11-28"
 # The sections whose tables the page has, where the first column is one of these.
 SECTIONS = (
     "Listing",
@@ -13,51 +14,55 @@ SECTIONS = (
     "Disassembled text",
     "Verifier",
     "Feed",
+    "Script",
     "Settings",
     "Lines that change a filter",
     "What `record` refuses",
     "What `record` prints",
-    "Script",
     "Packets",
+    "What is read",
+    "Audit",
 )
 FIRST_COLUMNS = ("Fault", "Refusal", "Printed", "Key", "Bytes", "Path", "Line")
 WIDTH = 78
 
 
-def escaped(text):
+def escaped(text: str) -> str:
     """A text as roff has it."""
     return text.replace("\\", "\\e").replace("-", "\\-")
 
 
-def inline(text):
+def inline(text: str) -> str:
     """A text of a document, whose words in backticks are bold."""
     parts = re.split(r"`([^`]+)`", re.sub(r"\[([^]]+)\]\([^)]+\)", r"\1", text))
     return "".join(f"\\fB{escaped(it)}\\fR" if at % 2 else escaped(it) for at, it in enumerate(parts))
 
 
-def filled(text):
+def filled(text: str) -> list[str]:
     """A paragraph as lines, none of which roff takes for a command."""
     found = textwrap.wrap(text, WIDTH, break_long_words=False, break_on_hyphens=False)
     return [f"\\&{it}" if it[:1] in (".", "'") else it for it in found]
 
 
-def literal(lines):
+def literal(lines: list[str]) -> list[str]:
     return [".PP", ".nf", *(f"\\&{escaped(it)}" if it[:1] in (".", "'") else escaped(it) for it in lines), ".fi"]
 
 
-def item(term, said):
+def item(term: str, said: str) -> list[str]:
     """An item of a list: a term, in bold where it isn't already, and what is said of it."""
     term = term if "\\f" in term else f"\\fB{term}\\fR"
     return [".TP", f"\\&{term}" if term[:1] in (".", "'") else term, *(filled(said) or ["\\&"])]
 
 
-def text_page(text):
+def text_page(text: str) -> list[str]:
     """A help text: paragraphs, and indented rows of a word or two and what is said of them; behind `Example:` all is
     as it stands."""
     prose, _, example = text.partition("Example:\n")
-    found, rows, paragraph = [], [], []
+    found: list[str] = []
+    rows: list[tuple[str, str]] = []
+    paragraph: list[str] = []
 
-    def close():
+    def close() -> None:
         if paragraph:
             found.extend([".PP", *filled(escaped(" ".join(paragraph)))])
             paragraph.clear()
@@ -88,10 +93,11 @@ def text_page(text):
     return found + ([".PP", "Example:", *literal(example.strip("\n").split("\n"))] if example else [])
 
 
-def tables():
-    """The tables of docs/user/FORMATS.md that the page has: the titles before each, and its rows."""
+def tables() -> Iterator[tuple[str, list[str], list[list[str]]]]:
+    """The tables of docs/user/formats/ that the page has: the titles before each, and its rows."""
     titles, rows, section = [], [], ""
-    for line in [*FORMATS.read_text().split("\n"), ""]:
+    # Behind a number may stand its name, which is no part of the page.
+    for line in [*re.sub("<!--.*?-->", "", "\n".join(it.read_text() for it in FORMATS)).split("\n"), ""]:
         if line.startswith("#"):
             level, title = line.split(" ", 1)
             section = title if level == "##" else section
@@ -105,7 +111,7 @@ def tables():
             rows = []
 
 
-def table_page(head, rows):
+def table_page(head: list[str], rows: list[list[str]]) -> list[str]:
     found = []
     for cells in rows:
         said = [inline(cells[1])] + [
@@ -115,9 +121,9 @@ def table_page(head, rows):
     return found
 
 
-def page(texts):
+def page(texts: Help) -> str:
     found = [
-        ".\\\" Made by dev/package/make_man.py of the program's help and of docs/user/FORMATS.md.",
+        ".\\\" Made by dev/package/make_texts.py of the program's help and of docs/user/formats/.",
         f'.TH BPFREC 1 "{DATE}" "bpfrec {texts.version}" "User Commands"',
         ".SH NAME",
         "bpfrec \\- records Ethernet channels through filters, and reads the recordings",
@@ -136,7 +142,7 @@ def page(texts):
     found += [
         ".SH FORMATS",
         *filled(
-            "The tables of the project's document of formats, by its sections. "
+            "The tables of the project's documents of formats, by their sections. "
             "A number of several bytes has its lowest byte first."
         ),
     ]
@@ -150,6 +156,6 @@ def page(texts):
         *filled("Beside the program, tested and not proved; each has a help text, by \\fB\\-\\-help\\fR."),
     ]
     for name, tool in TOOLS.items():
-        found += item(f"\\fBbpfrec\\-{name}\\fR \\fI{escaped(tool.words)}\\fR", escaped(tool.about))
+        found += item(f"\\fBbpfrec\\-{name}\\fR \\fI{escaped(tool.uses[0])}\\fR", escaped(tool.about))
     found += [".SH SEE ALSO", ".BR tcpdump (1),", ".BR capinfos (1),", ".BR pcap\\-filter (7)"]
     return "\n".join(found) + "\n"

@@ -7,7 +7,8 @@ import os
 import sys
 from typing import Callable, NamedTuple
 
-from bpfrec_host.ending import guarded, say, tell
+from bpfrec_host import printing
+from bpfrec_host.ending import guarded
 
 
 class Tool(NamedTuple):
@@ -43,9 +44,9 @@ def tell_tools() -> int:
     lines = [f"  {name:<10} {it.about}" for name, it in TOOLS.items()]
     text = "\n".join(["usage: bpfrec_host TOOL ..", "", *lines, "", "TOOL --help has the arguments of each."])
     if sys.argv[1:] in (["-h"], ["--help"]):
-        say(f"{text}\n")
+        printing.out(f"{text}\n")
         return 0
-    tell(f"bpfrec_host: no such tool: {sys.argv[1]}" if sys.argv[1:] else text)
+    printing.err(f"bpfrec_host: no such tool: {sys.argv[1]}" if sys.argv[1:] else text)
     return 2
 
 

@@ -9,6 +9,7 @@ import subprocess
 from pathlib import Path
 from typing import IO, Callable, NamedTuple, Optional, Union
 
+from bpfrec_host.formats.answers import Verdict
 from bpfrec_host.progress import Progress, size_of
 
 # Seconds between two looks at how far the program has come.
@@ -30,7 +31,7 @@ class Audit(NamedTuple):
 
     def is_yes(self) -> bool:
         """Whether the recording was approved."""
-        return (self.answer or "").startswith("yes")
+        return Verdict.of(self.answer or "").is_yes()
 
 
 def find() -> str:
@@ -63,10 +64,10 @@ def capture_path() -> str:
     return str(holder.parent / ("bpfrec-capture" if holder.is_file() else "bin/capture"))
 
 
-def run(*words: str, stdin: Union[int, IO[bytes]] = subprocess.DEVNULL) -> subprocess.CompletedProcess[str]:
-    """Runs the program with these words to its end, and takes what it prints."""
+def run(*arguments: str, stdin: Union[int, IO[bytes]] = subprocess.DEVNULL) -> subprocess.CompletedProcess[str]:
+    """Runs the program with these arguments to its end, and takes what it prints."""
     return subprocess.run(
-        [find(), *words], stdin=stdin, capture_output=True, check=False, encoding="utf-8", errors="replace"
+        [find(), *arguments], stdin=stdin, capture_output=True, check=False, encoding="utf-8", errors="replace"
     )
 
 
@@ -75,19 +76,19 @@ def answer_of(done: subprocess.CompletedProcess[str]) -> str:
     return (done.stdout + done.stderr).strip() or f"status {done.returncode}"
 
 
-def run_over(file: IO[bytes], progress: Progress, *words: str) -> subprocess.CompletedProcess[str]:
+def run_over(file: IO[bytes], progress: Progress, *arguments: str) -> subprocess.CompletedProcess[str]:
     """The same with a file as standard input. How far it was read is known from the place in the file, which both
     processes share."""
     pipe = subprocess.PIPE
     with subprocess.Popen(
-        [find(), *words], stdin=file, stdout=pipe, stderr=pipe, encoding="utf-8", errors="replace"
+        [find(), *arguments], stdin=file, stdout=pipe, stderr=pipe, encoding="utf-8", errors="replace"
     ) as process:
         try:
             printed, told = watched(process, lambda: progress.at(os.lseek(file.fileno(), 0, os.SEEK_CUR)))
         except BaseException:
             process.kill()
             raise
-    return subprocess.CompletedProcess(words, process.returncode, printed, told)
+    return subprocess.CompletedProcess(arguments, process.returncode, printed, told)
 
 
 def watched(process: subprocess.Popen[str], look: Callable[[], None]) -> tuple[str, str]:

@@ -8,7 +8,7 @@ import sys
 import time
 from typing import Union
 
-from bpfrec_host import ending
+from bpfrec_host import printing
 
 # Seconds until the first line, and between two.
 FIRST_AFTER, BETWEEN = 2.0, 0.2
@@ -47,13 +47,13 @@ class Progress:
 
     def __enter__(self) -> "Progress":
         if self.is_shown:
-            ending.before_text = self.clear
+            printing.before_text = self.clear
         return self
 
     def __exit__(self, *_: object) -> None:
         self.clear()
         if self.is_shown:
-            ending.before_text = nothing
+            printing.before_text = nothing
 
     def at(self, done: int) -> None:
         """Tells that so many bytes are read, where it is time for a line."""

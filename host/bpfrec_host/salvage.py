@@ -6,12 +6,12 @@ import os
 from itertools import chain
 from typing import BinaryIO, Iterable, Iterator, NoReturn, Optional, Union
 
-from bpfrec_host.ending import full_name, say, short_name, tell
+from bpfrec_host import printing
+from bpfrec_host.arguments import Parser, full_name, short_name
 from bpfrec_host.formats import ch11
 from bpfrec_host.program import audit_of
 from bpfrec_host.progress import Progress, size_of
 from bpfrec_host.streams import STREAM, Refused, Unreadable, force, force_folder_of, input_at, refuse_overwriting
-from bpfrec_host.words import Parser
 
 ABOUT = """\
 What is left of a recording that was cut or damaged: all packets that are whole, as they are.
@@ -56,7 +56,7 @@ class SalvageParser(Parser):
     def error(self, message: str) -> NoReturn:
         """Ends where the arguments are wrong."""
         name = full_name("salvage")
-        tell(f"{short_name('salvage')}: it takes DAMAGED and OUT: {name} --help has its arguments")
+        printing.err(f"{short_name('salvage')}: it takes DAMAGED and OUT: {name} --help has its arguments")
         self.exit(2)
 
 
@@ -94,15 +94,17 @@ def salvage(damaged: BinaryIO, out: BinaryIO) -> bool:
 def copy(pieces: Iterable[Piece], out: BinaryIO) -> bool:
     """The same of what is read."""
     left, places, lost, is_missing = Left(), 0, 0, False
-    for it in pieces:
-        if isinstance(it, ch11.Damage):
-            say(f"lost {it.length} at {it.fault.at} after read {it.fault.number} {it.fault.name}\n")
-            places, lost = places + 1, lost + it.length
+    for piece in pieces:
+        if isinstance(piece, ch11.Damage):
+            printing.out(
+                f"lost {piece.length} at {piece.fault.at} after read {piece.fault.number} {piece.fault.name}\n"
+            )
+            places, lost = places + 1, lost + piece.length
             continue
-        out.write(it.bytes)
-        missing = left.take(it)
+        out.write(piece.bytes)
+        missing = left.take(piece)
         if missing:
-            say(f"{missing}\n")
+            printing.out(f"{missing}\n")
             is_missing = True
     force(out)
     told = left.lines()
@@ -110,7 +112,7 @@ def copy(pieces: Iterable[Piece], out: BinaryIO) -> bool:
     # By its descriptor, so that it may have any name, and another one meanwhile.
     told += [] if is_whole else [f"audit: {audit_of(f'/proc/self/fd/{out.fileno()}')}"]
     told.append(f"kept {left.packets} packets {left.bytes} bytes, lost {lost} bytes at {places} places")
-    say("".join(f"{line}\n" for line in told))
+    printing.out("".join(f"{line}\n" for line in told))
     return is_whole
 
 
@@ -118,8 +120,8 @@ def watched(damaged: BinaryIO, is_quiet: bool) -> Iterator[Piece]:
     """What is read of a recording, with its progress."""
     reader = ch11.Reader(damaged)
     with Progress("salvage", size_of(damaged.fileno()), is_quiet) as progress:
-        for it in reader.pieces():
-            yield it
+        for piece in reader.pieces():
+            yield piece
             progress.at(reader.at)
 
 
@@ -136,30 +138,30 @@ def parser() -> Parser:
 def up_to_packet(pieces: Iterator[Piece], path: str) -> list[Piece]:
     """What is read up to the first packet that is whole, without which a file is refused."""
     found: list[Piece] = []
-    for it in pieces:
-        found.append(it)
-        if isinstance(it, ch11.Packet):
+    for piece in pieces:
+        found.append(piece)
+        if isinstance(piece, ch11.Packet):
             return found
     if found:
         raise Refused(f"{path}: no recording: no packet of it is whole")
     return found
 
 
-def run(words: list[str]) -> int:
+def run(arguments: list[str]) -> int:
     """Copies what is left of a recording: the status."""
-    given = parser().parse_args(words)
+    given = parser().parse_args(arguments)
     try:
         if STREAM in (given.damaged, given.out):
             raise Unreadable(f"{STREAM}: it is a standard stream, and salvage takes files")
         with open(given.damaged, "rb") as damaged:
-            for it in (given.out, STREAM):
-                if input_at(it, [given.damaged]):
-                    raise OSError(0, "it is DAMAGED itself", it)
+            for path in (given.out, STREAM):
+                if input_at(path, [given.damaged]):
+                    raise OSError(0, "it is DAMAGED itself", path)
             refuse_overwriting(given.out, given.force)
             pieces = watched(damaged, given.quiet)
             return 0 if salvage_into(given.out, chain(up_to_packet(pieces, given.damaged), pieces)) else 1
     except Refused as refused:
-        tell(f"{short_name('salvage')}: {refused}")
+        printing.err(f"{short_name('salvage')}: {refused}")
         return refused.status
 
 

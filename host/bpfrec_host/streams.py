@@ -7,7 +7,7 @@ import os
 import stat
 from typing import BinaryIO, Callable, Iterable, Optional
 
-from bpfrec_host.ending import say, tell
+from bpfrec_host import printing
 
 READ_LEN = 1 << 18
 # So many parts at most wait for a write.
@@ -163,11 +163,11 @@ class Output:
         self.name = path
         self.parts: list[bytes] = []
         # What is printed of it goes to standard output too.
-        for it in (path, STREAM):
-            if source and input_at(it, [source.name]):
-                raise Refused(f"{it}: the output is the input")
-            if facts and input_at(it, [facts]):
-                raise Refused(f"{it}: the output is the file of facts")
+        for stream in (path, STREAM):
+            if source and input_at(stream, [source.name]):
+                raise Refused(f"{stream}: the output is the input")
+            if facts and input_at(stream, [facts]):
+                raise Refused(f"{stream}: the output is the file of facts")
         refuse_overwriting(path, is_forced)
         try:
             self.descriptor = 1 if path == STREAM else self.create()
@@ -210,12 +210,12 @@ class Output:
         except OSError as fault:
             raise Refused(f"{self.name}: {fault.strerror}") from None
 
-    def tell(self, line: str) -> None:
+    def report(self, line: str) -> None:
         """Prints what was done: on standard output, or on standard error where that is the output itself."""
         if self.name == STREAM:
-            tell(line)
+            printing.err(line)
             return
         try:
-            say(f"{line}\n")
+            printing.out(f"{line}\n")
         except OSError as fault:
             raise Refused(f"-: {fault.strerror}") from None

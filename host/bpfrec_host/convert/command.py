@@ -4,13 +4,13 @@ from __future__ import annotations
 
 import argparse
 
+from bpfrec_host import printing
+from bpfrec_host.arguments import Parser, full_name, natural
 from bpfrec_host.convert.moments import moment_of, origin_of
 from bpfrec_host.convert.runs import SHOWN_BYTES, from_pcap, show, to_pcap
-from bpfrec_host.ending import full_name, tell
 from bpfrec_host.formats.feed import MIN_WIRE_LEN
 from bpfrec_host.formats.limits import CHECK_SEQUENCE_LEN, MAX_FRAME_LEN, MIN_FRAME_LEN
 from bpfrec_host.streams import Refused
-from bpfrec_host.words import Parser, natural
 
 ABOUT = f"""\
 Makes feeds for bpfrec from captures, captures from feeds, and sample feeds; shows what a feed has.
@@ -147,12 +147,12 @@ def parser() -> Parser:
     return made
 
 
-def run(words: list[str]) -> int:
+def run(arguments: list[str]) -> int:
     """Runs a command: the status."""
-    given = parser().parse_args(words)
+    given = parser().parse_args(arguments)
     try:
         given.run(given)
     except Refused as refused:
-        tell(f"convert: {refused}")
+        printing.err(f"convert: {refused}")
         return refused.status
     return 0

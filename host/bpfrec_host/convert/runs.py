@@ -102,7 +102,7 @@ def from_pcap(
             frames, skipped = write_captured(captures, origin, feed)
     finally:
         feed.close()
-    feed.tell(f"frames {frames} skipped {skipped}")
+    feed.report(f"frames {frames} skipped {skipped}")
 
 
 def to_pcap(
@@ -129,7 +129,7 @@ def to_pcap(
                 frames += 1
     finally:
         capture.close()
-    capture.tell(f"frames {frames}")
+    capture.report(f"frames {frames}")
 
 
 def show(path: str) -> None:

@@ -65,4 +65,4 @@ def make(seed: int, count: int, output: str, is_forced: bool) -> None:
         write_record(feed, Record(counter, 0, frame + check_sequence(frame)))
         counter += LEAST_PAUSE + int(draw.random() * (MOST_PAUSE - LEAST_PAUSE))
     feed.close()
-    feed.tell(f"frames {count}")
+    feed.report(f"frames {count}")

@@ -112,18 +112,18 @@ def holding(origins: list[Origin]) -> list[Origin]:
     """The origins that hold for some counter, by rising counters: a later one takes the place of each that holds from
     the same counter on, or from a higher one."""
     found: list[Origin] = []
-    for it in origins:
-        while found and found[-1].counter >= it.counter:
+    for origin in origins:
+        while found and found[-1].counter >= origin.counter:
             found.pop()
-        found.append(it)
+        found.append(origin)
     return found
 
 
 def interfaces_in(told: Any) -> dict[int, str]:
     """The names of interfaces by their channels. Nothing stands on them, so what has another form is left out."""
     found: dict[int, str] = {}
-    for it in told if isinstance(told, list) else []:
-        name, channel = (it.get("interface"), it.get("channel")) if isinstance(it, dict) else (None, None)
+    for entry in told if isinstance(told, list) else []:
+        name, channel = (entry.get("interface"), entry.get("channel")) if isinstance(entry, dict) else (None, None)
         if isinstance(name, str) and is_number(channel, 1, MAX_CHANNEL_ID):
             found[int(channel or 0)] = name
     return found
@@ -134,9 +134,9 @@ def losses_in(told: Any) -> dict[str, int]:
     if not isinstance(told, list):
         raise NoFacts("losses is no list")
     sums = dict.fromkeys(LOST, 0)
-    for at, it in enumerate(told, 1):
+    for at, loss in enumerate(told, 1):
         for name in LOST:
-            sums[name] += count_in(it, name, f"loss {at} of {len(told)}")
+            sums[name] += count_in(loss, name, f"loss {at} of {len(told)}")
     return sums
 
 

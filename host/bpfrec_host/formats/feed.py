@@ -1,4 +1,4 @@
-"""Feeds: records of Ethernet frames, one after the other, by docs/user/FORMATS.md."""
+"""Feeds: records of Ethernet frames, one after the other, by docs/user/formats/filters.md."""
 
 from __future__ import annotations
 

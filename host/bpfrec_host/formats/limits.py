@@ -1,56 +1,100 @@
-"""The numbers of formats and settings, as docs/user/FORMATS.md has them.
+"""The numbers of formats and settings, as docs/user/formats/ has them. Lengths are in bytes.
 
-dev/checks/limits.py compares them with the constants of the crates, with the tables of that document and with the
-program's help. Lengths are in bytes.
+dev/checks/limits.py writes the numbers of the program, as its stored run prints them, and compares all with those of
+the document and of the plugin for Wireshark.
 """
 
 from __future__ import annotations
 
 from typing import NamedTuple, Optional
 
-# ---- counters: ticks of the relative time counter
+# ---- of the program: counters, in ticks of the relative time counter
 
-COUNTER_BITS, COUNTER_LEN = 48, 6
-MAX_COUNTER = (1 << COUNTER_BITS) - 1
-NANOSECONDS_A_SECOND = 1_000_000_000
-NANOSECONDS_A_TICK = 100
-TICKS_A_SECOND = NANOSECONDS_A_SECOND // NANOSECONDS_A_TICK
+COUNTER_BITS = 48
+COUNTER_LEN = 6
 
-# ---- frames and feeds
+# ---- of the program: frames and feeds
 
 # With the frame check sequence.
-MIN_FRAME_LEN, MAX_FRAME_LEN = 18, 16_383
+MIN_FRAME_LEN = 18
+MAX_FRAME_LEN = 16_383
 CHECK_SEQUENCE_LEN = 4
 # What a record of a feed has before its frame.
 RECORD_HEAD_LEN = 9
 # The marks of a frame: its check sequence is wrong; it has a frame error.
-MARK_CHECK_SEQUENCE, MARK_OTHER_FAULT = 1, 2
-MAX_MARKS = MARK_CHECK_SEQUENCE | MARK_OTHER_FAULT
+MARK_CHECK_SEQUENCE = 1
+MARK_OTHER_FAULT = 2
 
-# ---- filters
+# ---- of the program: filters
 
-MAX_INSNS, INSN_LEN = 4_096, 8
-# Also of settings.
+MAX_INSNS = 4_096
+INSN_LEN = 8
+# Of a listing, and of settings; of an assembler text, and of a script.
 MAX_LISTING_LEN = 1_048_576
+MAX_TEXT_LEN = 67_108_864
 # How many programs a channel may have, one after the other.
 MAX_VERSIONS = 1_024
 
-# ---- packets
+# ---- of the program: packets
 
 SYNC_PATTERN = 0xEB25
-HEADER_LEN, CHECKSUM_LEN = 24, 4
+HEADER_LEN = 24
+CHECKSUM_LEN = 4
 MAX_ETHERNET_PACKET_LEN = 524_288
-ETHERNET_DATA, COMPUTER_GENERATED_DATA = 0x68, 0x00
+ETHERNET_DATA = 0x68
+COMPUTER_GENERATED_DATA = 0x00
 # The word that a body of frames begins with, and what stands before each frame.
-BODY_WORD_LEN, FRAME_HEADER_LEN = 4, 12
-# The channel ID of records; their heads, up to the channel; a program's record before its instructions; an end's
-# record.
+BODY_WORD_LEN = 4
+FRAME_HEADER_LEN = 12
+# The channel ID of records; their kinds; their heads, up to the channel; a program's record before its instructions; an
+# end's record.
 RECORD_CHANNEL = 0
-RECORD_TAG = b"CBPR"
-PROGRAM_RECORD, END_RECORD = 1, 2
-TAGGED_HEAD_LEN, PROGRAM_HEAD_LEN, END_RECORD_LEN = 12, 28, 28
+PROGRAM_RECORD = 1
+END_RECORD = 2
+TAGGED_HEAD_LEN = 12
+PROGRAM_HEAD_LEN = 28
+END_RECORD_LEN = 28
 
-# ---- settings
+# ---- of the program: settings, with what holds where a key isn't set
+
+MIN_LIMIT = 16_424
+MAX_LIMIT = 524_284
+DEFAULT_LIMIT = 65_536
+MAX_RING = 4_096
+DEFAULT_RING = 64
+DEFAULT_VERSION = 8
+MAX_CHANNELS = 64
+DEFAULT_NET = 0
+MAX_SPEED = 15
+DEFAULT_SPEED = 0
+# TOML's whole numbers have 64 bits with a sign.
+MAX_NUMBER = 9_223_372_036_854_775_807
+DEFAULT_MAX = 9_223_372_036_854_775_807
+# A channel has these buffers, and the one that is being filled, beside one for each piece that may wait.
+SPARE_BUFFERS = 2
+
+# ---- of the capture: the kernel's buffers
+
+# Of each interface in MiB, and the part of the memory that all have at most; the kernel makes up to so many times as
+# much of what is asked for.
+USUAL_BUFFER = 256
+BUFFERS_IN_MEMORY = 4
+BUFFER_FOLD = 2
+
+# ---- what follows from these
+
+MAX_COUNTER = (1 << COUNTER_BITS) - 1
+MAX_MARKS = MARK_CHECK_SEQUENCE | MARK_OTHER_FAULT
+MIN_NUMBER = -1 - MAX_NUMBER
+BUFFERS_BESIDE_RING = SPARE_BUFFERS + 1
+
+# ---- of the document alone
+
+RECORD_TAG = b"CBPR"
+NANOSECONDS_A_SECOND = 1_000_000_000
+NANOSECONDS_A_TICK = 100
+TICKS_A_SECOND = NANOSECONDS_A_SECOND // NANOSECONDS_A_TICK
+MIN_CHANNELS, MAX_CHANNEL_ID, MAX_BYTE = 1, 65_535, 255
 
 
 class Range(NamedTuple):
@@ -61,33 +105,24 @@ class Range(NamedTuple):
     default: Optional[int]
 
 
-# TOML's whole numbers have 64 bits with a sign.
-MAX_NUMBER = (1 << 63) - 1
-MIN_NUMBER = -1 - MAX_NUMBER
-MIN_CHANNELS, MAX_CHANNELS = 1, 64
-MAX_CHANNEL_ID = 65_535
-# A channel has these buffers beside one for each piece that may wait.
-BUFFERS_BESIDE_RING = 3
 # The keys of the document, but for the channels.
-TOP_KEYS = {"limit": Range(16_424, 524_284, 65_536), "ring": Range(1, 4_096, 64), "version": Range(0, 255, 8)}
-# The keys of a channel, in the order of docs/user/FORMATS.md; those without a range are paths.
+TOP_KEYS = {
+    "limit": Range(MIN_LIMIT, MAX_LIMIT, DEFAULT_LIMIT),
+    "ring": Range(1, MAX_RING, DEFAULT_RING),
+    "version": Range(0, MAX_BYTE, DEFAULT_VERSION),
+}
+# The keys of a channel, in the order of docs/user/formats/; those without a range are paths.
 CHANNEL_KEYS = {
     "id": Range(1, MAX_CHANNEL_ID, None),
     "feed": None,
     "filter": None,
-    "net": Range(0, 255, 0),
-    "speed": Range(0, 15, 0),
-    "max": Range(0, MAX_NUMBER, MAX_NUMBER),
+    "net": Range(0, MAX_BYTE, DEFAULT_NET),
+    "speed": Range(0, MAX_SPEED, DEFAULT_SPEED),
+    "max": Range(0, MAX_NUMBER, DEFAULT_MAX),
 }
-
-# ---- the kernel's buffers, as capture asks for them
-
-# Of each interface in MiB, and the part of the memory that all have at most; the kernel makes up to so many times as
-# much of what is asked for.
-USUAL_BUFFER, BUFFERS_IN_MEMORY, BUFFER_FOLD = 256, 4, 2
 
 # ---- the facts beside a recording
 
-MAX_FACTS_LEN = 64 << 20
-MAX_HOST_LEN = 255
-MAX_COUNT = (1 << 63) - 1
+MAX_FACTS_MIB, MAX_HOST_LEN, COUNT_BITS = 64, 255, 63
+MAX_FACTS_LEN = MAX_FACTS_MIB << 20
+MAX_COUNT = (1 << COUNT_BITS) - 1

@@ -16,11 +16,6 @@ def listing_of(insns: bytes) -> str:
     return "".join(f"{it}," for it in [str(len(insns) // INSN_LEN), *words])
 
 
-def is_no_listing(answer: str) -> bool:
-    """Whether the program says of a file that it isn't written as a listing is."""
-    return answer.startswith("listing 1 Syntax ")
-
-
 def no_listing(path: str) -> str:
-    """What is said of such a file, which may be a text for the assembler."""
+    """What is said of a file that isn't written as a listing is; it may be a text for the assembler."""
     return f"{path} is no listing: bpfrec asm makes one"

@@ -40,12 +40,14 @@ def option(code: int, value: bytes) -> bytes:
     return struct.pack("<HH", code, len(value)) + value + bytes(-len(value) % 4)
 
 
-def text_option(code: int, text: str) -> bytes:
-    """An option that is a text; one that is too long is cut, and ends with two points."""
-    value = text.encode(errors="replace")
-    if len(value) > MAX_OPTION_LEN:
-        value = value[: MAX_OPTION_LEN - len(CUT)].decode(errors="ignore").encode() + CUT.encode()
-    return option(code, value)
+def text_option(code: int, text: str, last: str = "") -> bytes:
+    """An option that is a text, and behind it what is never cut. A text that is too long is, and ends with two
+    points."""
+    value, end = text.encode(errors="replace"), last.encode(errors="replace")
+    if len(value) + len(end) > MAX_OPTION_LEN:
+        end = f"{CUT}\n".encode() + end if end else CUT.encode()
+        value = value[: MAX_OPTION_LEN - len(end)].decode(errors="ignore").encode()
+    return option(code, value + end)
 
 
 def comments(texts: Iterable[str]) -> bytes:
@@ -65,10 +67,11 @@ def section(program: str, texts: Iterable[str]) -> bytes:
     return block(SECTION_BLOCK, struct.pack("<IHHq", BYTE_ORDER_MAGIC, 1, 0, -1) + options)
 
 
-def interface(name: str, description: str, texts: Iterable[str]) -> bytes:
+def interface(name: str, description: str, comment: str, last: str) -> bytes:
     """The description of an interface of Ethernet, whose times are in nanoseconds and whose frames end with their
-    check sequences."""
-    options = comments(texts) + text_option(OPTION_NAME, name) + text_option(OPTION_DESCRIPTION, description)
+    check sequences. Its comment has what is last in it also where the rest is too long."""
+    options = text_option(OPTION_COMMENT, comment, last)
+    options += text_option(OPTION_NAME, name) + text_option(OPTION_DESCRIPTION, description)
     options += option(OPTION_RESOLUTION, NANOSECONDS) + option(OPTION_CHECK_SEQUENCE_LEN, bytes([CHECK_SEQUENCE_LEN]))
     return block(INTERFACE_BLOCK, struct.pack("<HHI", LINK_TYPE_ETHERNET, 0, 0) + options + option(OPTION_END, b""))
 

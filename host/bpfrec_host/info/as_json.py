@@ -4,11 +4,11 @@ from __future__ import annotations
 
 from typing import Any, Optional
 
-from bpfrec_host.info.beside import Beside, time_of
 from bpfrec_host.info.contents import KINDS, MOST_PLACES, Channel, Recording
+from bpfrec_host.info.facts_file import FactsFile, time_of
 
 
-def object_of(recording: Recording, audit: Optional[str], beside: Optional[Beside] = None) -> dict[str, Any]:
+def object_of(recording: Recording, audit: Optional[str], beside: Optional[FactsFile] = None) -> dict[str, Any]:
     """All that is known of a recording; `audit` is what the audit answered."""
     return {
         "facts": beside and beside_object(beside),
@@ -27,7 +27,7 @@ def object_of(recording: Recording, audit: Optional[str], beside: Optional[Besid
     }
 
 
-def beside_object(beside: Beside) -> dict[str, Any]:
+def beside_object(beside: FactsFile) -> dict[str, Any]:
     """What the facts beside a recording say."""
     origins = beside.known.origins
     return {
@@ -39,7 +39,7 @@ def beside_object(beside: Beside) -> dict[str, Any]:
     }
 
 
-def channel_object(channel: Channel, beside: Optional[Beside]) -> dict[str, Any]:
+def channel_object(channel: Channel, beside: Optional[FactsFile]) -> dict[str, Any]:
     """What is known of a channel."""
     first, last, least, greatest = channel.counters() or (None, None, None, None)
     return {

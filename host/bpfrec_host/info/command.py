@@ -7,17 +7,17 @@ import os
 from itertools import chain
 from typing import Optional
 
-from bpfrec_host.ending import full_name, say_parts, short_name, tell
+from bpfrec_host import printing
+from bpfrec_host.arguments import Parser, full_name, short_name
 from bpfrec_host.formats.guesses import guess_at
 from bpfrec_host.formats.limits import MAX_VERSIONS
 from bpfrec_host.info.as_json import object_of
-from bpfrec_host.info.beside import Beside, facts_beside
 from bpfrec_host.info.contents import MOST_PLACES, MOST_SECONDS, Recording, read
+from bpfrec_host.info.facts_file import FactsFile, facts_beside
 from bpfrec_host.info.page import page_parts
 from bpfrec_host.info.text import text_parts
 from bpfrec_host.program import Audit, audit_of
 from bpfrec_host.streams import STREAM, input_at
-from bpfrec_host.words import Parser
 
 ABOUT = """\
 What is in a recording: rates, gaps, versions of filters, faults, as a text, as JSON or as a page.
@@ -59,7 +59,7 @@ def parser() -> Parser:
     return made
 
 
-def write_page(path: str, name: str, recording: Recording, audit: Audit, beside: Optional[Beside]) -> None:
+def write_page(path: str, name: str, recording: Recording, audit: Audit, beside: Optional[FactsFile]) -> None:
     """Writes the page of a recording of this name; not in the place of the recording or of its facts."""
     for what, taken in (("RECORDING", name), ("RECORDING.json", f"{name}.json")):
         if os.path.exists(path) and os.path.exists(taken) and os.path.samefile(path, taken):
@@ -85,22 +85,22 @@ def is_other(recording: Recording) -> bool:
     return is_empty and bool(recording.damages) and recording.damages[0].fault.name == "Sync"
 
 
-def run(words: list[str]) -> int:
+def run(arguments: list[str]) -> int:
     """Tells what is in a recording: the status."""
-    given = parser().parse_args(words)
+    given = parser().parse_args(arguments)
     judge_output(given.recording)
     audit = audit_of(given.recording, given.quiet)
     # An audit that says yes has summed all data.
     recording = read(given.recording, not audit.is_yes(), given.quiet)
     if is_other(recording):
-        tell(f"{short_name('info')}: {given.recording}: no recording{guess_at(given.recording)}")
+        printing.err(f"{short_name('info')}: {given.recording}: no recording{guess_at(given.recording)}")
         return 1
     beside = facts_beside(given.recording)
     if given.json:
         parts = json.JSONEncoder(indent=2).iterencode(object_of(recording, audit.answer, beside))
-        say_parts(chain(parts, ["\n"]))
+        printing.out_parts(chain(parts, ["\n"]))
     elif not given.html:
-        say_parts(text_parts(recording, audit, beside))
+        printing.out_parts(text_parts(recording, audit, beside))
     if given.html:
         write_page(given.html, given.recording, recording, audit, beside)
     return 1 if recording.damage_count else 0

@@ -210,15 +210,15 @@ class Recording:
         self.last_frames: Optional[tuple[int, int]] = None
         self.damage_count, self.damaged_bytes = 0, 0
 
-    def take(self, it: Union[ch11.Packet, ch11.Damage]) -> None:
+    def take(self, piece: Union[ch11.Packet, ch11.Damage]) -> None:
         """Takes a packet, or what stands in the place of packets."""
-        if isinstance(it, ch11.Damage):
-            self.take_damage(it)
+        if isinstance(piece, ch11.Damage):
+            self.take_damage(piece)
             return
-        header, what = it.header, it.what
-        self.bytes += len(it.bytes)
+        header, what = piece.header, piece.what
+        self.bytes += len(piece.bytes)
         self.kinds[KINDS[type(what)]] += 1
-        self.follow(it)
+        self.follow(piece)
         if isinstance(what, ch11.Frames):
             self.channels[header.channel].take(what)
             self.last_frames = header.channel, header.counter
@@ -254,7 +254,7 @@ def read(path: str, is_summed: bool = True, is_quiet: bool = True) -> Recording:
     recording = Recording()
     with open(path, "rb") as file, Progress("reading", size_of(path), is_quiet) as progress:
         reader = ch11.Reader(file, is_summed)
-        for it in reader.pieces():
-            recording.take(it)
+        for piece in reader.pieces():
+            recording.take(piece)
             progress.at(reader.at)
     return recording

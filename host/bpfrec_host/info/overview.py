@@ -6,8 +6,8 @@ from typing import Iterator, Optional
 
 from bpfrec_host.formats import ch11
 from bpfrec_host.formats.limits import TICKS_A_SECOND
-from bpfrec_host.info.beside import Beside, interface_of, time_of
 from bpfrec_host.info.contents import Channel, Recording
+from bpfrec_host.info.facts_file import FactsFile, interface_of, time_of
 
 HEADS = ("channel", "frames", "offered", "frames/s", "first s", "last s", "remarks")
 # What stands ahead of the remarks where facts have it.
@@ -47,7 +47,7 @@ def line_of(number: int, channel: Channel, missing: int, name: str) -> str:
     return f"{numbers}  {name}{', '.join(remarks_of(channel, missing))}".rstrip()
 
 
-def damage_line(damage: ch11.Damage, before: Optional[tuple[int, int]], beside: Optional[Beside]) -> str:
+def damage_line(damage: ch11.Damage, before: Optional[tuple[int, int]], beside: Optional[FactsFile]) -> str:
     """A damaged place with the channel and the time of the frames that stand before it."""
     place = f"DAMAGED {damage.fault.name} at {damage.fault.at:,} ({damage.length:,} bytes)"
     if before is None:
@@ -57,15 +57,15 @@ def damage_line(damage: ch11.Damage, before: Optional[tuple[int, int]], beside: 
     return f"{place}, behind frames of channel {channel} at {time_text(counter)} s{f', {moment}' if moment else ''}"
 
 
-def overview(recording: Recording, beside: Optional[Beside]) -> Iterator[str]:
+def overview(recording: Recording, beside: Optional[FactsFile]) -> Iterator[str]:
     """The table of all channels, and the first damaged places, line by line."""
     names = {it: interface_of(it, beside) for it in recording.channels}
     # No column where there is no name.
     width = max([len(INTERFACE), *map(len, names.values())]) + 2 if any(names.values()) else 0
     heads = " ".join(f"{it:>{each}}" for it, each in zip(HEADS, WIDTHS))
     yield f"{heads}  {INTERFACE[:width]:<{width}}{HEADS[-1]}\n"
-    for number, it in sorted(recording.channels.items()):
-        yield f"{line_of(number, it, recording.missing[number], f'{names[number]:<{width}}')}\n"
+    for number, channel in sorted(recording.channels.items()):
+        yield f"{line_of(number, channel, recording.missing[number], f'{names[number]:<{width}}')}\n"
     shown = list(zip(recording.damages, recording.before))[:MOST_SHOWN]
     for damage, before in shown:
         yield f"{damage_line(damage, before, beside)}\n"

@@ -7,8 +7,8 @@ from typing import Collection, Iterable, Iterator, Optional
 
 from bpfrec_host import program
 from bpfrec_host.filter_texts import Texts
-from bpfrec_host.info.beside import Beside, interface_of, on_a_line
 from bpfrec_host.info.contents import Channel, Recording
+from bpfrec_host.info.facts_file import FactsFile, interface_of, on_a_line
 from bpfrec_host.info.text import Row, number, rows_of, rows_of_whole, seconds
 from bpfrec_host.info.timeline import Axis, escaped, last_of, timeline
 
@@ -75,7 +75,7 @@ def filters(channel: Channel, axis: Axis, texts: Texts) -> Iterator[str]:
         yield f"<p>and {number(channel.hidden_versions)} more versions</p>"
 
 
-def section(channel_id: int, channel: Channel, axis: Axis, texts: Texts, beside: Optional[Beside]) -> str:
+def section(channel_id: int, channel: Channel, axis: Axis, texts: Texts, beside: Optional[FactsFile]) -> str:
     """What the page has of a channel."""
     bad, interface = [] if channel.end else ["end record"], interface_of(channel_id, beside)
     title = f"Channel {channel_id}{f': {interface}' if interface else ''}"
@@ -85,7 +85,7 @@ def section(channel_id: int, channel: Channel, axis: Axis, texts: Texts, beside:
     )
 
 
-def bad_rows(recording: Recording, audit: program.Audit, beside: Optional[Beside]) -> list[str]:
+def bad_rows(recording: Recording, audit: program.Audit, beside: Optional[FactsFile]) -> list[str]:
     """The names of the rows that tell of a loss or of damage."""
     return [
         *["damaged places"] * bool(recording.damages),
@@ -95,7 +95,9 @@ def bad_rows(recording: Recording, audit: program.Audit, beside: Optional[Beside
     ]
 
 
-def page_parts(name: str, recording: Recording, audit: program.Audit, beside: Optional[Beside] = None) -> Iterator[str]:
+def page_parts(
+    name: str, recording: Recording, audit: program.Audit, beside: Optional[FactsFile] = None
+) -> Iterator[str]:
     """The page of a recording of this name, part by part."""
     axis, texts = Axis(recording.channels.values()), Texts()
     whole = table(rows_of_whole(recording, audit, beside), bad_rows(recording, audit, beside))
@@ -107,6 +109,6 @@ def page_parts(name: str, recording: Recording, audit: program.Audit, beside: Op
         f"<title>{escaped(name)}</title><style>{STYLE}</style><h1>{escaped(name)}</h1>{whole}"
         f"<p>{escaped(span)} {escaped(LEGEND)}{escaped(times)}</p>"
     )
-    for channel, it in sorted(recording.channels.items()):
-        yield section(channel, it, axis, texts, beside)
+    for channel, contents in sorted(recording.channels.items()):
+        yield section(channel, contents, axis, texts, beside)
     yield "</html>\n"

@@ -6,8 +6,8 @@ from typing import Iterator, Optional, Union
 
 from bpfrec_host.formats import ch11, facts
 from bpfrec_host.formats.limits import TICKS_A_SECOND
-from bpfrec_host.info.beside import Beside, interface_of, on_a_line, time_of
 from bpfrec_host.info.contents import KINDS, MOST_PLACES, Channel, Missing, Recording
+from bpfrec_host.info.facts_file import FactsFile, interface_of, on_a_line, time_of
 from bpfrec_host.info.overview import overview
 from bpfrec_host.program import Audit
 
@@ -36,7 +36,7 @@ def origin_text(origin: facts.Origin) -> str:
     return f"{facts.utc_of(origin.moment)} from counter {number(origin.counter)} on{setting}"
 
 
-def rows_of(channel: Channel, beside: Optional[Beside]) -> list[Row]:
+def rows_of(channel: Channel, beside: Optional[FactsFile]) -> list[Row]:
     """What is known of a channel."""
     mean, most, width = channel.mean_rate(), channel.rates.greatest(), channel.rates.seconds()
     time = "a second" if width == 1 else f"{width} seconds"
@@ -57,7 +57,7 @@ def rows_of(channel: Channel, beside: Optional[Beside]) -> list[Row]:
     ]
 
 
-def counter_rows(channel: Channel, beside: Optional[Beside]) -> Iterator[Row]:
+def counter_rows(channel: Channel, beside: Optional[FactsFile]) -> Iterator[Row]:
     """The first and the last counter of a channel, with their times where there are facts."""
     first, last, least, greatest = channel.counters() or (None, None, None, None)
     for name, counter in (("first", first), ("last", last)):
@@ -68,14 +68,14 @@ def counter_rows(channel: Channel, beside: Optional[Beside]) -> Iterator[Row]:
         yield "least, greatest counter", f"{number(least)}, {number(greatest)}"
 
 
-def beside_rows(beside: Beside) -> Iterator[Row]:
+def beside_rows(beside: FactsFile) -> Iterator[Row]:
     """What the facts beside a recording say."""
     origins = beside.known.origins
     lost = [f"{number(count)} {name}" for name, count in beside.known.losses.items() if count]
     yield "facts", on_a_line(beside.path)
     yield "host", on_a_line(beside.known.host)
-    for it in origins[:MOST_PLACES]:
-        yield "origin", origin_text(it)
+    for origin in origins[:MOST_PLACES]:
+        yield "origin", origin_text(origin)
     if len(origins) > MOST_PLACES:
         yield "origin", f"and {number(len(origins) - MOST_PLACES)} more"
     yield "frames lost", ", ".join(lost) or "none"
@@ -97,7 +97,7 @@ def listed(texts: list[str], count: int) -> str:
     return ", ".join([*texts, *([f"and {number(more)} more"] if more else [])]) or "none"
 
 
-def rows_of_whole(recording: Recording, audit: Audit, beside: Optional[Beside]) -> list[Row]:
+def rows_of_whole(recording: Recording, audit: Audit, beside: Optional[FactsFile]) -> list[Row]:
     """What is known of a recording on the whole."""
     return [
         ("bytes", number(recording.bytes)),
@@ -109,7 +109,7 @@ def rows_of_whole(recording: Recording, audit: Audit, beside: Optional[Beside]) 
     ]
 
 
-def channel_lines(channel_id: int, channel: Channel, beside: Optional[Beside]) -> Iterator[str]:
+def channel_lines(channel_id: int, channel: Channel, beside: Optional[FactsFile]) -> Iterator[str]:
     """The lines of a channel, behind an empty one."""
     versions = [
         (f"version {it.name()}", f"from frame {number(it.first)}, counter {number(it.counter)}")
@@ -121,11 +121,11 @@ def channel_lines(channel_id: int, channel: Channel, beside: Optional[Beside]) -
         yield f"  {name:<26} {value}\n"
 
 
-def text_parts(recording: Recording, audit: Audit, beside: Optional[Beside] = None) -> Iterator[str]:
+def text_parts(recording: Recording, audit: Audit, beside: Optional[FactsFile] = None) -> Iterator[str]:
     """A table of all channels, and then all numbers, as the parts of a text."""
     yield from overview(recording, beside)
     yield "\n"
     for name, value in rows_of_whole(recording, audit, beside):
         yield f"{name:<26} {value}\n"
-    for channel_id, it in sorted(recording.channels.items()):
-        yield from channel_lines(channel_id, it, beside)
+    for channel_id, channel in sorted(recording.channels.items()):
+        yield from channel_lines(channel_id, channel, beside)

@@ -66,5 +66,5 @@ def refuse_together(given: Arguments) -> None:
         raise Refusal(2, "live: --keep and --keep-free remove what was audited, and --no-audit audits nothing")
     if given.status_names and given.status is None:
         raise Refusal(2, "live: --status-name needs --status")
-    if given.flush is not None and not given.ways:
+    if given.flush is not None and not given.routes:
         raise Refusal(2, "live: --flush needs an interface")

@@ -6,11 +6,11 @@ import argparse
 import re
 from typing import Callable, NamedTuple, NoReturn, Optional
 
-from bpfrec_host.ending import full_name, tell
+from bpfrec_host import printing
+from bpfrec_host.arguments import Parser, full_name
 from bpfrec_host.live.help import ABOUT, MORE
-from bpfrec_host.live.life import are_rotating
-from bpfrec_host.live.words import Way, words_of
-from bpfrec_host.words import Parser
+from bpfrec_host.live.model import are_rotating
+from bpfrec_host.live.operands import Route, operands_of
 
 # The recorder opens OUT anew, to write it.
 OWNERS = 0o600
@@ -30,7 +30,7 @@ class Arguments(NamedTuple):
     # None where all frames are wanted.
     settings: Optional[str]
     out: str
-    ways: list[Way]
+    routes: list[Route]
     # The capture's options, as they were given.
     options: list[str]
     every: Optional[int]
@@ -71,7 +71,7 @@ class LiveParser(Parser):
 
     def error(self, message: str) -> NoReturn:
         """Ends where the arguments are wrong."""
-        tell(f"live: {fault_of(message)}")
+        printing.err(f"live: {fault_of(message)}")
         self.exit(2)
 
 
@@ -141,7 +141,7 @@ def parser() -> Parser:
     for option in PLAIN:
         made.add_argument(option, nargs=0, action=kept(options), help="as for capture")
     made.set_defaults(options=options)
-    made.add_argument("words", nargs="*", help=argparse.SUPPRESS)
+    made.add_argument("operands", nargs="*", help=argparse.SUPPRESS)
     return made
 
 
@@ -157,15 +157,15 @@ def kept(options: list[str]) -> type[argparse.Action]:
     return Kept
 
 
-def read(words: list[str]) -> Arguments:
+def read(arguments: list[str]) -> Arguments:
     """The arguments of a command line; one that is wrong ends live, or is a Refusal."""
-    end = words.index("--") if "--" in words else len(words)
-    given = parser().parse_intermixed_args(words[:end])
-    named = words_of([*given.words, *words[end + 1 :]])
+    end = arguments.index("--") if "--" in arguments else len(arguments)
+    given = parser().parse_intermixed_args(arguments[:end])
+    named = operands_of([*given.operands, *arguments[end + 1 :]])
     return Arguments(
         settings=named.settings,
         out=named.out,
-        ways=named.ways,
+        routes=named.routes,
         options=given.options,
         every=given.every,
         size=given.size,

@@ -10,9 +10,11 @@ from typing import Callable, Optional
 from bpfrec_host.live import children, system
 from bpfrec_host.live.arguments import Arguments
 from bpfrec_host.live.capture_lines import CaptureLines
+from bpfrec_host.live.events import Counted, event_in
 from bpfrec_host.live.folder import Folder
 from bpfrec_host.live.loop import Loop
-from bpfrec_host.live.observer import Counts
+from bpfrec_host.live.model import KILLED
+from bpfrec_host.live.ports import Counts
 
 # An interface whose reader has left waits so long for word that a recorder follows, in seconds.
 HOLD = 3
@@ -24,39 +26,68 @@ class Capture:
     def __init__(self, program: str, given: Arguments, folder: Folder, loop: Loop) -> None:
         self.program, self.given, self.folder, self.loop = program, given, folder, loop
         self.child: Optional[children.Child] = None
+        # What comes here of it: the lines that it prints, and its counts.
         self.lines: Optional[CaptureLines] = None
+        self.counts: Optional[CaptureLines] = None
+        # What it has counted last, by interface.
+        self.last: dict[str, Counts] = {}
 
-    def read_lines(self, say: Callable[[str], None], counted: Callable[[str, Counts], None], is_quiet: bool) -> None:
-        """Has what it tells come here, and its counts taken out, also where nobody is told of them each second."""
-        self.lines = CaptureLines(self.loop, is_quiet, say, counted)
+    def read_lines(self, err: Callable[[str], None]) -> None:
+        """Has the lines come here that it prints, without those of each second."""
+        self.lines = CaptureLines(self.loop, err)
 
-    def words(self) -> list[str]:
+    def read_counts(self, counted: Callable[[str, Counts], None]) -> None:
+        """Has its counts come here each second, also where it prints no line of them."""
+
+        def take(line: str) -> None:
+            event = event_in(line)
+            if isinstance(event, Counted):
+                self.last[event.interface] = event.counts
+                counted(event.interface, event.counts)
+
+        self.counts = CaptureLines(self.loop, take)
+
+    def arguments(self) -> list[str]:
         """Its command line."""
-        words = [self.program]
-        words += [it for it in self.given.options if not self.lines or it != "--quiet"]
-        words += self.folder.prefilters() if self.given.is_prefiltered else []
-        words += self.folder.judges() if self.given.flush is not None else []
-        words += ["--events", str(self.folder.events), "--parent", str(os.getpid())]
-        words += ["--hold", str(HOLD)] if self.given.is_rotating() else []
-        return words + self.folder.sources()
+        arguments = [self.program, *self.given.options]
+        arguments += ["--quiet"] if self.lines else []
+        arguments += ["--counts", str(self.counts.writer)] if self.counts else []
+        arguments += self.folder.prefilters() if self.given.is_prefiltered else []
+        arguments += self.folder.judges() if self.given.flush is not None else []
+        arguments += ["--events", str(self.folder.events), "--parent", str(os.getpid())]
+        arguments += ["--hold", str(HOLD)] if self.given.is_rotating() else []
+        return arguments + self.folder.sources()
 
     def start(self, everybody: int, ended: Callable[[int], None]) -> None:
         """Starts it. `everybody` is what each program has open that live starts."""
         errors = self.lines.writer if self.lines else None
-        manner = children.CAPTURE._replace(kept=[everybody])
-        self.child = children.start(self.words(), (subprocess.DEVNULL, None, errors), manner)
+        kept = [everybody, *([self.counts.writer] if self.counts else [])]
+        manner = children.CAPTURE._replace(kept=kept)
+        self.child = children.start(self.arguments(), (subprocess.DEVNULL, None, errors), manner)
         # It alone needs the permission to capture.
         system.give_capabilities_up()
         self.loop.follow(self.child, ended)
-        if self.lines:
-            self.lines.follow()
+        for pipe in self.pipes():
+            pipe.follow()
+
+    def pipes(self) -> list[CaptureLines]:
+        """The pipes by which lines come here."""
+        return [it for it in (self.counts, self.lines) if it]
 
     def send(self, number: signal.Signals) -> None:
         """Sends it a signal."""
         if self.child:
             self.child.send(number)
 
-    def end(self) -> None:
-        """It has ended: tells the rest of what it told."""
-        if self.lines:
-            self.lines.end()
+    def end(self, status: int) -> list[str]:
+        """It has ended: takes the rest of what comes of it. Gives the lines of its last counts where it was killed, and
+        would have printed them at its end alone."""
+        for pipe in self.pipes():
+            pipe.end()
+        is_quiet = self.lines is not None or "--quiet" in self.given.options
+        return [line_of(*it) for it in self.last.items() if is_quiet and status > KILLED]
+
+
+def line_of(interface: str, counts: Counts) -> str:
+    """The line that the capture prints of these counts."""
+    return f"capture: {interface} {' '.join(f'{name} {count}' for name, count in counts._asdict().items())}"

@@ -10,11 +10,11 @@ from typing import IO, NamedTuple, Optional, Sequence, Union
 
 from bpfrec_host.live import system
 from bpfrec_host.live.descriptors import Holder
+from bpfrec_host.live.model import KILLED
 
 # What ends live, and what it sends the capture.
 ENDING = (signal.SIGINT, signal.SIGTERM, signal.SIGHUP)
 HELD = (*ENDING, signal.SIGUSR1, signal.SIGUSR2)
-KILLED = 128
 Stream = Union[int, IO[bytes]]
 
 
@@ -72,14 +72,16 @@ def opened(process: int) -> Optional[int]:
         return None
 
 
-def start(words: Sequence[str], streams: tuple[Stream, Optional[Stream], Optional[Stream]], manner: Manner) -> Child:
+def start(
+    arguments: Sequence[str], streams: tuple[Stream, Optional[Stream], Optional[Stream]], manner: Manner
+) -> Child:
     """Starts a program with these three streams; None is the stream of live."""
     parent, before = os.getpid(), signal.pthread_sigmask(signal.SIG_BLOCK, HELD)
 
     def prepare() -> None:
         os.setpgid(0, 0)
-        for it in manner.ignored:
-            signal.signal(it, signal.SIG_IGN)
+        for number in manner.ignored:
+            signal.signal(number, signal.SIG_IGN)
         signal.pthread_sigmask(signal.SIG_SETMASK, manner.blocked)
         if not manner.has_capabilities:
             system.keep_capabilities_from_children()
@@ -90,7 +92,7 @@ def start(words: Sequence[str], streams: tuple[Stream, Optional[Stream], Optiona
 
     try:
         process = subprocess.Popen(
-            words,
+            arguments,
             stdin=streams[0],
             stdout=streams[1],
             stderr=streams[2],

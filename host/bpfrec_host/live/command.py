@@ -6,15 +6,14 @@ import os
 import shutil
 from typing import Optional
 
-from bpfrec_host import program
-from bpfrec_host.ending import tell
+from bpfrec_host import printing, program
 from bpfrec_host.live.ahead import refuse_few_descriptors, refuse_holder, refuse_many_channels, refuse_together
 from bpfrec_host.live.arguments import Arguments, parser, read
 from bpfrec_host.live.filters import judge_filters
 from bpfrec_host.live.folder import Folder, judge_settings, made_settings, read_settings
 from bpfrec_host.live.loop import Signals
 from bpfrec_host.live.names import Files, Names, Refusal, is_special, refuse_folder, refuse_long, unreadable
-from bpfrec_host.live.observer import Observer
+from bpfrec_host.live.ports import Observer
 from bpfrec_host.live.run import Programs, Run
 from bpfrec_host.live.status import BadEndpoint, NoServer, Status, Terminal, endpoint_in
 from bpfrec_host.live.status.observer import USUAL_LIMIT
@@ -22,15 +21,15 @@ from bpfrec_host.live.status.observer import USUAL_LIMIT
 __all__ = ["parser", "run"]
 
 
-def run(words: list[str], observer: Optional[Observer] = None) -> int:
+def run(arguments: list[str], observer: Optional[Observer] = None) -> int:
     """Records: the status."""
     # A signal may come before there is anything to end.
     signals = Signals()
     try:
-        given = read(words)
+        given = read(arguments)
         programs = find_programs(given)
         look_ahead(given)
-        text, settings = read_settings(given.settings) if given.settings else made_settings(given.ways)
+        text, settings = read_settings(given.settings) if given.settings else made_settings(given.routes)
         refuse_many_channels(settings)
         refuse_few_descriptors(given, len(settings.channels))
         judge_settings(settings, given)
@@ -39,16 +38,16 @@ def run(words: list[str], observer: Optional[Observer] = None) -> int:
         status = made_status(given, settings.document.get("limit"), terminal)
         folder = Folder(text, settings, given)
     except Refusal as refusal:
-        tell(refusal.line)
+        printing.err(refusal.line)
         return refusal.status
     if signals.come():
-        tell("live: it was ended before anything was begun")
+        printing.err("live: it was ended before anything was begun")
         return 3
     try:
         recording = Run(given, programs, folder, signals, observer or status, terminal)
     except Refusal as refusal:
         folder.remove_all()
-        tell(refusal.line)
+        printing.err(refusal.line)
         return refusal.status
     except BaseException:
         folder.remove_all()
@@ -62,7 +61,7 @@ def run_shown(recording: Run, status: Optional[Status]) -> int:
         # The guard was copied by now, and has no thread of the server's.
         status.start()
         if status.address():
-            recording.say(f"status: {status.address()}")
+            recording.err(f"status: {status.address()}")
     try:
         return recording.run()
     finally:
@@ -90,7 +89,7 @@ def find_programs(given: Arguments) -> Programs:
     except program.Missing as why:
         raise Refusal(3, f"live: {why}") from None
     capture = program.capture_path()
-    if given.ways and not shutil.which(capture):
+    if given.routes and not shutil.which(capture):
         made = "make build makes it where libpcap's headers are (apt-get install libpcap-dev)"
         raise Refusal(3, f"live: {capture} is missing: {made}")
     return Programs(bpfrec, capture)
@@ -110,9 +109,9 @@ def look_ahead(given: Arguments) -> None:
         Files(given.mode, given.is_forced).refuse_overwriting(given.out)
         if not is_special(given.out):
             refuse_folder(given.out)
-            refuse_long(given.out, bool(given.ways))
+            refuse_long(given.out, bool(given.routes))
         return
-    if not given.ways:
+    if not given.routes:
         raise Refusal(2, "live: --every and --size need an interface")
     if os.path.exists(given.out) and not os.path.isfile(given.out):
         raise Refusal(2, f"live: --every and --size make files, and {given.out} is not a file")

@@ -1,38 +1,138 @@
-"""What the capture notes while it runs, a line of JSON each: origins, losses and counts."""
+"""What the capture says of a run, a line of JSON each: origins, losses and counts in a file, and on a pipe the counts of
+each second."""
 
 from __future__ import annotations
 
 import json
 import os
 from pathlib import Path
-from typing import Any, Iterator
+from typing import Any, Callable, Iterator, NamedTuple, Optional, Union
+
+from bpfrec_host.live.ports import Counts
 
 READ_LEN = 1 << 20
 Entry = dict[str, Any]
 
 
+class Origin(NamedTuple):
+    """The moment from which counters count, from a counter on, and by how much the clock was set: each in seconds."""
+
+    origin: str
+    counter: int
+    set_by: Optional[str]
+
+    def facts(self) -> Entry:
+        """The origin as the facts have it."""
+        return {name: value for name, value in self._asdict().items() if value is not None}
+
+
+class Loss(NamedTuple):
+    """What an interface lost from a counter up to another. `feed` is the number of the recording whose feed it wrote,
+    from 0."""
+
+    interface: str
+    begin: int
+    end: int
+    dropped: int
+    missed: int
+    skipped: int
+    feed: int
+
+    def facts(self) -> Entry:
+        """The loss as the facts have it."""
+        lost = {"dropped": self.dropped, "missed": self.missed, "skipped": self.skipped}
+        return {"interface": self.interface, "from": self.begin, "to": self.end, **lost}
+
+
+class Counted(NamedTuple):
+    """What was counted of an interface up to a counter."""
+
+    interface: str
+    counter: int
+    counts: Counts
+    feed: int
+
+    def facts(self) -> Entry:
+        """The counts as the facts have them."""
+        return {"interface": self.interface, "counter": self.counter, **self.counts._asdict()}
+
+
+class LostInAll(NamedTuple):
+    """What an interface lost in the whole run."""
+
+    interface: str
+    dropped: int
+    skipped: int
+    missed: int
+
+    def sentence(self) -> str:
+        """What is printed of it."""
+        missed = f" {self.missed} missed" if self.missed else ""
+        return f"{self.interface} LOST {self.dropped} dropped {self.skipped} skipped{missed}"
+
+
+Event = Union[Origin, Loss, Counted, LostInAll]
+
+
+def origin_of(told: Entry) -> Origin:
+    """The origin that an object is."""
+    return Origin(told["origin"], told["counter"], told.get("set_by"))
+
+
+def loss_of(told: Entry) -> Loss:
+    """The loss that an object is."""
+    lost = (told["dropped"], told["missed"], told["skipped"])
+    return Loss(told["lost"], told["from"], told["to"], *lost, told["feed"])
+
+
+def counted_of(told: Entry) -> Counted:
+    """The counts that an object is."""
+    counts = Counts(*(told[name] for name in Counts._fields))
+    return Counted(told["counts"], told["counter"], counts, told["feed"])
+
+
+def lost_in_all_of(told: Entry) -> LostInAll:
+    """The losses in all that an object is."""
+    return LostInAll(told["lost_in_all"], told["dropped"], told["skipped"], told["missed"])
+
+
+# What an object becomes, by the key that it has alone.
+KINDS: dict[str, Callable[[Entry], Event]] = {
+    "origin": origin_of,
+    "lost": loss_of,
+    "counts": counted_of,
+    "lost_in_all": lost_in_all_of,
+}
+
+
+def event_in(line: str) -> Optional[Event]:
+    """The event of a line; None where it has none, as one that was cut."""
+    try:
+        told = json.loads(line)
+        return next((made(told) for key, made in KINDS.items() if key in told), None)
+    except (ValueError, KeyError, TypeError):
+        return None
+
+
 class Events:
-    """The events that were noted so far. `feed` is the number of the recording whose feed an interface wrote, from 0."""
+    """The events that were noted in a file so far."""
 
     def __init__(self, path: Path) -> None:
         # Open from now on, so that no shortage of descriptors hides what comes.
         self.file = open(path, "rb", buffering=0)
         self.at, self.rest = 0, b""
-        self.origins: list[Entry] = []
-        self.losses: dict[int, list[Entry]] = {}
-        # By feed and interface: what was counted last.
-        self.counts: dict[int, dict[str, Entry]] = {}
-        self.lost_in_all: list[str] = []
+        self.origins: list[Origin] = []
+        # By feed, and what was counted last by interface too.
+        self.losses: dict[int, list[Loss]] = {}
+        self.counts: dict[int, dict[str, Counted]] = {}
+        self.lost_in_all: list[LostInAll] = []
 
     def read(self) -> int:
         """Reads what is new: how many events."""
         count = 0
         for line in self.lines():
-            try:
-                event = json.loads(line.decode(errors="ignore"))
-            except ValueError:
-                continue
-            if isinstance(event, dict):
+            event = event_in(line.decode(errors="ignore"))
+            if event is not None:
                 self.take(event)
                 count += 1
         return count
@@ -44,32 +144,26 @@ class Events:
             *lines, self.rest = (self.rest + part).split(b"\n")
             yield from lines
 
-    def take(self, event: Entry) -> None:
+    def take(self, event: Event) -> None:
         """Takes an event."""
-        feed = event.pop("feed", 0)
-        if "origin" in event:
+        if isinstance(event, Origin):
             self.origins.append(event)
-        elif "lost_in_all" in event:
-            self.lost_in_all.append(event["lost_in_all"])
-        elif "lost" in event:
-            self.losses.setdefault(feed, []).append(renamed(event, "lost"))
-        elif "counts" in event:
-            self.counts.setdefault(feed, {})[event["counts"]] = renamed(event, "counts")
+        elif isinstance(event, Loss):
+            self.losses.setdefault(event.feed, []).append(event)
+        elif isinstance(event, Counted):
+            self.counts.setdefault(event.feed, {})[event.interface] = event
+        else:
+            self.lost_in_all.append(event)
 
     def facts(self, feed: int) -> Entry:
         """What the facts of the recording with this feed have of it."""
         return {
-            "origins": list(self.origins),
-            "counts": list(self.counts.get(feed, {}).values()),
-            "losses": list(self.losses.get(feed, [])),
+            "origins": [it.facts() for it in self.origins],
+            "counts": [it.facts() for it in self.counts.get(feed, {}).values()],
+            "losses": [it.facts() for it in self.losses.get(feed, [])],
         }
 
     def forget(self, feed: int) -> None:
         """Forgets what was noted of a feed that has ended."""
         self.losses.pop(feed, None)
         self.counts.pop(feed, None)
-
-
-def renamed(event: Entry, key: str) -> Entry:
-    """An event of an interface as the facts have it: its name comes first."""
-    return {"interface": event[key], **{name: it for name, it in event.items() if name != key}}

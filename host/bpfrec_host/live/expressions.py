@@ -7,25 +7,25 @@ import shutil
 import subprocess
 
 from bpfrec_host.live.names import Refusal
-from bpfrec_host.live.words import Way
+from bpfrec_host.live.operands import Route
 
 ALL_FRAMES = "1,6 0 0 4294967295,"
 # An expression may name hosts, which are looked up.
 PATIENCE = 30
 
 
-def listing_of(way: Way) -> str:
+def listing_of(route: Route) -> str:
     """The listing of an interface's filter. Of no interface: so it finds the tags of VLANs in the frames' bytes, as the
     wire and the recorder have them."""
-    if way.expression is None:
+    if route.expression is None:
         return ALL_FRAMES
     program = shutil.which("tcpdump")
     if program is None:
         raise Refusal(3, "live: tcpdump is missing, which makes a filter of an expression: apt-get install tcpdump")
-    words = [program, "-y", "EN10MB", "-ddd", "--", way.expression]
+    arguments = [program, "-y", "EN10MB", "-ddd", "--", route.expression]
     try:
         done = subprocess.run(
-            words,
+            arguments,
             stdin=subprocess.DEVNULL,
             capture_output=True,
             check=False,
@@ -33,16 +33,23 @@ def listing_of(way: Way) -> str:
             env={**os.environ, "LC_ALL": "C"},
         )
     except (OSError, subprocess.TimeoutExpired) as error:
-        raise Refusal(3, f"live: {way.interface}={way.channel}:{way.expression}: tcpdump: {error}") from None
+        raise Refusal(3, f"live: {route.interface}={route.channel}:{route.expression}: tcpdump: {error}") from None
     if done.returncode != 0:
         told = done.stderr.decode(errors="replace").strip().splitlines()
-        raise Refusal(2, f"live: {way.interface}={way.channel}:{way.expression}: {told[-1] if told else 'tcpdump'}")
+        raise Refusal(
+            2, f"live: {route.interface}={route.channel}:{route.expression}: {told[-1] if told else 'tcpdump'}"
+        )
     return done.stdout.decode()
 
 
-def settings_text(ways: list[Way]) -> str:
+def settings_text(routes: list[Route]) -> str:
     """Settings of interfaces for which none were given, as the facts have them; filters stand there beside."""
     lines = ["# live was given no settings"]
-    for way in ways:
-        lines += ["", "[[channel]]", f"id = {way.channel}", f"# {way.expression or 'all frames'}".replace("\n", " ")]
+    for route in routes:
+        lines += [
+            "",
+            "[[channel]]",
+            f"id = {route.channel}",
+            f"# {route.expression or 'all frames'}".replace("\n", " "),
+        ]
     return "".join(f"{line}\n" for line in lines)

@@ -1,4 +1,4 @@
-"""The facts beside a recording, OUT.json, as docs/user/FORMATS.md has them: made, and put in the place of earlier ones."""
+"""The facts beside a recording, OUT.json, by docs/user/formats/live.md: made, and put in the place of earlier ones."""
 
 from __future__ import annotations
 
@@ -64,9 +64,9 @@ class Writer:
             "clock": self.given.clock(),
             "prefilter": self.given.is_prefiltered,
             "origin_utc": None,
-            "adapters": [adapter_of(it.interface, self.given.clock()) for it in self.given.ways],
+            "adapters": [adapter_of(it.interface, self.given.clock()) for it in self.given.routes],
             "synchronisation": {"begin": synchronisation(), "end": None},
-            "interfaces": [{"interface": it.interface, "channel": it.channel} for it in self.given.ways],
+            "interfaces": [{"interface": it.interface, "channel": it.channel} for it in self.given.routes],
             "settings": self.folder.text,
             "filters": [it for it in (self.filter(*named) for named in self.folder.filters()) if it],
         }
@@ -83,15 +83,15 @@ class Writer:
             return None
         text = self.answer("dis", "-", given=listing)
         made: Entry = {"channel": channel, "listing": listing.decode(errors="ignore"), "text": text}
-        given = [it.expression for it in self.given.ways if it.channel == channel and it.expression]
+        given = [it.expression for it in self.given.routes if it.channel == channel and it.expression]
         return {**made, "expression": given[0]} if given else made
 
-    def answer(self, *words: str, given: bytes = b"") -> str:
+    def answer(self, *arguments: str, given: bytes = b"") -> str:
         """What the program prints; nothing where it can't be run."""
         try:
             # In a session of its own, so that no signal to all ends it.
             done = subprocess.run(
-                [self.bpfrec, *words], input=given, capture_output=True, check=False, start_new_session=True
+                [self.bpfrec, *arguments], input=given, capture_output=True, check=False, start_new_session=True
             )
         except OSError:
             return ""

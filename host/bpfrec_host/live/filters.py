@@ -3,7 +3,8 @@
 from __future__ import annotations
 
 from bpfrec_host import program
-from bpfrec_host.formats.listing import is_no_listing, no_listing
+from bpfrec_host.formats.answers import is_no_listing
+from bpfrec_host.formats.listing import no_listing
 from bpfrec_host.formats.settings import Settings
 from bpfrec_host.live.arguments import Arguments
 from bpfrec_host.live.names import Refusal, is_special, unreadable
@@ -11,7 +12,7 @@ from bpfrec_host.live.names import Refusal, is_special, unreadable
 
 def judge_filters(settings: Settings, given: Arguments) -> None:
     """Refuses a filter that can't be installed, but of a channel whose filter the arguments give."""
-    replaced = {it.channel for it in given.ways if it.expression or given.settings is None}
+    replaced = {it.channel for it in given.routes if it.expression or given.settings is None}
     judged = set()
     for channel in settings.recorded():
         path = channel.path("filter")

@@ -4,23 +4,16 @@ line does it. So the recorder closes the packet ahead of the channel's next fram
 from __future__ import annotations
 
 import os
+from collections import deque
+from contextlib import suppress
 from typing import Callable, Optional
 
-from bpfrec_host.formats.ch11.body import BadBody, Program, record_in
-from bpfrec_host.formats.ch11.packet import header_fault, header_of
-from bpfrec_host.formats.limits import (
-    COMPUTER_GENERATED_DATA,
-    ETHERNET_DATA,
-    HEADER_LEN,
-    INSN_LEN,
-    MAX_INSNS,
-    MAX_VERSIONS,
-    PROGRAM_HEAD_LEN,
-    RECORD_CHANNEL,
-)
-from bpfrec_host.live.changes import Change
+from bpfrec_host.formats.ch11.body import Program
+from bpfrec_host.formats.ch11.follow import Follower, Front
+from bpfrec_host.formats.limits import ETHERNET_DATA, MAX_VERSIONS
+from bpfrec_host.live.control.changes import Change
 from bpfrec_host.live.folder import COUNT_LEN, Folder
-from bpfrec_host.live.recorder import Recorded
+from bpfrec_host.live.recorder import Recorder
 
 # A recording is looked at so often in the time that a packet may be open.
 LOOKS = 8
@@ -28,9 +21,6 @@ LOOKS = 8
 COUNT_PAUSE = 0.1
 # So many filters a channel may have in a recording until the rest is left to lines.
 MOST_FILTERS = MAX_VERSIONS * 3 // 4
-# So many packets are looked at at once, at most.
-MOST_PACKETS = 4_096
-MOST_RECORD_LEN = PROGRAM_HEAD_LEN + MAX_INSNS * INSN_LEN
 
 
 class Age:
@@ -66,26 +56,30 @@ class Age:
 class Flush:
     """Gives channels their filters once more. `push` hands a recorder its lines."""
 
-    def __init__(self, seconds: int, folder: Folder, push: Callable[[Recorded], None]) -> None:
+    def __init__(self, seconds: int, folder: Folder, push: Callable[[Recorder], None]) -> None:
         self.seconds, self.pause, self.folder, self.push = seconds, seconds / LOOKS, folder, push
-        self.going: Optional[Recorded] = None
-        self.at, self.next_look, self.last_look = 0, 0.0, 0.0
+        self.going: Optional[Recorder] = None
+        # Reads its file, and the channels of which packets came.
+        self.follower: Optional[Follower] = None
+        self.closed: set[int] = set()
+        self.next_look = self.last_look = 0.0
         # Open from now on, so that no shortage of descriptors hides what comes.
         self.kept = open(folder.kept, "rb", buffering=0)
         judged = folder.judged()
         kept = [channel for channel, _ in folder.filters() if folder.kept_filter(channel).exists()]
         self.ages = {channel: Age(channel in judged) for channel in kept}
 
-    def begin(self, it: Recorded, now: float) -> None:
+    def begin(self, recorder: Recorder, now: float) -> None:
         """A recording has begun, which is the one that goes on."""
-        self.going, self.at, self.next_look = it, 0, now
+        self.going, self.next_look = recorder, now
+        self.follower = None if recorder.descriptor is None else Follower(recorder.descriptor, self.take)
         self.last_look = self.last_look or now
         for age in self.ages.values():
             age.begin(now)
 
-    def end(self, it: Recorded) -> None:
+    def end(self, recorder: Recorder) -> None:
         """A recording takes no lines any more."""
-        if self.going is it:
+        if self.going is recorder:
             self.going = None
 
     def deadline(self) -> Optional[float]:
@@ -94,63 +88,53 @@ class Flush:
 
     def tick(self, now: float) -> None:
         """Looks at what came, and gives channels their filters whose open packets are old."""
-        it = self.going
-        if not it or now < self.next_look:
+        recorder = self.going
+        if not recorder or now < self.next_look:
             return
         counts = self.counts()
-        closed = self.read_on(it)
+        closed = self.read_on(recorder)
         # A filter that was changed a moment ago would be changed back.
-        may_flush = not it.lines.unanswered and not it.lines.is_ending
+        may_flush = not recorder.lines.unanswered and not recorder.lines.is_ending
         for channel, age in self.ages.items():
             is_old = age.since is not None and now + self.pause - age.since > self.seconds
             if channel in closed:
                 age.cover(now)
             elif is_old and may_flush and age.filters < MOST_FILTERS:
-                self.give(it, channel)
+                self.give(recorder, channel)
                 age.cover(None)
             age.count(counts.get(channel, 0), self.last_look)
         self.last_look, self.next_look = now, now + self.pause
-        self.push(it)
+        self.push(recorder)
 
     def counts(self) -> dict[int, int]:
         """How many frames the capture has counted by channel, where it has by now."""
-        lines = os.pread(self.kept.fileno(), COUNT_LEN * len(self.folder.ways), 0).splitlines()
-        return {way.channel: int(line) for way, line in zip(self.folder.ways, lines) if line.isdigit()}
+        lines = os.pread(self.kept.fileno(), COUNT_LEN * len(self.folder.routes), 0).splitlines()
+        return {route.channel: int(line) for route, line in zip(self.folder.routes, lines) if line.isdigit()}
 
-    def give(self, it: Recorded, channel: int) -> None:
+    def give(self, recorder: Recorder, channel: int) -> None:
         """Gives a channel its filter."""
         line = b"set %d %s" % (channel, os.fsencode(self.folder.kept_filter(channel)))
-        it.lines.put(line, Change(channel, None, is_own=True))
+        recorder.lines.put(line, Change(channel, None, is_own=True))
 
     def installed(self, channel: int, version: int) -> None:
         """The recording that goes on has this version of a channel's filter, whoever gave it."""
         if channel in self.ages:
             self.ages[channel].filters = version + 1
 
-    def read_on(self, it: Recorded) -> set[int]:
+    def read_on(self, recorder: Recorder) -> set[int]:
         """The channels of which packets came since the last look."""
-        found: set[int] = set()
-        if it.descriptor is None:
-            return found
-        for _ in range(MOST_PACKETS):
-            head = os.pread(it.descriptor, HEADER_LEN, self.at)
-            if len(head) < HEADER_LEN or header_fault(head) is not None:
-                break
-            header = header_of(head)
-            if header.kind == ETHERNET_DATA:
-                found.add(header.channel)
-            elif header.kind == COMPUTER_GENERATED_DATA and header.channel == RECORD_CHANNEL:
-                found |= channels_in(
-                    os.pread(it.descriptor, min(header.data_len, MOST_RECORD_LEN), self.at + HEADER_LEN)
-                )
-            self.at += header.packet_len
-        return found
+        self.closed = set()
+        if self.follower and recorder.descriptor is not None:
+            # What is damaged or can't be read closes nothing, and is for the status to tell.
+            with suppress(OSError):
+                deque(self.follower.read_on(recorder.size()), 0)
+        return self.closed
 
-
-def channels_in(data: bytes) -> set[int]:
-    """The channel of a program's record, in a set; of another record none."""
-    try:
-        record = record_in(data)
-    except BadBody:
-        return set()
-    return {record.channel} if isinstance(record, Program) else set()
+    def take(self, front: Front) -> None:
+        """Notes the channel of a packet of frames, or of a program's record."""
+        if front.header.kind == ETHERNET_DATA:
+            self.closed.add(front.header.channel)
+            return
+        record = self.follower.record(front) if self.follower else None
+        if isinstance(record, Program):
+            self.closed.add(record.channel)

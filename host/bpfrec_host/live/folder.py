@@ -29,7 +29,7 @@ from bpfrec_host.live import system
 from bpfrec_host.live.arguments import Arguments
 from bpfrec_host.live.expressions import listing_of, settings_text
 from bpfrec_host.live.names import Refusal
-from bpfrec_host.live.words import Way
+from bpfrec_host.live.operands import Route
 
 # What the private folders of runs are called.
 NAME = re.compile(r"bpfrec\.[0-9a-f]{16}")
@@ -58,29 +58,29 @@ def read_settings(path: str) -> tuple[str, Settings]:
         raise Refusal(2, f"live: {path}: settings 1 Syntax: {fault}") from None
 
 
-def made_settings(ways: list[Way]) -> tuple[str, Settings]:
+def made_settings(routes: list[Route]) -> tuple[str, Settings]:
     """The settings of a run that was given none."""
-    text = settings_text(ways)
+    text = settings_text(routes)
     return text, settings_of("-", text)
 
 
 def judge_settings(settings: Settings, given: Arguments) -> None:
     """Refuses settings that lack a channel of an interface, or its filter where the kernel is to run it; and channels
     without interfaces of recordings that follow one another."""
-    wanted = {it.channel for it in given.ways}
+    wanted = {it.channel for it in given.routes}
     for channel in settings.channels:
         named = channel.table.get("id")
         if given.is_rotating() and not (isinstance(named, int) and named in wanted):
             told = "one without a line id" if named is None else named
             what = "live: --every and --size need an interface for each channel"
             raise Refusal(2, f"{what}, and {told} of {given.settings} has none")
-    for way in given.ways:
-        tables = [it for it in settings.channels if is_channel(it.table, way.channel)]
+    for route in given.routes:
+        tables = [it for it in settings.channels if is_channel(it.table, route.channel)]
         if not tables:
-            raise Refusal(2, f"live: {given.settings} has no table [[channel]] with a line id = {way.channel}")
-        has_filter = way.expression or given.settings is None or any(it.path("filter") for it in tables)
+            raise Refusal(2, f"live: {given.settings} has no table [[channel]] with a line id = {route.channel}")
+        has_filter = route.expression or given.settings is None or any(it.path("filter") for it in tables)
         if given.is_prefiltered and not has_filter:
-            what = f'live: --prefilter needs a line filter = ".." of channel {way.channel}'
+            what = f'live: --prefilter needs a line filter = ".." of channel {route.channel}'
             raise Refusal(2, f"{what} in {given.settings}")
 
 
@@ -94,9 +94,9 @@ class Folder:
     """The private folder of a run."""
 
     def __init__(self, text: str, settings: Settings, given: Arguments) -> None:
-        self.text, self.settings, self.ways = text, settings, given.ways
+        self.text, self.settings, self.routes = text, settings, given.routes
         # The listings that the arguments give channels, in place of those of SETTINGS.
-        self.listings = {it.channel: listing_of(it) for it in given.ways if it.expression or given.settings is None}
+        self.listings = {it.channel: listing_of(it) for it in given.routes if it.expression or given.settings is None}
         self.keeps_filters = given.keeps_filters()
         self.holder = os.environ.get("TMPDIR") or "/tmp"
         self.top = Path(self.holder, f"bpfrec.{secrets.token_hex(8)}")
@@ -117,7 +117,7 @@ class Folder:
         for channel, listing in self.listings.items():
             self.given_filter(channel).write_text(listing, encoding="utf-8")
         write_room(self.events, EVENTS_ROOM)
-        write_room(self.kept, COUNT_LEN * len(self.ways))
+        write_room(self.kept, COUNT_LEN * len(self.routes))
         self.make_pipes("gate")
         self.point_to("gate")
         if self.keeps_filters:
@@ -149,8 +149,8 @@ class Folder:
         """Makes a folder with a pipe for each interface."""
         made = self.top / name
         made.mkdir()
-        for way in self.ways:
-            os.mkfifo(made / f"{way.channel}.pipe")
+        for route in self.routes:
+            os.mkfifo(made / f"{route.channel}.pipe")
 
     def make(self, number: int) -> Path:
         """Makes the folder of a recording: the pipes, and the settings with them."""
@@ -183,11 +183,11 @@ class Folder:
 
     def pipes(self, number: int) -> list[Path]:
         """The pipes of a recording."""
-        return [self.of(number) / f"{way.channel}.pipe" for way in self.ways]
+        return [self.of(number) / f"{route.channel}.pipe" for route in self.routes]
 
     def sources(self) -> list[str]:
         """The capture's arguments: each interface with its pipe."""
-        return [f"{way.interface}={self.top}/now/{way.channel}.pipe" for way in self.ways]
+        return [f"{route.interface}={self.top}/now/{route.channel}.pipe" for route in self.routes]
 
     # ---- settings
 
@@ -207,7 +207,9 @@ class Folder:
             return table
         path = self.filter_of(named, table.get("filter"))
         changed = table if path is None else {**table, "filter": path}
-        return {**changed, "feed": f"{made}/{named}.pipe"} if any(it.channel == named for it in self.ways) else changed
+        return (
+            {**changed, "feed": f"{made}/{named}.pipe"} if any(it.channel == named for it in self.routes) else changed
+        )
 
     # ---- filters
 
@@ -221,9 +223,9 @@ class Folder:
 
     def filter_of(self, channel: int, path: Any) -> Any:
         """The file of a channel's filter, for which SETTINGS have this path: one that is kept, or given, or that."""
-        for it in (self.kept_filter(channel), self.given_filter(channel)):
-            if it.exists():
-                return str(it)
+        for kept in (self.kept_filter(channel), self.given_filter(channel)):
+            if kept.exists():
+                return str(kept)
         return path
 
     def keep_filters(self) -> None:
@@ -243,22 +245,22 @@ class Folder:
 
     def judged(self) -> set[int]:
         """The channels whose kept frames the capture counts."""
-        return {way.channel for way in self.ways if self.kept_filter(way.channel).exists()}
+        return {route.channel for route in self.routes if self.kept_filter(route.channel).exists()}
 
     def judges(self) -> list[str]:
         """The capture's arguments that have it count the frames that filters keep."""
         judged = self.judged()
-        ways = [f"{it.interface}={self.kept_filter(it.channel)}" for it in self.ways if it.channel in judged]
-        return ["--kept", str(self.kept), *(word for it in ways for word in ("--judge", it))]
+        routes = [f"{it.interface}={self.kept_filter(it.channel)}" for it in self.routes if it.channel in judged]
+        return ["--kept", str(self.kept), *(word for it in routes for word in ("--judge", it))]
 
     def prefilters(self) -> list[str]:
         """The capture's arguments that give the kernel the filters."""
         found: list[str] = []
-        for way in self.ways:
-            given = self.given_filter(way.channel)
-            tables = [it for it in self.settings.channels if is_channel(it.table, way.channel)]
+        for route in self.routes:
+            given = self.given_filter(route.channel)
+            tables = [it for it in self.settings.channels if is_channel(it.table, route.channel)]
             paths = [str(given)] if given.exists() else [it.path("filter") or "" for it in tables]
-            found += ["--prefilter", f"{way.interface}={next(it for it in paths if it)}"]
+            found += ["--prefilter", f"{route.interface}={next(it for it in paths if it)}"]
         return found
 
 

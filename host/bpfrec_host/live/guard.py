@@ -74,8 +74,8 @@ class Guard(Holder):
 def watch(writer: Writer, own: int, everybody: int, either: int) -> None:
     """Waits for live's end, in the process of the guard."""
     os.setpgid(0, 0)
-    for it in (*ENDING, signal.SIGTTOU):
-        signal.signal(it, signal.SIG_IGN)
+    for number in (*ENDING, signal.SIGTTOU):
+        signal.signal(number, signal.SIG_IGN)
     # So that there is one, where they are short.
     close(0)
     for descriptor in (int(it) for it in os.listdir("/proc/self/fd")):

@@ -24,18 +24,18 @@ class Signals:
     def __init__(self) -> None:
         self.reader, self.writer = os.pipe2(os.O_NONBLOCK | os.O_CLOEXEC)
         signal.set_wakeup_fd(self.writer, warn_on_full_buffer=False)
-        for it in ENDING:
+        for number in ENDING:
             # HUP stays ignored, as nohup has it; a script that starts live in the background has INT ignored.
-            if it != signal.SIGHUP or signal.getsignal(it) != signal.SIG_IGN:
-                signal.signal(it, nothing)
+            if number != signal.SIGHUP or signal.getsignal(number) != signal.SIG_IGN:
+                signal.signal(number, nothing)
         signal.signal(signal.SIGCHLD, nothing)
-        for it in (signal.SIGTTIN, signal.SIGTTOU):
-            signal.signal(it, signal.SIG_IGN)
+        for number in (signal.SIGTTIN, signal.SIGTTOU):
+            signal.signal(number, signal.SIG_IGN)
 
     def ignore(self) -> None:
         """Has those that come from now on do nothing: all is over, and Python would be ended by one as it ends."""
-        for it in ENDING:
-            signal.signal(it, signal.SIG_IGN)
+        for number in ENDING:
+            signal.signal(number, signal.SIG_IGN)
 
     def come(self) -> list[int]:
         """The signals that came, but for ends of programs."""

@@ -7,16 +7,16 @@ from pathlib import Path
 from typing import Optional
 
 from bpfrec_host.live import children, system
-from bpfrec_host.live.changes import Pipe
+from bpfrec_host.live.control.changes import Pipe
 from bpfrec_host.live.facts import About
 from bpfrec_host.live.folder import open_printed
 from bpfrec_host.live.keeper import Keeper
-from bpfrec_host.live.life import Recording
+from bpfrec_host.live.model import Recording
 
 READ_LEN = 1 << 16
 
 
-class Recorded:
+class Recorder:
     """A recording with its descriptors. `place` is how its recorder finds OUT, which may be created later."""
 
     def __init__(self, recording: Recording, made: Path, about: About) -> None:
@@ -97,11 +97,11 @@ class Recorded:
         kept = [everybody, lifeline]
         if self.is_inherited() and self.descriptor is not None:
             kept.append(self.descriptor)
-        words = [bpfrec, "record", str(self.made / "settings.toml"), self.place]
+        arguments = [bpfrec, "record", str(self.made / "settings.toml"), self.place]
         with open_printed(self.made, "report") as report:
             streams = (self.lines.reader, report, self.answers)
             manner = children.RECORDER._replace(kept=kept, ends_with=lifeline)
-            self.child = children.start(words, streams, manner)
+            self.child = children.start(arguments, streams, manner)
         os.close(self.lines.reader)
         return self.child
 

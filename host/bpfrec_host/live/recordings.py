@@ -8,25 +8,25 @@ from typing import Callable, Optional
 
 from bpfrec_host.live import outputs
 from bpfrec_host.live.facts import About, Writer
-from bpfrec_host.live.life import Recording
+from bpfrec_host.live.model import Recording
 from bpfrec_host.live.names import Names, is_special
-from bpfrec_host.live.recorder import Recorded
+from bpfrec_host.live.recorder import Recorder
 
 # After a full disk the next recording begins once there is so much room.
 ROOM = 1 << 20
 
 
 class Recordings:
-    """All recordings that live has something of; `say` takes a line for who watches."""
+    """All recordings that live has something of; `err` takes a line for who watches."""
 
-    def __init__(self, writer: Writer, watched: outputs.Outputs, say: Callable[[str], None]) -> None:
-        self.writer, self.watched, self.say = writer, watched, say
+    def __init__(self, writer: Writer, watched: outputs.Outputs, err: Callable[[str], None]) -> None:
+        self.writer, self.watched, self.err = writer, watched, err
         self.given, self.folder, self.files = writer.given, writer.folder, writer.files
         self.names = Names(self.given.out)
-        self.all: dict[int, Recorded] = {}
+        self.all: dict[int, Recorder] = {}
         self.count, self.told_of = 0, ""
 
-    def of(self, recording: Recording) -> Recorded:
+    def of(self, recording: Recording) -> Recorder:
         """What live has of a recording."""
         return self.all[recording.number]
 
@@ -42,15 +42,15 @@ class Recordings:
         about = About(number, out, number - 1, begun)
         self.writer.prepare(about)
         recording = Recording(number, out)
-        self.all[number] = Recorded(recording, made, about)
+        self.all[number] = Recorder(recording, made, about)
         self.count = number
         return recording
 
     def drop(self, recording: Recording) -> None:
         """Lets a recording go whose recorder can't be started; what made it is closed where another one goes on."""
-        it = self.of(recording)
-        outputs.discard(it)
-        self.watched.end(it)
+        recorder = self.of(recording)
+        outputs.discard(recorder)
+        self.watched.end(recorder)
         self.folder.remove(recording.number)
         if len(self.all) > 1:
             self.forget(recording)
@@ -63,14 +63,14 @@ class Recordings:
 
     def create(self, recording: Recording) -> bool:
         """Creates OUT, which nobody has: whether it is there now."""
-        it = self.of(recording)
+        recorder = self.of(recording)
         if not self.is_special(recording):
             try:
-                it.take_output(self.files.create(it.about.out))
+                recorder.take_output(self.files.create(recorder.about.out))
             except OSError:
-                self.say(f"file {it.about.out}")
+                self.err(f"file {recorder.about.out}")
                 return False
-        self.watched.watch(it)
+        self.watched.watch(recorder)
         return True
 
     def is_special(self, recording: Recording) -> bool:
@@ -87,7 +87,7 @@ class Recordings:
         except OSError:
             self.names.give_back(number)
         if self.told_of != out and not before.has_failed and not before.has_ended():
-            self.say(f"live: {out} can't be begun: {before.out} goes on")
+            self.err(f"live: {out} can't be begun: {before.out} goes on")
         self.told_of = out
         return None
 
@@ -104,19 +104,14 @@ class Recordings:
         self.of(recording).take_output(descriptor)
         return recording
 
-    def forget_output(self, recording: Recording) -> None:
+    def forget_output(self, recorder: Recorder) -> None:
         """Closes OUT, which would keep its room on the disk."""
-        it = self.of(recording)
-        self.watched.end(it)
-        it.forget()
+        self.watched.end(recorder)
+        recorder.forget()
 
     def is_empty(self, recording: Recording) -> bool:
         """Whether nothing is in an OUT that was created for this recording, or none was."""
         return outputs.is_empty(self.of(recording))
-
-    def discard(self, recording: Recording) -> None:
-        """Removes OUT."""
-        outputs.discard(self.of(recording))
 
     def size(self, recording: Recording) -> int:
         """How many bytes OUT has."""
@@ -125,3 +120,7 @@ class Recordings:
     def has_room(self, recording: Recording) -> bool:
         """Whether the disk has room for a next recording."""
         return outputs.room_beside(recording) >= ROOM
+
+    def awaits_answer(self, recording: Recording) -> bool:
+        """Whether a line hasn't been answered by its recorder, so that its filter isn't known."""
+        return bool(self.of(recording).lines.unanswered)

@@ -4,33 +4,35 @@ from __future__ import annotations
 
 import signal
 import time
-from typing import NamedTuple, Optional, Protocol
+from typing import Callable, NamedTuple, Optional, Protocol
 
+from bpfrec_host.formats.answers import Answer, file_fault, is_output_fault
 from bpfrec_host.formats.limits import MAX_VERSIONS
 from bpfrec_host.live import children, outputs, system
 from bpfrec_host.live.arguments import Arguments
-from bpfrec_host.live.beside import Beside
 from bpfrec_host.live.capture import Capture
-from bpfrec_host.live.changes import Change
+from bpfrec_host.live.console import Console
+from bpfrec_host.live.control.changes import Change
+from bpfrec_host.live.control.lines import ControlLines
+from bpfrec_host.live.durability import Durability
+from bpfrec_host.live.engine import FILE_FAULT
 from bpfrec_host.live.events import Events
 from bpfrec_host.live.facts import Writer
 from bpfrec_host.live.flush import MOST_FILTERS, Flush
 from bpfrec_host.live.folder import Folder, open_printed
 from bpfrec_host.live.guard import Guard, open_and_close
-from bpfrec_host.live.life import Plan, Recording
-from bpfrec_host.live.line_flow import LineFlow
 from bpfrec_host.live.loop import Loop, Signals
-from bpfrec_host.live.machine import FILE_FAULT, Machine
+from bpfrec_host.live.machine import Machine
+from bpfrec_host.live.model import KILLED, Plan, Recording
 from bpfrec_host.live.names import Files, is_special
 from bpfrec_host.live.notify import Notifier
-from bpfrec_host.live.observer import Observer
-from bpfrec_host.live.recorder import Recorded
+from bpfrec_host.live.observers import Observers
+from bpfrec_host.live.ports import Deed, Observer, Ports
+from bpfrec_host.live.recorder import Recorder
 from bpfrec_host.live.recordings import Recordings
-from bpfrec_host.live.ring import Kept, Ring, approved
+from bpfrec_host.live.retention import Kept, Retention, approved
 from bpfrec_host.live.status import Terminal
-from bpfrec_host.live.telling import Telling
 from bpfrec_host.live.watches import Watches
-from bpfrec_host.live.watching import Watching
 
 # Why a recording isn't on its disk of which the recorder alone was told so.
 UNFORCED = "the recorder's fsync failed"
@@ -54,7 +56,7 @@ class Timed(Protocol):
 
 
 class Run:
-    """All of a run. It is the machine's hands."""
+    """All of a run: the processes, pipes and files of what the machine decides."""
 
     def __init__(
         self,
@@ -71,23 +73,50 @@ class Run:
         self.guard = Guard(self.writer)
         folder.make_all()
         self.loop, self.watches, self.events = Loop(signals, self.end_by_signal), Watches(), Events(folder.events)
-        self.telling = Telling(self.loop, self.printing_failed, terminal)
-        self.say = self.telling.say
-        self.watching = Watching(observer, folder)
+        self.console = Console(self.loop, self.printing_failed, terminal)
+        self.err = self.console.err
+        self.observers = Observers(observer, folder)
         self.capture = Capture(programs.capture, given, folder, self.loop)
-        self.line_flow = LineFlow(self.loop, folder, given, self.now, terminal)
-        self.flush = Flush(given.flush, folder, self.line_flow.push) if given.flush is not None else None
+        self.control = ControlLines(self.loop, folder, given, self.current, terminal)
+        self.flush = Flush(given.flush, folder, self.control.push) if given.flush is not None else None
         self.notifier = Notifier()
-        self.ring = Ring(given.keep, given.keep_free, lambda: outputs.room_beside(self.machine.now), self.say)
-        self.outputs = outputs.Outputs(self.watches, given.size is not None, self.begin_recording, self.say)
-        self.beside = Beside(self.loop, self.writer, self.events, self.synced, self.sync_failed, self.say)
-        self.recordings = Recordings(self.writer, self.outputs, self.say)
-        self.timed: list[Timed] = [self.watches, self.outputs, self.watching, self.ring, self.notifier]
+        self.retention = Retention(
+            given.keep, given.keep_free, lambda: outputs.room_beside(self.machine.current), self.err
+        )
+        self.outputs = outputs.Outputs(self.watches, given.size is not None, self.begin_recording, self.err)
+        self.durability = Durability(self.loop, self.writer, self.events, self.synced, self.sync_failed, self.err)
+        self.recordings = Recordings(self.writer, self.outputs, self.err)
+        self.timed: list[Timed] = [self.watches, self.outputs, self.observers, self.retention, self.notifier]
         self.timed += [self.flush] if self.flush else []
         self.signals_came = 0
-        plan = Plan(bool(given.ways), given.every, given.size, given.is_audited, given.is_strict)
+        plan = Plan(bool(given.routes), given.every, given.size, given.is_audited, given.is_strict)
         names = (programs.capture, programs.bpfrec)
-        self.machine = Machine(plan, self, self.recordings, self.recordings.first(), names)
+        ports = Ports(self.perform, self, self.recordings, self.err)
+        self.machine = Machine(plan, ports, self.recordings.first(), names)
+        self.deeds = self.made_deeds()
+
+    def made_deeds(self) -> dict[Deed, Callable[[Recorder], object]]:
+        """What is done for each deed of the machine."""
+        return {
+            Deed.START_CAPTURE: lambda _: self.start_capture(),
+            Deed.POINT_TO: lambda recorder: self.folder.point_to(str(recorder.about.number)),
+            Deed.END_CAPTURE: lambda _: self.capture.send(signal.SIGTERM),
+            Deed.SWITCH_CAPTURE: lambda _: self.capture.send(signal.SIGUSR1),
+            Deed.HOLD_CAPTURE: lambda _: self.capture.send(signal.SIGUSR2),
+            Deed.KILL_CAPTURE: lambda _: self.capture.send(signal.SIGKILL),
+            Deed.KILL_RECORDER: lambda recorder: kill(recorder.child),
+            Deed.KILL_AUDIT: lambda recorder: kill(recorder.auditor),
+            Deed.OPEN_PIPES: self.open_pipes,
+            Deed.END_LINES: self.end_lines,
+            Deed.FORGET_OUT: self.recordings.forget_output,
+            Deed.DISCARD_OUT: outputs.discard,
+            Deed.PRINT_REPORT: self.print_report,
+            Deed.CONCLUDE: self.conclude,
+        }
+
+    def perform(self, deed: Deed, recording: Recording) -> None:
+        """Does what the machine says."""
+        self.deeds[deed](self.recordings.of(recording))
 
     # ---- the loop
 
@@ -98,127 +127,122 @@ class Run:
         self.watches.add(str(self.folder.events), system.MODIFIED, self.look_at_events)
         if self.given.is_prefiltered:
             # A line would change what the kernel doesn't know.
-            self.line_flow.input.end()
+            self.control.input.end()
         self.loop.follow(self.guard, self.end_guard)
         left = self.folder.leftovers()
         if left:
-            self.say(f"live: left of runs that were killed, and to be removed: {' '.join(left)}")
+            self.err(f"live: left of runs that were killed, and to be removed: {' '.join(left)}")
         self.machine.begin(time.monotonic())
         while not self.machine.is_done():
             self.turn()
-        status = self.machine.status(self.tell_lost())
+        status = self.machine.status(self.report_losses())
         self.finish()
         return self.machine.recorded or status
 
     def turn(self) -> None:
         """Waits for what comes next, and has the machine do what is due."""
-        self.line_flow.read()
-        self.machine.unanswered = len(self.now().lines.unanswered)
+        self.control.read()
         now = time.monotonic()
         moments = [self.machine.deadline(now), *(it.deadline() for it in self.timed)]
         next_moment = min((it for it in moments if it is not None), default=None)
         self.loop.turn(None if next_moment is None else max(0.0, next_moment - now))
         now = time.monotonic()
-        if self.machine.is_ending or self.machine.is_concluding:
-            self.notifier.stopping(now, self.machine.is_concluding)
-        for it in self.timed:
-            it.tick(now)
-        self.machine.unanswered = len(self.now().lines.unanswered)
+        if self.machine.is_ending() or self.machine.is_concluding():
+            self.notifier.stopping(now, self.machine.is_concluding())
+        for timed in self.timed:
+            timed.tick(now)
         self.machine.tick(now)
-        self.telling.write_on()
+        self.console.write_on()
 
     def finish(self) -> None:
         """Ends what still runs beside: threads, what wasn't printed, and the guard."""
-        for it in self.recordings.all.values():
-            if self.machine.is_refused and outputs.is_empty(it):
-                outputs.discard(it)
-            it.close()
-        self.beside.join()
-        self.ring.join()
+        for recorder in self.recordings.all.values():
+            if self.machine.is_refused() and outputs.is_empty(recorder):
+                outputs.discard(recorder)
+            recorder.close()
+        self.durability.join()
+        self.retention.join()
         came = self.signals_came
-        self.telling.finish(lambda: self.signals_came > max(came, 1))
-        self.watching.all_ended()
+        self.console.finish(lambda: self.signals_came > max(came, 1))
+        self.observers.all_ended()
         self.guard.dismiss()
         self.folder.remove_all()
 
     def end_by_signal(self) -> None:
         """A signal came that ends the run."""
         self.signals_came += 1
-        self.outputs.look(self.now())
+        self.outputs.look(self.current())
         self.machine.told_to_end(time.monotonic())
 
     def end_guard(self, status: int) -> None:
         """The guard has ended, which it does by itself only once live has."""
-        self.say(f"live: its guard was ended by signal {status - children.KILLED}: all goes on without it")
+        self.err(f"live: its guard was ended by signal {status - KILLED}: all goes on without it")
 
     # ---- the recorder
 
-    def now(self) -> Recorded:
+    def current(self) -> Recorder:
         """What live has of the recording that goes on."""
-        return self.recordings.of(self.machine.now)
+        return self.recordings.of(self.machine.current)
 
     def start_recorder(self, recording: Recording) -> bool:
         """Starts the recorder, which waits for its pipes: False, which is told, where that can't be done."""
-        it = self.recordings.of(recording)
+        recorder = self.recordings.of(recording)
         try:
-            if it.descriptor is None and not is_special(it.about.out):
-                it.hold_place()
-            child = it.start(self.programs.bpfrec, self.guard.all, self.guard.lifeline())
+            if recorder.descriptor is None and not is_special(recorder.about.out):
+                recorder.hold_place()
+            child = recorder.start(self.programs.bpfrec, self.guard.all, self.guard.lifeline())
         except OSError as error:
-            self.say(f"live: {self.programs.bpfrec} record can't be started: {error.strerror}")
+            self.err(f"live: {self.programs.bpfrec} record can't be started: {error.strerror}")
             self.recordings.drop(recording)
             return False
-        self.loop.follow(child, lambda status: self.end_recorder(it, status))
-        self.loop.on_read(it.answers, lambda: self.take_answers(it))
-        if not self.line_flow.is_open():
-            self.line_flow.end(it)
+        self.loop.follow(child, lambda status: self.end_recorder(recorder, status))
+        self.loop.on_read(recorder.answers, lambda: self.take_answers(recorder))
+        if not self.control.is_open():
+            self.control.end(recorder)
         return True
 
-    def begin_recording(self, it: Recorded) -> None:
+    def begin_recording(self, recorder: Recorder) -> None:
         """A recorder has opened OUT."""
-        it.let_live()
-        self.machine.opened(it.recording)
-        self.watching.begun(it)
-        self.notifier.ready(it.about.out)
-        self.beside.begin(it)
-        if self.flush and it.is_created:
-            self.flush.begin(it, time.monotonic())
+        recorder.let_live()
+        self.machine.opened(recorder.recording)
+        self.observers.begun(recorder)
+        self.notifier.ready(recorder.about.out)
+        self.durability.begin(recorder)
+        if self.flush and recorder.is_created:
+            self.flush.begin(recorder, time.monotonic())
 
-    def synced(self, it: Recorded, moment: float) -> None:
+    def synced(self, recorder: Recorder, moment: float) -> None:
         """A recording was forced to its disk."""
-        if it.recording is self.machine.now:
-            self.watching.synced(moment)
+        if recorder.recording is self.machine.current:
+            self.observers.synced(moment)
 
-    def sync_failed(self, it: Recorded, why: str) -> None:
+    def sync_failed(self, recorder: Recorder, why: str) -> None:
         """A recording couldn't be forced to its disk."""
-        if not it.recording.is_unforced and not it.recording.has_failed:
-            self.watching.sync_failed(it, why)
-            self.beside.write(it)
-        self.machine.force_failed(it.recording, why, time.monotonic())
+        if not recorder.recording.is_unforced and not recorder.recording.has_failed:
+            self.observers.sync_failed(recorder, why)
+            self.durability.write(recorder)
+        self.machine.force_failed(recorder.recording, why, time.monotonic())
 
-    def take_answers(self, it: Recorded) -> None:
+    def take_answers(self, recorder: Recorder) -> None:
         """Tells the recorder's answers, and sees whether its output failed."""
-        for answer in it.answered():
-            told = self.line_flow.told(it, answer, lambda change, said: self.take_change(it, change, said))
+        for line in recorder.answered():
+            told = self.control.told(recorder, line, lambda change, answer: self.take_change(recorder, change, answer))
             if told is not None:
-                self.say(told)
-            if answer.startswith("run 2 Output"):
-                self.machine.output_failed(it.recording, time.monotonic())
-            elif answer == f"file {it.about.out}" and it.keeper:
+                self.err(told)
+            if is_output_fault(line):
+                self.machine.output_failed(recorder.recording, time.monotonic())
+            elif line == file_fault(recorder.about.out) and recorder.keeper:
                 # It has opened OUT before, so that is what it says where its fsync fails.
-                it.keeper.sync_fault = it.keeper.sync_fault or UNFORCED
-                self.sync_failed(it, UNFORCED)
+                recorder.keeper.sync_fault = recorder.keeper.sync_fault or UNFORCED
+                self.sync_failed(recorder, UNFORCED)
 
-    def take_change(self, it: Recorded, change: Change, answer: str) -> None:
+    def take_change(self, recorder: Recorder, change: Change, answer: Answer) -> None:
         """The recorder has answered a line."""
-        word, channel, version = answer.split(" ")[:3]
-        if it.recording is not self.machine.now:
-            return
-        if word == "installed":
-            self.watching.changed(int(channel), int(version), change.is_own)
-            self.take_version(it, int(channel), int(version))
+        if answer.version is not None and recorder.recording is self.machine.current:
+            self.observers.changed(answer.channel, answer.version, change.is_own)
+            self.take_version(recorder, answer.channel, answer.version)
 
-    def take_version(self, it: Recorded, channel: int, version: int) -> None:
+    def take_version(self, recorder: Recorder, channel: int, version: int) -> None:
         """A channel has this version of its filter, of which a recording has room for a number."""
         if self.flush:
             self.flush.installed(channel, version)
@@ -226,64 +250,46 @@ class Run:
         if left > MAX_VERSIONS - MOST_FILTERS:
             return
         if self.given.is_rotating():
-            it.recording.is_used_up = True
-        elif channel not in it.used_up:
-            it.used_up.add(channel)
+            self.machine.used_up(recorder.recording)
+        elif channel not in recorder.used_up:
+            recorder.used_up.add(channel)
             flushed = ", and --flush closes no packet of it any more" if self.flush else ""
-            self.say(f"live: channel {channel} has room for {left} more filters in this recording{flushed}")
+            self.err(f"live: channel {channel} has room for {left} more filters in this recording{flushed}")
 
-    def end_recorder(self, it: Recorded, status: int) -> None:
+    def end_recorder(self, recorder: Recorder, status: int) -> None:
         """A recorder has ended."""
-        self.take_answers(it)
-        self.loop.on_read(it.answers, None)
-        self.outputs.look(it)
-        self.line_flow.close(it)
-        self.machine.recorder_ended(it.recording, status, time.monotonic())
+        self.take_answers(recorder)
+        self.loop.on_read(recorder.answers, None)
+        self.outputs.look(recorder)
+        self.control.close(recorder)
+        self.machine.recorder_ended(recorder.recording, status, time.monotonic())
 
-    def end_lines(self, recording: Recording) -> None:
+    def end_lines(self, recorder: Recorder) -> None:
         """Ends the lines that change filters."""
         if self.flush:
-            self.flush.end(self.recordings.of(recording))
-        self.line_flow.end(self.recordings.of(recording))
+            self.flush.end(recorder)
+        self.control.end(recorder)
 
-    def let_go(self, recording: Recording) -> None:
+    def open_pipes(self, recorder: Recorder) -> None:
         """Lets a recorder go on that waits for the writer of a pipe."""
-        for pipe in self.folder.pipes(recording.number):
+        for pipe in self.folder.pipes(recorder.about.number):
             open_and_close(pipe)
-
-    def kill_recorder(self, recording: Recording) -> None:
-        """Kills a recorder."""
-        child = self.recordings.of(recording).child
-        if child:
-            child.send(signal.SIGKILL)
-
-    def kill_audit(self, recording: Recording) -> None:
-        """Kills an audit, where one runs."""
-        auditor = self.recordings.of(recording).auditor
-        if auditor:
-            auditor.send(signal.SIGKILL)
 
     # ---- the capture
 
     def start_capture(self) -> None:
         """Starts the capture of all interfaces."""
-        if self.watching.is_on():
-            is_quiet = "--quiet" in self.given.options or self.telling.terminal.is_shown()
-            self.capture.read_lines(self.say, self.watching.counted, is_quiet)
+        if self.observers.is_on():
+            self.capture.read_counts(self.observers.counted)
+        if self.console.terminal.is_shown():
+            self.capture.read_lines(self.err)
         self.capture.start(self.guard.all, self.end_capture)
-
-    def point_to(self, recording: Recording) -> None:
-        """Has the capture find the pipes of this recording."""
-        self.folder.point_to(str(recording.number))
-
-    def signal_capture(self, number: signal.Signals) -> None:
-        """Sends the capture a signal."""
-        self.capture.send(number)
 
     def end_capture(self, status: int) -> None:
         """The capture has ended."""
         self.look_at_events()
-        self.capture.end()
+        for line in self.capture.end(status):
+            self.err(line)
         self.machine.capture_ended(status, time.monotonic())
 
     def look_at_events(self) -> None:
@@ -292,73 +298,82 @@ class Run:
             return
         if self.events.origins:
             self.machine.capture_ready()
-        for it in self.recordings.all.values():
-            self.beside.write(it)
+        for recorder in self.recordings.all.values():
+            self.durability.write(recorder)
 
     # ---- what is told
 
     def printing_failed(self) -> None:
-        """Standard output can't be written: what is recorded is audited all the same, and its facts have that."""
-        self.machine.recorded = self.machine.recorded or FILE_FAULT
+        """Standard output can't be written, which facts have too."""
+        self.machine.printing_failed()
 
-    def tell_report(self, recording: Recording) -> None:
-        """Tells what the recorder printed."""
-        it = self.recordings.of(recording)
+    def print_report(self, recorder: Recorder) -> None:
+        """Prints what the recorder printed, where another recording may follow once this one is audited."""
         if self.given.is_rotating():
-            it.report = f"recording {it.about.out}\n{it.text('report')}"
+            recorder.report = f"recording {recorder.about.out}\n{recorder.text('report')}"
         else:
-            self.telling.print(it.text("report"))
+            self.console.out(recorder.text("report"))
 
-    def tell_lost(self) -> bool:
+    def report_losses(self) -> bool:
         """Tells what interfaces lost in all, as the last lines: whether one did."""
         self.events.read()
-        for line in self.events.lost_in_all:
-            self.say(f"live: {line}")
+        for lost in self.events.lost_in_all:
+            self.err(f"live: {lost.sentence()}")
         return bool(self.events.lost_in_all)
 
     # ---- the end of a recording
 
     def audit(self, recording: Recording) -> bool:
         """Starts an audit; False where OUT is no file that could be audited."""
-        it = self.recordings.of(recording)
-        if not it.is_created or it.descriptor is None:
+        recorder = self.recordings.of(recording)
+        if not recorder.is_created or recorder.descriptor is None:
             return False
-        words, manner = [self.programs.bpfrec, "audit", "-"], children.AUDIT._replace(kept=[self.guard.all])
+        arguments, manner = [self.programs.bpfrec, "audit", "-"], children.AUDIT._replace(kept=[self.guard.all])
         try:
             # By standard input, so that the file may have any name, and another one by now.
-            with open(f"/proc/self/fd/{it.descriptor}", "rb") as read, open_printed(it.made, "audit") as answer:
-                with open_printed(it.made, "audit_errors") as errors:
-                    it.auditor = children.start(words, (read, answer, errors), manner)
+            with open(f"/proc/self/fd/{recorder.descriptor}", "rb") as read, open_printed(
+                recorder.made, "audit"
+            ) as answer:
+                with open_printed(recorder.made, "audit_errors") as errors:
+                    recorder.auditor = children.start(arguments, (read, answer, errors), manner)
         except OSError as error:
-            self.say(f"live: {it.about.out} can't be audited: {error.strerror}")
-            self.loop.call_soon(lambda: self.end_audit(it, FILE_FAULT))
+            self.err(f"live: {recorder.about.out} can't be audited: {error.strerror}")
+            self.loop.call_soon(lambda: self.end_audit(recorder, FILE_FAULT))
             return True
-        self.loop.follow(it.auditor, lambda status: self.end_audit(it, status))
+        self.loop.follow(recorder.auditor, lambda status: self.end_audit(recorder, status))
         return True
 
-    def end_audit(self, it: Recorded, status: int) -> None:
+    def end_audit(self, recorder: Recorder, status: int) -> None:
         """An audit has ended."""
-        for line in it.text("audit_errors").splitlines():
-            self.say(f"file {it.about.out}" if line == "file -" else line)
-        if status > children.KILLED:
-            number = status - children.KILLED
-            self.say(f"live: {self.programs.bpfrec} audit was ended by signal {number}: {it.about.out} isn't audited")
-        it.report += it.text("audit")
-        self.machine.audited(it.recording, status)
+        for line in recorder.text("audit_errors").splitlines():
+            self.err(file_fault(recorder.about.out) if line == file_fault("-") else line)
+        if status > KILLED:
+            number = status - KILLED
+            self.err(
+                f"live: {self.programs.bpfrec} audit was ended by signal {number}: {recorder.about.out} isn't audited"
+            )
+        recorder.report += recorder.text("audit")
+        self.machine.audited(recorder.recording, status)
 
-    def conclude(self, recording: Recording, status: int) -> None:
+    def conclude(self, recorder: Recorder) -> None:
         """Tells what is known of a recording at its end, and lets go all that it has."""
-        it = self.recordings.of(recording)
-        if it.report:
-            self.telling.print(it.report)
-        self.outputs.end(it)
-        self.watching.ended(it, status)
-        kept = approved(it, status)
-        self.beside.end(it, status, lambda: self.keep(recording, kept))
-        if recording is not self.machine.now:
+        recording, status = recorder.recording, recorder.recording.outcome or 0
+        if recorder.report:
+            self.console.out(recorder.report)
+        self.outputs.end(recorder)
+        self.observers.ended(recorder, status)
+        kept = approved(recorder, status)
+        self.durability.end(recorder, status, lambda: self.keep(recording, kept))
+        if recording is not self.machine.current:
             self.recordings.forget(recording)
 
     def keep(self, recording: Recording, kept: Optional[Kept]) -> None:
         """A recording that was approved has been forced to its disk a last time."""
         if kept and not recording.is_unforced:
-            self.ring.add(kept)
+            self.retention.add(kept)
+
+
+def kill(child: Optional[children.Child]) -> None:
+    """Kills a program that was started."""
+    if child:
+        child.send(signal.SIGKILL)

@@ -46,14 +46,14 @@ def by_kernel() -> Optional[Entry]:
     }
 
 
-def answer_of(name: str, *words: str) -> Optional[str]:
+def answer_of(name: str, *arguments: str) -> Optional[str]:
     """What a program prints that ends well; None where it isn't here or doesn't."""
     program = shutil.which(name)
     if program is None:
         return None
     try:
         done = subprocess.run(
-            [program, *words],
+            [program, *arguments],
             stdin=subprocess.DEVNULL,
             capture_output=True,
             check=False,

@@ -6,7 +6,8 @@ import argparse
 import os
 from typing import BinaryIO, Optional, Union
 
-from bpfrec_host.ending import full_name, say, short_name, tell
+from bpfrec_host import printing
+from bpfrec_host.arguments import Parser, full_name, natural, short_name
 from bpfrec_host.formats import facts
 from bpfrec_host.formats.limits import MAX_CHANNEL_ID
 from bpfrec_host.pcapng import output
@@ -15,7 +16,6 @@ from bpfrec_host.pcapng.merging import Interface, Recording, blocks, interfaces_
 from bpfrec_host.pcapng.times import Times, time_of
 from bpfrec_host.progress import Progress
 from bpfrec_host.streams import STREAM, Refused, Unreadable, force, identity
-from bpfrec_host.words import Parser, natural
 
 ABOUT = """\
 Makes one capture in pcapng of recordings: of all their time or a slice of it, of all channels or some.
@@ -23,8 +23,9 @@ Makes one capture in pcapng of recordings: of all their time or a slice of it, o
 Each channel of a recorder is an interface, with the name that the facts beside the recording have for it. A recorder
 is a host with its interface, by the facts; recordings without facts are of a recorder each. Frames stand in the order
 in which they came, so times step back where a clock was set back. Frames have their frame
-check sequence (FCS) and their error flags. Comments have the counts of each channel, the filter in force at its first
-frame and, at the first frame after a change, the filter from there on.
+check sequence (FCS) and their error flags. Comments have the first filter of each channel, or the one in force where
+the slice begins, with the counts of the channel, and at the first frame after a change the filter from there on. They
+begin as those of bpfrec export, and go on with the filter's text.
 
 The packets of the slice are found by the headers of all packets, and no others are read. Of a channel whose packets
 rise by their counters, frames are looked for in the packets of the slice alone; else in all.
@@ -82,7 +83,7 @@ def channel_of(word: str) -> Union[int, str]:
 
 def tell_fault(line: str) -> None:
     """Tells a fault of a recording."""
-    tell(f"{short_name('pcapng')}: {line}")
+    printing.err(f"{short_name('pcapng')}: {line}")
 
 
 def facts_beside(path: str) -> Optional[facts.Facts]:
@@ -170,15 +171,15 @@ def make(given: argparse.Namespace) -> int:
     count = write(given.out, recordings, interfaces, given.quiet)
     line = f"frames {count} skipped {sum(it.skipped() for it in interfaces)}"
     if given.out == STREAM:
-        tell(line)
+        printing.err(line)
     else:
-        say(f"{line}\n")
+        printing.out(f"{line}\n")
     return 1 if any(it.headers.is_damaged for it in recordings) else 0
 
 
-def run(words: list[str]) -> int:
+def run(arguments: list[str]) -> int:
     """Makes a capture of recordings: the status."""
-    given = parser().parse_args(words)
+    given = parser().parse_args(arguments)
     try:
         return make(given)
     except Refused as refused:

@@ -9,14 +9,15 @@ import tempfile
 from typing import BinaryIO, Callable, NamedTuple, Optional, Union
 
 from bpfrec_host.formats import ch11
-from bpfrec_host.formats.ch11.body import What
-from bpfrec_host.formats.ch11.packet import body_fault, has_right_sum, header_fault, header_of
-from bpfrec_host.formats.limits import COMPUTER_GENERATED_DATA, ETHERNET_DATA, HEADER_LEN, RECORD_CHANNEL
+from bpfrec_host.formats.ch11.body import BadBody, What
+from bpfrec_host.formats.ch11.follow import Follower, Front
+from bpfrec_host.formats.ch11.packet import body_fault, has_right_sum, header_of
+from bpfrec_host.formats.limits import ETHERNET_DATA, HEADER_LEN
 from bpfrec_host.streams import STREAM, Refused
 
 # A record of a program is far shorter; a longer packet is another recorder's.
 MOST_RECORD_LEN = 1 << 20
-Tell = Callable[[str], None]
+Report = Callable[[str], None]
 
 
 class Place(NamedTuple):
@@ -74,27 +75,25 @@ class Index:
     """The channels of a recording, which is a regular file or standard input: of its bytes those that it has when it is
     opened."""
 
-    def __init__(self, path: str, tell: Tell) -> None:
-        self.path, self.tell = path, tell
+    def __init__(self, path: str, report: Report) -> None:
+        self.path, self.report = path, report
         self.channels: dict[int, Channel] = {}
         # Whether a place is damaged, and how many bytes of packets of frames were read.
         self.is_damaged, self.done = False, 0
         self.file = standard_input() if path == STREAM else regular_file(path)
         self.size = os.fstat(self.file.fileno()).st_size
-        # Of damaged places.
-        self.reader = ch11.Reader(self.file)
+        self.follower = Follower(self.file.fileno(), self.take)
+        self.follower.end()
 
     def read(self) -> None:
         """Goes from header to header; a damaged place is told, and the reading goes on behind it."""
-        at = 0
-        while at < self.size:
-            head = self.read_at(at, HEADER_LEN)
-            is_whole = len(head) == HEADER_LEN and header_fault(head) is None
-            header = header_of(head) if is_whole else None
-            if header is None or at + header.packet_len > self.size or not self.take(at, header):
-                at = self.behind_damage(at)
-            else:
-                at += header.packet_len
+        try:
+            while self.follower.at < self.size:
+                for fault in self.follower.read_on(self.size):
+                    self.tell_fault(fault, self.follower.at - fault.at)
+        except OSError as error:
+            error.filename = self.path
+            raise
 
     def read_at(self, at: int, length: int) -> bytes:
         """Bytes at a place; its fault has the file's name."""
@@ -104,43 +103,33 @@ class Index:
             error.filename = self.path
             raise
 
-    def take(self, at: int, header: ch11.Header) -> bool:
-        """Notes a packet by its header; whether it is whole, as far as it is read."""
+    def take(self, front: Front) -> None:
+        """Notes a packet by its header. One that may be a record is read, and must be whole."""
+        header = front.header
         if not header.is_plain():
-            return True
+            return
         if header.kind == ETHERNET_DATA:
             channel = self.channel(header.channel)
-            channel.packets.append(Place(header.counter, at, header.packet_len, len(channel.programs) - 1))
-        elif header.kind == COMPUTER_GENERATED_DATA and header.channel == RECORD_CHANNEL:
-            return self.take_record(at, header)
-        return True
+            channel.packets.append(Place(header.counter, front.at, header.packet_len, len(channel.programs) - 1))
+        elif header.may_be_record() and header.packet_len <= MOST_RECORD_LEN:
+            self.take_record(header, self.read_at(front.at, header.packet_len))
 
-    def take_record(self, at: int, header: ch11.Header) -> bool:
-        """Reads a packet that may be a record; whether it is whole."""
-        if header.packet_len > MOST_RECORD_LEN:
-            return True
-        what, fault = body_of(header, self.read_at(at, header.packet_len))
+    def take_record(self, header: ch11.Header, packet: bytes) -> None:
+        """Notes a record."""
+        what, fault = body_of(header, packet)
+        if fault is not None:
+            raise BadBody
         if isinstance(what, (ch11.Program, ch11.End)):
             self.channel(what.channel).take(what)
-        return fault is None
 
     def channel(self, number: int) -> Channel:
         """What is known of a channel."""
         return self.channels.setdefault(number, Channel())
 
-    def behind_damage(self, at: int) -> int:
-        """Tells a damaged place: where packets go on."""
-        self.reader.go_to(at)
-        found = self.reader.next()
-        if isinstance(found, ch11.Fault):
-            self.tell_fault(found, self.reader.search())
-        # Where there is nothing any more, the file was cut meanwhile.
-        return self.size if found is None else self.reader.at
-
     def tell_fault(self, fault: ch11.Fault, length: int) -> None:
         """Tells bytes that are left out."""
         self.is_damaged = True
-        self.tell(f"{self.path}: {fault}: {length} bytes are left out")
+        self.report(f"{self.path}: {fault}: {length} bytes are left out")
 
     def body(self, place: Place) -> Optional[bytes]:
         """The data of a packet of frames; None where they are none or damaged, which is told."""

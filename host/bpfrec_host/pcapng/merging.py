@@ -12,7 +12,7 @@ from bpfrec_host.filter_texts import Texts
 from bpfrec_host.formats import pcapng_blocks
 from bpfrec_host.formats.ch11 import Program
 from bpfrec_host.formats.facts import Origin
-from bpfrec_host.formats.limits import MAX_COUNTER, NANOSECONDS_A_TICK
+from bpfrec_host.formats.limits import INSN_LEN, MAX_COUNTER, NANOSECONDS_A_TICK
 from bpfrec_host.pcapng.index import Index
 from bpfrec_host.pcapng.slices import Frame, Slice
 from bpfrec_host.pcapng.times import Range, Times
@@ -103,19 +103,24 @@ class Interface:
         return [self.name, f"{self.name} of {self.source}", f"{self.name} of {self.source}, channel {self.channel}"]
 
     def description(self, texts: Texts, name: str) -> bytes:
-        """The block that describes it: its name, its counts and its first program."""
+        """The block that describes it: its name, its first program and its counts."""
         # One comment, since some programs show no second.
-        told = [self.counts()] + ([program_text(self.told, texts)] if self.told else [])
-        return pcapng_blocks.interface(name, f"channel {self.channel}", ["\n".join(told)])
+        comment = f"{program_text([self.told], texts)}\n" if self.told else ""
+        return pcapng_blocks.interface(name, f"channel {self.channel}", comment, self.counts())
 
-    def change(self, part: Part, frame: Frame) -> Optional[Program]:
-        """The program of a frame of a recording, where it is another one than was told last."""
-        programs = part.slice.channel.programs
+    def changes(self, part: Part, frame: Frame) -> list[Program]:
+        """The programs of a recording since the one that was told last, up to that of a frame; none where that is the
+        same."""
+        programs, told = part.slice.channel.programs, self.told
         program = programs[frame.program] if frame.program >= 0 else None
-        if program is None or program == self.told:
-            return None
+        if program is None or program == told:
+            return []
         self.told = program
-        return program
+        if told is not None and told not in programs:
+            # It was another recording's: of this one the program in force alone is told.
+            return [program]
+        begin = 0 if told is None else programs.index(told) + 1
+        return programs[min(begin, frame.program) : frame.program + 1]
 
     def skipped(self) -> int:
         """How many frames no capture has."""
@@ -123,15 +128,27 @@ class Interface:
 
 
 def first_program(chosen: Slice) -> Optional[Program]:
-    """The program in force at a slice's first packet; the channel's first one where it has none."""
-    programs = chosen.channel.programs
+    """The program that a slice begins with: the channel's first one, as `bpfrec export` has it, or where packets before
+    were left out the one in force."""
+    programs, packets = chosen.channel.programs, chosen.channel.packets
     at = chosen.packets[0].program if chosen.packets else 0
+    if chosen.packets[:1] == packets[:1]:
+        at = min(at, 0)
     return programs[at] if 0 <= at < len(programs) else None
 
 
-def program_text(program: Program, texts: Texts) -> str:
-    """What a comment says of a program."""
-    return f"filter version {program.version} of channel {program.channel}:\n{texts.text_of(program.insns)}"
+def version_text(programs: list[Program]) -> str:
+    """What a comment says of programs without a frame between them, in the words of `bpfrec export`."""
+    last = programs[-1]
+    insns = f"{len(last.insns) // INSN_LEN} instructions"
+    if len(programs) == 1:
+        return f"filter version {last.version}, {insns}"
+    return f"filter versions {programs[0].version} to {last.version}, the last of {insns}"
+
+
+def program_text(programs: list[Program], texts: Texts) -> str:
+    """The same, with the text of the last one."""
+    return f"{version_text(programs)}\n{texts.text_of(programs[-1].insns)}"
 
 
 def recording_text(recording: Recording) -> str:
@@ -143,11 +160,11 @@ def recording_text(recording: Recording) -> str:
 def interfaces_of(recordings: list[Recording], asked: Optional[list[Union[int, str]]]) -> list[Interface]:
     """The channels of recordings that are asked for by their IDs or interfaces, or else all, by recorder."""
     found: dict[tuple[int, Recorder], list[Recording]] = {}
-    for it in recordings:
-        chosen = set(it.headers.channels) if asked is None else set().union(*map(it.channels_of, asked))
+    for recording in recordings:
+        chosen = set(recording.headers.channels) if asked is None else set().union(*map(recording.channels_of, asked))
         for channel in chosen:
-            found.setdefault((channel, it.recorder_of(channel)), []).append(it)
-    in_order = sorted(found.items(), key=lambda it: it[0][0])
+            found.setdefault((channel, recording.recorder_of(channel)), []).append(recording)
+    in_order = sorted(found.items(), key=lambda entry: entry[0][0])
     return [Interface(number, channel, parts) for number, ((channel, _), parts) in enumerate(in_order)]
 
 
@@ -170,8 +187,8 @@ def last_moments(recordings: list[Recording]) -> dict[Run, int]:
     """The moment of counter 0 of each run, by the last origin that any of its recordings knows: a clock that is set is
     right from then on."""
     known: dict[Run, list[Origin]] = {}
-    for it in recordings:
-        known[it.run()] = max(known.get(it.run(), []), it.times.known, key=len)
+    for recording in recordings:
+        known[recording.run()] = max(known.get(recording.run(), []), recording.times.known, key=len)
     return {run: origins[-1].moment for run, origins in known.items()}
 
 
@@ -179,7 +196,7 @@ def merged(recordings: list[Recording], interfaces: list[Interface]) -> Iterable
     """The frames of all slices in the order in which they came; those of a channel stay in their order."""
     moments = last_moments(recordings)
     streams = [numbered(it, part, moments[part.recording.run()]) for it in interfaces for part in it.parts]
-    return heapq.merge(*streams, key=lambda it: it[0])
+    return heapq.merge(*streams, key=lambda entry: entry[0])
 
 
 def blocks(recordings: list[Recording], interfaces: list[Interface]) -> Iterator[bytes]:
@@ -191,8 +208,8 @@ def blocks(recordings: list[Recording], interfaces: list[Interface]) -> Iterator
         yield interface.description(texts, next((it for it in names if counts[it] == 1), longest))
     for _, interface, part, frame in merged(recordings, interfaces):
         moment = part.recording.times.moment_of(frame.counter)
-        program = interface.change(part, frame)
+        programs = interface.changes(part, frame)
         options = b""
-        if program or frame.marks:
-            options = pcapng_blocks.packet_options(frame.marks, program_text(program, texts) if program else None)
+        if programs or frame.marks:
+            options = pcapng_blocks.packet_options(frame.marks, program_text(programs, texts) if programs else None)
         yield pcapng_blocks.packet(interface.number, moment, frame.bytes, options)

@@ -54,8 +54,8 @@ class Times:
 
     def ranges(self, since: Optional[Time], until: Optional[Time]) -> list[Range]:
         """The counters whose times are from one on and before another, of each origin."""
-        for it in (since, until):
-            if it is not None and it.is_absolute and self.facts is None:
+        for moment in (since, until):
+            if moment is not None and moment.is_absolute and self.facts is None:
                 raise Refused(f"{self.path}: no facts beside it, so times are seconds since counter 0, as 12.5")
         ends = [it.counter for it in self.origins[1:]] + [MAX_COUNTER + 1]
         found = []

@@ -6,8 +6,8 @@ import argparse
 import signal
 from typing import Container
 
-from bpfrec_host import program
-from bpfrec_host.ending import full_name, say, tell
+from bpfrec_host import printing, program
+from bpfrec_host.arguments import Parser, full_name
 from bpfrec_host.formats.limits import MAX_NUMBER
 from bpfrec_host.formats.settings import Channel, NoReader, Settings, reader
 from bpfrec_host.preflight.inputs import judge_capture, judge_channel_feed, judge_feed, judge_filter, judge_shared_feeds
@@ -15,7 +15,6 @@ from bpfrec_host.preflight.keys import judge_channel_keys, judge_ids, judge_top,
 from bpfrec_host.preflight.live import judge_live
 from bpfrec_host.preflight.output import judge_memory, judge_out
 from bpfrec_host.preflight.report import NotJudged, Report
-from bpfrec_host.words import Parser
 
 ABOUT = """\
 Names, before a recording, all faults for which `bpfrec record SETTINGS OUT` would end, not only the first.
@@ -99,15 +98,15 @@ def judge_settings(settings: Settings, report: Report, piped: Container[int] = (
     return valid
 
 
-def run(words: list[str]) -> int:
+def run(arguments: list[str]) -> int:
     """Names what is wrong: the status."""
     # A reader of the findings may leave, as `head` does.
     signal.signal(signal.SIGPIPE, signal.SIG_DFL)
     made, report = parser(), Report()
-    at = words.index("--live") if "--live" in words else len(words)
-    given = made.parse_args(words[:at])
+    at = arguments.index("--live") if "--live" in arguments else len(arguments)
+    given = made.parse_args(arguments[:at])
     # As they are, with the end of their options too.
-    given.live = words[at + 1 :] if at < len(words) else None
+    given.live = arguments[at + 1 :] if at < len(arguments) else None
     if given.settings is None and given.live is None:
         made.error("the following arguments are required: SETTINGS")
     try:
@@ -115,7 +114,7 @@ def run(words: list[str]) -> int:
         program.find()
         judge(given, report)
     except (NoReader, NotJudged, program.Missing) as why:
-        tell(f"preflight: {why}")
+        printing.err(f"preflight: {why}")
         return 2
-    say(f"{report.ending()}\n")
+    printing.out(f"{report.ending()}\n")
     return 1 if report.faults else 0

@@ -11,8 +11,9 @@ from typing import Optional
 
 from bpfrec_host import program
 from bpfrec_host.formats import feed
+from bpfrec_host.formats.answers import is_no_listing
 from bpfrec_host.formats.limits import CHANNEL_KEYS, MAX_NUMBER
-from bpfrec_host.formats.listing import is_no_listing, no_listing
+from bpfrec_host.formats.listing import no_listing
 from bpfrec_host.formats.settings import Channel, Settings, number_fault
 from bpfrec_host.preflight.files import Unread, file_id, kind_of, read_text
 from bpfrec_host.preflight.keys import place_in

@@ -8,6 +8,7 @@ from pathlib import Path
 from typing import Optional
 
 from bpfrec_host import program
+from bpfrec_host.formats.answers import SETTINGS_SYNTAX
 from bpfrec_host.formats.limits import CHANNEL_KEYS, MAX_CHANNELS, TOP_KEYS
 from bpfrec_host.formats.settings import Channel, NoReader, NoToml, Settings, number_fault, settings_of, type_of
 from bpfrec_host.preflight.files import Unread, kind_of, read_text
@@ -30,7 +31,7 @@ def read_settings(file: str, report: Report) -> Optional[Settings]:
         if is_toml_to_program(text):
             told = f"column {fault.column}: bpfrec reads this, and Python's tomllib doesn't: {fault.what}"
             raise NotJudged(f"{place(file, fault.line)}: {told}") from None
-        report.fault(place(file, fault.line), f"settings 1 Syntax: {what}")
+        report.fault(place(file, fault.line), f"{SETTINGS_SYNTAX}: {what}")
     return None
 
 
@@ -44,7 +45,7 @@ def is_toml_to_program(text: str) -> bool:
     with tempfile.TemporaryDirectory() as folder:
         settings = Path(folder) / "settings.toml"
         settings.write_text('"" = 0\n' + text, encoding="utf-8")
-        return program.answer_of(program.run("record", str(settings), os.devnull)) != "settings 1 Syntax"
+        return program.answer_of(program.run("record", str(settings), os.devnull)) != SETTINGS_SYNTAX
 
 
 def judge_top(settings: Settings, report: Report) -> None:

@@ -53,10 +53,10 @@ OFFLOADS = {"gro": (0x2B, 1), "gso": (0x23, 1), "tso": (0x1E, 1), "lro": (0x25, 
 VALUE = struct.Struct("II")
 
 
-def judge_live(words: list[str], judge: Callable[[Settings, Report, set[int]], object], report: Report) -> None:
+def judge_live(arguments: list[str], judge: Callable[[Settings, Report, set[int]], object], report: Report) -> None:
     """Judges the arguments of a run of live. `judge` takes settings, and the channels that have interfaces."""
     try:
-        given = read(words)
+        given = read(arguments)
         refuse_together(given)
         refuse_endpoint(given)
         refuse_holder()
@@ -64,17 +64,17 @@ def judge_live(words: list[str], judge: Callable[[Settings, Report, set[int]], o
         if settings:
             with_pipes(settings, given)
             refuse_settings(settings, given)
-        refuse_few_descriptors(given, max(len(given.ways), len(settings.recorded()) if settings else 0))
+        refuse_few_descriptors(given, max(len(given.routes), len(settings.recorded()) if settings else 0))
     except Refusal as refusal:
         report.fault("live", without_name(refusal))
         return
     if settings:
-        judge(settings, report, {it.channel for it in given.ways})
+        judge(settings, report, {it.channel for it in given.routes})
     judge_expressions(given, report)
     judge_live_out(given, settings, report)
-    for way in given.ways:
-        judge_interface(way.interface, report)
-    if given.ways:
+    for route in given.routes:
+        judge_interface(route.interface, report)
+    if given.routes:
         judge_origin(given, report)
         judge_permission(report)
         judge_buffers(given, report)
@@ -96,21 +96,21 @@ def without_name(refusal: Refusal) -> str:
 
 def with_pipes(settings: Settings, given: Arguments) -> None:
     """Gives the channels that have interfaces a feed, as live does, so that none is missing."""
-    for way in given.ways:
+    for route in given.routes:
         for channel in settings.channels:
-            if is_channel(channel.table, way.channel):
-                channel.table["feed"] = f"{NOWHERE}/{way.channel}"
+            if is_channel(channel.table, route.channel):
+                channel.table["feed"] = f"{NOWHERE}/{route.channel}"
 
 
 def judge_expressions(given: Arguments, report: Report) -> None:
     """The filters that the arguments give."""
-    for way in given.ways:
-        if way.expression:
+    for route in given.routes:
+        if route.expression:
             try:
-                count = listing_of(way).split("\n")[0].split(",")[0]
-                report.note(way.interface, f"filter {way.expression}: {count} instructions")
+                count = listing_of(route).split("\n")[0].split(",")[0]
+                report.note(route.interface, f"filter {route.expression}: {count} instructions")
             except Refusal as refusal:
-                report.fault(way.interface, without_name(refusal))
+                report.fault(route.interface, without_name(refusal))
 
 
 def judge_live_out(given: Arguments, settings: Optional[Settings], report: Report) -> None:
@@ -119,7 +119,7 @@ def judge_live_out(given: Arguments, settings: Optional[Settings], report: Repor
     try:
         Files(given.mode, given.is_forced).refuse_overwriting(out)
         if os.path.isdir(os.path.dirname(out) or ".") and not is_special(out):
-            refuse_long(out, bool(given.ways))
+            refuse_long(out, bool(given.routes))
     except Refusal as refusal:
         report.fault(out, without_name(refusal))
         return
@@ -187,9 +187,9 @@ def judge_permission(report: Report) -> None:
 def judge_buffers(given: Arguments, report: Report) -> None:
     """What the kernel may keep of all interfaces' frames, beside the memory that is available."""
     memory, available = os.sysconf("SC_PHYS_PAGES") * os.sysconf("SC_PAGE_SIZE"), available_memory()
-    share = max(1, memory // MEBIBYTE // BUFFERS_IN_MEMORY // BUFFER_FOLD // len(given.ways))
+    share = max(1, memory // MEBIBYTE // BUFFERS_IN_MEMORY // BUFFER_FOLD // len(given.routes))
     each = asked_buffer(given) or min(USUAL_BUFFER, share)
-    total = each * BUFFER_FOLD * len(given.ways)
+    total = each * BUFFER_FOLD * len(given.routes)
     what = f"the kernel keeps up to {each * BUFFER_FOLD} MiB of each interface's frames, {total} MiB of all"
     if available is not None and total * MEBIBYTE > available:
         report.fault("buffers", f"{what}, and {available // MEBIBYTE} MiB are available")

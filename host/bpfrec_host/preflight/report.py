@@ -4,7 +4,7 @@ from __future__ import annotations
 
 from typing import Optional
 
-from bpfrec_host.ending import say
+from bpfrec_host import printing
 
 
 class NotJudged(Exception):
@@ -20,7 +20,7 @@ class Report:
     def fault(self, where: str, what: str) -> None:
         """Tells what is wrong."""
         self.faults += 1
-        say(one_line(f"{where}: {what}") + "\n")
+        printing.out(one_line(f"{where}: {what}") + "\n")
 
     def ending(self) -> str:
         """The last line."""
@@ -28,7 +28,7 @@ class Report:
 
     def note(self, where: str, what: str) -> None:
         """Tells what is no fault."""
-        say(one_line(f"{where}: note: {what}") + "\n")
+        printing.out(one_line(f"{where}: note: {what}") + "\n")
 
 
 def one_line(text: str) -> str:

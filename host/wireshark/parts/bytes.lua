@@ -1,5 +1,5 @@
--- Opens recordings of bpfrec in Wireshark and tshark, from version 4.0 on: the formats of docs/user/FORMATS.md, of both
--- profiles, and other recorders' packets as rows with their headers.
+-- Opens recordings of bpfrec in Wireshark and tshark, from version 4.0 on: docs/user/formats/recording.md, both profiles,
+-- and other recorders' packets as rows with their headers.
 --
 -- Each frame is a row that is dissected as Ethernet with its frame check sequence, below the protocol ch11, which has
 -- what the recording says of it. Each program, each end, each packet of another kind and each damaged place is a row.
@@ -15,16 +15,36 @@ end
 local byte, find, format, rep, sub = string.byte, string.find, string.format, string.rep, string.sub
 local floor, max, min = math.floor, math.max, math.min
 
--- ---- numbers of the formats
+-- ---- numbers of the formats, which dev/checks/limits.py makes
 
-local SYNC, TAG = "\37\235", "CBPR"
-local HEADER_LEN, CHECKSUM_LEN, FRAME_HEADER_LEN = 24, 4, 12
-local BODY_WORD_LEN, TAGGED_HEAD_LEN, PROGRAM_HEAD_LEN, END_LEN, INSN_LEN = 4, 12, 28, 28, 8
-local ETHERNET_DATA, COMPUTER_DATA = 0x68, 0x00
-local PROGRAM_RECORD, END_RECORD = 1, 2
-local MAX_ETHERNET_PACKET_LEN, MIN_FRAME_LEN, MAX_FRAME_LEN = 524288, 18, 16383
-local TICKS_A_SECOND, NANOSECONDS_A_TICK, NANOSECONDS_A_SECOND = 10000000, 100, 1000000000
-local MAX_COUNTER = 2 ^ 48 - 1
+local SYNC_PATTERN = 0xEB25
+local HEADER_LEN = 24
+local CHECKSUM_LEN = 4
+local BODY_WORD_LEN = 4
+local FRAME_HEADER_LEN = 12
+local TAGGED_HEAD_LEN = 12
+local PROGRAM_HEAD_LEN = 28
+local END_RECORD_LEN = 28
+local INSN_LEN = 8
+local ETHERNET_DATA = 0x68
+local COMPUTER_GENERATED_DATA = 0x00
+local PROGRAM_RECORD = 1
+local END_RECORD = 2
+local MAX_ETHERNET_PACKET_LEN = 524288
+local MIN_FRAME_LEN = 18
+local MAX_FRAME_LEN = 16383
+local MAX_COUNTER = 281474976710655
+local TICKS_A_SECOND = 10000000
+local NANOSECONDS_A_TICK = 100
+local NANOSECONDS_A_SECOND = 1000000000
+local MAX_FACTS_LEN = 67108864
+local MAX_HOST_LEN = 255
+-- As digits, which no number here holds.
+local MAX_COUNT = "9223372036854775807"
+
+-- ---- what packets begin with, and what is wrong with them
+
+local SYNC, TAG = Struct.pack("<I2", SYNC_PATTERN), "CBPR"
 -- Faults, by the words of `bpfrec list`.
 local TRUNCATED, WRONG_SYNC, WRONG_CHECKSUM = { 1, "Truncated" }, { 2, "Sync" }, { 3, "Checksum" }
 local WRONG_LENGTH, WRONG_BODY, WRONG_SUM = { 4, "Length" }, { 5, "Body" }, { 8, "DataChecksum" }

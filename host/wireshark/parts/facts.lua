@@ -1,9 +1,7 @@
 -- ---- the facts beside a recording
 
-local MAX_FACTS_LEN, MAX_HOST_LEN = 67108864, 255
 -- Of origins: the years 1 to 9998, in seconds since 1970.
 local FIRST_SECOND, END_SECOND = -62135596800, 253370764800
-local MAX_COUNT = "9223372036854775807"
 local LOST = { "dropped", "missed", "skipped" }
 
 -- Whether a value of JSON is a whole number from 0 to the one of these digits.

@@ -172,7 +172,7 @@ local function take_record(packet)
   local kind, channel = number16(data, HEADER_LEN + 8), number16(data, HEADER_LEN + 10)
   if channel == 0 then
     return WRONG_BODY
-  elseif kind == END_RECORD and data_len == END_LEN then
+  elseif kind == END_RECORD and data_len == END_RECORD_LEN then
     packet.what = "end"
   elseif kind == PROGRAM_RECORD and data_len >= PROGRAM_HEAD_LEN
     and data_len == PROGRAM_HEAD_LEN + INSN_LEN * number16(data, HEADER_LEN + 24) then
@@ -185,7 +185,7 @@ end
 
 -- Whether the data of a packet may be frames or a record.
 local function has_judged_data(packet)
-  local is_record = packet.kind == COMPUTER_DATA and packet.channel == 0
+  local is_record = packet.kind == COMPUTER_GENERATED_DATA and packet.channel == 0
   return is_plain(packet.flags) and (packet.kind == ETHERNET_DATA or is_record)
 end
 

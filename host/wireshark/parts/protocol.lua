@@ -6,7 +6,7 @@ ch11.prefs.facts = Pref.string("Facts", "", "The file of facts by which times ar
 
 local DATA_TYPES = {
   [ETHERNET_DATA] = "Ethernet data, Format 0",
-  [COMPUTER_DATA] = "computer-generated data, Format 0",
+  [COMPUTER_GENERATED_DATA] = "computer-generated data, Format 0",
 }
 local field = {
   place = ProtoField.uint64("ch11.place", "Place in the recording"),

@@ -1,4 +1,4 @@
-"""Recordings, read packet by packet with one packet in memory: the formats of docs/user/FORMATS.md, of both profiles.
+"""Recordings of both profiles, by docs/user/formats/recording.md, read with one packet in memory.
 
 `Reader` reads as `bpfrec list` does, up to the first fault, and can then look for the place where packets begin again.
 It was written from that document alone, so it is a second reader beside the program's.

@@ -55,10 +55,13 @@ class Header(NamedTuple):
         """Whether it has no secondary header, and no data checksum or one of 32 bits."""
         return not self.flags & SECONDARY_HEADER and self.flags & CHECKSUM in (0, CHECKSUM)
 
+    def may_be_record(self) -> bool:
+        """Whether it has the kind and the channel of records."""
+        return self.kind == COMPUTER_GENERATED_DATA and self.channel == RECORD_CHANNEL
+
     def has_judged_data(self) -> bool:
         """Whether its data may be frames or a record."""
-        is_record = self.kind == COMPUTER_GENERATED_DATA and self.channel == RECORD_CHANNEL
-        return self.is_plain() and (self.kind == ETHERNET_DATA or is_record)
+        return self.is_plain() and (self.kind == ETHERNET_DATA or self.may_be_record())
 
     def has_checksum(self) -> bool:
         """Whether a data checksum of 32 bits ends the packet."""

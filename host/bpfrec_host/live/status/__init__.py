@@ -7,7 +7,7 @@ How `live` joins it; all calls are made by one thread, and moments are seconds o
     status = Status(endpoint_in(word), Terminal(2, is_quiet), sync, limit, has_ring)
     status.start()  # begins to serve, once nothing is forked any more that isn't a program of its own; 1 ms
     status.recording_begun(number, path, [Setup(1, "eth0")], now)  # once the recorder has OUT open; 0.1 ms
-    status.capture_counted(*counted_in(line), now)  # each line of counts, also with --quiet; 10 us
+    status.capture_counted(interface, counts, now)  # each second of each interface, also with --quiet; 10 us
     status.filter_changed(channel, version, is_same)  # at `installed CHANNEL VERSION MARK`; 1 us
     status.synced(now)  # each time when OUT was forced to its disk; 1 us
     status.tick(now)  # each second: 1 ms for 64 channels, and 6 us for each packet that came, of 4,096 at most
@@ -15,11 +15,10 @@ How `live` joins it; all calls are made by one thread, and moments are seconds o
     status.ended(now), status.close()  # at the end; close takes a quarter of a second at most
 
 No call waits for a client, a terminal or a pipe. While `Terminal.is_of(stream)`, lines for that stream go through
-`Terminal.say`, and `Terminal.note_typed` is told of each line that is read from it.
+`Terminal.show`, and `Terminal.note_typed` is told of each line that is read from it.
 """
 
-from bpfrec_host.live.observer import Counts, Setup
-from bpfrec_host.live.status.counts import Counted, counted_in
+from bpfrec_host.live.ports import Counts, Setup
 from bpfrec_host.live.status.endpoint import BadEndpoint, Endpoint, endpoint_in
 from bpfrec_host.live.status.observer import Status
 from bpfrec_host.live.status.server import NoServer
@@ -27,13 +26,11 @@ from bpfrec_host.live.status.terminal import Terminal
 
 __all__ = [
     "BadEndpoint",
-    "Counted",
     "Counts",
     "Endpoint",
     "NoServer",
     "Setup",
     "Status",
     "Terminal",
-    "counted_in",
     "endpoint_in",
 ]

@@ -49,7 +49,7 @@ class Alarm(NamedTuple):
 def alarms_of(view: View, limit: int) -> tuple[Alarm, ...]:
     """What is wrong, alarms first. A packet of the recording has `limit` bytes at most."""
     found = [*of_whole(view), *(alarm for it in view.channels for alarm in of_channel(it, view.state, limit))]
-    return tuple(sorted(found, key=lambda it: it.level != ALARM))
+    return tuple(sorted(found, key=lambda alarm: alarm.level != ALARM))
 
 
 def level_of(alarms: tuple[Alarm, ...], channel: Optional[int] = None) -> str:
@@ -158,17 +158,17 @@ def of_pipe(channel: ChannelView) -> Iterator[Alarm]:
 
 def of_filter(channel: ChannelView, limit: int) -> Iterator[Alarm]:
     """Whether the filter keeps nothing of what comes."""
-    it = channel.unkept
+    unkept = channel.unkept
     if (
-        not it
-        or it.seconds < KEEPS_NOTHING_SECONDS
-        or it.frames < KEEPS_NOTHING_FRAMES
-        or it.bytes < due(channel, limit)
+        not unkept
+        or unkept.seconds < KEEPS_NOTHING_SECONDS
+        or unkept.frames < KEEPS_NOTHING_FRAMES
+        or unkept.bytes < due(channel, limit)
     ):
         return
     text = (
-        f"the filter keeps nothing, or too little to fill a packet of {limit:,} bytes: none of the {it.frames:,} "
-        f"frames that were offered in {duration(it.seconds)} is in the recording"
+        f"the filter keeps nothing, or too little to fill a packet of {limit:,} bytes: none of the {unkept.frames:,} "
+        f"frames that were offered in {duration(unkept.seconds)} is in the recording"
     )
     yield of(channel, "keeps_nothing", ALARM, "keeps nothing", text)
 

@@ -46,26 +46,26 @@ def object_of(view: View, alarms: tuple[Alarm, ...]) -> dict[str, Any]:
     }
 
 
-def channel_object(it: ChannelView, alarms: tuple[Alarm, ...]) -> dict[str, Any]:
+def channel_object(channel: ChannelView, alarms: tuple[Alarm, ...]) -> dict[str, Any]:
     """What the object has of a channel."""
-    mine = [alarm for alarm in alarms if alarm.channel == it.channel]
-    last = it.history[-1] if it.history else None
+    mine = [alarm for alarm in alarms if alarm.channel == channel.channel]
+    last = channel.history[-1] if channel.history else None
     return {
-        "channel": it.channel,
-        "interface": None if it.interface is None else printable(it.interface),
-        "level": level_of(alarms, it.channel),
+        "channel": channel.channel,
+        "interface": None if channel.interface is None else printable(channel.interface),
+        "level": level_of(alarms, channel.channel),
         "words": [alarm.word for alarm in mine],
-        "version": it.version,
-        "same_since": it.same_since,
-        "offered": it.counts and amounts(it.counts.frames, it.counts.bytes, last and last[:2]),
-        "kept": amounts(it.kept_frames, it.kept_bytes, kept_rates(it.history)),
-        "dropped": it.counts and it.counts.dropped,
-        "missed": it.counts and it.counts.missed,
-        "skipped": it.counts and it.counts.skipped,
-        "waited": it.counts and it.counts.waited,
-        "frame_age": rounded(it.frame_age),
-        "has_ended": it.has_ended,
-        "history": {name: column(it.history, at) for at, name in enumerate(Second._fields)},
+        "version": channel.version,
+        "same_since": channel.same_since,
+        "offered": channel.counts and amounts(channel.counts.frames, channel.counts.bytes, last and last[:2]),
+        "kept": amounts(channel.kept_frames, channel.kept_bytes, kept_rates(channel.history)),
+        "dropped": channel.counts and channel.counts.dropped,
+        "missed": channel.counts and channel.counts.missed,
+        "skipped": channel.counts and channel.counts.skipped,
+        "waited": channel.counts and channel.counts.waited,
+        "frame_age": rounded(channel.frame_age),
+        "has_ended": channel.has_ended,
+        "history": {name: column(channel.history, at) for at, name in enumerate(Second._fields)},
     }
 
 

@@ -5,7 +5,7 @@ from __future__ import annotations
 from collections import deque
 from typing import Optional
 
-from bpfrec_host.live.observer import Counts
+from bpfrec_host.live.ports import Counts
 from bpfrec_host.live.status.view import HISTORY_SECONDS, ChannelView, Second, Unkept, lost
 
 # Counts that come closer together than this make no rate of their own, and those that are older tell none, in seconds.

@@ -41,28 +41,44 @@ class Metric(NamedTuple):
 
 
 CHANNEL_METRICS = (
-    Metric("offered_frames_total", COUNTER, "Frames that came.", lambda it: it.counts and it.counts.frames),
-    Metric("offered_bytes_total", COUNTER, "Bytes of frames that came.", lambda it: it.counts and it.counts.bytes),
-    Metric("kept_frames_total", COUNTER, "Frames in recordings.", lambda it: it.kept_frames),
-    Metric("kept_bytes_total", COUNTER, "Bytes of frames in recordings.", lambda it: it.kept_bytes),
     Metric(
-        "dropped_frames_total", COUNTER, "Frames that the kernel dropped.", lambda it: it.counts and it.counts.dropped
+        "offered_frames_total", COUNTER, "Frames that came.", lambda channel: channel.counts and channel.counts.frames
     ),
     Metric(
-        "missed_frames_total", COUNTER, "Frames that the interface missed.", lambda it: it.counts and it.counts.missed
+        "offered_bytes_total",
+        COUNTER,
+        "Bytes of frames that came.",
+        lambda channel: channel.counts and channel.counts.bytes,
+    ),
+    Metric("kept_frames_total", COUNTER, "Frames in recordings.", lambda channel: channel.kept_frames),
+    Metric("kept_bytes_total", COUNTER, "Bytes of frames in recordings.", lambda channel: channel.kept_bytes),
+    Metric(
+        "dropped_frames_total",
+        COUNTER,
+        "Frames that the kernel dropped.",
+        lambda channel: channel.counts and channel.counts.dropped,
     ),
     Metric(
-        "skipped_frames_total", COUNTER, "Frames cut short or too long.", lambda it: it.counts and it.counts.skipped
+        "missed_frames_total",
+        COUNTER,
+        "Frames that the interface missed.",
+        lambda channel: channel.counts and channel.counts.missed,
+    ),
+    Metric(
+        "skipped_frames_total",
+        COUNTER,
+        "Frames cut short or too long.",
+        lambda channel: channel.counts and channel.counts.skipped,
     ),
     Metric(
         "waited_seconds_total",
         COUNTER,
         "For how long the pipe was full.",
-        lambda it: it.counts and it.counts.waited / 1_000,
+        lambda channel: channel.counts and channel.counts.waited / 1_000,
     ),
-    Metric("filter_version", GAUGE, "The version of the filter, in this recording.", lambda it: it.version),
-    Metric("filters_left", GAUGE, "Versions that it has room for.", lambda it: it.filters_left()),
-    Metric("last_frame_age_seconds", GAUGE, "How long ago the last frame came.", lambda it: it.frame_age),
+    Metric("filter_version", GAUGE, "The version of the filter, in this recording.", lambda channel: channel.version),
+    Metric("filters_left", GAUGE, "Versions that it has room for.", lambda channel: channel.filters_left()),
+    Metric("last_frame_age_seconds", GAUGE, "How long ago the last frame came.", lambda channel: channel.frame_age),
 )
 
 
@@ -98,8 +114,8 @@ def of_run(view: View) -> Iterator[str]:
 def of_alarms(alarms: tuple[Alarm, ...]) -> Iterator[str]:
     """How many alarms and warnings there are of each name."""
     counts = dict.fromkeys(ALARMS, 0)
-    for it in alarms:
-        counts[it.name] = counts.get(it.name, 0) + 1
+    for alarm in alarms:
+        counts[alarm.name] = counts.get(alarm.name, 0) + 1
     samples: list[Sample] = [((("name", name),), count) for name, count in counts.items()]
     yield family("alarms", GAUGE, "Alarms and warnings that hold now.", samples)
 
@@ -111,9 +127,9 @@ def of_channels(view: View) -> Iterator[str]:
         yield family(f"channel_{metric.name}", metric.kind, metric.help, samples)
 
 
-def labels_of(it: ChannelView) -> tuple[tuple[str, str], ...]:
+def labels_of(channel: ChannelView) -> tuple[tuple[str, str], ...]:
     """The labels of a channel's samples."""
-    return ("channel", str(it.channel)), ("interface", it.interface or "")
+    return ("channel", str(channel.channel)), ("interface", channel.interface or "")
 
 
 def family(name: str, kind: str, text: str, samples: Iterable[Sample]) -> str:

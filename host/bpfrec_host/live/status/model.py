@@ -4,14 +4,14 @@ nobody sets. What is kept doesn't grow with the run."""
 from __future__ import annotations
 
 import hashlib
-import re
 from collections import deque
 from collections.abc import Iterable, Sequence
 from math import floor
 from typing import Optional
 
+from bpfrec_host.formats.answers import Report
 from bpfrec_host.formats.ch11 import End, Program
-from bpfrec_host.live.observer import Counts, Setup
+from bpfrec_host.live.ports import Counts, Setup
 from bpfrec_host.live.status.channel import Channel, since
 from bpfrec_host.live.status.growth import Growth, Kept, Told
 from bpfrec_host.live.status.view import (
@@ -27,8 +27,6 @@ from bpfrec_host.live.status.view import (
 
 # So many recordings that have ended are kept; the others are counted.
 MOST_ENDED = 32
-# The line of a report that has the recording's length.
-WROTE = re.compile(r"wrote [0-9]+ ([0-9]{1,20})")
 
 
 class Going:
@@ -72,16 +70,16 @@ class Model:
         self.current = number
         self.synced_at = None
         kept = {}
-        for it in channels:
-            kept[it.channel] = self.channels.get(it.channel) or Channel(it.channel, it.interface, now)
-            kept[it.channel].begin(it.interface, it.version)
+        for setup in channels:
+            kept[setup.channel] = self.channels.get(setup.channel) or Channel(setup.channel, setup.interface, now)
+            kept[setup.channel].begin(setup.interface, setup.version)
         self.channels = dict(sorted(kept.items()))
 
     def capture_counted(self, interface: str, counts: Counts, now: float) -> None:
         """The capture has counted so much of an interface since the run began."""
-        for it in self.channels.values():
-            if it.interface == interface:
-                it.count(counts, now)
+        for channel in self.channels.values():
+            if channel.interface == interface:
+                channel.count(counts, now)
 
     def filter_changed(self, channel: int, version: int, is_same: bool) -> None:
         """A channel's filter is this version in the recording that goes on; `is_same` says that it is the program of
@@ -96,8 +94,8 @@ class Model:
             return
         self.written += max(growth.size - going.bytes, 0)
         going.bytes, going.unread, going.fault = growth.size, growth.unread(), growth.fault
-        for it in told:
-            self.take(it, number == self.current, now)
+        for piece in told:
+            self.take(piece, number == self.current, now)
 
     def take(self, told: Told, is_current: bool, now: float) -> None:
         """Takes what a packet tells: of a recording that others follow its programs are the past."""
@@ -131,8 +129,9 @@ class Model:
             return
         if number == self.current:
             self.current = None
-        wrote = [int(it[1]) for it in map(WROTE.fullmatch, report) if it]
-        ended = EndedView(number, going.name, wrote[-1] if wrote else going.bytes, status, audit[-1] if audit else None)
+        reports = [it for it in map(Report.of, report) if it]
+        size = reports[-1].bytes if reports else going.bytes
+        ended = EndedView(number, going.name, size, status, audit[-1] if audit else None)
         self.recordings.append(ended)
         yes, no, none = self.audits
         if ended.audit is None:
@@ -152,8 +151,8 @@ class Model:
             return
         self.second += passed
         self.sizes.append((now, self.written))
-        for it in self.channels.values():
-            it.pass_time(passed, now)
+        for channel in self.channels.values():
+            channel.pass_time(passed, now)
 
     # ---- what is shown
 

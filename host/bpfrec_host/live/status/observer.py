@@ -7,11 +7,12 @@ import time
 from collections.abc import Iterable, Sequence
 from typing import Optional
 
+from bpfrec_host.formats.ch11.follow import MOST_PACKETS
 from bpfrec_host.formats.limits import TOP_KEYS
-from bpfrec_host.live.observer import Counts, Observer, Setup
+from bpfrec_host.live.ports import Counts, Observer, Setup
 from bpfrec_host.live.status.alarms import alarms_of
 from bpfrec_host.live.status.endpoint import Endpoint
-from bpfrec_host.live.status.growth import MOST_PACKETS, Growth
+from bpfrec_host.live.status.growth import Growth
 from bpfrec_host.live.status.model import Model
 from bpfrec_host.live.status.server import Server, Stock
 from bpfrec_host.live.status.terminal import Terminal

@@ -235,8 +235,8 @@ class Server(socketserver.ThreadingMixIn, socketserver.TCPServer):
             self.shutdown()
         self.server_close()
         with self.lock:
-            for it in self.open:
-                close_ways(it)
+            for client in self.open:
+                close_ways(client)
 
     def get_request(self) -> tuple[socket.socket, Any]:
         """The next connection. Where the system is short of something it isn't asked at once again."""

@@ -55,9 +55,9 @@ def whole(view: View) -> Iterator[str]:
     """The recording and its disk."""
     if not view.recording:
         return
-    it = view.recording
-    rate = "" if it.bytes_per_second is None else f", {size(it.bytes_per_second)}/s"
-    yield f"{it.name}  {duration(it.seconds)}  {size(it.bytes)}{rate}"
+    recording = view.recording
+    rate = "" if recording.bytes_per_second is None else f", {size(recording.bytes_per_second)}/s"
+    yield f"{recording.name}  {duration(recording.seconds)}  {size(recording.bytes)}{rate}"
     left = view.disk and view.disk.seconds_left
     disk = f"disk {size(view.disk.free)} free" if view.disk else "disk not known"
     full = f", full in {duration(left)}" if left is not None else ""
@@ -84,31 +84,33 @@ def shown(channels: tuple[ChannelView, ...], alarms: tuple[Alarm, ...], room: in
     if len(channels) <= room:
         return list(channels)
     told = {it.channel for it in alarms}
-    chosen = sorted(channels, key=lambda it: it.channel not in told)[: max(room - 1, 0)]
-    return sorted(chosen, key=lambda it: it.channel)
+    chosen = sorted(channels, key=lambda channel: channel.channel not in told)[: max(room - 1, 0)]
+    return sorted(chosen, key=lambda channel: channel.channel)
 
 
-def row(it: ChannelView, alarms: tuple[Alarm, ...], width: int) -> Line:
+def row(channel: ChannelView, alarms: tuple[Alarm, ...], width: int) -> Line:
     """A channel, for a line of so many columns."""
-    last, kept = current(it), kept_rates(it.history)
-    name = cut(printable(it.interface or "(a feed)"), NAME_WIDTH)
-    words = ", ".join(alarm.word for alarm in alarms if alarm.channel == it.channel)
+    last, kept = current(channel), kept_rates(channel.history)
+    name = cut(printable(channel.interface or "(a feed)"), NAME_WIDTH)
+    words = ", ".join(alarm.word for alarm in alarms if alarm.channel == channel.channel)
     columns = [
-        f"{it.channel:>5} {padded(name, NAME_WIDTH)}",
+        f"{channel.channel:>5} {padded(name, NAME_WIDTH)}",
         f"{rate(last.offered_frames if last else None):>8}",
         f"{rate(kept[0] if kept else None):>8}",
-        f"{'-' if it.counts is None else format(lost(it.counts), ','):>8}",
-        f"{it.same_since:>6}",
-        f"{'-' if it.frame_age is None else duration(it.frame_age):>8}",
-        f" {state(it, words, width - STATE_AT)}",
+        f"{'-' if channel.counts is None else format(lost(channel.counts), ','):>8}",
+        f"{channel.same_since:>6}",
+        f"{'-' if channel.frame_age is None else duration(channel.frame_age):>8}",
+        f" {state(channel, words, width - STATE_AT)}",
     ]
-    return Line(" ".join(columns), level_of(alarms, it.channel))
+    return Line(" ".join(columns), level_of(alarms, channel.channel))
 
 
-def state(it: ChannelView, words: str, width: int) -> str:
+def state(channel: ChannelView, words: str, width: int) -> str:
     """What is wrong with a channel, and its bar in what is left of the columns."""
-    said = words.upper() or ("ended" if it.has_ended else "")
-    return said if it.has_ended else f"{said} {bar(it, width - len(said) - 1)}" if said else bar(it, width)
+    said = words.upper() or ("ended" if channel.has_ended else "")
+    return (
+        said if channel.has_ended else f"{said} {bar(channel, width - len(said) - 1)}" if said else bar(channel, width)
+    )
 
 
 def rate(value: Optional[float]) -> str:
@@ -118,10 +120,10 @@ def rate(value: Optional[float]) -> str:
     return f"{value:.1f}" if 0 < value < 10 else f"{value:,.0f}"
 
 
-def bar(it: ChannelView, width: int) -> str:
+def bar(channel: ChannelView, width: int) -> str:
     """The frames that came in the last seconds, each as high as its share of the most, in at most so many columns."""
     count = min(BAR_SECONDS, width)
-    values = [second.offered_frames or 0 for second in it.history[-count:]] if count > 0 else []
+    values = [second.offered_frames or 0 for second in channel.history[-count:]] if count > 0 else []
     most = max(values, default=0) or 1
     return "".join(LEVELS[round(value / most * (len(LEVELS) - 1))] for value in values)
 
@@ -147,11 +149,11 @@ def cut(text: str, width: int) -> str:
     if sum(map(columns_of, text)) <= width:
         return text
     kept, taken = "", 0
-    for it in text:
-        taken += columns_of(it)
+    for letter in text:
+        taken += columns_of(letter)
         if taken >= width:
             break
-        kept += it
+        kept += letter
     return f"{kept}…"
 
 

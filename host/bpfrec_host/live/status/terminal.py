@@ -69,7 +69,7 @@ class Terminal:
             self.replace([], lines, size.columns)
         return True
 
-    def say(self, lines: Sequence[str]) -> bool:
+    def show(self, lines: Sequence[str]) -> bool:
         """Writes lines in the place of the table, which comes back below them: whether there was room to begin with
         them. What was begun is written to its end before anything else."""
         if not self.is_shown() or not self.flush():

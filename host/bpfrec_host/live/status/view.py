@@ -8,8 +8,9 @@ from __future__ import annotations
 
 from typing import NamedTuple, Optional
 
+from bpfrec_host.formats.answers import Verdict
 from bpfrec_host.formats.limits import MAX_VERSIONS
-from bpfrec_host.live.observer import Counts
+from bpfrec_host.live.ports import Counts
 
 # How many seconds of its past a channel keeps.
 HISTORY_SECONDS = 60
@@ -106,7 +107,7 @@ class EndedView(NamedTuple):
 
     def is_refused(self) -> bool:
         """Whether the audit said no."""
-        return self.audit is not None and not self.audit.startswith("yes")
+        return self.audit is not None and not Verdict.of(self.audit).is_yes()
 
 
 class Audits(NamedTuple):
@@ -138,5 +139,5 @@ def current(channel: ChannelView) -> Optional[Second]:
 
 
 def lost(counts: Counts) -> int:
-    """How many frames of an interface were lost, in whatever way."""
+    """How many frames of an interface were lost, in whatever route."""
     return counts.dropped + counts.missed + counts.skipped

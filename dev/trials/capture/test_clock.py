@@ -1,0 +1,160 @@
+"""Tries bin/capture with a wall clock that is set while it captures; other settings stand in capture/tests/.
+
+The clock is set for the capture alone, by a library that is preloaded (dev/trials/lib/set_clock.c); the host's stays.
+Counters must go on as if nothing had happened, and with the origins that are told each frame must have the time that
+the set clock had when it was sent.
+"""
+
+import os
+import select
+import signal
+import threading
+import time
+from pathlib import Path
+
+import pytest
+from clock import TOLD, Clock, Sender, judge_frames, judge_steps, origins_told, steps_told
+from frames import records
+from support import CAPTURE, MILLISECOND, SECOND, SECONDS, Running, judge, judge_quietly, pipe_at, wait_for
+
+WANTED = {
+    "bin/bpfrec": "make build",
+    "bin/capture": "make build",
+    "ip": "iproute2",
+    "cc": "gcc",
+    "pcap-config": "libpcap-dev",
+}
+pytestmark = [pytest.mark.timed, pytest.mark.usefixtures("namespace")]
+STEP = -3600 * SECOND
+PPM = 500
+# What a step has at least that is told by itself.
+LEAST_STEP = SECOND // 2000
+
+
+class LateReader(threading.Thread):
+    """Holds a pipe open, and reads it to its end from `start` on."""
+
+    def __init__(self, path: Path) -> None:
+        super().__init__(daemon=True)
+        self.path, self.data = path, b""
+        self.pipe = os.open(path, os.O_RDONLY | os.O_NONBLOCK)
+        os.set_blocking(self.pipe, True)
+
+    def run(self) -> None:
+        # A read before there is a writer would be the end.
+        has_more = select.poll()
+        has_more.register(self.pipe, select.POLLIN)
+        while has_more.poll() and (part := os.read(self.pipe, 1 << 16)):
+            self.data += part
+        os.close(self.pipe)
+
+    def all(self) -> bytes:
+        self.join(SECONDS)
+        return self.data
+
+
+class Captured:
+    """A capture of both pairs under a clock that is set, with a reader of each."""
+
+    def __init__(self, work: Path, starts_reading: tuple = (True, True)) -> None:
+        self.clock, self.sender = Clock(work), Sender()
+        self.readers = [LateReader(pipe_at(work, f"{at}.pipe")) for at in (0, 1)]
+        for reader, starts in zip(self.readers, starts_reading):
+            if starts:
+                reader.start()
+        ways = [f"rx{at}={reader.path}" for at, reader in enumerate(self.readers)]
+        self.running = Running(work, CAPTURE, "--quiet", *ways, adds=self.clock.adds)
+        self.running.wait_until_told("origin")
+        time.sleep(0.05)
+
+    def stop(self) -> None:
+        os.kill(self.running.process.pid, signal.SIGSTOP)
+
+    def go_on(self) -> None:
+        os.kill(self.running.process.pid, signal.SIGCONT)
+
+    def wait_for_told(self, count: int) -> None:
+        wait_for(
+            lambda: f"a setting is told within a second: {self.running.told()}",
+            lambda: len(TOLD.findall(self.running.told())) >= count,
+            1,
+        )
+
+    def judge(self, what: str, steps: list[int] | None) -> None:
+        """Ends it and judges it; `steps` are the settings, each of which is told once."""
+        time.sleep(0.1)
+        self.running.interrupt()
+        judge_quietly(f"{what}: it ends well: {self.running.told()}", self.running.ended()[0] == 0)
+        origins = origins_told(self.running.told())
+        for at, reader in enumerate(self.readers):
+            judge_frames(f"{what}: rx{at}", records(reader.all()), self.sender.sent, origins, self.clock)
+        if steps is not None:
+            judge_steps(what, self.running.told(), steps)
+        judge(f"{what}: counters go on, and with the origins that are told each frame has its time", True)
+
+
+def test_a_clock_that_is_set_under_traffic_gives_a_new_origin(work: Path) -> None:
+    captured = Captured(work)
+    captured.sender.send(50)
+    captured.clock.set_by(STEP)
+    captured.sender.send(50)
+    captured.wait_for_told(1)
+    captured.sender.send(50)
+    captured.judge("the clock is set", [STEP])
+
+
+def test_frames_from_before_and_after_a_setting_have_their_origins(work: Path) -> None:
+    """The capture stands still: the kernel keeps frames from before and after it."""
+    captured = Captured(work)
+    captured.sender.send(50)
+    captured.stop()
+    captured.sender.send(50)
+    captured.clock.set_by(-SECOND)
+    captured.sender.send(50)
+    captured.go_on()
+    captured.wait_for_told(1)
+    captured.sender.send(50)
+    captured.judge("the clock is set while frames wait", [-SECOND])
+
+
+def test_a_setting_while_a_pipe_is_full_gives_a_new_origin(work: Path) -> None:
+    """The reader of one feed stands still, and frames of before and after wait in the kernel."""
+    captured = Captured(work, (False, True))
+    captured.sender.send(1_500, 1_500, 0)
+    time.sleep(0.2)
+    captured.clock.set_by(STEP)
+    captured.sender.send(300, 1_500, 0.0005)
+    captured.wait_for_told(1)
+    captured.readers[0].start()
+    captured.sender.send(50)
+    captured.judge("the clock is set while a pipe is full", [STEP])
+
+
+def test_a_setting_of_which_no_frame_tells_is_told(work: Path) -> None:
+    """And the next frames have their times."""
+    captured = Captured(work)
+    captured.sender.send(5)
+    time.sleep(0.3)
+    captured.clock.set_by(STEP)
+    captured.wait_for_told(1)
+    captured.sender.send(5)
+    captured.judge("the clock is set between frames", [STEP])
+
+
+def test_a_clock_that_gains_is_followed_in_steps(work: Path) -> None:
+    """Of half a millisecond or more, also while frames wait."""
+    captured = Captured(work)
+    captured.clock.slew(PPM)
+    captured.sender.send(500)
+    captured.stop()
+    captured.sender.send(200)
+    captured.go_on()
+    captured.sender.send(500)
+    gained = captured.clock.ahead_at(time.time_ns())
+    captured.judge(f"a clock that gains {PPM} millionths", None)
+    steps = steps_told(captured.running.told())
+    judge(
+        f"is followed in {len(steps)} steps",
+        abs(gained - sum(steps)) < MILLISECOND and len(steps) <= gained // LEAST_STEP + 1,
+        (gained, steps),
+    )

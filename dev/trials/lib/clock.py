@@ -1,0 +1,146 @@
+"""A wall clock that is set for chosen programs alone, by dev/trials/lib/set_clock.c."""
+
+import functools
+import re
+import struct
+import tempfile
+import time
+from pathlib import Path
+
+from frames import Record, numbered, numbers_in
+from namespace import socket_into
+from support import CAPTURE, LIBRARY, MILLISECOND, SECOND, judge_quietly, nanoseconds, origin_told, shared_library
+
+
+class Clock:
+    """A wall clock that is set for those programs alone that run with `adds`."""
+
+    SOON = 3 * MILLISECOND
+
+    def __init__(self, work: Path, name: str = "clock") -> None:
+        self.path = work / name
+        self.settings: list[tuple[int, int]] = []
+        self.gain = (0, 0)
+        self.write()
+        self.adds = {"LD_PRELOAD": str(preloaded()), "SET_CLOCK": str(self.path)}
+
+    def write(self) -> None:
+        """What is new comes ahead of its count, and of the moment from which on it holds."""
+        listed = b"".join(struct.pack("<qq", *it) for it in self.settings).ljust(64 * 16, b"\0")
+        with open(self.path, "r+b" if self.path.exists() else "w+b", buffering=0) as file:
+            file.seek(24)
+            file.write(listed)
+            file.seek(16)
+            file.write(struct.pack("<q", self.gain[1]))
+            file.seek(0)
+            file.write(struct.pack("<qq", len(self.settings), self.gain[0]))
+
+    def ahead_at(self, real: int) -> int:
+        """How far it is ahead of the real clock then, in nanoseconds."""
+        from_then, gain = self.gain
+        gained = (real - from_then) * gain // 1_000_000 if from_then and real > from_then else 0
+        return ([0] + [ahead for moment, ahead in self.settings if moment <= real])[-1] + gained
+
+    def set_by(self, nanoseconds: int) -> None:
+        """Sets it within some milliseconds, and returns some later."""
+        self.set_at(time.time_ns() + self.SOON, (self.settings[-1][1] if self.settings else 0) + nanoseconds)
+
+    def set_at(self, moment: int, ahead: int) -> None:
+        self.settings.append((moment, ahead))
+        self.write()
+        while time.time_ns() < moment + self.SOON:
+            time.sleep(0.001)
+
+    def slew(self, millionths: int) -> None:
+        """It gains so much from now on."""
+        self.gain = (time.time_ns() + self.SOON, millionths)
+        self.write()
+
+
+@functools.cache
+def library_folder() -> tempfile.TemporaryDirectory:
+    """A folder that is removed when this process ends."""
+    return tempfile.TemporaryDirectory(prefix="bpfrec_set_clock_")
+
+
+@functools.cache
+def preloaded() -> Path:
+    """The library of dev/trials/lib/set_clock.c."""
+    return shared_library(LIBRARY / "set_clock.c", Path(library_folder().name) / "set_clock.so")
+
+
+def capture_with(work: Path, adds: dict) -> Path:
+    """A script that is bin/capture with these variables, for host/bin/live."""
+    path = work / "capture_with"
+    given = " ".join(f"{name}='{value}'" for name, value in adds.items())
+    path.write_text(f'#!/bin/sh\nexec env {given} {CAPTURE} "$@"\n')
+    path.chmod(0o755)
+    return path
+
+
+# ---- frames under a clock that is set
+
+TOLD = re.compile(
+    r"capture: origin (-?\d+)\.(\d{9}) from counter (\d+) on: the clock was set by ([-+]?\d+\.\d{6,9}) s\n"
+)
+
+
+class Sender:
+    """Sends frames into both pairs, and keeps when each was sent: the real moments just before and just after."""
+
+    def __init__(self) -> None:
+        self.sent: list[tuple[int, int]] = []
+
+    def send(self, count: int, length: int = 60, pause: float = 0.002) -> None:
+        with socket_into("tx0") as one, socket_into("tx1") as two:
+            for number in range(len(self.sent), len(self.sent) + count):
+                frame, begin = numbered(number, length), time.time_ns()
+                one.send(frame)
+                two.send(frame)
+                self.sent.append((begin, time.time_ns()))
+                time.sleep(pause)
+
+
+def origins_told(told: str) -> list[tuple[int, int]]:
+    """The counters and the origins that hold from them on, in the order in which they are told."""
+    later = [(int(counter), nanoseconds(second, rest)) for second, rest, counter, _ in TOLD.findall(told)]
+    return [(0, origin_told(told)), *later]
+
+
+def steps_told(told: str) -> list[float]:
+    """By how much the clock was set, in nanoseconds, as it is told."""
+    return [float(it[3]) * SECOND for it in TOLD.findall(told)]
+
+
+def judge_frames(what: str, found: list[Record], sent: list, origins: list, clock: Clock) -> None:
+    """Each frame is there once, its counter is the real time since the beginning, and its time the set clock's."""
+    judge_quietly(
+        f"{what}: {len(found)} of {len(sent)} frames, in order", numbers_in([found]) == list(range(len(sent)))
+    )
+    judge_times(what, found, sent, origins, clock)
+
+
+def judge_times(what: str, found: list[Record], sent: list, origins: list, clock: Clock) -> None:
+    counters = [it.counter for it in found]
+    judge_quietly(f"{what}: counters never step back", counters == sorted(counters))
+    for counter, number in zip(counters, numbers_in([found])):
+        begin, end = sent[number]
+        wrong = off(origins[0][1] + 100 * counter, begin, end)
+        judge_quietly(
+            f"{what}: counter {counter} of frame {number} is {wrong / MILLISECOND:.3f} ms off", wrong < MILLISECOND
+        )
+        told = [origin for from_then, origin in origins if from_then <= counter][-1] + 100 * counter
+        aheads = sorted([clock.ahead_at(begin), clock.ahead_at(end)])
+        wrong = off(told, begin + aheads[0], end + aheads[1])
+        judge_quietly(f"{what}: the time of frame {number} is {wrong / MILLISECOND:.3f} ms off", wrong < MILLISECOND)
+
+
+def off(moment: int, begin: int, end: int) -> int:
+    """How far a moment is outside of a time."""
+    return max(begin - moment, moment - end, 0)
+
+
+def judge_steps(what: str, told: str, steps: list[int]) -> None:
+    found = steps_told(told)
+    holds = len(found) == len(steps) and all(abs(a - b) < MILLISECOND for a, b in zip(found, steps))
+    judge_quietly(f"{what}: each setting is told once: {found} of {steps}", holds)

@@ -1,0 +1,213 @@
+"""Tries host/bin/live on interfaces that come back, with permissions that it gives up, and by an adapter's clock."""
+
+import contextlib
+import os
+import re
+import shutil
+import subprocess
+import time
+from pathlib import Path
+
+import pytest
+from clock import preloaded
+from frames import numbered, numbers, records
+from namespace import make_pair, send, send_together, set_link, take_away, wait_until_up
+from recordings import RUN, YES, begin, extracted, judge_parts, process_of, recordings, settings_of
+from support import (
+    BPFREC,
+    CAPTURE,
+    NOBODY,
+    ROOT,
+    SECOND,
+    Reader,
+    Running,
+    judge,
+    judge_quietly,
+    origin_told,
+    outcome,
+    pipe_at,
+    wait_for,
+)
+
+WANTED = {
+    "bin/bpfrec": "make build",
+    "bin/capture": "make build",
+    "ip": "iproute2",
+    "cc": "gcc",
+    "pcap-config": "libpcap-dev",
+    "setcap": "libcap2-bin",
+}
+pytestmark = [pytest.mark.timed, pytest.mark.usefixtures("namespace")]
+GONE = "capture: rx0: the interface is gone, and is taken again once it is back\n"
+BACK = "capture: rx0: it is back\n"
+MEMBERS = 4_242
+NET_RAW = 1 << 13
+
+# ---- interfaces that come back
+
+
+@pytest.mark.parametrize("words", [[], ["--every", 1]], ids=["single", "every"])
+def test_an_interface_that_is_taken_away_and_made_anew_is_recorded_again(work: Path, words: list) -> None:
+    """An interface that is taken away and made anew, twice."""
+    running = begin(work, work / "back.ch11", "--quiet", *words)
+    send_together(0, 100)
+    for turn in (1, 2):
+        time.sleep(0.6 if words else 0.2)
+        take_away("rx0")
+        wait_for(lambda: f"it is told as gone: {running.told()}", lambda: running.told().count(GONE) == turn, 10)
+        time.sleep(0.6 if words else 0.1)
+        make_pair(0)
+        wait_for(lambda: f"it is told as back: {running.told()}", lambda: running.told().count(BACK) == turn, 10)
+        send_together(100 * turn, 100)
+    time.sleep(0.6 if words else 0.2)
+    running.interrupt()
+    status, printed = running.ended()
+    files = recordings(work, "back") if words else [work / "back.ch11"]
+    judge("an interface that comes back is no fault", status == 0 and printed.count(YES) == len(files), running.told())
+    for channel in (1, 2):
+        judge_parts(
+            f"channel {channel} has the frames before, between and after",
+            [records(extracted(work, it, channel)) for it in files],
+            list(range(300)),
+        )
+    judge_quietly("several recordings", len(files) > 1 or not words)
+
+
+def test_a_renamed_interface_is_recorded_on(work: Path) -> None:
+    """An interface that is renamed while it is down, then up."""
+    running = begin(work, work / "renamed.ch11", "--quiet")
+    send_together(0, 100)
+    set_link("rx0", "down")
+    running.wait_until_told("rx0: it is down")
+    set_link("rx0", "name", "rz0")
+    time.sleep(0.3)
+    set_link("rz0", "up")
+    wait_until_up("tx0")
+    send_together(100, 100)
+    running.wait_until_told("it is up again")
+    time.sleep(0.2)
+    running.interrupt()
+    status, printed = running.ended()
+    judge(
+        "an interface that is renamed while it is down goes on",
+        status == 0 and YES in printed and numbers(extracted(work, work / "renamed.ch11", 1)) == list(range(200)),
+        running.told(),
+    )
+
+
+# ---- permissions
+
+
+def permissions_of(pid: int) -> dict[str, str]:
+    return dict(re.findall(r"(\w+):\t(\w+)", Path(f"/proc/{pid}/status").read_text()))
+
+
+def judge_permissions(what: str, pid: int) -> None:
+    """Threads have their own, so each of them is looked at."""
+    told = [permissions_of(int(it.name)) for it in Path(f"/proc/{pid}/task").iterdir()]
+    judge(
+        f"{what}: none is in force, new ones can't be had, and one at most is kept",
+        all(
+            int(it["CapEff"], 16) == 0 and it["NoNewPrivs"] == "1" and int(it["CapPrm"], 16) in (0, NET_RAW)
+            for it in told
+        ),
+    )
+
+
+def test_root_gives_its_permissions_up(work: Path) -> None:
+    out = work / "root.ch11"
+    running = begin(work, out, "--quiet")
+    wait_for("it records", out.exists)
+    judge_permissions("a capture of root", process_of(out, CAPTURE))
+    running.interrupt()
+    judge("it ends", running.ended()[0] == 0)
+
+
+def member_tools(work: Path) -> Path:
+    """Copies that a member of a group can run, as the permission is documented."""
+    place = work / "members"
+    shutil.copytree(ROOT / "host", place / "host", ignore=shutil.ignore_patterns("__pycache__"))
+    (place / "bin").mkdir()
+    (place / "private").mkdir()
+    capture = place / "bin/capture"
+    shutil.copy(BPFREC, place / "bin/bpfrec")
+    shutil.copy(CAPTURE, capture)
+    settings_of(place)
+    for path in [work, place, *place.rglob("*")]:
+        path.chmod(path.stat().st_mode | 0o555)
+    for path in (place, place / "private"):
+        path.chmod(0o777)
+    os.chown(capture, 0, MEMBERS)
+    capture.chmod(0o750)
+    done = outcome("setcap", "cap_net_raw=ep", capture)
+    if done.returncode:
+        pytest.skip(f"permissions by setcap: {done.stderr.strip()}")
+    return place
+
+
+def test_a_member_of_the_group_records_without_root(work: Path) -> None:
+    place = member_tools(work)
+    out = place / "member.ch11"
+    words = [place / "host/bin/live", "--quiet", place / "live.toml", out, "rx0=1", "rx1=2"]
+    running = Running(place, *words, adds={RUN: str(out)}, user=NOBODY, group=MEMBERS, extra_groups=[], cwd=place)
+    running.wait_until_told("origin")
+    wait_for(
+        lambda: f"a member of the group records: {running.told()}",
+        lambda: out.exists() or running.process.poll() is not None,
+    )
+    send_together(0, 100)
+    judge_permissions("a capture with a permission of its file", process_of(out, place / "bin/capture"))
+    take_away("rx0")
+    running.wait_until_told("is taken again once it is back")
+    make_pair(0)
+    running.wait_until_told("rx0: it is back")
+    send_together(100, 100)
+    time.sleep(0.2)
+    running.interrupt()
+    status, printed = running.ended()
+    judge(
+        "a member of the group records, also an interface that comes back",
+        status == 0
+        and YES in printed
+        and [numbers(extracted(work, out, it)) for it in (1, 2)] == [list(range(200))] * 2,
+        running.told(),
+    )
+
+
+def test_another_user_is_refused(work: Path) -> None:
+    words = [str(member_tools(work) / "bin/capture"), "--help"]
+    with pytest.raises(PermissionError):
+        subprocess.run(words, user=NOBODY, group=NOBODY, extra_groups=[], capture_output=True)
+
+
+# ---- the clock of an adapter
+
+
+def test_the_clock_of_an_adapter_without_one_is_refused(work: Path) -> None:
+    running = Running(work, CAPTURE, "--clock", "adapter", "rx0=-")
+    judge(
+        "--clock adapter of one without a clock is refused",
+        running.ended()[0] == 3 and running.told() == "capture: rx0: its adapter gives no times\n",
+    )
+
+
+def test_the_clock_of_an_adapter_that_runs_tai_is_told(work: Path) -> None:
+    reader = Reader(pipe_at(work, "adapter.pipe"))
+    adds = {"LD_PRELOAD": str(preloaded()), "ADAPTER_AHEAD": "37"}
+    running = Running(work, CAPTURE, "--quiet", "--clock", "adapter", f"rx0={reader.path}", adds=adds)
+    running.wait_until_told("origin")
+    begin_at = time.time_ns()
+    for number in range(20):
+        send("tx0", [numbered(number)])
+        time.sleep(0.02)
+    with contextlib.suppress(ProcessLookupError):
+        time.sleep(0.3)
+        running.interrupt()
+    status, told = running.ended()[0], running.told()
+    judge(
+        "an adapter's clock that runs TAI is told",
+        status == 0 and re.search(r"capture: rx0\b.*\bTAI\b.*\n", told) is not None,
+        told,
+    )
+    ahead = (records(reader.all())[0].counter * 100 + origin_told(told) - begin_at) / SECOND
+    judge(f"and its times are taken as they are, {ahead:.3f} s ahead", 36.9 < ahead < 37.5)

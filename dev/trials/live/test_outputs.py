@@ -1,0 +1,232 @@
+"""Tries host/bin/live with a standard error that stands still, with an OUT that is there, and with SIGKILL."""
+
+import concurrent.futures
+import contextlib
+import fcntl
+import os
+import pty
+import random
+import re
+import signal
+import time
+from pathlib import Path
+
+import pytest
+from frames import numbers
+from namespace import send_together
+from recordings import (
+    RUN,
+    YES,
+    Traffic,
+    begin,
+    extracted,
+    facts_of,
+    folder_of,
+    has_facts,
+    is_approved,
+    nothing_left,
+    processes_of,
+    recordings,
+    settings_of,
+)
+from support import LIVE, Running, judge, judge_quietly, present, wait_for
+
+WANTED = {"bin/bpfrec": "make build", "bin/capture": "make build", "ip": "iproute2", "cc": "gcc"}
+pytestmark = [pytest.mark.timed, pytest.mark.usefixtures("namespace")]
+MANY = 20_000
+F_SETPIPE_SZ = 1031
+CTRL_S, CTRL_Q = b"\x13", b"\x11"
+
+# ---- a terminal that stands still
+
+
+def fill(descriptor: int) -> None:
+    """Fills a pipe to the brim."""
+    os.set_blocking(descriptor, False)
+    for part in (b"x" * 1_000, b"x"):
+        with contextlib.suppress(BlockingIOError):
+            while True:
+                os.write(descriptor, part)
+    os.set_blocking(descriptor, True)
+
+
+def judge_all_recorded(what: str, work: Path, running: Running, out: Path) -> None:
+    status, printed = running.ended()
+    judge_quietly(f"{what}: status {status}, {printed}", status == 0 and YES in printed)
+    judge(
+        f"{what}: all of {MANY} frames on each of two interfaces are recorded, and TERM ends it",
+        all(numbers(extracted(work, out, channel)) == list(range(MANY)) for channel in (1, 2)),
+    )
+
+
+def test_standard_error_that_nobody_reads_holds_up_nothing(work: Path) -> None:
+    """Standard error is a pipe that nobody reads."""
+    reads, writes = os.pipe()
+    fcntl.fcntl(writes, F_SETPIPE_SZ, 4096)
+    fill(writes)
+    out = work / "full_error.ch11"
+    running = Running(work, LIVE, settings_of(work), out, "rx0=1", "rx1=2", stderr=writes)
+    wait_for("it records though standard error is full", out.exists, 10)
+    send_together(0, MANY)
+    time.sleep(1.2)
+    os.kill(running.process.pid, signal.SIGTERM)
+    judge_all_recorded("a standard error that nobody reads", work, running, out)
+    os.close(reads)
+    os.close(writes)
+
+
+def test_a_stopped_terminal_that_shows_lines_goes_on(work: Path, monkeypatch: pytest.MonkeyPatch) -> None:
+    """Ctrl-S stops a terminal that shows lines, and Ctrl-Q lets it go on."""
+    monkeypatch.setenv("TERM", "dumb")
+    master, slave = pty.openpty()
+    out = work / "stopped.ch11"
+    running = Running(work, LIVE, settings_of(work), out, "rx0=1", "rx1=2", stderr=slave)
+    shown: list[bytes] = []
+
+    def read() -> bool:
+        with contextlib.suppress(BlockingIOError):
+            shown.append(os.read(master, 4096))
+        return b"lines were left out: standard error had no room" in b"".join(shown)
+
+    os.set_blocking(master, False)
+    wait_for("it records at a terminal", out.exists, 10)
+    os.write(master, CTRL_S)
+    send_together(0, MANY)
+    time.sleep(2.2)
+    os.write(master, CTRL_Q)
+    wait_for(lambda: f"lines that were left out are counted: {b''.join(shown)!r}", read, 10)
+    judge(
+        "lines that a stopped terminal didn't take are counted",
+        re.search(rb"capture: [1-9]\d* lines were left out: standard error had no room\r?\n", b"".join(shown)),
+    )
+    os.write(master, CTRL_S)
+    os.kill(running.process.pid, signal.SIGTERM)
+    judge_all_recorded("a stopped terminal", work, running, out)
+    os.close(master)
+    os.close(slave)
+
+
+def test_a_stopped_terminal_that_shows_a_table_holds_up_nothing(work: Path, monkeypatch: pytest.MonkeyPatch) -> None:
+    """Ctrl-S stops a terminal that shows a table, and nobody lets it go on."""
+    monkeypatch.setenv("TERM", "xterm")
+    master, slave = pty.openpty()
+    out = work / "table.ch11"
+    running = Running(work, LIVE, settings_of(work), out, "rx0=1", "rx1=2", stderr=slave)
+    shown: list[bytes] = []
+
+    def read() -> bool:
+        with contextlib.suppress(BlockingIOError):
+            shown.append(os.read(master, 4096))
+        return re.search(rb"(?<!NOT )RECORDING", b"".join(shown)) is not None
+
+    os.set_blocking(master, False)
+    wait_for(lambda: f"the table is there: {b''.join(shown)!r}", read, 10)
+    os.write(master, CTRL_S)
+    send_together(0, MANY)
+    time.sleep(2.2)
+    os.kill(running.process.pid, signal.SIGTERM)
+    judge_all_recorded("a stopped table", work, running, out)
+    os.close(master)
+    os.close(slave)
+
+
+# ---- OUT that is there
+
+
+@pytest.mark.parametrize("name", ["there.ch11", "there.ch11.json"])
+def test_an_out_that_exists_is_refused(work: Path, name: str) -> None:
+    """A recording that is there, or its facts, is kept."""
+    path, out, facts = work / name, work / "there.ch11", work / "there.ch11.json"
+    path.write_bytes(b"kept")
+    running = Running(work, LIVE, "--quiet", settings_of(work), out, "rx0=1", "rx1=2")
+    status, line = running.ended()[0], r"live: \S+/there\.ch11(\.json)? is there: give it another name, or --force\n"
+    judge(
+        f"refused: {name} that is there",
+        status == 3 and re.fullmatch(line, running.told()) and nothing_left(work),
+        running.told(),
+    )
+    judge("it is kept", path.read_bytes() == b"kept" and not (facts if path == out else out).exists())
+
+
+@pytest.mark.parametrize("name", ["there.ch11", "there.ch11.json"])
+def test_a_name_that_is_there_is_never_opened(work: Path, seen_calls: Path, name: str) -> None:
+    """A name that is there is never opened."""
+    (work / name).write_bytes(b"kept")
+    (work / "calls").write_text("")
+    adds = {"LD_PRELOAD": str(seen_calls), "CALLS": str(work / "calls")}
+    running = Running(work, LIVE, "--quiet", settings_of(work), work / "there.ch11", "rx0=1", "rx1=2", adds=adds)
+    judge("it is refused", running.ended()[0] == 3, running.told())
+    calls = (work / "calls").read_text()
+    judge("and was not opened", "/run.py 0\n" in calls and "there.ch11" not in calls, calls[-300:])
+
+
+def test_a_file_that_takes_the_name_of_out_is_kept(work: Path, seen_calls: Path) -> None:
+    """A file that takes the name of OUT just before OUT is created is another's, and is kept."""
+    out = work / "comes.ch11"
+    (work / "another").write_bytes(b"kept")
+    adds = {"LD_PRELOAD": str(seen_calls), "EXCHANGED": str(out), "EXCHANGED_BY": str(work / "another")}
+    running = Running(work, LIVE, "--quiet", settings_of(work), out, "rx0=1", "rx1=2", adds=adds)
+    status = running.ended()[0]
+    judge("it is refused", status == 3 and running.told().endswith(f"file {out}\n"), running.told())
+    judge("and kept", out.read_bytes() == b"kept" and nothing_left(work))
+
+
+def test_force_records_over_a_recording(work: Path) -> None:
+    out = work / "there.ch11"
+    out.write_bytes(b"lost")
+    (work / "there.ch11.json").write_bytes(b"lost")
+    running = begin(work, out, "--force", "--quiet")
+    send_together(0, 10)
+    time.sleep(0.1)
+    running.interrupt()
+    status, printed = running.ended()
+    judge(
+        "--force records over it",
+        status == 0
+        and YES in printed
+        and numbers(extracted(work, out, 1)) == list(range(10))
+        and facts_of(out)["state"] == "ended",
+    )
+
+
+# ---- SIGKILL
+
+
+def judge_kill(work: Path, turn: int, moment: float) -> None:
+    is_rotating = turn % 2 == 1
+    here = folder_of(work, f"kill{turn}")
+    out, settings = here / "out.ch11", settings_of(here)
+    words = ["--quiet", *(["--every", 1] if is_rotating else []), settings, out, "rx0=1", "rx1=2"]
+    running = Running(here, LIVE, *words, adds={RUN: str(out)})
+
+    def there() -> list[Path]:
+        return recordings(here, "out") if is_rotating else [it for it in [out] if it.exists()]
+
+    time.sleep(moment)
+    before = there()
+    running.process.kill()
+    running.process.wait()
+    what = f"SIGKILL after {moment:.2f} s{' with --every' if is_rotating else ''}"
+    wait_for(lambda: f"{what}: nothing of it runs 5 s later: {processes_of(out)}", lambda: not processes_of(out), 5)
+    judge_quietly(f"{what}: a recording that had begun is there: {before} {there()}", set(there()) >= set(before))
+    judge_quietly(f"{what}: OUT is approved: {running.told()}", all(is_approved(it) for it in there()))
+    judge_quietly(f"{what}: TMPDIR is empty: {os.listdir(here / 'private')}", nothing_left(here))
+    told = re.search(r"origin (\d+\.\d{9})\n", running.told())
+    for path in [it for it in there() if it.stat().st_size > 0]:
+        judge_quietly(
+            f"{what}: {path.name}.json has the origin",
+            has_facts(path) and facts_of(path)["origins"][0]["origin"] == present(told)[1],
+        )
+    judge(f"{what}: {len(there())} recordings, whole and approved, and nothing is left", True)
+    present(running.process.stdin).close()
+
+
+def test_no_drawn_sigkill_leaves_a_process_or_an_unread_recording(work: Path) -> None:
+    """SIGKILL of host/bin/live at drawn moments: some of its beginning, and some while it records."""
+    drawn = random.Random(61)
+    moments = [drawn.uniform(0.05, 0.4) if turn % 6 < 2 else drawn.uniform(0.4, 2.4) for turn in range(12)]
+    traffic = Traffic()
+    with concurrent.futures.ThreadPoolExecutor(4) as pool:
+        for done in [pool.submit(judge_kill, work, turn, moment) for turn, moment in enumerate(moments)]:
+            done.result()
+    traffic.end()

@@ -1,0 +1,201 @@
+"""Tries what host/bin/live and host/bin/preflight say of calls that are wrong: in words that say what to do, with
+nothing begun or left."""
+
+import os
+from pathlib import Path
+from typing import Any
+
+import pytest
+from frames import numbers
+from namespace import send_together
+from recordings import RUN, extracted, facts_of, nothing_left, processes_of, settings_of, write_settings
+from support import LIVE, PREFLIGHT, ROOT, Running, judge, judge_quietly, outcome, wait_for
+
+WANTED = {"bin/bpfrec": "make build", "bin/capture": "make build", "ip": "iproute2", "tcpdump": "tcpdump"}
+pytestmark = [pytest.mark.timed, pytest.mark.usefixtures("namespace")]
+TEXT_FOR_ASM = ROOT / "examples/filters/arp.bpf"
+IN_SECONDS, IN_BYTES = "in seconds, or as 10m", "in bytes, or as 2G"
+
+
+def judge_refused(work: Path, words: list, status: int, told: str, **more: Any) -> None:
+    """A call is refused in one line, and nothing is left of it."""
+    before = sorted(os.listdir(work))
+    running = Running(work, LIVE, *words, cwd=work, adds={RUN: str(work)}, **more)
+    judge(f"refused: {told}", (running.ended()[0], running.told()) == (status, f"live: {told}\n"), running.told())
+    wait_for("its programs have ended", lambda: not processes_of(work))
+    judge_quietly("nothing is created or left", nothing_left(work) and sorted({*os.listdir(work), "told"}) == before)
+
+
+# ---- options
+
+
+@pytest.mark.parametrize("at", [0, 1, 2, 3])
+def test_options_are_taken_anywhere_among_the_arguments(work: Path, at: int) -> None:
+    words = [work / "out.ch11", "rx0", "rx1=4"]
+    running = Running(work, LIVE, *words[:at], "--buffer", 4, "--quiet", "--no-audit", "--mode", "0600", *words[at:])
+    running.wait_until_told("capture: origin")
+    send_together(0, 10)
+    running.interrupt()
+    status, printed = running.ended()
+    judge("it records", status == 0 and "audit" not in printed, (status, running.told()))
+    judge("all of both", numbers(extracted(work, work / "out.ch11", 1)) == list(range(10)), printed)
+    judge("the option is live's", (work / "out.ch11").stat().st_mode & 0o777 == 0o600 and nothing_left(work))
+
+
+def test_recordings_follow_one_another_also_with_options_behind(work: Path) -> None:
+    running = Running(work, LIVE, work / "turn.ch11", "rx0", "--every", 1, "--quiet")
+    wait_for(lambda: f"a second one: {running.told()}", lambda: (work / "turn_00002.ch11").exists())
+    running.interrupt()
+    judge("it ends well", running.ended()[0] == 0 and nothing_left(work), running.told())
+
+
+OPTIONS = [
+    (["o.ch11", "rx0", "--events"], "no such option: --events"),
+    (["o.ch11", "rx0", "-r", "x"], "no such option: -r"),
+    (["--events", "o.ch11", "rx0"], "no such option: --events"),
+    (["o.ch11", "rx0", "--every"], "--every needs a value"),
+    (["o.ch11", "--", "rx0", "--events"], "--events: the name of an interface doesn't begin with -"),
+    (["--", "o.ch11", "-x=7"], "-x: the name of an interface doesn't begin with -"),
+]
+
+
+@pytest.mark.parametrize("words,told", OPTIONS, ids=[" ".join(it) for it, _ in OPTIONS])
+def test_options_and_interfaces_that_are_none_are_refused(work: Path, words: list, told: str) -> None:
+    (work / "told").touch()
+    judge_refused(work, words, 2, told)
+    done = outcome(PREFLIGHT, "--live", *words, cwd=work)
+    judge("preflight says so too", done.returncode in (1, 2) and told in done.stdout + done.stderr, done)
+
+
+def test_a_name_behind_two_dashes_is_out(work: Path) -> None:
+    running = Running(work, LIVE, "--quiet", "--", "-o.ch11", "rx0", cwd=work)
+    running.wait_until_told("capture: origin")
+    running.interrupt()
+    judge("it records", running.ended()[0] == 0 and (work / "-o.ch11").exists() and nothing_left(work), running.told())
+
+
+# ---- the words
+
+
+def refusals(work: Path) -> list[tuple[list, int, str]]:
+    """Calls, what they end with, and what is said of them."""
+    settings = settings_of(work)
+    one = f"{work}/o.ch11"
+    return [
+        (["rx0", "OUT"], 3, "rx0 is an interface: SETTINGS, OUT, then interfaces"),
+        (["rx0", "OUT", "rx1"], 3, "rx0 is an interface: SETTINGS, OUT, then interfaces"),
+        (["rx0=1", "OUT"], 3, "rx0=1 is an interface: SETTINGS, OUT, then interfaces"),
+        (["rx0", "rx1"], 2, "rx0 is an interface: SETTINGS, OUT, then interfaces"),
+        (["nosuch.toml", "OUT", "rx0=1"], 3, "nosuch.toml: no such file"),
+        (["private", "OUT"], 3, "private: it is a directory"),
+        (["/no/o.ch11", "rx0"], 3, "/no/o.ch11: no such folder"),
+        (["/no/o.ch11", "rx0", "--every", "9"], 3, "/no/o.ch11: no such folder"),
+        (["OUT", "rx0=0"], 2, "rx0=0: a channel ID is 1 to 65535"),
+        (["OUT", "rx0=x"], 2, "rx0=x: a channel ID is 1 to 65535"),
+        ([one, "rx0=65536"], 2, "rx0=65536: a channel ID is 1 to 65535"),
+        ([settings, one, "rx0=01"], 2, "rx0=01: a channel ID is 1 to 65535"),
+        ([settings, one, "rx0"], 2, "rx0: with SETTINGS name its channel, as rx0=1"),
+        ([one, "rx0=1:"], 2, "rx0=1: the expression is empty"),
+        ([one, "rx0=1: "], 2, "rx0=1: the expression is empty"),
+        (
+            [one, "rx0=1:udp prot 53"],
+            2,
+            "rx0=1:udp prot 53: tcpdump: can't parse filter expression: syntax error",
+        ),
+        (["--every", "10x", one, "rx0"], 2, f"--every needs a number from 1 to 999999999, {IN_SECONDS}"),
+        (["--sync", "9M", one, "rx0"], 2, f"--sync needs a number from 0 to 999999999, {IN_SECONDS}"),
+        (["--flush", "99999999d", one, "rx0"], 2, f"--flush needs a number from 1 to 999999999, {IN_SECONDS}"),
+        (["--size", "2GB", one, "rx0"], 2, f"--size needs a number from 1 on, {IN_BYTES}"),
+        (["--keep-free", "1m", one, "rx0"], 2, f"--keep-free needs a number from 1 on, {IN_BYTES}"),
+    ]
+
+
+def test_what_is_wrong_with_the_words_is_said_with_what_they_should_be(work: Path) -> None:
+    cases = refusals(work)
+    (work / "told").touch()
+    for words, status, told in cases:
+        judge_refused(work, words, status, told)
+
+
+def test_a_filter_that_can_not_be_installed_is_refused_ahead_by_its_channel(work: Path) -> None:
+    (work / "jump").write_text("2,5 0 0 1,6 0 0 0,")
+    (work / "told").touch()
+    for path, status, told in [
+        (TEXT_FOR_ASM, 1, f"channel 2: {TEXT_FOR_ASM} is no listing: bpfrec asm makes one"),
+        ("jump", 1, "channel 2: refused 6 JumpOut 0: filter jump"),
+        ("none.txt", 3, "channel 2: none.txt: no such file"),
+        ("private", 3, "channel 2: private: it is a directory"),
+    ]:
+        settings = write_settings(work, f'id = 1\nfilter = "{work}/all"', f'id = 2\nfilter = "{path}"')
+        judge_refused(work, [settings, "o.ch11", "rx0=1", "rx1=2"], status, told)
+    done = outcome(PREFLIGHT, "--live", write_settings(work, f'id = 1\nfilter = "{TEXT_FOR_ASM}"'), "o.ch11", "rx0=1")
+    line = f"channel 1: listing 1 Syntax 0: filter {TEXT_FOR_ASM} is no listing: bpfrec asm makes one\n"
+    judge("preflight says so too", done.returncode == 1 and line in done.stdout, done)
+    running = Running(work, LIVE, "--quiet", work / "live.toml", work / "o.ch11", "rx0=1:arp")
+    running.wait_until_told("capture: origin")
+    running.interrupt()
+    judge("an expression is taken in its place", running.ended()[0] == 0, running.told())
+
+
+def test_times_and_sizes_have_units(work: Path) -> None:
+    pass
+
+    from bpfrec_host.live import arguments
+
+    given = arguments.read(["o.ch11", "rx0", "--every", "10m", "--size", "2G", "--sync", "5s", "--keep-free", "10k"])
+    judge("minutes, G, s, k", (given.every, given.size, given.sync, given.keep_free) == (600, 2 * 10**9, 5, 10_000))
+    given = arguments.read(["o.ch11", "rx0", "--every", "2h", "--flush", "1d", "--size", "3M"])
+    judge("hours, days, M", (given.every, given.flush, given.size) == (7_200, 86_400, 3 * 10**6))
+
+
+# ---- names
+
+
+@pytest.mark.parametrize("options,most", [([], 246), (["--every", "1"], 240)], ids=["single", "every"])
+def test_an_out_whose_facts_would_have_too_long_a_name_is_refused(work: Path, options: list, most: int) -> None:
+    (work / "told").touch()
+    behind = "_00001" if options else ""
+    for length in (most + 1, 255 - len(behind), 255):
+        out = "x" * length
+        length += len(behind)
+        told = f"{out}{behind}: its name has {length} bytes, and may have 246 with its facts beside it"
+        judge_refused(work, [*options, out, "rx0"], 3, told)
+        done = outcome(PREFLIGHT, "--live", *options, out, "rx0", cwd=work)
+        judge("preflight says so too", done.returncode == 1 and told in done.stdout, done)
+    out = "x" * most
+    running = Running(work, LIVE, "--quiet", *options, out, "rx0", cwd=work)
+    running.wait_until_told("capture: origin")
+    wait_for("facts are there", (work / f"{out}{behind}.json").exists)
+    running.interrupt()
+    judge("one that is shorter by a byte is recorded", running.ended()[0] == 0 and nothing_left(work), running.told())
+    judge("with its facts", facts_of(work / f"{out}{behind}")["status"] == 0)
+
+
+def test_a_tmpdir_that_is_not_utf8_is_refused_by_name(work: Path) -> None:
+    holder = os.fsencode(work) + b"/t\xff\xfe"
+    os.mkdir(holder)
+    (work / "told").touch()
+    line = f"TMPDIR is not UTF-8: {holder!r}"
+    words = [work / "o.ch11", "rx0"]
+    running = Running(work, LIVE, *words, adds={RUN: str(work), "TMPDIR": holder})
+    judge("live refuses it", (running.ended()[0], running.told()) == (3, f"live: {line}\n"), running.told())
+    judge("and leaves nothing", os.listdir(holder) == [] and not (work / "o.ch11").exists())
+    done = outcome(PREFLIGHT, "--live", *words, env={**os.environ, "TMPDIR": holder})
+    judge("preflight says so too", done.returncode == 1 and line in done.stdout, done)
+
+
+@pytest.mark.parametrize(
+    "words, told",
+    [
+        (["--keep", 2, "x.ch11", "rx0"], "--keep and --keep-free need --every or --size"),
+        (["--keep", 2, "--every", 1, "--no-audit", "x.ch11", "rx0"], "--no-audit audits nothing"),
+        (["--status-name", "a.lan", "x.ch11", "rx0"], "--status-name needs --status"),
+        (["--status", "127.0.0.1:99999", "x.ch11", "rx0"], "127.0.0.1:99999"),
+        (["-", "rx0"], "-: OUT is a file or a named pipe"),
+    ],
+)
+def test_preflight_says_what_live_refuses(work: Path, words: list, told: str) -> None:
+    refused = outcome(LIVE, *words, cwd=work)
+    judge("live does", refused.returncode == 2 and told in refused.stderr, refused)
+    ahead = outcome(PREFLIGHT, "--live", *words, cwd=work)
+    judge("so does preflight", ahead.returncode == 1 and told in ahead.stdout, ahead)

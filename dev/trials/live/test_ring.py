@@ -1,0 +1,205 @@
+"""Tries recordings of host/bin/live of which only the last are kept, and their files."""
+
+import contextlib
+import os
+import re
+import stat
+import time
+from pathlib import Path
+
+import pytest
+from disks import memory_disk
+from frames import numbers, numbers_in
+from namespace import send_numbered
+from recordings import (
+    YES,
+    Traffic,
+    begin,
+    extracted,
+    facts_of,
+    has_facts,
+    is_approved,
+    nothing_left,
+    parts_of,
+    recordings,
+    settings_of,
+)
+from support import BPFREC, LIVE, Running, judge, judge_quietly, run, wait_for
+
+WANTED = {"bin/bpfrec": "make build", "bin/capture": "make build", "ip": "iproute2", "mount": "mount"}
+pytestmark = [pytest.mark.timed, pytest.mark.usefixtures("namespace")]
+REMOVED = re.compile(r"live: (\S+) was removed: (.*)\n")
+
+# ---- a ring
+
+
+def test_keep_leaves_the_last_approved_recordings(work: Path) -> None:
+    """The last two that are approved are kept, with their facts, and the one that goes on."""
+    running = begin(work, work / "ring.ch11", "--quiet", "--every", 1, "--keep", 2)
+    traffic = Traffic()
+    wait_for("three are removed", lambda: len(REMOVED.findall(running.told())) >= 3)
+    traffic.end()
+    time.sleep(0.1)
+    running.interrupt()
+    (status, printed), told = running.ended(), running.told()
+    removed = [path for path, why in REMOVED.findall(told) if why == "--keep 2"]
+    judge("status 0", status == 0 and nothing_left(work), told)
+    judge(
+        "the oldest are removed, in their order",
+        removed == [f"{work}/ring_{at + 1:05}.ch11" for at in range(len(removed))],
+    )
+    left = [it.name for it in recordings(work, "ring")]
+    wanted = [f"ring_{len(removed) + at + 1:05}.ch11" for at in range(2)]
+    judge("two are left", left == wanted and printed.count(YES) == len(removed) + 2, (left, removed))
+    judge(
+        "with their facts alone", sorted(it.name for it in work.glob("ring_*.json")) == [f"{it}.json" for it in wanted]
+    )
+
+
+def test_keep_what_is_not_approved(work: Path) -> None:
+    """What the audit refuses stays, and so does a recording that was moved and another file in its place."""
+    program = work / "bpfrec"
+    program.write_text(
+        f'#!/bin/sh\nif [ "$1" = audit ] && mkdir {work}/once 2> /dev/null; then\n'
+        f'    echo "no 5 NoEnd 1"; exit 1\nfi\nexec {BPFREC} "$@"\n'
+    )
+    program.chmod(0o755)
+    running = begin(work, work / "ring.ch11", "--quiet", "--every", 1, "--keep", 1, adds={"BPFREC": str(program)})
+    wait_for("two are there", lambda: len(recordings(work, "ring")) >= 3)
+    second = work / "ring_00002.ch11"
+    second.rename(work / "moved.ch11")
+    second.write_bytes(b"another")
+    wait_for("others are removed", lambda: len(REMOVED.findall(running.told())) >= 1)
+    running.interrupt()
+    status, told = running.ended()[0], running.told()
+    judge("the status is the audit's", status == 1, told)
+    judge(
+        "what isn't approved stays", (work / "ring_00001.ch11").exists() and "ring_00001.ch11 was removed" not in told
+    )
+    judge("another file in its place stays", second.read_bytes() == b"another" and (work / "moved.ch11").exists(), told)
+
+
+def test_keep_free_makes_room_by_the_oldest(work: Path) -> None:
+    """On a small disk the oldest make room, and no disk gets full."""
+    with memory_disk(work / "disk", "size=8m") as disk:
+        running = begin(work, disk / "free.ch11", "--quiet", "--size", 400_000, "--keep-free", 5_000_000)
+        traffic = Traffic(1_000, 0.003)
+        wait_for("several are removed", lambda: len(REMOVED.findall(running.told())) >= 4)
+        sent = traffic.end()
+        time.sleep(0.2)
+        running.interrupt()
+        status, told = running.ended()[0], running.told()
+        free = os.statvfs(disk).f_bavail * os.statvfs(disk).f_frsize
+        judge("a disk that would get full doesn't", status == 0 and "can't be" not in told, told)
+        judge("so much is free", free > 3_500_000, free)
+        left = numbers_in(parts_of(disk, "free", 1))
+        judge("the newest frames are there", left == list(range(sent - len(left), sent)) and len(left) > 0)
+
+
+def test_options_of_the_ring_that_contradict_are_refused(work: Path) -> None:
+    settings, out = settings_of(work), work / "no.ch11"
+    together = "live: --keep and --keep-free"
+    cases: list[tuple[list[object], str]] = [
+        (["--keep", 3], f"{together} need --every or --size"),
+        (
+            ["--every", 1, "--keep", 3, "--no-audit"],
+            f"{together} remove what was audited, and --no-audit audits nothing",
+        ),
+        (["--keep", 0], "live: --keep needs a number from 1 to 999999999"),
+        (["--keep-free", "1x"], "live: --keep-free needs a number from 1 on, in bytes, or as 2G"),
+        (["--flush", 0], "live: --flush needs a number from 1 to 999999999, in seconds, or as 10m"),
+        (["--mode", "999"], "live: --mode needs a mode of three octal digits, as 0640"),
+        (["--mode", "0444"], "live: --mode needs a mode by which the owner may read and write, as 0640"),
+    ]
+    for words, line in cases:
+        running = Running(work, LIVE, *words, settings, out, "rx0=1", "rx1=2")
+        judge(f"refused: {line}", (running.ended()[0], running.told()) == (2, f"{line}\n"), running.told())
+    running = Running(work, LIVE, "--flush", 1, settings, out)
+    judge("refused: --flush without", (running.ended()[0], running.told()) == (2, "live: --flush needs an interface\n"))
+
+
+# ---- files
+
+
+def mode_of(path: Path) -> int:
+    return stat.S_IMODE(path.stat().st_mode)
+
+
+@pytest.mark.parametrize(
+    "umask, words, wanted", [(0o022, [], 0o640), (0o077, [], 0o600), (0o077, ["--mode", "0644"], 0o644)]
+)
+def test_recordings_and_facts_have_the_mode_that_is_said(work: Path, umask: int, words: list, wanted: int) -> None:
+    """0640 less umask, or what --mode says; the facts too, and each of several recordings."""
+    running = begin(work, work / "mode.ch11", "--quiet", "--every", 1, *words, umask=umask)
+    wait_for("two recordings", lambda: len(recordings(work, "mode")) >= 2)
+    running.interrupt()
+    judge_quietly("it records", running.ended()[0] == 0)
+    modes = {oct(mode_of(it)) for it in work.glob("mode_*")}
+    judge(f"mode {oct(wanted)}", modes == {oct(wanted)} and len(list(work.glob("mode_*.json"))) >= 2, modes)
+
+
+def test_mode_holds_for_an_overwritten_file(work: Path) -> None:
+    """--mode holds for a file that --force overwrites too."""
+    out = work / "there.ch11"
+    out.write_bytes(b"lost")
+    out.chmod(0o666)
+    running = begin(work, out, "--quiet", "--force", "--mode", "0600")
+    running.interrupt()
+    judge("it is recorded", running.ended()[0] == 0, running.told())
+    judge("with its mode", [mode_of(it) for it in (out, work / "there.ch11.json")] == [0o600] * 2)
+
+
+@pytest.mark.parametrize("words", [[], ["--force"]], ids=["plain", "force"])
+@pytest.mark.parametrize("name", ["link.ch11", "link.ch11.json"])
+def test_a_link_in_the_place_of_out_is_not_followed(work: Path, name: str, words: list) -> None:
+    """A link in the place of OUT or of its facts isn't followed, wherever it leads."""
+    for target in (work / "victim", work / "nowhere"):
+        (work / "victim").write_bytes(b"kept")
+        with contextlib.suppress(FileNotFoundError):
+            (work / name).unlink()
+        (work / name).symlink_to(target)
+        running = Running(work, LIVE, "--quiet", *words, settings_of(work), work / "link.ch11", "rx0=1", "rx1=2")
+        status, told = running.ended()[0], running.told()
+        judge(f"refused: {told.strip()}", status == 3 and told.startswith(f"live: {work}/{name} is there: "), told)
+        judge_quietly("nothing behind it changes", (work / "victim").read_bytes() == b"kept")
+        judge_quietly("nothing is created", not (work / "nowhere").exists() and nothing_left(work))
+
+
+def test_links_that_come_and_go_lead_nobody_astray(work: Path) -> None:
+    """Links that come and go in the place of OUT, of its facts and of the next recordings lead nobody astray."""
+    (work / "victim").write_bytes(b"kept")
+    running = Running(work, LIVE, "--quiet", "--every", 1, settings_of(work), work / "race.ch11", "rx0=1", "rx1=2")
+    running.wait_until_told("capture: origin")
+    for number in range(2, 6):
+        for ending in ("ch11.json.new", "ch11"):
+            path = work / f"race_{number:05}.{ending}"
+            if not path.exists():
+                path.symlink_to(work / "victim")
+    time.sleep(3.5)
+    running.interrupt()
+    status, told = running.ended()[0], running.told()
+    files = [it for it in recordings(work, "race") if not it.is_symlink()]
+    judge("it records, past the names that are taken", status == 0 and len(files) >= 3, (told, files))
+    judge("what the links lead to is kept", (work / "victim").read_bytes() == b"kept")
+    judge("each is whole", all(is_approved(it) and has_facts(it) and facts_of(it)["state"] == "ended" for it in files))
+
+
+def test_records_where_out_is_moved_at_once(work: Path) -> None:
+    """A recorder writes the file that live created, whatever its name is by then."""
+    out, elsewhere = work / "at_once.ch11", work / "elsewhere.ch11"
+    running = Running(work, LIVE, "--quiet", settings_of(work), out, "rx0=1", "rx1=2")
+    end = time.monotonic() + 10
+    while time.monotonic() < end:
+        with contextlib.suppress(FileNotFoundError):
+            out.rename(elsewhere)
+            out.symlink_to(work / "victim")
+            break
+    running.wait_until_told("capture: origin")
+    time.sleep(0.3)
+    send_numbered("tx0", 0, 50)
+    time.sleep(0.3)
+    running.interrupt()
+    status = running.ended()[0]
+    judge("it records", status == 0 and not (work / "victim").exists(), running.told())
+    judge("into the file that was created", numbers(extracted(work, elsewhere, 1)) == list(range(50)))
+    run(BPFREC, "audit", elsewhere)

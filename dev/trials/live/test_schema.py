@@ -1,0 +1,154 @@
+"""Tries the facts beside a recording by docs/user/formats/facts.schema.json, with a chrony and a PTP that are played."""
+
+import contextlib
+import json
+import os
+import re
+import signal
+import time
+from pathlib import Path
+
+import pytest
+from bpfrec_host.formats import facts as facts_reader
+from namespace import send_together
+from recordings import begin, facts_of, has_facts, processes_of, settings_of
+from schemas import FORMATS, faults, schema_of
+from support import judge, judge_quietly, present, wait_for
+
+WANTED = {"bin/bpfrec": "make build", "bin/capture": "make build", "ip": "iproute2"}
+# What each prints, by its manual.
+TRACKING = (
+    "C0000201,192.0.2.1,2,1764590399.123456789,-0.000012345,0.000001000,0.000020000,-5.100,0.001,0.020,"
+    "0.000350000,0.000120000,64.5,Normal"
+)
+STATUS = """sending: GET TIME_STATUS_NP
+\t90e2ba.fffe.20c7f8-0 seq 0 RESPONSE MANAGEMENT TIME_STATUS_NP
+\t\tmaster_offset              -27
+\t\tingress_time               1764590399000000000
+\t\tcumulativeScaledRateOffset +0.000000000
+\t\tscaledLastGmPhaseChange    0
+\t\tgmTimeBaseIndicator        0
+\t\tlastGmPhaseChange          0x0000'0000000000000000.0000
+\t\tgmPresent                  true
+\t\tgmIdentity                 001122.fffe.334455
+"""
+
+
+def judge_schema(what: str, facts: dict) -> None:
+    found = faults(facts, schema_of("facts"))
+    judge(f"{what}: the facts are as the schema says", found == [], found)
+
+
+def played(work: Path, **answers: str) -> dict[str, str]:
+    """Programs of these names that print so, ahead of all others."""
+    place = work / "played"
+    place.mkdir()
+    for name, answer in answers.items():
+        (place / name).write_text(f"#!/bin/sh\ncat << 'END'\n{answer}\nEND\n")
+        (place / name).chmod(0o755)
+    return {"PATH": f"{place}:{os.environ['PATH']}"}
+
+
+@pytest.mark.timed
+def test_the_facts_are_as_their_schema_says(work: Path, namespace: None) -> None:
+    """From the beginning on, at the end, and what chrony and PTP say."""
+    out = work / "facts.ch11"
+    running = begin(work, out, "--quiet", adds=played(work, chronyc=TRACKING, pmc=STATUS))
+    wait_for("facts from the beginning on", lambda: has_facts(out), 5)
+    early = facts_of(out)
+    judge_schema("at the beginning", early)
+    send_together(0, 100)
+    time.sleep(0.2)
+    running.interrupt()
+    judge_quietly("it records", running.ended()[0] == 0)
+    facts = facts_of(out)
+    judge_schema("at the end", facts)
+    judge("the end's synchronisation comes at the end", early["synchronisation"]["end"] is None)
+    for moment in ("begin", "end"):
+        told = facts["synchronisation"][moment]
+        wanted = {
+            "reference": "192.0.2.1",
+            "stratum": 2,
+            "offset": "-0.000012345",
+            "root_delay": "0.000350000",
+            "root_dispersion": "0.000120000",
+            "state": "Normal",
+        }
+        judge(f"what chrony says at the {moment}", told["chrony"] == wanted, told)
+        wanted = {"offset_nanoseconds": -27, "has_grandmaster": True, "grandmaster": "001122.fffe.334455"}
+        judge(f"what PTP says at the {moment}", told["ptp"] == wanted, told)
+    judge_adapters(facts)
+
+
+def judge_adapters(facts: dict) -> None:
+    adapters = {it["interface"]: it for it in facts["adapters"]}
+    judge("each interface's adapter", sorted(adapters) == ["rx0", "rx1"], adapters)
+    for name, adapter in adapters.items():
+        judge_quietly(f"the driver of {name}", (adapter["driver"], adapter["clock"]) == ("veth", "host"), adapter)
+        judge_quietly(
+            f"the address of {name}", re.fullmatch(r"([0-9a-f]{2}:){5}[0-9a-f]{2}", adapter["address"]), adapter
+        )
+    moment = facts_reader.Facts(facts).moment_of(0)
+    judge("the origin as UTC", facts["origin_utc"] == facts_reader.utc_of(moment or 0))
+
+
+@pytest.mark.timed
+def test_the_facts_of_runs_without_a_clock_or_an_end_are_so_too(work: Path, namespace: None) -> None:
+    """Where neither runs or both say nonsense; of parts; of a run that is killed."""
+    out = work / "parts.ch11"
+    running = begin(work, out, "--quiet", "--every", 1, adds=played(work, chronyc="506 Cannot talk to daemon", pmc="?"))
+    wait_for("two", lambda: has_facts(work / "parts_00002.ch11"))
+    os.kill(running.process.pid, signal.SIGKILL)
+    running.process.wait()
+    wait_for("nothing runs on", lambda: not processes_of(out))
+    for path in sorted(work.glob("parts_*.ch11")):
+        facts = facts_of(path)
+        judge_schema(path.name, facts)
+        told = facts["synchronisation"]["begin"]
+        judge_quietly(f"{path.name}: nobody says", told["chrony"] is None and told["ptp"] is None, told)
+    judge("a run that was killed says so", facts["status"] == 137)
+
+
+@pytest.mark.timed
+def test_facts_without_settings_are_so_too(work: Path, namespace: None) -> None:
+    out = work / "all.ch11"
+    running = begin(work, "rx0=1", "--quiet", settings=out, ways=["rx1=2"])
+    running.interrupt()
+    judge_quietly("it records", running.ended()[0] == 0, running.told())
+    judge_schema("without settings", facts_of(out))
+
+
+def test_the_example_of_the_page_is_as_its_schema_says() -> None:
+    """And a schema that says nothing would be found out."""
+    section = (FORMATS / "live.md").read_text().split("Facts in which the clock was set back by an hour")[1]
+    example = json.loads(present(re.search(r"^```\n(.*?)^```$", section, re.MULTILINE | re.DOTALL))[1])
+    judge_schema("the example", example)
+    for key in example:
+        wrong = {name: it for name, it in example.items() if name != key}
+        judge_quietly(f"without {key} it isn't", faults(wrong, schema_of("facts")))
+        judge_quietly(f"with another {key} it isn't", faults({**example, key: object()}, schema_of("facts")))
+    changes = [("counts", "frames", -1), ("losses", "dropped", "1"), ("origins", "origin", "1764590400.25")]
+    changes += [("adapters", "address", "none"), ("interfaces", "channel", 0), ("filters", "listing", None)]
+    for key, name, value in changes:
+        wrong = {**example, key: [{**example[key][0], name: value}]}
+        judge_quietly(f"{key} with {name} {value!r}", faults(wrong, schema_of("facts")))
+    judge("each key is judged", True)
+
+
+def test_settings_are_written_anew_with_each_value(work: Path) -> None:
+    """Settings are written anew, each value as it was."""
+    from bpfrec_host.formats.settings import settings_of as read
+    from bpfrec_host.formats.settings_text import text_of
+
+    with contextlib.suppress(FileNotFoundError):
+        settings_of(work)
+    text = (
+        'limit = 0x10000\n"odd key" = 1.5\nyes = true\nwhen = 2025-12-01T12:00:00Z\nlist = [1, "two", {three = 3}]\n'
+        "[other.table]\nkey = \"\\u00e9\\u007f\\t\\\"\\\\\"\n[[channel]]\nid = 1_0\nfilter = '''a \"b\" \\c'''\n"
+        "[[channel]]\nid = 2\nnan = inf\n"
+    )
+    document = read("s.toml", text).document
+    judge("settings that are written anew say the same", read("s.toml", text_of(document)).document == document)
+    inline = 'channel = [{id = 1, filter = "x"}, {id = 2}]\nring = 7\n'
+    document = read("s.toml", inline).document
+    judge("tables in braces too", read("s.toml", text_of(document)).document == document)

@@ -1,0 +1,167 @@
+"""Tries host/bin/live --status and its table on a terminal, on two pairs of interfaces."""
+
+from __future__ import annotations
+
+import contextlib
+import json
+import os
+import pty
+import re
+import signal
+import socket
+import subprocess
+import time
+import urllib.error
+import urllib.request
+from pathlib import Path
+
+import pytest
+from recordings import Traffic, begin, is_approved, nothing_left, settings_of, write_settings
+from support import LIVE, judge, judge_quietly, outcome, present, run, wait_for
+
+WANTED = {"bin/bpfrec": "make build", "bin/capture": "make build", "ip": "iproute2"}
+pytestmark = [pytest.mark.timed, pytest.mark.usefixtures("namespace")]
+
+
+def asked(address: str, name: str = "status.json") -> bytes:
+    with urllib.request.urlopen(f"{address}{name}", timeout=5) as answer:
+        return answer.read()
+
+
+def status_of(address: str) -> dict:
+    return json.loads(asked(address))
+
+
+def address_in(told: str) -> str:
+    return present(re.search(r"status: (http://[0-9.:]+/)", told))[1]
+
+
+def test_the_status_tells_what_was_sent(work: Path) -> None:
+    """Two channels, one of which keeps nothing; what is told is what was sent."""
+    settings = write_settings(work, f'id = 1\nfilter = "{work}/all"', f'id = 2\nfilter = "{work}/none"')
+    settings.write_text(settings.read_text().replace("65536", "16424"))
+    live = begin(work, work / "a.ch11", "--status", "0", "--quiet", settings=settings)
+    address = address_in(live.told())
+    traffic = Traffic(length=500)
+    wait_for("frames come", lambda: (status_of(address)["channels"] or [{"offered": None}])[0]["offered"], 10)
+    time.sleep(3)
+    found = status_of(address)
+    one, two = found["channels"]
+    judge("both interfaces are there", [it["interface"] for it in found["channels"]] == ["rx0", "rx1"])
+    judge("frames come and are kept", one["offered"]["frames"] > 100 and one["kept"]["frames"] > 100, one)
+    judge("the other keeps nothing", two["offered"]["frames"] > 100 and two["kept"]["frames"] == 0, two)
+    judge("it is forced to the disk", found["sync"]["age"] is not None and found["sync"]["age"] < 3, found["sync"])
+    judge(
+        "the page and the metrics too", b"<!DOCTYPE" in asked(address, "") and b"bpfrec_" in asked(address, "metrics")
+    )
+    (work / "other").write_text("1,6 0 0 7,")
+    live.type_in(f"set 2 {work}/other")
+    wait_for("a filter that is changed is told", lambda: status_of(address)["channels"][1]["version"] == 1, 5)
+    traffic.end()
+    live.interrupt()
+    judge("it ends well", live.ended()[0] == 0 and is_approved(work / "a.ch11"), live.told())
+    with pytest.raises(OSError):
+        asked(address)
+    judge("nothing is left", nothing_left(work))
+
+
+def test_another_address_is_asked_by_it_and_by_names_that_are_given(work: Path) -> None:
+    """A page of the web whose name leads to that address gets nothing."""
+    run("ip", "address", "add", "192.0.2.7/24", "dev", "rx1")
+    words = ["--status", "192.0.2.7:0", "--status-name", "recorder.example", "--status-name", "tap"]
+    live = begin(work, work / "n.ch11", "--quiet", *words)
+    address = address_in(live.told())
+    for host, wanted in {"192.0.2.7": 200, "tap:8080": 200, "recorder.example": 200, "evil.example": 421}.items():
+        request = urllib.request.Request(f"{address}metrics", headers={"Host": host})
+        try:
+            with urllib.request.urlopen(request, timeout=5) as answer:
+                found = answer.status
+        except urllib.error.HTTPError as refused:
+            found = refused.code
+        judge_quietly(f"Host: {host}: {found}", found == wanted)
+    live.interrupt()
+    judge("it ends well", live.ended()[0] == 0, live.told())
+    other = outcome(LIVE, "--status-name", "tap", work / "x.ch11", "rx0")
+    told = (other.returncode, other.stderr)
+    judge("names without a page are refused", told == (2, "live: --status-name needs --status\n"), told)
+
+
+def test_the_status_tells_of_recordings_that_follow(work: Path) -> None:
+    live = begin(work, work / "r.ch11", "--status", "0", "--quiet", "--every", "1")
+    address, traffic = address_in(live.told()), Traffic()
+    wait_for("recordings are audited", lambda: status_of(address)["audits"]["yes"] >= 2, 15)
+    found = status_of(address)
+    judge("by their names", [it["name"] for it in found["recordings"]][:2] == ["r_00001.ch11", "r_00002.ch11"])
+    judge(
+        "and the next goes on", found["recording"]["number"] > 2 and found["state"] == "recording", found["recording"]
+    )
+    traffic.end()
+    live.interrupt()
+    judge("it ends well", live.ended()[0] == 0, live.told())
+
+
+def test_a_wrong_address_is_refused_before_recording(work: Path) -> None:
+    """Before anything is recorded."""
+    with socket.create_server(("127.0.0.1", 0)) as other:
+        port = other.getsockname()[1]
+        done = outcome(LIVE, "--status", str(port), settings_of(work), work / "x.ch11", "rx0=1", "rx1=2")
+    told = f"live: --status 127.0.0.1:{port}: Address already in use\n"
+    judge("a port that another has", (done.returncode, done.stderr) == (3, told), done)
+    done = outcome(LIVE, "--status", "here", settings_of(work), work / "x.ch11", "rx0=1", "rx1=2")
+    judge("another word", done.returncode == 2 and "--status here: it takes PORT" in done.stderr, done)
+    judge("nothing is there", not (work / "x.ch11").exists())
+
+
+def test_a_killed_run_gives_its_port_free(work: Path) -> None:
+    """The port is free again once it was killed."""
+    live = begin(work, work / "k.ch11", "--status", "0", "--quiet")
+    address = address_in(live.told())
+    os.kill(live.process.pid, signal.SIGKILL)
+    live.process.wait()
+
+    def is_refused() -> bool:
+        try:
+            asked(address)
+        except OSError as fault:
+            return "refused" in str(fault)
+        return False
+
+    wait_for("nobody answers there any more", is_refused, 5)
+
+
+def test_a_terminal_has_a_table_and_the_report_at_the_end(work: Path) -> None:
+    """On a terminal there is a table, above it what is told, and at the end the report and the audit."""
+    outer, inner = pty.openpty()
+    words = [LIVE, settings_of(work), work / "t.ch11", "rx0=1", "rx1=2"]
+    live = subprocess.Popen(
+        [str(it) for it in words],
+        stdin=inner,
+        stdout=inner,
+        stderr=inner,
+        start_new_session=True,
+        env={**os.environ, "TERM": "xterm", "TMPDIR": str(work / "private")},
+    )
+    os.close(inner)
+    traffic, found, end = Traffic(), b"", time.monotonic() + 4
+    os.set_blocking(outer, False)
+    while live.poll() is None and time.monotonic() < end + 20:
+        with contextlib.suppress(BlockingIOError, OSError):
+            found += os.read(outer, 1 << 16)
+        time.sleep(0.02)
+        if time.monotonic() > end and not traffic.is_ending:
+            traffic.end()
+            live.send_signal(signal.SIGINT)
+    with contextlib.suppress(BlockingIOError, OSError):
+        found += os.read(outer, 1 << 16)
+    text = re.sub(r"\x1b(\[[0-9;]*[A-Za-z]|[78])", "", found.decode())
+    judge_quietly("it ends well", live.wait() == 0, text)
+    judge("it is drawn each second", text.count("RECORDING") >= 3 and "rx0" in text, text)
+    told = [it for it in text.splitlines() if re.fullmatch(r"capture: rx0 frames \d+ .*", it.strip())]
+    judge("a line of counts comes at the end alone", len(told) == 1, told)
+    judge("what is told stands there too", "capture: origin" in text and "yes other 0" in text, text)
+    judge(
+        "and at the end the table is taken away",
+        re.search(rb"yes other 0.*\x1b\[\d+F\x1b\[J$", found, re.DOTALL),
+        text[-300:],
+    )
+    os.close(outer)

@@ -1,0 +1,247 @@
+"""Tries `bpfrec export` by programs that nobody here wrote: tshark, capinfos, editcap, mergecap, reordercap and
+tcpdump."""
+
+import hashlib
+import os
+import random
+import re
+import resource
+from pathlib import Path
+
+import pytest
+from captures import fields_of
+from damage import damaged
+from exports import Shown, wanted_of
+from frames import FRAMES, HEAD, body_of, packet_of, program_packet, with_check_sequence
+from reading import SAMPLES, SEED, recording_of_three
+from recorder import RECORDINGS, extracted
+from rows import AS_ROOT, drawn_recording, flight_of, seconds_of
+from support import BPFREC, CONVERT, judge, judge_quietly, outcome, run
+
+WANTED = {"bin/bpfrec": "make build", "tshark": "tshark", "capinfos": "wireshark-common", "tcpdump": "tcpdump"}
+FIELDS = [
+    "frame.interface_id",
+    "frame.interface_name",
+    "frame.time_epoch",
+    "frame.len",
+    "frame.md5_hash",
+    "frame.packet_flags_crc_error",
+    "frame.packet_flags_symbol_error",
+    "frame.comment",
+]
+DRAWN, DAMAGED = 10, 150
+ORIGIN = 1_764_590_400
+
+
+def exported(work: Path, recording: Path, *words: object) -> Path:
+    out = work / "exported.pcapng"
+    done = outcome(BPFREC, "export", recording, out, *words)
+    judge_quietly(f"export of {recording.name}", (done.returncode, done.stdout, done.stderr) == (0, "", ""), done)
+    return out
+
+
+def seen_in(capture: Path) -> list[list[str]]:
+    """What tshark reads of each frame of a capture."""
+    words = [word for field in FIELDS for word in ("-e", field)]
+    done = run("tshark", "-n", "-o", "frame.generate_md5_hash:TRUE", "-r", capture, "-T", "fields", *words)
+    return [line.split("\t") for line in done.splitlines()]
+
+
+def row_of(frame: Shown) -> list[str]:
+    """What tshark is to read of a frame."""
+    flags = ["", ""] if not frame.marks else [str(frame.marks >> 1), str(frame.marks & 1)]
+    name, length = f"channel {frame.channel}", str(len(frame.bytes))
+    moment, its_sum = seconds_of(frame.counter), hashlib.md5(frame.bytes).hexdigest()
+    return [str(frame.interface), name, moment, length, its_sum, *flags, frame.comment]
+
+
+def judge_export(work: Path, recording: Path) -> int:
+    """An export has the bytes that docs/user/formats/recording.md says, and tshark reads the frames: how many."""
+    wanted, out = wanted_of(recording.read_bytes()), exported(work, recording)
+    judge_quietly(f"{recording.name}: the bytes", out.read_bytes() == wanted.bytes)
+    seen = seen_in(out)
+    judge_quietly(f"{recording.name}: as tshark reads it", seen == [row_of(it) for it in wanted.frames], seen[:3])
+    return len(seen)
+
+
+@pytest.fixture(scope="module")
+def three(place: Path) -> Path:
+    return recording_of_three(place)
+
+
+def drawn_versions(draw: random.Random) -> bytes:
+    """Packets of frames of three channels, some without a frame, each behind any number of versions.
+
+    The versions' numbers rise, fall or stay, and each has up to 3 instructions.
+    """
+    parts = []
+    for turn in range(30):
+        channel = draw.randint(1, 3)
+        for _ in range(draw.choice([0, 1, 2, 3, 7])):
+            number = draw.choice([turn, draw.randrange(3), draw.randrange(2**32)])
+            parts.append(program_packet(channel, number, count=draw.randint(1, 3)))
+        frames = [(turn, 0, draw.randbytes(60)) for _ in range(draw.randrange(4))]
+        parts.append(packet_of(channel, body_of(frames), 0, FRAMES, turn, True))
+    return b"".join(parts)
+
+
+# ---- whole recordings
+
+
+def test_an_export_has_the_bytes_that_formats_says(work: Path, three: Path) -> None:
+    whole = [it for it in sorted(RECORDINGS.glob("*.ch11")) if outcome(BPFREC, "list", it).returncode == 0]
+    counts = [judge_export(work, it) for it in [*whole, three, flight_of(work)]]
+    judge(f"the exports of {len(counts)} recordings, {sum(counts)} frames", len(counts) > 7 and sum(counts) > 100)
+
+
+def test_drawn_recordings_are_exported_as_formats_says(work: Path) -> None:
+    draw = random.Random(SEED)
+    for turn in range(DRAWN):
+        (work / "drawn.ch11").write_bytes(drawn_recording(draw, turn % 2 == 0))
+        judge_export(work, work / "drawn.ch11")
+    judge(f"and those of {DRAWN} drawn ones of both profiles", True)
+
+
+def test_a_comment_has_the_first_and_last_of_several_versions(work: Path) -> None:
+    """Of several versions without a frame between them the comment has the first and the last."""
+    draw, comments = random.Random(SEED), set()
+    for _ in range(DRAWN):
+        data = drawn_versions(draw)
+        (work / "versions.ch11").write_bytes(data)
+        judge_export(work, work / "versions.ch11")
+        comments |= {it.comment for it in wanted_of(data).frames}
+    several = [it for it in comments if re.fullmatch(r"filter versions \d+ to \d+, the last of [123] instructions", it)]
+    one = [it for it in comments if re.fullmatch(r"filter version \d+, [123] instructions", it)]
+    judge(f"{len(one)} comments on one version, {len(several)} on several", one and several and "" in comments)
+
+
+def test_convert_makes_of_an_export_the_feeds_of_extract(work: Path, three: Path) -> None:
+    """The converter makes of each interface the feed that `extract` gives, marks and all."""
+    out = exported(work, three)
+    for number, channel in enumerate(wanted_of(three.read_bytes()).numbers):
+        words = ["from-pcap", "--force", "--origin", "zero", "--interface", number]
+        run(CONVERT, *words, out, work / "back.feed")
+        same = (work / "back.feed").read_bytes() == extracted(three, channel, work / "one.feed")
+        judge(f"the feed of channel {channel}", same)
+
+
+def test_tshark_finds_wrong_the_check_sequences_that_are(work: Path, three: Path) -> None:
+    """tshark finds wrong the check sequences that are."""
+    frames = wanted_of(three.read_bytes()).frames
+    wrong = [str(at) for at, it in enumerate(frames, 1) if with_check_sequence(it.bytes[:-4]) != it.bytes]
+    words = ["-o", "eth.check_fcs:TRUE", "-Y", "eth.fcs.status == 0", "-T", "fields", "-e", "frame.number"]
+    found = run("tshark", "-n", "-r", exported(work, three), *words).split()
+    judge(f"{len(wrong)} wrong check sequences", found == wrong and wrong)
+
+
+def test_an_origin_shifts_times(work: Path, three: Path) -> None:
+    """An origin shifts times."""
+    out, plain = exported(work, three, ORIGIN), wanted_of(three.read_bytes())
+    judge("the bytes with an origin", out.read_bytes() == wanted_of(three.read_bytes(), ORIGIN).bytes)
+    moments = [it[2] for it in seen_in(out)]
+    ticks = 10**7
+    wanted = [f"{ORIGIN + it.counter // ticks}.{it.counter % ticks:07}00" for it in plain.frames]
+    judge("times are since 1970", moments == wanted)
+
+
+@pytest.mark.parametrize("word", ["", "x", "-1", "+1", "1.5", str(2**63), str(2**64)])
+def test_a_wrong_origin_is_refused(work: Path, word: str) -> None:
+    done = outcome(BPFREC, "export", SAMPLES[0], work / "none.pcapng", "--", word)
+    told = f"error: invalid value '{word}' for '[ORIGIN]'" in done.stderr
+    judge(f"the origin {word!r}", done.returncode == 2 and told and not (work / "none.pcapng").exists(), done)
+
+
+def test_an_export_goes_through_standard_streams(work: Path, three: Path) -> None:
+    """Standard input and standard output."""
+    wanted = wanted_of(three.read_bytes()).bytes
+    calls: list[tuple[list[object], bytes]] = [
+        (["export", three, "-"], b""),
+        (["export", "-", "-"], three.read_bytes()),
+    ]
+    for words, given in calls:
+        done = outcome(BPFREC, *words, input=given, text=False)
+        judge(f"{words[1:]}", (done.returncode, done.stdout, done.stderr) == (0, wanted, b""))
+    seen = outcome("sh", "-c", f"{BPFREC} export {three} - | tshark -n -r - -T fields -e frame.number")
+    judge("tshark reads it from a pipe", len(seen.stdout.split()) == len(wanted_of(three.read_bytes()).frames), seen)
+
+
+def test_programs_that_read_captures_take_an_export(work: Path, three: Path) -> None:
+    """Programs that read captures take it without a complaint."""
+    capture, count = exported(work, three), len(wanted_of(three.read_bytes()).frames)
+    for words in (
+        ["capinfos", capture],
+        ["editcap", capture, work / "edited.pcapng"],
+        ["mergecap", "-w", work / "merged.pcapng", capture, capture],
+        # reordercap of Wireshark 4.0 needs all interfaces ahead of the first frame, also in files of mergecap
+        ["tshark", "-2", "-r", capture, "-w", work / "ahead.pcapng"],
+        ["reordercap", work / "ahead.pcapng", work / "ordered.pcapng"],
+    ):
+        done = outcome(*words)
+        done.stderr = "".join(it for it in done.stderr.splitlines(True) if AS_ROOT not in it)
+        complains = re.search("error|warn|damaged", done.stderr, re.IGNORECASE)
+        judge(str(words[0]), done.returncode == 0 and not complains, done)
+    made = {it: len(fields_of(work / f"{it}.pcapng")) for it in ("edited", "merged", "ordered")}
+    judge("and write its frames", made == {"edited": count, "merged": 2 * count, "ordered": count}, made)
+    one = exported(work, SAMPLES[1])
+    judge("reordercap of one channel", outcome("reordercap", one, work / "one.pcapng").returncode == 0)
+    lines = outcome("tcpdump", "-nr", exported(work, three))
+    judge("tcpdump", lines.returncode == 0 and len(re.findall(r"^\d\d:", lines.stdout, re.MULTILINE)) == count, lines)
+
+
+@pytest.mark.timed
+def test_a_channel_more_costs_no_look_at_the_others(work: Path) -> None:
+    """All 65,536 channels, each met twice. A search through those before took over ten seconds for so many."""
+    packets = {
+        channel: packet_of(channel, body_of([(channel, 0, with_check_sequence(HEAD))]), 0, FRAMES, channel, True)
+        for channel in range(65_536)
+    }
+    recording, out = work / "channels.ch11", work / "channels.pcapng"
+    recording.write_bytes(b"".join([*packets.values(), *reversed(packets.values())]))
+    before = resource.getrusage(resource.RUSAGE_CHILDREN).ru_utime
+    run(BPFREC, "export", recording, out, seconds=120)
+    took = resource.getrusage(resource.RUSAGE_CHILDREN).ru_utime - before
+    judge_quietly("the bytes", out.read_bytes() == wanted_of(recording.read_bytes()).bytes)
+    judge(f"{took:.1f} s for 131,072 packets of 65,536 channels", took < 4)
+
+
+# ---- damaged recordings, and outputs that fail
+
+
+def test_of_damage_an_export_has_what_stands_before(work: Path, three: Path) -> None:
+    """Of a damaged recording the fault is told that `list` tells, and the export has what stands before."""
+    draw, faults = random.Random(SEED), 0
+    for _ in range(DAMAGED):
+        data, recording, out = damaged(draw, three.read_bytes()), work / "damaged.ch11", work / "damaged.pcapng"
+        recording.write_bytes(data)
+        listed, done = outcome(BPFREC, "list", recording), outcome(BPFREC, "export", recording, out)
+        same = (done.returncode, done.stderr) == (listed.returncode, listed.stderr)
+        judge_quietly("the fault that list tells", same and done.stdout == "", done)
+        at = int(listed.stderr.split()[-1]) if listed.returncode else len(data)
+        judge_quietly("and what stands before", out.read_bytes() == wanted_of(data[:at]).bytes)
+        faults += listed.returncode == 1
+    judge(f"{faults} damaged recordings of {DAMAGED}", faults > DAMAGED // 2)
+
+
+def test_an_output_that_fails_has_the_first_bytes(work: Path) -> None:
+    """An output that takes some bytes alone has these."""
+    for recording in SAMPLES:
+        wanted, out = wanted_of(recording.read_bytes()).bytes, work / "cut.pcapng"
+        for room in range(len(wanted)):
+            limited = ["prlimit", f"--fsize={room}", BPFREC, "export", recording, out]
+            done = outcome(*limited, restore_signals=False)
+            told = (done.returncode, done.stdout, done.stderr) == (3, "", f"file {out}\n")
+            judge_quietly(f"room for {room} bytes", told and out.read_bytes() == wanted[:room], done)
+            os.unlink(out)
+    judge("outputs that fail at each byte have what stands before", True)
+
+
+def test_a_full_output_is_told(work: Path, three: Path) -> None:
+    for out, given in (("/dev/full", "file /dev/full\n"), ("-", "file -\n")):
+        with open("/dev/full", "wb") as full:
+            done = outcome(BPFREC, "export", three, out, stdout=full, capture_output=False, stderr=-1)
+        judge(f"a full {out}", (done.returncode, done.stderr) == (3, given), done)
+    own = work / "own.ch11"
+    own.write_bytes(three.read_bytes())
+    done = outcome(BPFREC, "export", own, own)
+    refused = (done.returncode, done.stdout, done.stderr) == (3, "", f"file {own}\n")
+    judge("an OUT that is the recording", refused and own.read_bytes() == three.read_bytes(), done)

@@ -1,0 +1,216 @@
+"""Tries host/bin/pcapng on recordings of several recorders, and of many channels."""
+
+import json
+import resource
+from pathlib import Path
+
+import pytest
+from expected_facts import facts_of_run
+from frames import FRAMES, body_of, end_packet, numbered, packet_of, program_packet, with_check_sequence
+from seen_frames import seen_in
+from support import INFO, PCAPNG, judge, outcome, run
+
+WANTED = {"bin/bpfrec": "make build", "tshark": "tshark", "capinfos": "wireshark-common"}
+# On a quiet machine that many channels take five seconds.
+CHANNELS, PATIENCE = 65_535, 40
+
+
+def recording_at(path: Path, counters: list[int], mark: int, facts: dict | None = None, channel: int = 1) -> Path:
+    """A recording of a channel, whose frames have a mark, with its facts."""
+    frames = [(it, 0, with_check_sequence(numbered(mark * 1_000 + at))) for at, it in enumerate(counters)]
+    packets = [packet_of(channel, body_of([it]), at, FRAMES, it[0], True) for at, it in enumerate(frames)]
+    path.write_bytes(b"".join([program_packet(channel, 0), *packets, end_packet(channel, len(frames))]))
+    if facts:
+        Path(f"{path}.json").write_text(json.dumps(facts))
+    return path
+
+
+def facts_by(host: str, interface: str, origins: list | None = None) -> dict:
+    made = facts_of_run(origins or [("1764590400.000000000", 0, None)])
+    return {**made, "host": host, "interfaces": [{"interface": interface, "channel": 1}]}
+
+
+def captured(work: Path, *recordings: Path) -> tuple[list[str], list[tuple[int, int]]]:
+    """The names of a capture's interfaces, and of each frame its interface and its number."""
+    run(PCAPNG, "--force", work / "all.pcapng", *recordings)
+    told = run("capinfos", "-k", "-I", work / "all.pcapng")
+    names = [it.split(" = ")[1] for it in told.splitlines() if it.strip().startswith("Name = ")]
+    numbers = [int.from_bytes(it.bytes[14:22], "big") for it in seen_in(work / "all.pcapng")]
+    return names, list(zip((it.interface for it in seen_in(work / "all.pcapng")), numbers))
+
+
+TWO = {
+    "interfaces": ("fc1", "eth0", "fc1", "eth1", ["eth0", "eth1"]),
+    "hosts": ("fc1", "eth0", "fc2", "eth0", ["eth0 of fc1", "eth0 of fc2"]),
+}
+
+
+@pytest.mark.parametrize("name", TWO)
+@pytest.mark.parametrize("is_turned", [False, True], ids=["", "turned"])
+def test_two_recorders_are_two_interfaces(work: Path, name: str, is_turned: bool) -> None:
+    host, interface, other_host, other_interface, names = TWO[name]
+    one = recording_at(work / "one.ch11", [0, 20], 1, facts_by(host, interface))
+    two = recording_at(work / "two.ch11", [10, 30], 2, facts_by(other_host, other_interface))
+    told, seen = captured(work, *((two, one) if is_turned else (one, two)))
+    judge("each has its name", told == (names[::-1] if is_turned else names), told)
+    first, second = (1, 0) if is_turned else (0, 1)
+    wanted = [(first, 1_000), (second, 2_000), (first, 1_001), (second, 2_001)]
+    judge("and its frames", seen == wanted, seen)
+
+
+def test_recordings_of_one_run_stay_one_interface(work: Path) -> None:
+    """Also where the clock was set back between them: frames stand in the order in which they came."""
+    set_back = [("1764590400.000000000", 0, None), ("1764586800.000000000", 15, "-3600.000000000")]
+    one = recording_at(work / "one.ch11", [0, 10], 1, facts_by("fc1", "eth0"))
+    two = recording_at(work / "two.ch11", [20, 30], 2, facts_by("fc1", "eth0", set_back))
+    names, seen = captured(work, two, one)
+    judge("one interface", names == ["eth0"], names)
+    judge("in the order in which they came", [it for _, it in seen] == [1_000, 1_001, 2_000, 2_001], seen)
+
+
+def test_a_clock_that_was_set_counts_as_right_among_recorders(work: Path) -> None:
+    """The first recorder's clock was an hour behind until it was set."""
+    late = [("1764586800.000000000", 0, None), ("1764590400.000000000", 10, "3600.000000000")]
+    one = recording_at(work / "one.ch11", [0, 20, 40], 1, facts_by("fc1", "eth0", late))
+    two = recording_at(work / "two.ch11", [10, 30, 50], 2, facts_by("fc2", "eth0"))
+    _, seen = captured(work, one, two)
+    judge("frames alternate", [it for it, _ in seen] == [0, 1, 0, 1, 0, 1], seen)
+
+
+def test_frames_stand_in_their_order_where_counters_begin_at_0_again(work: Path) -> None:
+    """Counters turn in the second recording of a run, as facts then say."""
+    whole, turn = 1 << 48, "1764590400.000000000"
+    before = [("1736442902.328934400", 0, None)]
+    after = [*before, (turn, 0, None), (before[0][0], whole >> 1, None)]
+    one = recording_at(work / "one.ch11", [whole - 40, whole - 30], 1, facts_by("fc1", "eth0", before))
+    two = recording_at(work / "two.ch11", [whole - 20, 10], 2, facts_by("fc1", "eth0", after))
+    three = recording_at(work / "three.ch11", [20, 30], 3, facts_by("fc1", "eth0", after))
+    _, seen = captured(work, three, one, two)
+    judge("in their order", [it for _, it in seen] == [1_000, 1_001, 2_000, 2_001, 3_000, 3_001], seen)
+
+
+def test_a_run_takes_no_origin_of_another_with_the_same_first_one(work: Path) -> None:
+    """Two recorders of one host with one origin, of which the second began once the clock had been set."""
+    set_on = [("1764590400.000000000", 0, None), ("1764594000.000000000", 15, "3600.000000000")]
+    hour = 3_600 * 10_000_000
+    one = recording_at(work / "one.ch11", [0, 20, 40], 1, facts_by("fc1", "eth0", set_on))
+    two = recording_at(work / "two.ch11", [hour + 10, hour + 30, hour + 50], 2, facts_by("fc1", "eth1"))
+    _, seen = captured(work, one, two)
+    judge("frames alternate", [it for it, _ in seen] == [0, 1, 0, 1, 0, 1], seen)
+
+
+def test_channels_of_feeds_are_of_their_runs(work: Path) -> None:
+    """Facts name no interface of a channel that has a feed: those of two runs stay apart."""
+    runs = [facts_by("fc1", "eth0", [(f"{moment}.000000000", 0, None)]) for moment in (1_764_590_400, 1_764_590_401)]
+    one = recording_at(work / "one.ch11", [0, 20], 1, {**runs[0], "interfaces": []})
+    two = recording_at(work / "two.ch11", [10, 30], 2, {**runs[1], "interfaces": []})
+    names, seen = captured(work, one, two)
+    judge("two interfaces", len(names) == 2 and {it for it, _ in seen} == {0, 1}, (names, seen))
+
+
+def test_interfaces_of_one_name_are_told_by_their_channels(work: Path) -> None:
+    """An interface that was channel 1 in one run and channel 2 in another."""
+    one = recording_at(work / "one.ch11", [0, 20], 1, facts_by("fc1", "eth0"))
+    facts = facts_by("fc1", "eth0", [("1764590401.000000000", 0, None)])
+    two = recording_at(
+        work / "two.ch11", [10, 30], 2, {**facts, "interfaces": [{"interface": "eth0", "channel": 2}]}, channel=2
+    )
+    names, _ = captured(work, one, two)
+    judge("each has another name", names == ["eth0 of fc1, channel 1", "eth0 of fc1, channel 2"], names)
+
+
+def test_recordings_without_facts_are_of_a_recorder_each(work: Path) -> None:
+    one, two = recording_at(work / "one.ch11", [0, 20], 1), recording_at(work / "two.ch11", [10, 30], 2)
+    names, seen = captured(work, one, two)
+    judge("named by the recordings", names == ["channel 1 of one.ch11", "channel 1 of two.ch11"], names)
+    judge("and apart", seen == [(0, 1_000), (1, 2_000), (0, 1_001), (1, 2_001)], seen)
+
+
+def test_help_promises_no_order_by_time(work: Path) -> None:
+    told = " ".join(run(PCAPNG, "--help").split())
+    judge("it says where times step back", "merged by time" not in told and "times step back" in told, told)
+
+
+# ---- many channels
+
+
+def recording_of_channels(path: Path, count: int) -> Path:
+    """A recording of a frame of each of so many channels."""
+    frame = with_check_sequence(numbered(0, 60))
+    with open(path, "wb") as file:
+        for channel in range(1, count + 1):
+            file.write(packet_of(channel, body_of([(channel, 0, frame)]), 0, FRAMES, channel, False))
+    return path
+
+
+@pytest.fixture(scope="module")
+def many(place: Path) -> Path:
+    return recording_of_channels(place / "many.ch11", CHANNELS)
+
+
+def processor_seconds(out: Path, recording: Path, count: int) -> float:
+    """How many seconds of a processor a capture of so many frames takes."""
+    begun = resource.getrusage(resource.RUSAGE_CHILDREN).ru_utime
+    done = outcome(PCAPNG, "--force", out, recording, seconds=PATIENCE)
+    judge("all frames", (done.returncode, done.stdout) == (0, f"frames {count} skipped 0\n"), done)
+    return resource.getrusage(resource.RUSAGE_CHILDREN).ru_utime - begun
+
+
+def test_pcapng_takes_a_time_that_grows_as_the_channels_do(work: Path, many: Path) -> None:
+    """Four times as many channels took six times as long where each looked at all. The best of four rounds counts."""
+    few = recording_of_channels(work / "few.ch11", CHANNELS // 4)
+    of_few, of_many = [], []
+    for _ in range(4):
+        of_few.append(processor_seconds(work / "out", few, CHANNELS // 4))
+        of_many.append(processor_seconds(work / "out", many, CHANNELS))
+        if min(of_many) < 5 * min(of_few):
+            break
+    judge("four times as long", min(of_many) < 5 * min(of_few), (of_few, of_many))
+
+
+def test_info_of_all_channels_takes_seconds(many: Path) -> None:
+    done = outcome(INFO, many, seconds=PATIENCE)
+    judge("all channels", done.stdout.count("\nchannel ") == CHANNELS, done.stderr)
+
+
+# ---- arguments
+
+
+def test_a_channel_may_be_named_by_its_interface(work: Path) -> None:
+    one = recording_at(work / "one.ch11", [0, 20], 1, facts_by("fc1", "eth0"))
+    two = recording_at(work / "two.ch11", [10, 30], 2, facts_by("fc1", "eth1"))
+    run(PCAPNG, "--channel", "eth1", work / "eth1.pcapng", one, two)
+    numbers = [int.from_bytes(it.bytes[14:22], "big") for it in seen_in(work / "eth1.pcapng")]
+    judge("its frames alone", numbers == [2_000, 2_001], numbers)
+
+
+@pytest.mark.parametrize("has_facts", [False, True])
+def test_an_interface_that_is_not_known_is_refused(work: Path, has_facts: bool) -> None:
+    one = recording_at(work / "one.ch11", [0], 1, facts_by("fc1", "eth0") if has_facts else None)
+    done = outcome(PCAPNG, "--channel", "eth9", work / "out.pcapng", one)
+    told = "no channel eth9" if has_facts else "no facts beside it, so --channel takes numbers, as 1"
+    judge("refused", (done.returncode, done.stderr) == (1, f"pcapng: {one}: {told}\n"), done)
+
+
+def test_a_time_of_day_is_refused_with_what_a_time_is(work: Path) -> None:
+    done = outcome(PCAPNG, "--from", "23:36", work / "out.pcapng", work / "one.ch11")
+    told = "23:36 is no time, as 12.5 or 2025-12-01T12:00:00.25Z: seconds since counter 0, or UTC with its date"
+    judge("refused", done.returncode == 2 and told in done.stderr, done)
+
+
+# ---- standard input
+
+
+def test_a_pipe_is_read_as_standard_input(work: Path) -> None:
+    one = recording_at(work / "one.ch11", [0, 20], 1)
+    run(PCAPNG, work / "wanted.pcapng", one)
+    done = outcome("sh", "-c", f"cat {one} | {PCAPNG} {work}/out.pcapng -")
+    judge("it is read", (done.returncode, done.stdout) == (0, "frames 2 skipped 0\n"), done)
+    judge("with the same frames", seen_in(work / "out.pcapng") == seen_in(work / "wanted.pcapng"))
+
+
+def test_standard_input_given_twice_is_refused(work: Path) -> None:
+    one = recording_at(work / "one.ch11", [0], 1)
+    for words in ("- -", "- /dev/stdin"):
+        done = outcome("sh", "-c", f"cat {one} | {PCAPNG} {work}/out.pcapng {words}", seconds=10)
+        judge("refused", done.returncode == 1 and "given twice" in done.stderr, done)

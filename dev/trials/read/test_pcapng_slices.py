@@ -1,0 +1,114 @@
+"""Tries slices and times of host/bin/pcapng, and several recordings in one capture."""
+
+import json
+import random
+import shutil
+from pathlib import Path
+
+import pytest
+from expected_facts import THREE_ORIGINS, facts_of_run, moments_by
+from frames import FRAMES, body_of, end_packet, numbered, packet_of, program_packet, with_check_sequence
+from reading import SEED, recording_of_three
+from seen_frames import SECOND, Seen, feeds_of, judge_whole, made, seen_in
+from support import PCAPNG, judge, judge_quietly, outcome, run
+
+WANTED = {"bin/bpfrec": "make build", "tshark": "tshark", "capinfos": "wireshark-common"}
+SLICES = 12
+
+
+@pytest.fixture(scope="module")
+def three(place: Path) -> Path:
+    return recording_of_three(place)
+
+
+@pytest.mark.parametrize(
+    "origins", [THREE_ORIGINS, [("1764590400.250000001", 0, None)]], ids=["clock_was_set", "one_origin"]
+)
+def test_times_are_those_of_the_facts(work: Path, three: Path, origins: list) -> None:
+    """Times are those of the facts beside the recording."""
+    recording = work / "x.ch11"
+    shutil.copy(three, recording)
+    Path(f"{recording}.json").write_text(json.dumps(facts_of_run(origins)))
+    judge_whole(work, recording, lambda counter: moments_by(origins, [counter])[0])
+    judge("as facts say", True)
+
+
+def in_seconds(moment: int) -> str:
+    return f"{moment // SECOND}.{moment % SECOND:09}"
+
+
+def utc(moment: int) -> str:
+    seconds, rest = divmod(moment, SECOND)
+    return f"{run('date', '-u', '-d', f'@{seconds}', '+%Y-%m-%dT%H:%M:%S').strip()}.{rest:09}Z"
+
+
+def test_a_slice_has_the_frames_of_its_times_and_channels(work: Path, three: Path) -> None:
+    """A slice has the frames whose times are in it, by seconds since counter 0 and by UTC, of some channels or all."""
+    draw, feeds = random.Random(SEED), feeds_of(work, three)
+    origins = [("1764590400.250000000", 0, None), ("1764586800.250000123", 40_000_000, "-3600.0")]
+    origins[1] = (*origins[1][:2], "-3599.999999877")
+    recording = work / "x.ch11"
+    shutil.copy(three, recording)
+    Path(f"{recording}.json").write_text(json.dumps(facts_of_run(origins)))
+    for turn in range(SLICES):
+        chosen = sorted(draw.sample([1, 2, 3], draw.randint(1, 3)))
+        picked = [draw.choice(feeds[draw.choice(chosen)]).counter for _ in range(2)]
+        is_utc = turn % 2 == 0
+
+        def moment_of(counter: int, is_utc: bool = is_utc) -> int:
+            return moments_by(origins, [counter])[0] if is_utc else counter * 100
+
+        begin, end = sorted(map(moment_of, picked))
+        end += draw.choice([0, 1])
+        text = utc if is_utc else in_seconds
+        words = [word for it in chosen for word in ("--channel", it)]
+        seen = seen_in(made(work, "--from", text(begin), "--to", text(end), *words, recording))
+        wanted = [
+            Seen(number, moments_by(origins, [it.counter])[0], it.frame)
+            for number, channel in enumerate(chosen)
+            for it in feeds[channel]
+            if begin <= moment_of(it.counter) < end
+        ]
+        judge_quietly(
+            f"slice {turn}: {begin} to {end} of {chosen}", sorted(seen) == sorted(wanted), (len(seen), len(wanted))
+        )
+    judge(f"{SLICES} slices", True)
+
+
+def test_a_slice_at_a_shared_counter_has_the_frames_of_both_packets(work: Path) -> None:
+    """A slice that begins with a counter that two packets share has the frames of both."""
+    frame = with_check_sequence(numbered(0))
+    bodies = [body_of([(5, 0, frame), (9, 0, frame)]), body_of([(9, 0, frame), (12, 0, frame)])]
+    parts = [packet_of(1, it, at, FRAMES, (5, 9)[at], True) for at, it in enumerate(bodies)]
+    (work / "equal.ch11").write_bytes(program_packet(1, 0) + b"".join(parts))
+    seen = seen_in(made(work, "--from", "0.0000009", "--to", "0.000001", work / "equal.ch11"))
+    judge("frames of both packets", [it.moment for it in seen] == [900, 900])
+
+
+def test_of_packets_outside_a_slice_the_headers_alone_are_read(work: Path) -> None:
+    """Of the packets outside of a slice the headers alone are read: that their data are damaged isn't seen."""
+    path, frame = work / "long.ch11", with_check_sequence(numbered(0, 1_000))
+    bodies = [body_of([(at * 1_000 + it, 0, frame) for it in range(60)]) for at in range(500)]
+    parts = [packet_of(1, it, at, FRAMES, at * 1_000, True) for at, it in enumerate(bodies)]
+    damaged = [it if at in (199, 200) else it[:100] + bytes(4) + it[104:] for at, it in enumerate(parts)]
+    path.write_bytes(program_packet(1, 0) + b"".join(damaged) + end_packet(1, 30_000))
+    done = outcome(PCAPNG, "--from", "0.02", "--to", "0.0201", work / "slice.pcapng", path)
+    judge(
+        "a slice of one packet", (done.returncode, done.stdout, done.stderr) == (0, "frames 60 skipped 0\n", ""), done
+    )
+
+
+def test_several_recordings_become_one_capture(work: Path) -> None:
+    """Recordings that follow one another, and those of two recorders, become one capture."""
+    frames = [(at * 1_000, with_check_sequence(numbered(at))) for at in range(90)]
+    parts = {"a": frames[:30], "b": frames[30:60], "c": frames[15:45]}
+    for name, chosen in parts.items():
+        body = body_of([(counter, 0, frame) for counter, frame in chosen])
+        packets = [program_packet(1, 0), packet_of(1, body, 0, FRAMES, chosen[0][0], True), end_packet(1, len(chosen))]
+        (work / f"{name}.ch11").write_bytes(b"".join(packets))
+    done = outcome(PCAPNG, work / "all.pcapng", work / "b.ch11", work / "a.ch11", work / "c.ch11")
+    judge("three recordings", (done.returncode, done.stdout) == (0, "frames 90 skipped 0\n"), done)
+    moments = [it.moment for it in seen_in(work / "all.pcapng")]
+    judge("by time", moments == sorted(counter * 100 for it in parts.values() for counter, _ in it))
+    told = run("capinfos", "-k", "-I", work / "all.pcapng")
+    judge("counts of each", told.count("frames offered 30, kept 30") == 3, told)

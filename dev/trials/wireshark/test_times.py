@@ -1,0 +1,78 @@
+"""Tries the times of recordings in tshark: those of the facts beside a recording, or since counter 0."""
+
+import json
+import random
+import re
+import shutil
+from pathlib import Path
+from typing import Any
+
+import pytest
+from expected_facts import BEFORE_1970, THREE_ORIGINS, are_facts, damaged_facts, facts_of_run, moments_by, value_of
+from pcapng import frames_in
+from reading import SEED, recording_of_three
+from recorder import RECORDINGS
+from rows import expected_rows, printed, saved
+from support import BPFREC, CONVERT, judge, judge_quietly, run
+
+WANTED = {"bin/bpfrec": "make build", "tshark": "tshark"}
+DRAWN = 40
+
+
+@pytest.fixture(scope="module")
+def three(place: Path) -> Path:
+    return recording_of_three(place)
+
+
+def times_in(work: Path, recording: Path, *words: object) -> list[int]:
+    """The time of each frame in nanoseconds since 1970."""
+    lines = printed(work, "-r", recording, *words, "-Y", "ch11.number", "-T", "fields", "-e", "frame.time_epoch")
+    found = [re.fullmatch(r"(-?)(\d+)\.(\d{9})", it) for it in lines]
+    return [(-1 if it[1] else 1) * (int(it[2]) * 10**9 + int(it[3])) for it in found if it]
+
+
+def counters_in(recording: Path) -> list[int]:
+    return [int(it["counter"]) for it in expected_rows(recording) if "number" in it]
+
+
+@pytest.mark.parametrize("origins", [THREE_ORIGINS, BEFORE_1970], ids=["three_origins", "before_1970"])
+def test_times_are_those_of_the_facts(work: Path, three: Path, origins: list) -> None:
+    """Times are those of the facts beside the recording, or of those that the preference names."""
+    recording, counters = work / "x.ch11", counters_in(three)
+    shutil.copy(three, recording)
+    relative, wanted = [it * 100 for it in counters], moments_by(origins, counters)
+    judge("without facts times are since counter 0", times_in(work, recording) == relative)
+    (work / "x.ch11.json").write_text(json.dumps(facts_of_run(origins)))
+    judge("with facts they are absolute", times_in(work, recording) == wanted and wanted != relative)
+    judge("also read twice", times_in(work, recording, "-2") == wanted)
+    (work / "x.ch11.json").rename(work / "elsewhere.json")
+    named = ["-o", f"ch11.facts:{work}/elsewhere.json"]
+    judge("and by the preference", times_in(work, recording, *named) == wanted)
+
+
+def test_times_are_those_of_convert(work: Path, three: Path) -> None:
+    """Times are those of `host/bin/convert to-pcap --facts`."""
+    recording = work / "x.ch11"
+    shutil.copy(three, recording)
+    (work / "x.ch11.json").write_text(json.dumps(facts_of_run(THREE_ORIGINS)))
+    run(BPFREC, "extract", recording, 3, work / "3.feed")
+    run(CONVERT, "to-pcap", "--facts", work / "x.ch11.json", work / "3.feed", work / "3.pcap")
+    judge("as to-pcap has them", frames_in((work / "3.pcap").read_bytes()) == frames_in(saved(work, recording, 3)))
+
+
+def test_drawn_facts_are_taken_or_refused_as_formats_says(work: Path) -> None:
+    """Damaged facts are facts or none, as docs/user/formats/live.md says; nothing but the times depends on it."""
+    draw, recording = random.Random(SEED), work / "x.ch11"
+    shutil.copy(RECORDINGS / "two_versions_checked.ch11", recording)
+    counts = [0, 0]
+    for turn in range(DRAWN):
+        data = damaged_facts(draw, facts_of_run(THREE_ORIGINS, [(1, 2, 3)]))
+        (work / "x.ch11.json").write_bytes(data)
+        told: Any = value_of(data)
+        is_known = are_facts(told)
+        origins = (
+            [(it["origin"], it["counter"], None) for it in told["origins"]] if is_known else [("0.000000000", 0, None)]
+        )
+        counts[is_known] += 1
+        judge_quietly(f"draw {turn}: {data!r}", times_in(work, recording) == moments_by(origins, [32]))
+    judge(f"{counts[1]} facts, and {counts[0]} that are none", min(counts) > 5)

@@ -1,0 +1,1 @@
+"""Control of a recording that goes on: lines that change filters, and the answers to them."""

@@ -1,0 +1,131 @@
+"""Lines that change filters: from standard input, by the recorder, to the filters that later recordings begin with."""
+
+from __future__ import annotations
+
+import os
+import re
+from pathlib import Path
+from typing import NamedTuple, Optional
+
+from bpfrec_host.live.folder import Folder, copy_listing
+from bpfrec_host.live.standard_streams import another
+
+READ_LEN = 1 << 16
+# A line that is longer is handed on in parts, and refused by the recorder.
+MAX_LINE_LEN = 1 << 20
+# So much may wait for the recorder until no further line is read.
+MAX_WAITING = 1 << 16
+SET = re.compile(rb"set ([0-9]{1,9}) (.+)", re.DOTALL)
+
+
+class Input:
+    """Standard input, where lines may be read from it: from no terminal of other programs, as in the background."""
+
+    def __init__(self) -> None:
+        found = another(0, os.O_RDONLY)
+        self.descriptor: Optional[int] = 0 if found is None else found
+        if os.isatty(0) and not is_foreground():
+            self.descriptor = None
+        self.rest = b""
+
+    def end(self) -> None:
+        """Reads no further line."""
+        self.descriptor, self.rest = None, b""
+
+    def lines(self) -> Optional[list[bytes]]:
+        """The lines that came; None where none will come any more, ahead of which the last one is given."""
+        if self.descriptor is None:
+            return None
+        try:
+            part = os.read(self.descriptor, READ_LEN)
+        except BlockingIOError:
+            return []
+        except OSError:
+            part = b""
+        if not part:
+            last, self.descriptor, self.rest = self.rest, None, b""
+            return [last] if last else None
+        *lines, self.rest = (self.rest + part).split(b"\n")
+        if len(self.rest) > MAX_LINE_LEN:
+            lines, self.rest = [*lines, self.rest], b""
+        return lines
+
+
+def is_foreground() -> bool:
+    """Whether the terminal of standard input reads lines for this program."""
+    try:
+        return os.tcgetpgrp(0) == os.getpgrp()
+    except OSError:
+        return False
+
+
+class Change(NamedTuple):
+    """A line that the recorder has and hasn't answered: the copy of the listing that it names, its channel, and whether
+    live gave it itself."""
+
+    channel: int
+    copy: Optional[Path]
+    is_own: bool = False
+
+
+class Pipe:
+    """The lines to a recorder, and its answers to them, in order."""
+
+    def __init__(self) -> None:
+        self.reader, self.writer = os.pipe2(os.O_CLOEXEC)
+        os.set_blocking(self.writer, False)
+        self.waiting = bytearray()
+        self.unanswered: list[Change] = []
+        self.is_ending = self.has_ended = False
+
+    def put(self, line: bytes, change: Change) -> None:
+        """Takes a line for the recorder, which gets it by `write`."""
+        if not self.is_ending:
+            self.unanswered.append(change)
+            self.waiting += line + b"\n"
+
+    def write(self) -> None:
+        """Hands on what there is room for; a recorder that reads no lines any more answers none."""
+        try:
+            while self.waiting:
+                del self.waiting[: os.write(self.writer, self.waiting)]
+        except BlockingIOError:
+            pass
+        except OSError:
+            self.waiting.clear()
+            self.unanswered.clear()
+
+    def close(self) -> None:
+        """Closes the pipe."""
+        self.is_ending = True
+        self.waiting.clear()
+        if not self.has_ended:
+            self.has_ended = True
+            os.close(self.writer)
+
+
+class Changes:
+    """Copies of the listings that lines name, so that later recordings begin with the filters that were set."""
+
+    def __init__(self, folder: Folder, keeps: bool) -> None:
+        self.folder, self.keeps, self.count = folder, keeps, 0
+
+    def copied(self, line: bytes) -> tuple[bytes, Change]:
+        """A line for the recorder: where it names a listing, with the name of a copy."""
+        found = SET.fullmatch(line)
+        if not found or not self.keeps:
+            return line, Change(0, None)
+        self.count += 1
+        copy = self.folder.top / f"change_{self.count}"
+        if not copy_listing(os.fsdecode(found[2]), copy):
+            return line, Change(0, None)
+        return b"set %s %s" % (found[1], os.fsencode(copy)), Change(int(found[1]), copy)
+
+    def answered(self, change: Change, is_installed: bool) -> None:
+        """Keeps the listing of a line that the recorder took; another one's copy isn't wanted any more."""
+        if change.copy is None:
+            return
+        if is_installed:
+            change.copy.replace(self.folder.kept_filter(change.channel))
+        else:
+            change.copy.unlink(missing_ok=True)

@@ -1,0 +1,99 @@
+"""A ring of recordings: of those that followed one another the oldest are removed, where newer ones or the disk need
+their room. None is removed whose audit didn't say yes, or for one that couldn't be forced to its disk."""
+
+from __future__ import annotations
+
+import os
+import stat
+import threading
+from typing import Callable, NamedTuple, Optional
+
+from bpfrec_host.formats.answers import Verdict
+from bpfrec_host.live.names import facts_path, remove
+from bpfrec_host.live.recorder import Recorder
+
+# How often the room on the disk is looked at, in seconds.
+PAUSE = 1.0
+
+
+class Kept(NamedTuple):
+    """A recording that is whole and approved: its name, and which file that was."""
+
+    out: str
+    device: int
+    number: int
+
+    def is_there(self) -> bool:
+        """Whether the name is still that file's."""
+        try:
+            found = os.lstat(self.out)
+        except OSError:
+            return False
+        return stat.S_ISREG(found.st_mode) and (found.st_dev, found.st_ino) == (self.device, self.number)
+
+
+def approved(recorder: Recorder, status: int) -> Optional[Kept]:
+    """A recording that has ended, and its audit too; None of one that wasn't approved."""
+    lines = recorder.text("audit").splitlines()
+    is_approved = status == 0 and bool(lines) and Verdict.of(lines[-1]).is_yes()
+    if not is_approved or recorder.descriptor is None or not recorder.is_there():
+        return None
+    found = os.fstat(recorder.descriptor)
+    return Kept(recorder.about.out, found.st_dev, found.st_ino)
+
+
+class Retention:
+    """The recordings of a run that may be removed. `keep` is how many of them stay at most, and `keep_free` how many
+    bytes are to be free on their disk; `free` tells that, and `err` takes a line for each that is removed."""
+
+    def __init__(
+        self, keep: Optional[int], keep_free: Optional[int], free: Callable[[], int], err: Callable[[str], None]
+    ) -> None:
+        self.keep, self.keep_free, self.free, self.err = keep, keep_free, free, err
+        self.kept: list[Kept] = []
+        self.next_look = 0.0
+        self.threads: list[threading.Thread] = []
+
+    def add(self, kept: Kept) -> None:
+        """A recording counts from now on, since it is approved and on its disk."""
+        self.kept.append(kept)
+        while self.keep is not None and len(self.kept) > self.keep:
+            self.remove_oldest(f"--keep {self.keep}")
+
+    def deadline(self) -> Optional[float]:
+        """When the disk is looked at next; None where nothing could be removed."""
+        return self.next_look if self.keep_free is not None and self.kept else None
+
+    def tick(self, now: float) -> None:
+        """Removes recordings where the disk has too little room."""
+        if self.keep_free is None or now < self.next_look or self.is_removing():
+            return
+        self.next_look = now + PAUSE
+        if self.kept and self.free() < self.keep_free:
+            self.remove_oldest(f"--keep-free {self.keep_free}")
+
+    def is_removing(self) -> bool:
+        """Whether the room of a recording may still come free."""
+        return any(it.is_alive() for it in self.threads)
+
+    def remove_oldest(self, why: str) -> None:
+        """Removes the oldest recording, with its facts; one that has another name by now is left as it is."""
+        oldest = self.kept.pop(0)
+        if not oldest.is_there():
+            return
+        self.err(f"live: {oldest.out} was removed: {why}")
+        # A long file takes a moment, for which nobody waits.
+        thread = threading.Thread(target=removed, args=(oldest.out,))
+        thread.start()
+        self.threads = [*(it for it in self.threads if it.is_alive()), thread]
+
+    def join(self) -> None:
+        """Waits until all are removed."""
+        for thread in self.threads:
+            thread.join()
+
+
+def removed(out: str) -> None:
+    """Removes a recording and its facts."""
+    remove(out)
+    remove(facts_path(out))

@@ -1,0 +1,81 @@
+"""Tries host/bin/check_sums: bodies of all lengths around its pieces, changed bytes, packets far behind, and its
+memory."""
+
+from __future__ import annotations
+
+import random
+import resource
+import subprocess
+from pathlib import Path
+
+import pytest
+from frames import FRAMES, HEADER_LENGTH, header_of, packet_of, sum_of
+from support import ROOT, judge, judge_quietly
+
+WANTED: dict[str, str] = {}
+CHECK_SUMS = ROOT / "host/bin/check_sums"
+# How many bytes check_sums reads at once, and the room in which it is tried.
+PIECE, ROOM = 1 << 16, 96 << 20
+
+
+def packet(body: bytes) -> bytes:
+    return packet_of(1, body, 0, FRAMES, 0, True)
+
+
+def claiming(length: int) -> bytes:
+    """The header of a packet of so many bytes."""
+    return header_of(1, (length, length - HEADER_LENGTH - 4), 0, FRAMES, 0, True)
+
+
+def checked(work: Path, recording: bytes) -> subprocess.CompletedProcess:
+    """What check_sums says of a recording, in bounded room."""
+    path = work / "recording"
+    path.write_bytes(recording)
+    bounded = lambda: resource.setrlimit(resource.RLIMIT_AS, (ROOM, ROOM))  # noqa: E731
+    return subprocess.run([CHECK_SUMS, path], capture_output=True, text=True, preexec_fn=bounded, timeout=60)
+
+
+@pytest.mark.parametrize("length", [4, PIECE - 8, PIECE - 4, PIECE, PIECE + 4, 2 * PIECE - 4, 1_000_000])
+def test_sums_hold_at_both_sides_of_what_is_read_at_once(work: Path, length: int) -> None:
+    """Bodies that don't end in zeros, at both sides of what is read at once, the last of them behind many."""
+    draw = random.Random(length)
+    body = draw.randbytes(length - 1) + b"\x5a"
+    ahead = packet(b"ahead..."[:8]) * 300
+    done = checked(work, ahead + packet(body))
+    told = "packets 301 data checksums 301 without 0 wrong 0\n"
+    judge(f"{length} bytes: all is right", (done.returncode, done.stdout) == (0, told), done)
+    for at in (0, length // 2, length - 1, length, length + 3):
+        changed = bytearray(packet(body))
+        changed[HEADER_LENGTH + at] ^= 0x80
+        done = checked(work, ahead + changed + packet(b"behind.."))
+        line = f"{len(ahead)} data checksum "
+        judge_quietly(
+            f"byte {at} of {length}",
+            done.returncode == 1 and done.stdout.startswith(line) and " wrong 1\n" in done.stdout,
+            done,
+        )
+
+
+@pytest.mark.parametrize("at", range(HEADER_LENGTH))
+def test_a_changed_byte_of_a_header_ends_the_reading_at_its_packet(work: Path, at: int) -> None:
+    one, two = packet(b"one....."), bytearray(packet(b"two....."))
+    two[at] ^= 0x10
+    done = checked(work, one + two)
+    word = "no sync pattern" if at < 2 else "header checksum"
+    judge_quietly(f"byte {at}", done.returncode == 1 and done.stdout.startswith(f"{len(one)} {word}"), done)
+    judge_quietly("one packet is counted", done.stdout.endswith("packets 1 data checksums 1 without 0 wrong 1\n"), done)
+
+
+def test_a_header_that_claims_four_gigabytes_takes_no_memory_for_them(work: Path) -> None:
+    one = packet(b"one.....")
+    done = checked(work, one + claiming(0xFFFF_FFF0) + b"few.")
+    told = f"{len(one)} cut\npackets 1 data checksums 1 without 0 wrong 1\n"
+    judge("it is cut", (done.returncode, done.stdout) == (1, told), done)
+
+
+def test_a_packet_of_more_bytes_than_there_is_room_for_is_summed(work: Path) -> None:
+    block, count = bytes(range(1, 201)), 1_000_000
+    added = sum_of(block, 4) * count % 2**32
+    recording = claiming(HEADER_LENGTH + len(block) * count + 4) + block * count + added.to_bytes(4, "little")
+    done = checked(work, recording)
+    judge("it is right", (done.returncode, done.stdout) == (0, "packets 1 data checksums 1 without 0 wrong 0\n"), done)

@@ -1,0 +1,158 @@
+"""Tries what host/bin/live reads of the capture: events in a file, and lines that come by pipes."""
+
+import json
+import os
+import signal
+from collections.abc import Callable
+from pathlib import Path
+from typing import Optional, cast
+
+import pytest
+from bpfrec_host.live import arguments, folder
+from bpfrec_host.live.capture import Capture
+from bpfrec_host.live.capture_lines import CaptureLines
+from bpfrec_host.live.events import Counted, Event, Events, Loss, LostInAll, Origin, event_in
+from bpfrec_host.live.loop import Loop
+from bpfrec_host.live.model import KILLED
+from bpfrec_host.live.ports import Counts
+
+ORIGIN = '{"origin": "1764590400.250000000", "counter": 0}'
+SET = '{"origin": "1764586800.250000123", "counter": 7, "set_by": "-3600.000000000"}'
+LOST = '{"lost": "e0", "from": 0, "to": 9, "dropped": 1, "missed": 2, "skipped": 3, "feed": 4}'
+COUNTS = '{"counts": "e0", "counter": 9, "frames": 1, "bytes": 2, "dropped": 3, "missed": 4, "skipped": 5, "waited": 6, "feed": 7}'
+IN_ALL = '{"lost_in_all": "e0", "dropped": 1, "skipped": 2, "missed": 3}'
+EVENTS: dict[str, Event] = {
+    ORIGIN: Origin("1764590400.250000000", 0, None),
+    SET: Origin("1764586800.250000123", 7, "-3600.000000000"),
+    LOST: Loss("e0", 0, 9, 1, 2, 3, 4),
+    COUNTS: Counted("e0", 9, Counts(1, 2, 3, 4, 5, 6), 7),
+    IN_ALL: LostInAll("e0", 1, 2, 3),
+}
+
+
+# ---- events
+
+
+@pytest.mark.parametrize("line", EVENTS)
+def test_a_line_is_the_event_that_its_object_says(line: str) -> None:
+    assert event_in(line) == EVENTS[line]
+
+
+@pytest.mark.parametrize("line", ["", "x", "7", "[1]", '"counts"', "{}", '{"counts": "e0"}', COUNTS[:-1], f"{ORIGIN}x"])
+def test_a_line_that_is_cut_or_says_something_else_has_no_event(line: str) -> None:
+    assert event_in(line) is None
+
+
+@pytest.mark.parametrize("missed, end", [(0, ""), (9, " 9 missed")])
+def test_losses_in_all_are_a_sentence_that_has_misses_where_there_are_some(missed: int, end: str) -> None:
+    assert LostInAll("e0", 16_801, 322, missed).sentence() == f"e0 LOST 16801 dropped 322 skipped{end}"
+
+
+def test_facts_have_what_was_noted_of_a_feed_as_it_was_noted(tmp_path: Path) -> None:
+    """The last counts, and each loss, until the feed is forgotten; origins hold for all."""
+    path = tmp_path / "events"
+    later = COUNTS.replace('"frames": 1', '"frames": 8')
+    other = LOST.replace('"feed": 4', '"feed": 7')
+    path.write_text("".join(f"{it}\n" for it in (ORIGIN, SET, LOST, COUNTS, other, later, other, IN_ALL)))
+    events = Events(path)
+    assert (events.read(), events.read()) == (8, 0)
+    losses = f'[{", ".join([other.replace("lost", "interface")] * 2)}]'.replace(', "feed": 7', "")
+    counts = later.replace('"counts"', '"interface"').replace(', "feed": 7', "")
+    assert json.dumps(events.facts(7)) == f'{{"origins": [{ORIGIN}, {SET}], "counts": [{counts}], "losses": {losses}}}'
+    events.forget(7)
+    assert events.facts(7) == {**events.facts(9), "counts": [], "losses": []}
+    assert len(events.facts(4)["losses"]) == 1 and events.lost_in_all == [EVENTS[IN_ALL]]
+
+
+def test_a_line_that_comes_in_parts_is_an_event_and_others_are_passed(tmp_path: Path) -> None:
+    """What a name has beside UTF-8 is left out."""
+    path = tmp_path / "events"
+    path.write_bytes(f"{ORIGIN}\nnonsense\n[1]\n".encode() + LOST.encode().replace(b"e0", b"e\xff0") + b'\n{"cou')
+    events = Events(path)
+    assert (events.read(), events.origins) == (2, [EVENTS[ORIGIN]]) and events.losses == {4: [EVENTS[LOST]]}
+    with open(path, "a", encoding="utf-8") as more:
+        more.write(f"{COUNTS[5:]}\n{IN_ALL}")
+    assert events.read() == 1 and events.counts == {7: {"e0": EVENTS[COUNTS]}} and events.lost_in_all == []
+
+
+# ---- pipes
+
+
+class Calls:
+    """Stands for the loop: who is called where a pipe has something to read."""
+
+    def __init__(self) -> None:
+        self.call: Optional[Callable[[], None]] = None
+
+    def on_read(self, _: int, call: Optional[Callable[[], None]]) -> None:
+        self.call = call
+
+
+class Written:
+    """A pipe whose writing end the test has, as the capture has it."""
+
+    def __init__(self, lines: CaptureLines, loop: Calls) -> None:
+        self.loop, self.writer = loop, os.dup(lines.writer)
+        lines.follow()
+
+    def write(self, data: bytes) -> None:
+        os.write(self.writer, data)
+        assert self.loop.call
+        self.loop.call()
+
+
+def captured(*options: str) -> tuple[Capture, Calls]:
+    """A capture of the loopback that isn't started."""
+    given, loop = arguments.read(["o.ch11", "lo", *options]), Calls()
+    made = folder.Folder(*folder.made_settings(given.routes), given)
+    return Capture("bin/capture", given, made, cast(Loop, loop)), loop
+
+
+def test_lines_of_a_pipe_are_taken_once_they_are_whole_also_those_of_its_end() -> None:
+    """With the bytes that are no UTF-8; what has no line end is none."""
+    taken: list[str] = []
+    loop = Calls()
+    lines = CaptureLines(cast(Loop, loop), taken.append)
+    pipe = Written(lines, loop)
+    pipe.write(b"one\ntw")
+    pipe.write(b"o\n\xff\n")
+    assert taken == ["one", "two", "\udcff"]
+    os.write(pipe.writer, b"four\nfi")
+    os.close(pipe.writer)
+    lines.end()
+    assert taken[3:] == ["four"] and loop.call is None
+
+
+def test_counts_come_from_their_pipe_and_nothing_else_does() -> None:
+    counted: list[tuple[str, Counts]] = []
+    capture, loop = captured()
+    capture.read_counts(lambda interface, counts: counted.append((interface, counts)))
+    assert capture.counts
+    pipe = Written(capture.counts, loop)
+    pipe.write(f"{COUNTS}\n{LOST}\n[]\n{COUNTS.replace('e0', 'e1')}\n".encode())
+    os.close(pipe.writer)
+    assert counted == [(name, Counts(1, 2, 3, 4, 5, 6)) for name in ("e0", "e1")]
+    assert capture.end(0) == []
+
+
+def test_the_capture_gets_the_descriptor_of_its_counts_and_is_quiet_where_its_lines_come_here() -> None:
+    capture, _ = captured("--buffer", "4")
+    assert "--counts" not in capture.arguments() and "--quiet" not in capture.arguments()
+    capture.read_counts(lambda *_: None)
+    assert capture.counts
+    told = capture.arguments()
+    assert told[:5] == ["bin/capture", "--buffer", "4", "--counts", str(capture.counts.writer)]
+    capture.read_lines(lambda _: None)
+    assert "--quiet" in capture.arguments()
+
+
+@pytest.mark.parametrize("options", [[], ["--quiet"]], ids=["plain", "quiet"])
+@pytest.mark.parametrize("status", [1, KILLED + signal.SIGKILL], ids=["ended", "killed"])
+def test_last_counts_are_printed_of_a_capture_that_was_killed_before_it_did(options: list[str], status: int) -> None:
+    capture, loop = captured(*options)
+    capture.read_counts(lambda *_: None)
+    assert capture.counts
+    pipe = Written(capture.counts, loop)
+    pipe.write(f"{COUNTS.replace('1', '9')}\n{COUNTS}\n".encode())
+    line = "capture: e0 frames 1 bytes 2 dropped 3 missed 4 skipped 5 waited 6"
+    assert capture.end(status) == ([line] if options and status > KILLED else [])

@@ -1,0 +1,289 @@
+"""Tries parts of host/bin/live by themselves, without root: operands, names, files and what is kept safe."""
+
+import contextlib
+import errno
+import functools
+import os
+import resource
+import time
+from collections.abc import Callable
+from pathlib import Path
+
+import pytest
+from bpfrec_host.live import arguments, expressions, folder, names, notify, operands
+from bpfrec_host.live.keeper import Keeper
+from bpfrec_host.live.names import Files, Names, Refusal
+from service import Manager
+from support import judge, judge_quietly, wait_for
+
+# ---- the command line
+
+
+def refused(call: Callable[[], object]) -> tuple[int, str]:
+    with pytest.raises(Refusal) as caught:
+        call()
+    return caught.value.status, caught.value.line
+
+
+def test_interfaces_and_their_filters_are_taken_apart(work: Path) -> None:
+    (work / "settings").write_text("limit = 65536\n")
+    (work / "old.ch11").write_bytes(b"\x25\xeb\0\0")
+    (work / "empty.ch11").write_bytes(b"")
+    settings, old = str(work / "settings"), str(work / "old.ch11")
+    table = [
+        (["s.toml", "out", "eth0=1"], ("s.toml", "out", [("eth0", 1, None)])),
+        ([settings, "out", "eth0=1"], (settings, "out", [("eth0", 1, None)])),
+        ([old, "eth0=7"], (None, old, [("eth0", 7, None)])),
+        ([str(work / "empty.ch11"), "lo"], (None, str(work / "empty.ch11"), [("lo", 1, None)])),
+        (["new.ch11", "eht0"], (None, "new.ch11", [("eht0", 1, None)])),
+        (["s.toml", "-x"], ("s.toml", "./-x", [])),
+        (["flight=3", "lo"], (None, "flight=3", [("lo", 1, None)])),
+        (
+            ["new.ch11", "lo", "e=3:tcp[0] = 5", "f=1"],
+            (None, "new.ch11", [("lo", 2, None), ("e", 3, "tcp[0] = 5"), ("f", 1, None)]),
+        ),
+        (["s.toml", "dir/a=1", "eth0=1"], ("s.toml", "dir/a=1", [("eth0", 1, None)])),
+    ]
+    for given, wanted in table:
+        found = operands.operands_of(given)
+        routes = [tuple(it) for it in found.routes]
+        judge_quietly(f"{given}: {found}", (found.settings, found.out, routes) == wanted)
+    for given, line in [
+        (["s.toml", "out", "eth0=65536x"], "live: eth0=65536x: a channel ID is 1 to 65535"),
+        (["s.toml", "out", "eth0=0"], "live: eth0=0: a channel ID is 1 to 65535"),
+        (["s.toml", "out", "=1"], "live: no INTERFACE=CHANNEL: =1"),
+        (["s.toml", "out", "a=1", "b=1"], "live: channel 1 has two interfaces"),
+        (["s.toml", "lo"], "live: OUT is missing: it stands between s.toml and lo"),
+    ]:
+        judge_quietly(f"{given}", refused(functools.partial(operands.operands_of, given)) == (2, line))
+    judge("operands are taken apart, and what is missing is named", True)
+
+
+def test_options_of_the_capture_keep_their_order(capsys: pytest.CaptureFixture) -> None:
+    given = arguments.read(["--buffer=4", "--quiet", "--clock", "adapter", "--every", "5", "--", "s.toml", "o", "lo=1"])
+    judge(
+        "options of the capture are kept in their order",
+        given.options == ["--buffer", "4", "--quiet", "--clock", "adapter"] and given.clock() == "adapter",
+    )
+    judge("and the rest is read", (given.every, given.sync, given.is_rotating()) == (5, 1, True))
+    for words_given, line in [
+        (["--origin"], "live: --origin needs a value"),
+        (["--every"], "live: --every needs a value"),
+        (["--size", "0"], "live: --size needs a number from 1 on, in bytes, or as 2G"),
+        (["--nonsense", "x", "y"], "live: no such option: --nonsense"),
+        (["-x", "a", "b"], "live: no such option: -x"),
+        (["--eve", "3"], "live: no such option: --eve"),
+    ]:
+        with pytest.raises(SystemExit) as caught:
+            arguments.read(words_given)
+        told = capsys.readouterr().err
+        judge_quietly(f"{words_given}: {told}", caught.value.code == 2 and told == f"{line}\n")
+    judge("what is wrong is said in one line", True)
+
+
+def test_names_of_recordings_that_are_taken_are_passed(work: Path) -> None:
+    (work / "a_00001.ch11").write_bytes(b"")
+    (work / "a_00002.ch11.json").write_bytes(b"")
+    (work / "a_00003.ch11").symlink_to("nowhere")
+    found = Names(str(work / "a.ch11"))
+    judge("names that are taken are passed", found.next() == (4, f"{work}/a_00004.ch11"))
+    found.give_back(4)
+    judge("one that is given back comes again", found.next()[0] == 4)
+    for out, wanted in [("x", "x_00001"), (".x", ".x_00001"), ("d.d/x", "d.d/x_00001"), ("x.y.z", "x.y_00001.z")]:
+        judge_quietly(f"{out}", Names(out).next()[1] == wanted)
+    judge("the number stands before the ending", True)
+
+
+def test_force_opens_what_is_there_and_empties_nothing(work: Path) -> None:
+    path = work / "there"
+    path.write_bytes(b"kept")
+    with pytest.raises(FileExistsError):
+        Files().create(str(path))
+    descriptor = Files(is_forced=True).create(str(path))
+    judge("--force opens what is there, and empties nothing", os.read(descriptor, 9) == b"kept")
+    os.close(descriptor)
+    (work / "link").symlink_to(path)
+    for files in (Files(), Files(is_forced=True)):
+        with pytest.raises(OSError):
+            files.create(str(work / "link"))
+    os.mkfifo(work / "pipe")
+    with pytest.raises(OSError):
+        Files(is_forced=True).create(str(work / "pipe"))
+    judge("a folder isn't OUT", refused(lambda: Files(is_forced=True).refuse_overwriting(str(work)))[0] == 3)
+    judge(
+        "nor has it one",
+        refused(lambda: names.refuse_folder(str(work / "no/x"))) == (3, f"live: {work}/no/x: no such folder"),
+    )
+
+
+def test_settings_are_made_where_none_are_given() -> None:
+    text = expressions.settings_text([operands.Route("eth0", 3, "udp\nport 5"), operands.Route("eth1", 4)])
+    judge("settings of none", text.count("[[channel]]") == 2 and "# udp port 5\n" in text and "# all frames\n" in text)
+
+
+def test_the_private_folder_is_removed_also_where_descriptors_are_short(
+    work: Path, monkeypatch: pytest.MonkeyPatch
+) -> None:
+    monkeypatch.setenv("TMPDIR", str(work / "private"))
+    given = arguments.read(["o.ch11", "lo"])
+    private = folder.Folder(*folder.made_settings(given.routes), given)
+    private.make_all()
+    before, held = resource.getrlimit(resource.RLIMIT_NOFILE), []
+    resource.setrlimit(resource.RLIMIT_NOFILE, (256, before[1]))
+    try:
+        with contextlib.suppress(OSError):
+            while True:
+                held.append(os.dup(1))
+        private.remove_all()
+    finally:
+        for descriptor in held:
+            os.close(descriptor)
+        resource.setrlimit(resource.RLIMIT_NOFILE, before)
+    judge("nothing of it is there", os.listdir(work / "private") == [])
+
+
+# ---- what is noted and kept
+
+
+def forced(done: list[str], real: Callable[[int], None], descriptor: int) -> None:
+    """Forces a file, and notes it."""
+    done.append("forced")
+    real(descriptor)
+
+
+class Heard:
+    """What a keeper tells."""
+
+    def __init__(self) -> None:
+        self.moments: list[float] = []
+        self.faults: list[str] = []
+        self.unwritten = 0
+        self.synced, self.sync_failed = self.moments.append, self.faults.append
+
+    def writing_failed(self) -> None:
+        self.unwritten += 1
+
+
+def test_a_file_is_forced_to_its_disk_each_second_with_its_facts(work: Path, monkeypatch: pytest.MonkeyPatch) -> None:
+    """It forces a file to its disk each second, writes the newest facts, and tells of those that can't be written."""
+    told = Heard()
+    path = work / "out"
+    path.write_bytes(b"")
+    descriptor = os.open(path, os.O_RDWR)
+    keeper = Keeper(descriptor, str(work), 1, told)
+    keeper.start()
+    wait_for("it was forced", lambda: told.moments, 3)
+    done: list[int] = []
+    keeper.write(lambda: done.append(1))
+    wait_for("facts are written", lambda: done == [1], 3)
+    for number in (2, 3, 4):
+        keeper.write(functools.partial(done.append, number))
+    judge("others wait a second", done == [1])
+    wait_for("the newest come", lambda: done == [1, 4], 3)
+
+    def full() -> None:
+        raise OSError(errno.ENOSPC, "full")
+
+    keeper.write(full)
+    keeper.end()
+    keeper.join(5)
+    judge("facts that can't be written are told, at the end at once", told.unwritten == 1 and not keeper.is_alive())
+    times = told.moments
+    judge("the times of what is safe rise", times == sorted(times) and len(times) >= 3 and not told.faults, times)
+    os.close(descriptor)
+
+
+def test_a_folder_that_cannot_be_forced_stops_nothing(work: Path) -> None:
+    """A folder that can't be forced keeps it from nothing."""
+    told = Heard()
+    descriptor = os.open(work / "out", os.O_RDWR | os.O_CREAT)
+    keeper = Keeper(descriptor, str(work / "none"), 1, told)
+    keeper.start()
+    wait_for("the file was forced", lambda: told.moments, 3)
+    keeper.end()
+    keeper.join(5)
+    os.close(descriptor)
+
+
+def test_the_first_reason_of_a_failing_disk_stays(work: Path, monkeypatch: pytest.MonkeyPatch) -> None:
+    """The first reason of a disk that fails stays, and a file that is let go is forced no more."""
+    reasons = iter([errno.EIO, errno.ENOSPC])
+
+    def fails(_: int) -> None:
+        number = next(reasons, errno.ENOSPC)
+        raise OSError(number, os.strerror(number))
+
+    told = Heard()
+    descriptor = os.open(work / "out", os.O_RDWR | os.O_CREAT)
+    with monkeypatch.context() as patched:
+        patched.setattr(os, "fdatasync", fails)
+        keeper = Keeper(descriptor, "", 1, told)
+        keeper.start()
+        wait_for("it is told twice", lambda: len(told.faults) == 2, 3)
+        keeper.release()
+        wait_for("it is let go", lambda: keeper.descriptor == -1, 3)
+        keeper.end()
+        keeper.join(5)
+    reason = os.strerror(errno.EIO)
+    judge("with its first reason", told.faults == [reason] * 2 and keeper.sync_fault == reason, told.faults)
+    judge("nothing else is told", not told.moments and not told.unwritten and not keeper.is_alive())
+    os.close(descriptor)
+
+
+@pytest.mark.parametrize("is_released", [False, True])
+def test_a_file_is_forced_a_last_time_ahead_of_the_last_facts_unless_it_was_let_go(
+    work: Path, monkeypatch: pytest.MonkeyPatch, is_released: bool
+) -> None:
+    done: list[str] = []
+    real = os.fdatasync
+    monkeypatch.setattr(os, "fdatasync", lambda descriptor: forced(done, real, descriptor))
+    descriptor = os.open(work / "out", os.O_RDWR | os.O_CREAT)
+    keeper = Keeper(descriptor, str(work), 1_000, Heard())
+    keeper.start()
+    wait_for("it is forced once", lambda: done == ["forced"], 3)
+    if is_released:
+        keeper.release()
+        wait_for("it is let go", lambda: keeper.descriptor == -1, 3)
+    keeper.write(lambda: done.append("facts"))
+    keeper.end()
+    # What was ended isn't let go any more, and gets no other facts.
+    keeper.release()
+    keeper.write(lambda: done.append("late facts"))
+    keeper.join(5)
+    os.close(descriptor)
+    judge("in this order", done == ["forced", *(["facts"] if is_released else ["forced", "facts"])], done)
+
+
+def test_a_disk_that_takes_no_forcing_is_none_that_fails(work: Path, monkeypatch: pytest.MonkeyPatch) -> None:
+    def refuses(_: int) -> None:
+        raise OSError(errno.EINVAL, os.strerror(errno.EINVAL))
+
+    told = Heard()
+    monkeypatch.setattr(os, "fdatasync", refuses)
+    descriptor = os.open(work / "out", os.O_RDWR | os.O_CREAT)
+    keeper = Keeper(descriptor, str(work), 1, told)
+    keeper.start()
+    time.sleep(0.2)
+    keeper.end()
+    keeper.join(5)
+    os.close(descriptor)
+    judge("nothing is told", not told.faults and not told.moments and keeper.sync_fault is None)
+
+
+# ---- the service manager
+
+
+def test_more_time_is_asked_of_systemd_for_audits_alone(work: Path, monkeypatch: pytest.MonkeyPatch) -> None:
+    """More time is asked for audits alone: a recorder that is stuck has what the unit gives."""
+    manager = Manager(str(work / "notify"))
+    monkeypatch.setenv("NOTIFY_SOCKET", manager.adds["NOTIFY_SOCKET"])
+    notifier = notify.Notifier()
+    for now, is_auditing in ((0.0, False), (30.0, False), (31.0, True), (32.0, True), (42.0, True)):
+        notifier.stopping(now, is_auditing)
+        notifier.tick(now)
+        notifier.send(f"X={now}")
+    wait_for("all is told", lambda: manager.times("X=42.0"))
+    told = [line for _, lines in manager.told for line in lines if not line.startswith("STATUS")]
+    plea = "EXTEND_TIMEOUT_USEC=60000000"
+    wanted = ["STOPPING=1", "X=0.0", "X=30.0", plea, "X=31.0", "X=32.0", plea, "X=42.0"]
+    judge("each ten seconds", told == wanted, told)

@@ -1,0 +1,247 @@
+"""Tries the alarms of the status: each at its threshold, by views that are written by hand."""
+
+from __future__ import annotations
+
+from collections.abc import Iterable
+from typing import Any
+
+import pytest
+from scripted import (
+    Audits,
+    ChannelView,
+    Counts,
+    DiskView,
+    EndedView,
+    RecordingView,
+    Second,
+    SyncView,
+    Unkept,
+    View,
+    alarms,
+)
+from support import judge
+
+LIMIT = 65_536
+CALM = Second(10.0, 600.0, 10.0, 600.0, 0, 0, 0, 0, 0, 0.3)
+CHANNEL = ChannelView(
+    channel=3,
+    interface="eth2",
+    version=0,
+    same_since=0,
+    counts=Counts(1_000, 60_000, 0, 0, 0, 0),
+    counts_age=0.3,
+    frame_age=0.3,
+    lost_age=None,
+    kept_frames=900,
+    kept_bytes=60_000,
+    seconds=100.0,
+    has_ended=False,
+    unkept=Unkept(5.0, 50, 3_000),
+    history=(CALM,) * 60,
+)
+RECORDING = RecordingView(1, "flight.ch11", 100.0, 1 << 20, 1_000.0, 0, None)
+VIEW = View(
+    now=1_100.0,
+    state="recording",
+    uptime=100.0,
+    recording=RECORDING,
+    disk=DiskView(10**9, 10**6),
+    sync=SyncView(1.0, 0.5),
+    channels=(CHANNEL,),
+    recordings=(),
+    audits=Audits(0, 0, 0),
+)
+
+
+def of_channel(**changes: Any) -> View:
+    return VIEW._replace(channels=(CHANNEL._replace(**changes),))
+
+
+def waited(*milliseconds: int) -> tuple[Second, ...]:
+    """A minute that ends with seconds in which the pipe waited so long."""
+    return (CALM,) * (60 - len(milliseconds)) + tuple(CALM._replace(waited=it) for it in milliseconds)
+
+
+def names(view: View) -> list[tuple[str, str]]:
+    return [(it.name, it.level) for it in alarms.alarms_of(view, LIMIT)]
+
+
+LOST = Counts(1_000, 60_000, 7, 2, 1, 0)
+NO = (EndedView(1, "a.ch11", 1, 1, "no 5 NoEnd 2"), EndedView(2, "b.ch11", 1, 0, "yes other 0"))
+# What is just no alarm, what is just one, and its name and level.
+CASES = {
+    "no counts": (of_channel(counts_age=5.0), of_channel(counts_age=5.1), "no_counts", "alarm"),
+    "no counts at all": (
+        of_channel(counts=None, counts_age=None, unkept=None, frame_age=None, seconds=5.0),
+        of_channel(counts=None, counts_age=None, unkept=None, frame_age=None, seconds=5.1),
+        "no_counts",
+        "alarm",
+    ),
+    "silent": (of_channel(frame_age=10.0), of_channel(frame_age=10.1), "silent", "alarm"),
+    "silent from the beginning": (
+        of_channel(frame_age=None, seconds=10.0),
+        of_channel(frame_age=None, seconds=10.1),
+        "silent",
+        "alarm",
+    ),
+    "frames are lost": (VIEW, of_channel(counts=LOST, lost_age=59.9), "lost", "alarm"),
+    "frames were lost": (VIEW, of_channel(counts=LOST, lost_age=60.0), "was_lost", "warning"),
+    "a pipe waits": (
+        of_channel(history=waited(99, *[0] * 9)),
+        of_channel(history=waited(100, *[0] * 9)),
+        "waits",
+        "warning",
+    ),
+    "a pipe waits for less than a second": (VIEW, of_channel(history=waited(999, *[0] * 9)), "waits", "warning"),
+    "a pipe waits for a second": (VIEW, of_channel(history=waited(*[100] * 10)), "waits", "alarm"),
+    "a pipe waited longer ago": (
+        of_channel(history=waited(500, *[0] * 10)),
+        of_channel(history=waited(*[10] * 10)),
+        "waits",
+        "warning",
+    ),
+    "a filter keeps nothing: time": (
+        of_channel(kept_frames=0, kept_bytes=0, unkept=Unkept(59.9, 10**6, 10**8)),
+        of_channel(kept_frames=0, kept_bytes=0, unkept=Unkept(60.0, 10**6, 10**8)),
+        "keeps_nothing",
+        "alarm",
+    ),
+    "a filter keeps nothing: frames": (
+        of_channel(kept_frames=0, kept_bytes=0, unkept=Unkept(900.0, 99, 10**8)),
+        of_channel(kept_frames=0, kept_bytes=0, unkept=Unkept(900.0, 100, 10**8)),
+        "keeps_nothing",
+        "alarm",
+    ),
+    "a filter keeps nothing: bytes": (
+        of_channel(kept_frames=0, kept_bytes=0, unkept=Unkept(900.0, 1_000, LIMIT - 1)),
+        of_channel(kept_frames=0, kept_bytes=0, unkept=Unkept(900.0, 1_000, LIMIT)),
+        "keeps_nothing",
+        "alarm",
+    ),
+    "a filter that kept a tenth, in three packets' time": (
+        of_channel(kept_bytes=6_000, unkept=Unkept(900.0, 1_000, 30 * LIMIT - 1)),
+        of_channel(kept_bytes=6_000, unkept=Unkept(900.0, 1_000, 30 * LIMIT)),
+        "keeps_nothing",
+        "alarm",
+    ),
+    "few filters are left": (
+        of_channel(version=1_023 - 257),
+        of_channel(version=1_023 - 256),
+        "filters",
+        "alarm",
+    ),
+    "a recording can't be forced to its disk": (
+        VIEW,
+        VIEW._replace(sync=SyncView(1.0, 0.5, 1, "a.ch11 can't be forced to its disk: Input/output error")),
+        "sync_fault",
+        "alarm",
+    ),
+    "the disk is full soon": (
+        VIEW._replace(disk=DiskView(10**9, 600.0)),
+        VIEW._replace(disk=DiskView(10**9, 599.9)),
+        "disk",
+        "alarm",
+    ),
+    "the disk is full": (
+        VIEW._replace(disk=DiskView(1 << 20, None)),
+        VIEW._replace(disk=DiskView((1 << 20) - 1, None)),
+        "disk",
+        "alarm",
+    ),
+    "the sync is old": (
+        VIEW._replace(sync=SyncView(1.0, 11.0)),
+        VIEW._replace(sync=SyncView(1.0, 11.1)),
+        "sync",
+        "alarm",
+    ),
+    "the sync never came": (
+        VIEW._replace(sync=SyncView(30.0, None), recording=RECORDING._replace(seconds=40.0)),
+        VIEW._replace(sync=SyncView(30.0, None), recording=RECORDING._replace(seconds=40.1)),
+        "sync",
+        "alarm",
+    ),
+    "an audit said no": (
+        VIEW._replace(recordings=NO[1:], audits=Audits(1, 0, 0)),
+        VIEW._replace(recordings=NO, audits=Audits(1, 1, 0)),
+        "audit",
+        "alarm",
+    ),
+    "the file is damaged": (
+        VIEW,
+        VIEW._replace(recording=RECORDING._replace(fault="read 2 Sync 88")),
+        "damaged",
+        "alarm",
+    ),
+    "the file is looked at late": (
+        VIEW._replace(recording=RECORDING._replace(unread=64 << 20)),
+        VIEW._replace(recording=RECORDING._replace(unread=(64 << 20) + 1)),
+        "unread",
+        "warning",
+    ),
+    "nothing is recorded": (
+        VIEW._replace(state="waiting", recording=None),
+        VIEW._replace(state="waiting", recording=None, recordings=NO[1:]),
+        "waiting",
+        "alarm",
+    ),
+}
+
+
+@pytest.mark.parametrize("case", CASES)
+def test_each_alarm_comes_at_its_threshold_and_not_before(case: str) -> None:
+    before, after, name, level = CASES[case]
+    judge(f"{case}: just not yet", names(before) == [], names(before))
+    judge(f"{case}: an alarm", names(after) == [(name, level)], names(after))
+
+
+def test_a_run_that_is_well_has_no_alarm() -> None:
+    judge("a run that is well has no alarm", names(VIEW) == [] and alarms.level_of(()) == "ok")
+
+
+def ended(views: Iterable[View]) -> Iterable[View]:
+    return [it._replace(state="ended", recording=None) for it in views]
+
+
+def test_an_ended_run_keeps_its_losses_and_no_other_alarm() -> None:
+    """What has ended is silent, and needs no disk; what was lost stays."""
+    past = [case for case in CASES if CASES[case][2] not in ("lost", "was_lost", "audit", "sync_fault")]
+    told = {case: names(view) for case, view in zip(past, ended(CASES[it][1] for it in past)) if names(view)}
+    judge("a run that has ended has none of its channels", not told, told)
+    lost = VIEW._replace(state="ended", recording=None, channels=of_channel(counts=LOST, lost_age=5.0).channels)
+    judge("but what was lost", names(lost) == [("lost", "alarm")])
+
+
+def test_a_channel_that_is_over_is_not_silent() -> None:
+    changes: list[dict[str, Any]] = [{"has_ended": True}, {"interface": None}]
+    for change in changes:
+        judge(f"{change}: it isn't silent", names(of_channel(frame_age=99.0, counts_age=99.0, **change)) == [])
+
+
+def test_sync_0_is_no_alarm() -> None:
+    judge("--sync 0 is no alarm", names(VIEW._replace(sync=SyncView(0.0, None))) == [])
+
+
+def test_alarms_stand_ahead_of_warnings() -> None:
+    first = CHANNEL._replace(channel=1, counts=LOST, lost_age=600.0)
+    found = alarms.alarms_of(VIEW._replace(channels=(first, CHANNEL._replace(frame_age=60.0))), LIMIT)
+    judge("alarms stand ahead of warnings", [it.name for it in found] == ["silent", "was_lost"], found)
+    levels = [alarms.level_of(found, it) for it in (None, 1, 3, 9)]
+    judge("each channel has its level", levels == ["alarm", "warning", "alarm", "ok"], levels)
+
+
+def test_alarms_say_what_where_and_how_much() -> None:
+    texts = {name: alarms.alarms_of(CASES[name][1], LIMIT)[0].text for name in CASES}
+    wanted = {
+        "frames are lost": "channel 3 (eth2): frames are lost: 7 dropped by the kernel, 2 missed, 1 skipped so far",
+        "silent": "channel 3 (eth2): no frame came for 10 s",
+        "a pipe waits": "channel 3 (eth2): its pipe was full for 100 ms of the last 10 s",
+        "a pipe waits for a second": "channel 3 (eth2): its pipe was full for 1,000 ms of the last 10 s: the recorder "
+        "is slower than the wire",
+        "a filter keeps nothing: time": "channel 3 (eth2): the filter keeps nothing, or too little to fill a packet of "
+        "65,536 bytes: none of the 1,000,000 frames that were offered in 1 min 0 s is in the recording",
+        "the disk is full soon": "the disk is full in 9 min 59 s: 1.0 GB are free",
+        "an audit said no": "the audit of 1 recording said no, last of a.ch11: no 5 NoEnd 2",
+        "the sync is old": "nothing was forced to the disk for 11 s: lost power would cost as much",
+    }
+    judge("texts say what, where and how much", {it: texts[it] for it in wanted} == wanted, texts)
+    judge("each is one line", not any("\n" in it for it in texts.values()))

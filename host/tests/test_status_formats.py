@@ -1,0 +1,246 @@
+"""Tries the two texts of the status: JSON by docs/user/formats/status.schema.json, metrics by a reader of their own."""
+
+from __future__ import annotations
+
+import json
+import re
+import shutil
+from pathlib import Path
+from typing import NamedTuple
+
+import pytest
+from schemas import FORMATS, faults, schema_of
+from scripted import BEGIN, Alarm, Counts, Flight, Setup, Status, View, Wire, alarms, as_json, metrics, wires_of
+from support import judge, judge_quietly, outcome, present
+
+ODD_NAMES = [
+    'a"b',
+    "a\\b",
+    "a\nb",
+    "a{b}=c,d",
+    "</script><b>",
+    "\udcff\udc80",
+    "\u202eeth\u00e9",
+    "x" * 127,
+    "",
+    "\\n",
+    '"} 1\nx 2',
+]
+
+
+def told_of(flight: Flight) -> tuple[View, tuple[Alarm, ...]]:
+    view = flight.status.model.view(flight.now())
+    return view, alarms.alarms_of(view, 65_536)
+
+
+@pytest.fixture(scope="module")
+def flights(place: Path) -> dict[str, Flight]:
+    """Runs in every state."""
+    made, work = {}, place
+    for name in ("waiting", "begun", "going", "losing", "without", "ended", "many"):
+        (work / name).mkdir()
+        wires = {1: Wire("eth0", kept=0), 2: Wire("eth1")}
+        wires = {1: Wire(None)} if name == "without" else wires_of(64) if name == "many" else wires
+        made[name] = Flight(work / name, wires, sync=0 if name == "without" else 1)
+    for name in ("begun", "going", "losing", "without", "ended", "many"):
+        made[name].begin()
+    made["losing"].wires[1].dropped, made["losing"].wires[2].end = 5, 30
+    made["losing"].wires[1].waited = 300
+    for name in ("going", "losing", "without", "ended", "many"):
+        made[name].pass_seconds(70, syncs=name != "losing")
+    made["losing"].append(b"damage" * 20)
+    made["losing"].pass_seconds(2, syncs=False)
+    for at in range(40):
+        made["ended"].end_recording(["no 5 NoEnd 1"] if at == 7 else [] if at == 9 else ["yes other 0"])
+        made["ended"].begin(f"f_{at}.ch11")
+    made["ended"].end_recording()
+    made["ended"].status.ended(made["ended"].now())
+    return made
+
+
+# ---- JSON
+
+
+def object_of(view: View, told: tuple[Alarm, ...], age: float = 0.25) -> dict:
+    text = as_json.with_age(as_json.text_of(view, told), age)
+    judge_quietly("it is ASCII", text.isascii())
+    return json.loads(text)
+
+
+def test_the_status_is_as_its_schema_says(flights: dict) -> None:
+    schema = schema_of("status")
+    for name, flight in flights.items():
+        found = object_of(*told_of(flight))
+        wrong = faults(found, schema)
+        judge(f"{name}: it is as the schema says", not wrong, wrong[:5])
+    names = {it.name for flight in flights.values() for it in told_of(flight)[1]}
+    judge("with alarms of many kinds", len(names) >= 6, names)
+
+
+def test_the_schema_refuses_what_is_missing_unknown_or_changed(flights: dict) -> None:
+    """Whatever is taken out, put in or changed is seen."""
+    schema, found = schema_of("status"), object_of(*told_of(flights["losing"]))
+    changed = {
+        "a key that is missing": {name: it for name, it in found.items() if name != "disk"},
+        "a key that is unknown": {**found, "more": 1},
+        "another form": {**found, "status": 2},
+        "a negative age": {**found, "age": -0.1},
+        "a text for a number": {**found, "uptime": "7"},
+        "another level": {**found, "level": "bad"},
+        "a channel without a history": {**found, "channels": [{**found["channels"][0], "history": {}}]},
+        "a history of 61 seconds": changed_history(found),
+        "a truth for a count": {**found, "audits": {"yes": True, "no": 0, "none": 0}},
+        "an alarm of no name": {**found, "alarms": [{**found["alarms"][0], "name": "odd"}]},
+    }
+    unseen = [name for name, it in changed.items() if not faults(it, schema)]
+    judge("each of these is refused", not unseen, unseen)
+
+
+def changed_history(found: dict) -> dict:
+    channel = json.loads(json.dumps(found["channels"][0]))
+    channel["history"]["kept_frames"] = [0] * 61
+    return {**found, "channels": [channel]}
+
+
+def test_the_status_has_the_numbers_of_its_run(flights: dict) -> None:
+    """Some numbers by hand."""
+    found = object_of(*told_of(flights["losing"]), 1.26)
+    one, two = found["channels"]
+    judge("age, state, level", (found["age"], found["state"], found["level"]) == (1.3, "recording", "alarm"))
+    offered = {"frames": 36_000, "bytes": 2_160_000, "frames_per_second": 500, "bytes_per_second": 30_000}
+    judge("what was offered", one["offered"] == offered, one["offered"])
+    judge("what was kept", two["kept"]["frames"] == 15_000 and one["kept"]["frames"] == 0, two["kept"])
+    judge("what was lost", (one["dropped"], one["waited"], two["dropped"]) == (5 * 72, 300 * 72, 0))
+    judge("the age of the last frame", (one["frame_age"], two["frame_age"]) == (0.3, 42.3), two["frame_age"])
+    words = {"loses frames", "keeps nothing", "pipe waits"}
+    judge("words of its alarms", set(one["words"]) == words and two["words"] == ["silent"], one["words"])
+    judge("a minute of each", {len(it) for it in one["history"].values()} == {60})
+    judge("and the file's damage", found["recording"]["fault"].startswith("read 2 Sync "), found["recording"])
+
+
+@pytest.mark.parametrize("name", ODD_NAMES, ids=range(len(ODD_NAMES)))
+def test_odd_names_stand_in_the_texts_as_they_are(work: Path, name: str) -> None:
+    """Names that would break a text stand in it as they are, but for what has no UTF-8."""
+    watched = Status(now=BEGIN)
+    watched.recording_begun(1, str(work / f"x{name}".replace("/", "|")[:99]), [Setup(1, name)], BEGIN)
+    watched.capture_counted(name, Counts(1, 2, 3, 4, 5, 6), BEGIN)
+    watched.tick(BEGIN + 1)
+    view = watched.model.view(BEGIN + 1)
+    told = alarms.alarms_of(view, 65_536)
+    plain = name.encode("utf-8", "replace").decode()
+    judge("JSON has it", object_of(view, told)["channels"][0]["interface"] == plain)
+    samples = read_metrics(metrics.with_age(metrics.text_of(view, told), 0))
+    found = [it.labels["interface"] for it in samples if it.name == "bpfrec_channel_dropped_frames_total"]
+    judge("and so have the metrics", found == [plain], found)
+
+
+# ---- metrics
+
+
+class Sample(NamedTuple):
+    """A sample of the text format."""
+
+    name: str
+    labels: dict[str, str]
+    value: float
+
+
+NAME, VALUE = r"[a-zA-Z_:][a-zA-Z0-9_:]*", r'"((?:[^"\\\n]|\\[\\"n])*)"'
+SAMPLE = re.compile(rf"({NAME})(?:\{{(.*)\}})? (\S+)")
+LABEL = re.compile(rf"({NAME})={VALUE}(,|$)")
+ESCAPES = {"\\\\": "\\", '\\"': '"', "\\n": "\n"}
+
+
+def labels_in(text: str) -> dict[str, str]:
+    found: dict[str, str] = {}
+    at = 0
+    while at < len(text):
+        one = LABEL.match(text, at)
+        assert one and one[1] not in found, f"labels: {text}"
+        found[one[1]] = re.sub(r"\\.", lambda found: ESCAPES[found[0]], one[2])
+        at = one.end()
+    return found
+
+
+def read_metrics(text: str) -> list[Sample]:
+    """A reading of the text format 0.0.4: each family once, its HELP, its TYPE, and its samples behind them."""
+    assert text.endswith("\n") and "\r" not in text
+    samples, family, done = [], "", set()
+    for line in text[:-1].split("\n"):
+        if line.startswith("# HELP "):
+            family = line.split(" ")[2]
+            assert family not in done and len(line.split(" ")) > 3, f"{family} comes twice"
+            done.add(family)
+        elif line.startswith("# TYPE "):
+            _, _, name, kind = line.split(" ")
+            assert (
+                name == family and kind in ("counter", "gauge") and name.endswith("_total") == (kind == "counter")
+            ), line
+        else:
+            found = SAMPLE.fullmatch(line)
+            assert found and found[1] == family, f"no sample of {family}: {line}"
+            samples.append(Sample(found[1], labels_in(found[2] or ""), float(found[3])))
+    keys = [(it.name, *sorted(it.labels.items())) for it in samples]
+    assert len(keys) == len(set(keys)), "a sample comes twice"
+    return samples
+
+
+def test_metrics_are_read_by_a_reader_and_promtool(flights: dict) -> None:
+    for name, flight in flights.items():
+        text = metrics.with_age(metrics.text_of(*told_of(flight)), 0.25)
+        judge(f"{name}: its metrics are read", len(read_metrics(text)) > 5)
+        if shutil.which("promtool"):
+            done = outcome("promtool", "check", "metrics", input=text)
+            judge(f"{name}: also by promtool", done.returncode == 0, done)
+
+
+def test_metrics_have_the_numbers_of_their_run(flights: dict) -> None:
+    view, told = told_of(flights["losing"])
+    samples = {
+        (it.name, it.labels.get("channel"), it.labels.get("name")): it.value
+        for it in read_metrics(metrics.with_age(metrics.text_of(view, told), 0.25))
+    }
+    wanted = {
+        ("bpfrec_status_age_seconds", None, None): 0.25,
+        ("bpfrec_recording", None, None): 1,
+        ("bpfrec_recording_bytes", None, None): present(view.recording).bytes,
+        ("bpfrec_alarms", None, "keeps_nothing"): 1,
+        ("bpfrec_alarms", None, "disk"): 0,
+        ("bpfrec_channel_offered_frames_total", "1", None): 36_000,
+        ("bpfrec_channel_kept_frames_total", "2", None): 15_000,
+        ("bpfrec_channel_dropped_frames_total", "1", None): 360,
+        ("bpfrec_channel_waited_seconds_total", "1", None): 21.6,
+        ("bpfrec_channel_last_frame_age_seconds", "2", None): 42.3,
+    }
+    found = {it: samples.get(it) for it in wanted}
+    judge("they have the run's numbers", found == wanted, found)
+
+
+def test_what_is_not_known_has_no_sample(flights: dict) -> None:
+    samples = read_metrics(metrics.text_of(*told_of(flights["without"])))
+    names = {it.name for it in samples}
+    judge(
+        "of a feed nobody counts",
+        "bpfrec_channel_offered_frames_total" not in names and "bpfrec_channel_kept_frames_total" in names,
+    )
+
+
+def test_the_page_has_each_metric_and_each_alarm(flights: dict) -> None:
+    """And no other."""
+    text = (FORMATS / "live.md").read_text().partition("### `/metrics`")[2]
+    rows, alarm_rows = text.partition("### Alarms")[::2]
+    named = {
+        f"bpfrec_{it}"
+        for row in re.findall(r"^\| (`.*?`) \| (?:gauge|counter)", rows, re.MULTILINE)
+        for it in re.findall(r"`(\w+)`", row)
+    }
+    told = {
+        it.name
+        for flight in flights.values()
+        for it in read_metrics(metrics.with_age(metrics.text_of(*told_of(flight)), 0))
+    }
+    judge("the metrics are those of the page", named == told, named ^ told)
+    listed = set(re.findall(r"^\| `(\w+)` \| (?:alarm|warning) \|", alarm_rows, re.MULTILINE))
+    judge("the alarms too", listed == set(metrics.ALARMS), listed ^ set(metrics.ALARMS))
+    names = set(schema_of("status")["$defs"]["alarm"]["properties"]["name"]["enum"])
+    judge("and those of the schema", names == listed, names ^ listed)

@@ -1,0 +1,365 @@
+"""Tries the table of the status on a terminal: a pseudo-terminal, whose screen is followed by a reading of its own."""
+
+from __future__ import annotations
+
+import contextlib
+import fcntl
+import os
+import pty
+import re
+import struct
+import termios
+import time
+from collections.abc import Iterator
+from pathlib import Path
+from typing import Any
+
+import pytest
+from scripted import Flight, Terminal, View, Wire, alarms, table, wires_of
+from support import judge, judge_quietly
+
+LIMIT = 65_536
+
+
+def columns_of(letter: str) -> int:
+    """How many columns a letter of these trials takes: Chinese ones take two."""
+    return 2 if "\u4e00" <= letter <= "\u9fff" else 1
+
+
+class Screen:
+    """What a terminal of so many columns and lines shows of what was written to it: lines, with those that left it."""
+
+    def __init__(self, columns: int, lines: int) -> None:
+        self.columns, self.lines = columns, lines
+        self.rows: list[str] = [""]
+        self.top, self.row, self.column, self.kept = 0, 0, 0, (0, 0)
+
+    def write(self, text: str) -> None:
+        for part in re.findall(r"\x1b\[[0-9;?]*[A-Za-z]|\x1b[78]|[\x00-\x1f]|[^\x00-\x1f]+", text):
+            if part == "\x1b7":
+                self.kept = self.row, self.column
+            elif part == "\x1b8":
+                self.row, self.column = self.kept
+            elif part.startswith("\x1b["):
+                self.control(int(part[2:-1].split(";")[0] or 1), part[-1])
+            elif part == "\n":
+                self.feed()
+            elif part == "\r":
+                self.column = 0
+            else:
+                assert part.isprintable(), f"a control goes to the terminal: {part!r}"
+                self.put(part)
+
+    def control(self, number: int, what: str) -> None:
+        if what == "F":
+            self.row, self.column = max(self.row - number, self.top), 0
+        elif what == "K":
+            self.rows[self.row] = self.rows[self.row][: self.column]
+        elif what == "J":
+            self.rows = [*self.rows[: self.row], self.rows[self.row][: self.column]]
+        else:
+            assert what == "m", f"an unknown control: {what}"
+
+    def feed(self) -> None:
+        self.row, self.column = self.row + 1, 0
+        if self.row == len(self.rows):
+            self.rows.append("")
+        self.top = max(self.top, self.row - self.lines + 1)
+
+    def put(self, text: str) -> None:
+        for letter in text:
+            if self.column + columns_of(letter) > self.columns:
+                self.feed()
+            row = self.rows[self.row]
+            self.rows[self.row] = row[: self.column].ljust(self.column) + letter + row[self.column + 1 :]
+            self.column += columns_of(letter)
+
+    def text(self) -> str:
+        return "\n".join(self.rows)
+
+
+class Shown:
+    """A terminal, and what it shows."""
+
+    def __init__(self, columns: int = 100, lines: int = 30) -> None:
+        self.outer, self.inner = pty.openpty()
+        self.screen = Screen(columns, lines)
+        self.resize(columns, lines)
+        self.terminal = Terminal(self.inner)
+        os.set_blocking(self.outer, False)
+
+    def resize(self, columns: int, lines: int) -> None:
+        self.screen.columns, self.screen.lines = columns, lines
+        fcntl.ioctl(self.inner, termios.TIOCSWINSZ, struct.pack("HHHH", lines, columns, 0, 0))
+
+    def read(self) -> str:
+        found = b""
+        with contextlib.suppress(BlockingIOError):
+            while part := os.read(self.outer, 1 << 16):
+                found += part
+        self.screen.write(found.decode())
+        self.came = found
+        return self.screen.text()
+
+    def close(self) -> None:
+        self.terminal.close()
+        os.close(self.outer)
+        os.close(self.inner)
+
+
+@pytest.fixture(autouse=True)
+def term(monkeypatch: pytest.MonkeyPatch) -> None:
+    monkeypatch.setenv("TERM", "xterm")
+
+
+@pytest.fixture
+def shown() -> Iterator[Shown]:
+    made = Shown()
+    yield made
+    made.close()
+
+
+def flown(work: Path, wires: dict[int, Wire], seconds: int = 70, **more: Any) -> Flight:
+    flight = Flight(work, wires, **more)
+    flight.begin()
+    flight.pass_seconds(seconds)
+    return flight
+
+
+def told_of(flight: Flight) -> tuple[View, tuple[alarms.Alarm, ...]]:
+    view = flight.status.model.view(flight.now())
+    return view, alarms.alarms_of(view, LIMIT)
+
+
+def plain(lines: list[str]) -> list[str]:
+    return [re.sub(r"\x1b\[[0-9;]*m", "", it) for it in lines]
+
+
+# ---- its lines
+
+
+def test_the_table_shows_the_run_the_disk_and_each_channel(work: Path) -> None:
+    flight = flown(work, {1: Wire("eth0", frames=400, kept=50), 22: Wire("eth1", frames=500, kept=0)})
+    lines = table.lines_of(*told_of(flight), 120, 30)
+    found = plain(lines)
+    size = f"{flight.path.stat().st_size / 1e6:.1f} MB"
+    judge("the first says whether all is well", found[0] == "RECORDING, 1 ALARM", found)
+    judge("the recording", found[1].startswith(f"flight.ch11  1 min 10 s  {size}, "), found[1])
+    judge("the disk, and the sync", re.fullmatch(r"disk .* free, full in .*  synced 0 s ago", found[2]), found[2])
+    judge(
+        "the alarm's sentence",
+        found[3].startswith("channel 22 (eth1): the filter keeps nothing, or too little"),
+        found[3],
+    )
+    judge("a title", found[4].split() == ["channel", "came/s", "kept/s", "lost", "filter", "last", "state"], found[4])
+    judge(
+        "a channel that is well",
+        found[5].split() == ["1", "eth0", "400", "200", "0", "0", "0", "s", "█" * 20],
+        found[5],
+    )
+    judge(
+        "and one that isn't",
+        found[6].split() == ["22", "eth1", "500", "0", "0", "0", "0", "s", "KEEPS", "NOTHING", "█" * 20],
+        found[6],
+    )
+    judge("in red", lines[6].startswith("\x1b[97;41m") and lines[6].endswith("\x1b[0m") and "\x1b" not in lines[5])
+    narrow = plain(table.lines_of(*told_of(flight), 79, 30))
+    judge(
+        "its bar has the room that there is",
+        narrow[5].endswith("s  " + "█" * (79 - found[4].index("state"))),
+        narrow[5],
+    )
+    flight.end_recording()
+    flight.status.ended(flight.now())
+    found = plain(table.lines_of(*told_of(flight), 120, 30))
+    judge("at the end", found[0] == "ENDED" and len(found) == 4, found)
+
+
+def test_a_pipe_that_waits_is_a_warning_beside_the_graph(work: Path) -> None:
+    flight = flown(work, {1: Wire("eth0", waited=99), 2: Wire("eth1", waited=100)})
+    lines = table.lines_of(*told_of(flight), 120, 30)
+    found = plain(lines)
+    judge("a warning and an alarm", found[0] == "RECORDING, 1 ALARM, 1 warning", found)
+    judge("each with its graph", [it.endswith("PIPE WAITS " + "█" * 20) for it in found[6:8]] == [True] * 2, found)
+    judge("in yellow and red", [it[:8] for it in lines[6:8]] == ["\x1b[30;43m", "\x1b[97;41m"], lines)
+    narrow = plain(table.lines_of(*told_of(flight), 79, 30))[6]
+    judge("in the room that there is", 0 < narrow.count("█") < 20 and len(narrow) == 79, narrow)
+
+
+@pytest.fixture(scope="module")
+def many(place: Path) -> Flight:
+    """64 channels, of which one is silent and one has an odd name."""
+    wires = wires_of(64)
+    wires[40].end, wires[7].interface = 30, "\u202eshort\x1b[31m\u4e2d\u6587\u4e2d\u6587\u4e2d\u6587\u4e2d\u6587\u4e2d"
+    return flown(place, wires, 45)
+
+
+@pytest.mark.parametrize("width", [1, 20, 40, 79, 200])
+@pytest.mark.parametrize("height", [1, 3, 4, 5, 9, 24, 80])
+def test_the_table_fits_each_width_and_height(many: Flight, width: int, height: int) -> None:
+    flight = many
+    found = plain(table.lines_of(*told_of(flight), width, height))
+    widest = max(sum(map(columns_of, it)) for it in found)
+    judge_quietly(f"{width} columns: the widest has {widest}", widest <= max(width, 20))
+    judge_quietly(f"{height} lines", len(found) <= height)
+    judge_quietly("no control is in it", all(it.isprintable() for it in found))
+    channels = [it for it in found if re.match(r" +\d+ ", it)]
+    if height >= 9:
+        judge_quietly("a channel with an alarm is always there", any(it.split()[0] == "40" for it in channels), found)
+        left = [it for it in found if it.startswith("and ")]
+        judge_quietly(
+            "and the rest is counted",
+            len(channels) == 64 or left == [table.cut(f"and {64 - len(channels)} more channels", max(width, 20))],
+            found,
+        )
+    judge("it has room", True)
+
+
+# ---- on a terminal
+
+
+def test_the_table_is_written_in_its_place_with_lines_above_it(work: Path, shown: Shown) -> None:
+    """It is written again and again in its place, and lines stand above it."""
+    flight = flown(work, {1: Wire("eth0"), 2: Wire("eth1")}, 5)
+    for second in range(20):
+        flight.pass_second()
+        judge_quietly("it has room", shown.terminal.draw(*told_of(flight)))
+        if second in (3, 9):
+            shown.terminal.show([f"said in second {second}"])
+        if second == 12:
+            flight.wires[1].dropped = 3
+        shown.read()
+    rows = shown.read().rstrip("\n").split("\n")
+    wanted = plain(table.lines_of(*told_of(flight), 99, 29))
+    judge(
+        "one table stands there, below what was said", rows == ["said in second 3", "said in second 9", *wanted], rows
+    )
+
+
+def test_the_cursor_never_jumps_beyond_the_top(work: Path) -> None:
+    """64 channels on 24 lines."""
+    small = Shown(80, 24)
+    flight = flown(work, wires_of(64), 5)
+    for _ in range(5):
+        flight.pass_second()
+        small.terminal.draw(*told_of(flight))
+        text = small.read()
+    judge("one table is there", text.count("RECORDING") == 1, text)
+    judge("and it fits", len(text.rstrip("\n").split("\n")) <= 23, text)
+    small.close()
+
+
+def test_what_is_typed_stays_below_the_table(work: Path, shown: Shown) -> None:
+    """It stays below the table while it is typed, and the table stays in its place once it is entered."""
+    flight = flown(work, {1: Wire("eth0"), 2: Wire("eth1")}, 5)
+    shown.terminal.draw(*told_of(flight))
+    for typed in ("set ", "2 ", "file"):
+        shown.read()
+        shown.screen.write(typed)
+        flight.pass_second()
+        shown.terminal.draw(*told_of(flight))
+    rows = shown.read().split("\n")
+    wanted = plain(table.lines_of(*told_of(flight), 99, 29))
+    judge("what is typed stays", rows == [*wanted, "set 2 file"], rows)
+    for what in ("drawn", "said"):
+        shown.screen.write("\n")
+        shown.terminal.note_typed()
+        if what == "said":
+            shown.terminal.show(["installed 2 1 407"])
+        flight.pass_second()
+        shown.terminal.draw(*told_of(flight))
+        judge_quietly(f"one table stands there: {what}", shown.read().count("RECORDING") == 1, shown.read())
+    rows = shown.read().rstrip("\n").split("\n")
+    wanted = plain(table.lines_of(*told_of(flight), 99, 29))
+    judge("and one table is there afterwards", rows == ["installed 2 1 407", *wanted], rows)
+
+
+def test_lines_of_the_same_terminal_go_through_the_table(shown: Shown) -> None:
+    read, write = os.pipe()
+    other = Shown()
+    found = [shown.terminal.is_of(it) for it in (shown.inner, other.inner, write, 999)]
+    judge("lines of that terminal go through it", found == [True, False, False, False], found)
+    other.close()
+    os.close(read)
+    os.close(write)
+
+
+def test_a_terminal_that_becomes_narrower_is_written_anew(work: Path, shown: Shown) -> None:
+    """A terminal that becomes narrower breaks the lines that stand there."""
+    flight = flown(work, {1: Wire("eth0"), 2: Wire("eth1")}, 5)
+    shown.terminal.draw(*told_of(flight))
+    shown.read()
+    before = shown.screen.rows
+    shown.resize(40, 30)
+    shown.screen.rows, shown.screen.row = [], 0
+    for line in before[:-1]:
+        shown.screen.rows += [line[at : at + 40] for at in range(0, max(len(line), 1), 40)]
+    shown.screen.rows.append("")
+    shown.screen.row, shown.screen.column = len(shown.screen.rows) - 1, 0
+    shown.terminal.draw(*told_of(flight))
+    rows = shown.read().rstrip("\n").split("\n")
+    judge("it is erased whole", rows == plain(table.lines_of(*told_of(flight), 39, 29)), rows)
+
+
+def test_a_terminal_that_nobody_reads_holds_up_nothing(work: Path, shown: Shown) -> None:
+    """A terminal that nobody reads takes no time of the run, and no memory; then it is right again."""
+    flight = flown(work, wires_of(20), 5)
+    begin, drawn = time.monotonic(), 0
+    for _ in range(500):
+        drawn += shown.terminal.draw(*told_of(flight))
+    took = time.monotonic() - begin
+    judge(f"500 tables in {took:.1f} s, {drawn} of them written", took < 5 and drawn < 400, drawn)
+    judge("little is held back", len(shown.terminal.rest) < 20_000, len(shown.terminal.rest))
+    for _ in range(3):
+        shown.read()
+        flight.pass_second()
+        shown.terminal.draw(*told_of(flight))
+    rows = shown.read().rstrip("\n").split("\n")
+    judge("then one table stands there", rows == plain(table.lines_of(*told_of(flight), 99, 29)), rows)
+
+
+def test_the_stream_stays_blocking_for_other_programs(shown: Shown) -> None:
+    """The stream that others have is as it was."""
+    judge("standard error still waits", os.get_blocking(shown.inner) and not os.get_blocking(shown.terminal.descriptor))
+
+
+def test_a_terminal_that_is_gone_raises_nothing(work: Path) -> None:
+    gone = Shown()
+    flight = flown(work, {1: Wire("eth0")}, 5)
+    os.close(gone.outer)
+    judge("nothing is raised", gone.terminal.draw(*told_of(flight)) in (True, False))
+    gone.terminal.close()
+    os.close(gone.inner)
+
+
+@pytest.mark.parametrize("case", ["quiet", "dumb", "pipe", "file", "closed"])
+def test_without_a_terminal_nothing_is_written(
+    work: Path, case: str, shown: Shown, monkeypatch: pytest.MonkeyPatch
+) -> None:
+    """Elsewhere there is no table: nothing at all is written."""
+    if case == "dumb":
+        monkeypatch.setenv("TERM", "dumb")
+    read, write = os.pipe()
+    with open(work / "file", "wb") as file:
+        streams = {"quiet": shown.inner, "dumb": shown.inner, "pipe": write, "file": file.fileno(), "closed": 999}
+        made = Terminal(streams[case], case == "quiet")
+        flight = flown(work, {1: Wire("eth0")}, 5, terminal=made)
+        told = (made.is_shown(), made.draw(*told_of(flight)), made.show(["x"]))
+    os.close(write)
+    judge(f"{case}: it says that there is none", told == (False, False, False), told)
+    judge(
+        "and nothing is written", os.read(read, 9) == b"" and (work / "file").stat().st_size == 0 and shown.read() == ""
+    )
+    os.close(read)
+
+
+def test_each_tick_of_a_run_draws_the_table(work: Path, shown: Shown) -> None:
+    flight = flown(work, {1: Wire("eth0")}, 3, terminal=shown.terminal)
+    judge("each tick draws", shown.read().startswith("RECORDING\nflight.ch11  3 s  "), shown.read())
+    shown.terminal.show(["said before the end"])
+    shown.read()
+    flight.status.ended(flight.now())
+    judge("at the end what was said stays alone", shown.read() == "said before the end\n", shown.screen.rows)
+    judge("and no other table came", b"ENDED" not in shown.came, shown.came)
+    flight.status.close()
+    judge("and nothing is shown any more", not shown.terminal.is_shown())
