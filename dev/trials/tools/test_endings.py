@@ -39,8 +39,8 @@ PRINTING = ("check_sums", "info", "info_json", "pcapng", "salvage", "from-pcap",
 WAITING = ("check_sums", "info", "pcapng", "salvage", "from-pcap", "to-pcap", "show")
 OF_CONVERT = ("from-pcap", "to-pcap", "make", "show")
 SECONDS = 60
-# What Python itself may say in place of MemoryError, of sources that it knows to be right.
-FAULTS_OF_PYTHON = ("SystemError: error return without exception set", "SyntaxError: ")
+# What Python itself may say in place of MemoryError, of sources that it knows to be right; hashlib logs what it can't load.
+FAULTS_OF_PYTHON = ("SystemError: error return without exception set", "SyntaxError: ", "ERROR:root:code for hash ")
 
 
 def words_of(work: Path, tool: str, given: Path | None = None) -> list:

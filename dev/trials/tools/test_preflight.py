@@ -20,7 +20,8 @@ PREFLIGHT = ROOT / "host/bin/preflight"
 # 64 channels of 4,099 buffers of 524,284 bytes.
 MOST_BUFFERS = 137_538_567_424
 # What preflight and live may take of a processor for settings, with the recorder that reads them too.
-MOST_SECONDS = 10
+# They take three on a quiet machine, and ten beside other trials.
+MOST_SECONDS = 40
 # By how much the memory that is available may change meanwhile.
 ABOUT = 256 << 20
 
