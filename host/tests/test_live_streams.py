@@ -13,7 +13,7 @@ from typing import cast
 
 import pytest
 from bpfrec_host.live import standard_streams, system
-from bpfrec_host.live.children import Manner, start, status_of
+from bpfrec_host.live.children import HELD, Manner, start, status_of
 from bpfrec_host.live.console import Console
 from bpfrec_host.live.control import changes
 from bpfrec_host.live.control.changes import Change, Pipe
@@ -239,29 +239,46 @@ def test_what_cannot_be_watched_is_looked_at_now_and_then(work: Path) -> None:
 def test_without_ctypes_live_does_without_what_it_is_for(monkeypatch: pytest.MonkeyPatch) -> None:
     """Where Python has no ctypes, live does without what it is for."""
     monkeypatch.setattr(system, "LIBC", None)
-    system.end_with_parent(9, os.getppid())
     system.give_capabilities_up()
-    system.keep_capabilities_from_children()
+    with system.capabilities_of_children(False):
+        judge("no capabilities are known", system.ambient_capabilities() == [])
     judge("no watches, no state of the clock", system.adjust(bytearray(208)) == -1 and Watches().descriptor is None)
 
 
-def test_a_program_finds_its_group_and_signals_as_they_were(work: Path) -> None:
-    """What a program finds: its group, ignored and blocked signals; and how its end is told."""
+def test_a_program_finds_a_session_of_its_own_and_signals_that_cut_nothing(work: Path) -> None:
+    """What a program finds: its session, blocked and ignored signals; and how its end is told."""
     script = (
-        "import os, signal, json; print(json.dumps([os.getpgrp() == os.getpid(), "
-        "signal.getsignal(signal.SIGINT) == signal.SIG_IGN, sorted(signal.pthread_sigmask(signal.SIG_BLOCK, []))]))"
+        "import os, signal, json; print(json.dumps([os.getsid(0) == os.getpid(), "
+        "sorted(signal.pthread_sigmask(signal.SIG_BLOCK, []))]))"
     )
+    before = signal.pthread_sigmask(signal.SIG_BLOCK, [])
     with open(work / "told", "wb") as into:
-        child = start(
-            [sys.executable, "-c", script], (0, into, None), Manner(ignored=(signal.SIGINT,), blocked=(signal.SIGTERM,))
-        )
+        child = start([sys.executable, "-c", script], (0, into, None), Manner())
     wait_for("it ends", lambda: child.status() is not None, 10)
-    judge("a group of its own, and its signals", json.loads((work / "told").read_text()) == [True, True, [15]])
+    own, blocked = json.loads((work / "told").read_text())
+    judge("a session of its own, and its signals", (own, blocked) == (True, sorted(HELD)), blocked)
+    judge("those of live are as they were", signal.pthread_sigmask(signal.SIG_BLOCK, []) == before)
     child.close()
     child.close()
     with pytest.raises(FileNotFoundError):
         start([str(work / "none")], (0, None, None), Manner())
+    judge("also where none was started", signal.pthread_sigmask(signal.SIG_BLOCK, []) == before)
     judge("statuses as shells have them", (status_of(3), status_of(-9)) == (3, 137))
+
+
+def test_a_program_ends_with_the_writers_of_its_pipe(work: Path) -> None:
+    """It is killed once the last writer has gone, unless that was taken back."""
+    for is_taken_back in (False, True):
+        reader, writer = os.pipe()
+        child = start(["sleep", "2"], (0, None, None), Manner(ends_with=reader))
+        if is_taken_back:
+            system.stay_at_hangup(reader)
+        judge_quietly("it goes on", child.status() is None)
+        os.close(writer)
+        wait_for("it ends", lambda: child.status() is not None, 10)
+        judge(f"by the kernel, or later: {is_taken_back}", child.status() == (0 if is_taken_back else 137))
+        child.close()
+        os.close(reader)
 
 
 # ---- watches of OUT

@@ -62,7 +62,7 @@ class Capture:
         """Starts it. `everybody` is what each program has open that live starts."""
         errors = self.lines.writer if self.lines else None
         kept = [everybody, *([self.counts.writer] if self.counts else [])]
-        manner = children.CAPTURE._replace(kept=kept)
+        manner = children.Manner(kept, has_capabilities=True)
         self.child = children.start(self.arguments(), (subprocess.DEVNULL, None, errors), manner)
         # It alone needs the permission to capture.
         system.give_capabilities_up()

@@ -1,4 +1,4 @@
-"""Programs that live starts: each in a process group of its own, so that no signal reaches it that was meant for
+"""Programs that live starts: each in a session of its own, so that no signal of a terminal reaches it that was meant for
 live."""
 
 from __future__ import annotations
@@ -14,30 +14,19 @@ from bpfrec_host.live.model import KILLED
 
 # What ends live, and what it sends the capture.
 ENDING = (signal.SIGINT, signal.SIGTERM, signal.SIGHUP)
+# A program is started with these blocked: one of them would cut a recording or an audit, and the capture takes them once
+# it is ready, so that none is lost before.
 HELD = (*ENDING, signal.SIGUSR1, signal.SIGUSR2)
 Stream = Union[int, IO[bytes]]
 
 
 class Manner(NamedTuple):
-    """How a program is started: the signals that it ignores, those that it finds blocked and waiting, the descriptors
-    that it keeps, the signal that it gets from the kernel when live dies, the pipe without whose writers it is killed,
-    and whether it gets live's capabilities."""
+    """How a program is started: the descriptors that it keeps, the pipe without whose writers it is killed, which it
+    keeps too, and whether it gets live's capabilities."""
 
-    ignored: Sequence[signal.Signals] = ()
-    blocked: Sequence[signal.Signals] = ()
     kept: Sequence[int] = ()
-    ends_by: Optional[signal.Signals] = None
     ends_with: Optional[int] = None
     has_capabilities: bool = False
-
-
-# The recorder ends with its pipes: a signal that ended it would cut the recording. A limit of the size of files is told
-# as a failed output.
-RECORDER = Manner(ignored=(*ENDING, signal.SIGTTOU, signal.SIGXFSZ))
-# The capture takes these signals once it is ready for them, and none is lost before.
-CAPTURE = Manner(ignored=(signal.SIGTTOU,), blocked=HELD, has_capabilities=True)
-# An audit may take as long as the recording is large, and nobody waits for it once live has died.
-AUDIT = Manner(ignored=(*ENDING, signal.SIGTTOU), ends_by=signal.SIGKILL)
 
 
 class Child(Holder):
@@ -76,29 +65,22 @@ def start(
     arguments: Sequence[str], streams: tuple[Stream, Optional[Stream], Optional[Stream]], manner: Manner
 ) -> Child:
     """Starts a program with these three streams; None is the stream of live."""
-    parent, before = os.getpid(), signal.pthread_sigmask(signal.SIG_BLOCK, HELD)
-
-    def prepare() -> None:
-        os.setpgid(0, 0)
-        for number in manner.ignored:
-            signal.signal(number, signal.SIG_IGN)
-        signal.pthread_sigmask(signal.SIG_SETMASK, manner.blocked)
-        if not manner.has_capabilities:
-            system.keep_capabilities_from_children()
-        if manner.ends_by is not None:
-            system.end_with_parent(manner.ends_by, parent)
-        if manner.ends_with is not None:
-            system.end_at_hangup(manner.ends_with)
-
+    kept = [*manner.kept, *([] if manner.ends_with is None else [manner.ends_with])]
+    before = signal.pthread_sigmask(signal.SIG_SETMASK, HELD)
     try:
-        process = subprocess.Popen(
-            arguments,
-            stdin=streams[0],
-            stdout=streams[1],
-            stderr=streams[2],
-            pass_fds=manner.kept,
-            preexec_fn=prepare,
-        )
+        with system.capabilities_of_children(manner.has_capabilities):
+            # SIGXFSZ stays ignored, as Python has it: a limit of the size of files is told as a failed output.
+            process = subprocess.Popen(
+                arguments,
+                stdin=streams[0],
+                stdout=streams[1],
+                stderr=streams[2],
+                pass_fds=kept,
+                restore_signals=False,
+                start_new_session=True,
+            )
+        if manner.ends_with is not None:
+            system.end_at_hangup(process.pid, manner.ends_with)
         return Child(process)
     finally:
         signal.pthread_sigmask(signal.SIG_SETMASK, before)

@@ -23,8 +23,8 @@ class Guard(Holder):
     """The guard, as live has it, with the descriptor by which its end is told. Live ends it by `dismiss`; else it acts
     once live has died.
 
-    Two pipes tell it of ends: one that live alone has open, and one that each program that live starts has open too. A
-    third one, which live and the guard have open, tells the kernel that both have died.
+    Two pipes tell it of ends: one that live alone has open, and one that each program that live starts has open too. Two
+    others tell the kernel: one that live alone has open, and one that the guard has open too.
     """
 
     def __init__(self, writer: Writer) -> None:
@@ -32,6 +32,7 @@ class Guard(Holder):
         try:
             all_reader, self.all = os.pipe()
             self.either_reader, self.either = os.pipe()
+            self.live_reader, self.live = os.pipe()
             self.pid = os.fork()
         except OSError:
             close(own_reader)
@@ -49,9 +50,13 @@ class Guard(Holder):
         super().__init__(opened(self.pid))
         self.code: Optional[int] = None
 
-    def lifeline(self) -> int:
-        """A descriptor of its own of the pipe that has no writer any more once both have died."""
-        return os.open(f"/proc/self/fd/{self.either_reader}", os.O_RDONLY | os.O_NONBLOCK | os.O_CLOEXEC)
+    def lifeline_of_both(self) -> int:
+        """A descriptor of its own of the pipe that has no writer any more once live and the guard have died."""
+        return reopened(self.either_reader)
+
+    def lifeline_of_live(self) -> int:
+        """The same of the pipe that has no writer any more once live has died."""
+        return reopened(self.live_reader)
 
     def status(self) -> Optional[int]:
         """Its status; None while it runs."""
@@ -69,6 +74,11 @@ class Guard(Holder):
             pass
         if self.code is None:
             os.waitpid(self.pid, 0)
+
+
+def reopened(reader: int) -> int:
+    """Another descriptor of a pipe that is read, with settings of its own."""
+    return os.open(f"/proc/self/fd/{reader}", os.O_RDONLY | os.O_NONBLOCK | os.O_CLOEXEC)
 
 
 def watch(writer: Writer, own: int, everybody: int, either: int) -> None:

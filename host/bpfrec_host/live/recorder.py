@@ -94,16 +94,25 @@ class Recorder:
     def start(self, bpfrec: str, everybody: int, lifeline: int) -> children.Child:
         """Starts the recorder."""
         self.lifeline = lifeline
-        kept = [everybody, lifeline]
+        kept = [everybody]
         if self.is_inherited() and self.descriptor is not None:
             kept.append(self.descriptor)
         arguments = [bpfrec, "record", str(self.made / "settings.toml"), self.place]
         with open_printed(self.made, "report") as report:
             streams = (self.lines.reader, report, self.answers)
-            manner = children.RECORDER._replace(kept=kept, ends_with=lifeline)
+            manner = children.Manner(kept, ends_with=lifeline)
             self.child = children.start(arguments, streams, manner)
         os.close(self.lines.reader)
         return self.child
+
+    def start_audit(self, bpfrec: str, everybody: int, lifeline: int) -> children.Child:
+        """Starts an audit of OUT, which ends with live: it may take long, and nobody would wait for it."""
+        # By standard input, so that the file may have any name, and another one by now.
+        with open(f"/proc/self/fd/{self.descriptor}", "rb") as read, open_printed(self.made, "audit") as answer:
+            with open_printed(self.made, "audit_errors") as errors:
+                manner = children.Manner([everybody], ends_with=lifeline)
+                self.auditor = children.start([bpfrec, "audit", "-"], (read, answer, errors), manner)
+        return self.auditor
 
     def let_live(self) -> None:
         """Lets the recorder go on where live and its guard die: it ends with its pipes."""

@@ -19,7 +19,7 @@ from bpfrec_host.live.engine import FILE_FAULT
 from bpfrec_host.live.events import Events
 from bpfrec_host.live.facts import Writer
 from bpfrec_host.live.flush import MOST_FILTERS, Flush
-from bpfrec_host.live.folder import Folder, open_printed
+from bpfrec_host.live.folder import Folder
 from bpfrec_host.live.guard import Guard, open_and_close
 from bpfrec_host.live.loop import Loop, Signals
 from bpfrec_host.live.machine import Machine
@@ -190,7 +190,7 @@ class Run:
         try:
             if recorder.descriptor is None and not is_special(recorder.about.out):
                 recorder.hold_place()
-            child = recorder.start(self.programs.bpfrec, self.guard.all, self.guard.lifeline())
+            child = recorder.start(self.programs.bpfrec, self.guard.all, self.guard.lifeline_of_both())
         except OSError as error:
             self.err(f"live: {self.programs.bpfrec} record can't be started: {error.strerror}")
             self.recordings.drop(recording)
@@ -328,19 +328,14 @@ class Run:
         recorder = self.recordings.of(recording)
         if not recorder.is_created or recorder.descriptor is None:
             return False
-        arguments, manner = [self.programs.bpfrec, "audit", "-"], children.AUDIT._replace(kept=[self.guard.all])
         try:
-            # By standard input, so that the file may have any name, and another one by now.
-            with open(f"/proc/self/fd/{recorder.descriptor}", "rb") as read, open_printed(
-                recorder.made, "audit"
-            ) as answer:
-                with open_printed(recorder.made, "audit_errors") as errors:
-                    recorder.auditor = children.start(arguments, (read, answer, errors), manner)
+            with open(self.guard.lifeline_of_live(), "rb", buffering=0) as lifeline:
+                child = recorder.start_audit(self.programs.bpfrec, self.guard.all, lifeline.fileno())
         except OSError as error:
             self.err(f"live: {recorder.about.out} can't be audited: {error.strerror}")
             self.loop.call_soon(lambda: self.end_audit(recorder, FILE_FAULT))
             return True
-        self.loop.follow(recorder.auditor, lambda status: self.end_audit(recorder, status))
+        self.loop.follow(child, lambda status: self.end_audit(recorder, status))
         return True
 
     def end_audit(self, recorder: Recorder, status: int) -> None:

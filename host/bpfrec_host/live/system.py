@@ -1,8 +1,9 @@
-"""Calls of the kernel that Python has no functions for: what ends a child with its parent, capabilities, and watches of
+"""Calls of the kernel that Python has no functions for: what ends a program with its pipe, capabilities, and watches of
 files. Where they can't be had, as under a Python without ctypes, live does without them."""
 
 from __future__ import annotations
 
+import contextlib
 import fcntl
 import os
 import signal
@@ -17,7 +18,9 @@ except (ImportError, MemoryError, OSError):
     LIBC = None
 
 FALLOC_FL_KEEP_SIZE = 1
-PR_SET_PDEATHSIG, PR_CAP_AMBIENT, PR_CAP_AMBIENT_CLEAR_ALL = 1, 47, 4
+PR_CAP_AMBIENT, PR_CAP_AMBIENT_IS_SET, PR_CAP_AMBIENT_RAISE, PR_CAP_AMBIENT_CLEAR_ALL = 47, 1, 2, 4
+# The bits of a set.
+MOST_CAPABILITIES = 64
 # The version of capset(2) that has two words of each set, and this process.
 CAPABILITIES = struct.pack("Ii", 0x20080522, 0)
 NO_CAPABILITIES = bytes(24)
@@ -28,19 +31,11 @@ EVENT = struct.Struct("iIII")
 EVENTS_LEN = 1 << 16
 
 
-def end_with_parent(signal_number: int, parent: int) -> None:
-    """Has the kernel send this process a signal when its parent dies; at once where that has died already."""
-    if LIBC:
-        LIBC.prctl(PR_SET_PDEATHSIG, signal_number, 0, 0, 0)
-    if os.getppid() != parent:
-        os.kill(os.getpid(), signal_number)
-
-
-def end_at_hangup(descriptor: int) -> None:
-    """Has the kernel kill this process once the pipe of this descriptor has no writer any more, until `stay_at_hangup`
-    of the same descriptor, here or in another process that shares it."""
+def end_at_hangup(process: int, descriptor: int) -> None:
+    """Has the kernel kill a process once the pipe of this descriptor has no writer any more, until `stay_at_hangup` of
+    the same descriptor, here or in another process that shares it."""
     try:
-        fcntl.fcntl(descriptor, fcntl.F_SETOWN, os.getpid())
+        fcntl.fcntl(descriptor, fcntl.F_SETOWN, process)
         fcntl.fcntl(descriptor, fcntl.F_SETSIG, signal.SIGKILL)
         fcntl.fcntl(descriptor, fcntl.F_SETFL, os.O_NONBLOCK | os.O_ASYNC)
     except OSError:
@@ -59,10 +54,24 @@ def give_capabilities_up() -> None:
         LIBC.capset(CAPABILITIES, NO_CAPABILITIES)
 
 
-def keep_capabilities_from_children() -> None:
-    """Has the program that is run next get none of the capabilities."""
-    if LIBC and os.geteuid() != 0:
+@contextlib.contextmanager
+def capabilities_of_children(are_given: bool) -> Iterator[None]:
+    """Whether a program that is started meanwhile gets the capabilities that a service gives to live."""
+    held = [] if are_given else ambient_capabilities()
+    if held:
         LIBC.prctl(PR_CAP_AMBIENT, PR_CAP_AMBIENT_CLEAR_ALL, 0, 0, 0)
+    try:
+        yield
+    finally:
+        for capability in held:
+            LIBC.prctl(PR_CAP_AMBIENT, PR_CAP_AMBIENT_RAISE, capability, 0, 0)
+
+
+def ambient_capabilities() -> list[int]:
+    """The capabilities that a program gets which is started; none of root, whose programs have all."""
+    if not LIBC or os.geteuid() == 0:
+        return []
+    return [it for it in range(MOST_CAPABILITIES) if LIBC.prctl(PR_CAP_AMBIENT, PR_CAP_AMBIENT_IS_SET, it, 0, 0) == 1]
 
 
 def adjust(state: bytearray) -> int:
