@@ -16,7 +16,7 @@ from bpfrec_host.__main__ import TOOLS as PYTHON_TOOLS
 
 COMMANDS, HELP = ROOT / "crates/rec_words/src/command_line.rt", ROOT / "crates/rec_words/src/command_line/help.rt"
 FORMATS = [ROOT / f"docs/user/formats/{it}.md" for it in ("filters", "recording")]
-CAPTURE, CHECK_SUMS = ROOT / "capture/src/usage.c", ROOT / "host/bin/check_sums"
+CAPTURE, CHECKS = ROOT / "capture/src/usage.c", ("check_sums", "check_ch10")
 
 
 class Word(NamedTuple):
@@ -137,7 +137,9 @@ def parser_texts(parser: ArgumentParser) -> Iterator[tuple[str, str]]:
 def tool_texts() -> Iterator[tuple[str, str]]:
     """The help of all tools and of their commands: what it is called by, and its texts."""
     yield "capture --help", capture_text().partition("\n\n")[2]
-    yield "host/bin/check_sums --help", ast.get_docstring(ast.parse(CHECK_SUMS.read_text())) or ""
+    for name in CHECKS:
+        text = (ROOT / "host/bin" / name).read_text()
+        yield f"host/bin/{name} --help", ast.get_docstring(ast.parse(text)) or ""
     for tool in PYTHON_TOOLS.values():
         yield from parser_texts(importlib.import_module(tool.module).parser())
 

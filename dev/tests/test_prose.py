@@ -50,7 +50,16 @@ def test_each_fault_is_found_with_its_line(text: str, line: int) -> None:
 def test_the_help_of_each_tool_is_read() -> None:
     """Each tool's help is read, and that of each of its commands."""
     names = [name for name, _ in prose.texts()]
-    for name in ("capture", "check_sums", "convert", "convert from-pcap", "convert make", "live", "preflight"):
+    for name in (
+        "capture",
+        "check_sums",
+        "check_ch10",
+        "convert",
+        "convert from-pcap",
+        "convert make",
+        "live",
+        "preflight",
+    ):
         judge(f"{name} --help", any(it.endswith(f"{name} --help") for it in names), names)
 
 

@@ -33,10 +33,23 @@ from support import (
 )
 
 WANTED = {"bin/bpfrec": "make build"}
+CHECK_CH10 = ROOT / "host/bin/check_ch10"
 FULL, CLOSED = "No space left on device", "Bad file descriptor"
 # Those that print, and those that wait for a pipe; all but convert end at a fault of a file with status 3.
-PRINTING = ("check_sums", "info", "info_json", "pcapng", "salvage", "from-pcap", "to-pcap", "make", "show", "preflight")
-WAITING = ("check_sums", "info", "pcapng", "salvage", "from-pcap", "to-pcap", "show")
+PRINTING = (
+    "check_sums",
+    "check_ch10",
+    "info",
+    "info_json",
+    "pcapng",
+    "salvage",
+    "from-pcap",
+    "to-pcap",
+    "make",
+    "show",
+    "preflight",
+)
+WAITING = ("check_sums", "check_ch10", "info", "pcapng", "salvage", "from-pcap", "to-pcap", "show")
 OF_CONVERT = ("from-pcap", "to-pcap", "make", "show")
 SECONDS = 60
 # What Python itself may say in place of MemoryError, of sources that it knows to be right; hashlib logs what it can't load.
@@ -51,6 +64,7 @@ def words_of(work: Path, tool: str, given: Path | None = None) -> list:
     recording, out = given or SAMPLES[1], work / "out"
     words: dict[str, list[object]] = {
         "check_sums": [CHECK_SUMS, recording],
+        "check_ch10": [CHECK_CH10, recording],
         "info": [INFO, recording],
         "info_json": [INFO, "--json", recording],
         # It reads regular files alone, so it is its OUT that it waits for.

@@ -1,0 +1,379 @@
+"""A second writer of whole Chapter 11 files, by docs/user/formats/whole_file.md alone: plain and slow, all in lists.
+
+It shares no code with the program, whose files are compared with its own byte for byte, nor with the reader of such
+files. `whole_file` gives a file's bytes and its counts, or raises `Refused`.
+"""
+
+from __future__ import annotations
+
+import datetime
+import struct
+from bisect import bisect_right
+from collections import Counter, deque
+from typing import Iterator, NamedTuple, Optional
+
+from frames import COMPUTER, FRAMES, body_of, packet_of
+
+SETUP, TIME, INDEX = 0x01, 0x11, 0x03
+TICK, TEN_MS, SECOND = 100, 10_000_000, 1_000_000_000
+COUNTERS, CHANNELS = 1 << 48, 1 << 16
+PIECE_TICKS, MOST_DISORDER, MOST_GAP = 1_000_000, 10_000_000, 6_048_000_000_000
+MOST_PACKET_LENGTH, MOST_NAMED = 524_288, 16_384
+EPOCH = datetime.date(1970, 1, 1).toordinal()
+YEARS = range(1, 4_000)
+# A packet's header, the word of its body and its data checksum.
+AROUND_FRAMES = 24 + 4 + 4
+
+
+class Refused(Exception):
+    """Why a recording has no such file: its number, its name, and the place of a packet."""
+
+    def __init__(self, number: int, name: str, at: int) -> None:
+        super().__init__(f"refused {number} {name} {at}")
+
+
+class Origin(NamedTuple):
+    """From a counter on, the nanoseconds since 1970 at counter 0."""
+
+    counter: int
+    nanoseconds: int
+
+
+class Setup(NamedTuple):
+    """What is set: origins as they were noted, names, whether an outside source held the clock, attributes, and of
+    channels their name and network identifier."""
+
+    origins: tuple[Origin, ...]
+    host: str = "bpfrec"
+    program: str = "bpfrec"
+    is_external: bool = False
+    attributes: tuple[str, ...] = ()
+    channels: dict[int, tuple[str, int]] = {}
+
+
+class Rule(NamedTuple):
+    """An origin, and the counters that it holds for: from `begin` to below `end`."""
+
+    begin: int
+    end: int
+    nanoseconds: int
+
+    def time(self, counter: int) -> int:
+        return self.nanoseconds + counter * TICK
+
+    def tick(self, moment: int) -> Optional[int]:
+        """The tick of a moment, if it has one here."""
+        found = -((self.nanoseconds - moment) // TICK)
+        return found if self.begin <= found < self.end else None
+
+
+class Mark(NamedTuple):
+    """A time packet: its tick, and the moment that it says."""
+
+    tick: int
+    moment: int
+
+
+class Frame(NamedTuple):
+    counter: int
+    word: int
+    bytes: bytes
+
+
+class Piece(NamedTuple):
+    """What becomes one packet, or more where time packets stand between: frames, or a record as it is. `at` is the place
+    of its packet in the recording."""
+
+    at: int
+    counter: Optional[int]
+    frames: tuple[Frame, ...] = ()
+    record: bytes = b""
+
+
+# ---- the recording
+
+
+def packets_in(recording: bytes) -> Iterator[tuple[int, int, int, int, bytes]]:
+    """The place, channel, type, counter and data of each packet."""
+    at = 0
+    while at < len(recording):
+        channel, length, data_length = struct.unpack_from("<HII", recording, at + 2)
+        low, high = struct.unpack_from("<IH", recording, at + 16)
+        data = recording[at + 24 : at + 24 + data_length]
+        yield at, channel, recording[at + 15], low | high << 32, data
+        at += length
+
+
+def frames_in(data: bytes) -> list[Frame]:
+    """The frames of a body."""
+    found, at = [], 4
+    for _ in range(struct.unpack_from("<I", data)[0] & 0xFFFF):
+        low, high, word = struct.unpack_from("<IHxxI", data, at)
+        length = word & 0x3FFF
+        found.append(Frame(low | high << 32, word & ~0xFFFF | length, data[at + 12 : at + 12 + length]))
+        at += 12 + length + length % 2
+    return found
+
+
+def pieces_of(at: int, frames: list[Frame]) -> Iterator[Piece]:
+    """The pieces of a packet of frames, but for time packets."""
+    piece: list[Frame] = []
+    for frame in frames:
+        if piece and not goes_on(piece, frame):
+            yield Piece(at, piece[0].counter, tuple(piece))
+            piece = []
+        piece.append(frame)
+    if piece:
+        yield Piece(at, piece[0].counter, tuple(piece))
+
+
+def goes_on(piece: list[Frame], frame: Frame) -> bool:
+    """Whether a frame belongs to the piece of those before it."""
+    length = sum(12 + len(it.bytes) + len(it.bytes) % 2 for it in [*piece, frame])
+    return (
+        piece[-1].counter <= frame.counter < piece[0].counter + PIECE_TICKS
+        and AROUND_FRAMES + length + -length % 4 <= MOST_PACKET_LENGTH
+    )
+
+
+class Recording:
+    """What a recording has of each channel that it names, in order, and its least counter."""
+
+    def __init__(self, recording: bytes) -> None:
+        self.channels: dict[int, deque[Piece]] = {}
+        counters = []
+        for at, channel, kind, counter, data in packets_in(recording):
+            if kind == FRAMES and channel:
+                frames = frames_in(data)
+                self.channels.setdefault(channel, deque()).extend(pieces_of(at, frames))
+                counters += [it.counter for it in frames]
+            elif (kind, channel, data[4:8]) == (COMPUTER, 0, b"CBPR"):
+                record_kind, named = struct.unpack_from("<HH", data, 8)
+                is_counted = record_kind == 1 or struct.unpack_from("<Q", data, 12)[0] > 0
+                counters += [counter] if is_counted else []
+                piece = Piece(at, counter if is_counted else None, record=data)
+                self.channels.setdefault(named, deque()).append(piece)
+            else:
+                raise Refused(1, "Other", at)
+        self.least = min(counters, default=0)
+        self.time_channel = next((it for it in range(1, CHANNELS) if it not in self.channels), 0)
+        if not self.time_channel:
+            raise Refused(7, "Full", 0)
+
+    def take(self) -> Optional[tuple[int, Piece]]:
+        """The channel and the piece that go out next."""
+        heads = [(it[0].counter is None, it[0].counter or 0, number) for number, it in self.channels.items() if it]
+        if not heads:
+            return None
+        number = min(heads)[2]
+        return number, self.channels[number].popleft()
+
+
+# ---- the clock
+
+
+def rules_of(origins: tuple[Origin, ...]) -> list[Rule]:
+    """The origins that hold for some counter, each with those counters."""
+    held: list[tuple[int, int]] = []
+    for number, origin in enumerate(origins):
+        begin = origin.counter if number else 0
+        held = [it for it in held if it[0] < begin] + [(begin, origin.nanoseconds)]
+    ends = [begin for begin, _ in held[1:]] + [COUNTERS]
+    return [Rule(begin, end, origin) for (begin, origin), end in zip(held, ends)]
+
+
+def marks_of(rules: list[Rule], least: int) -> Iterator[Mark]:
+    """The time packets of a recording whose least counter this is, as many as one asks for."""
+    at = bisect_right([it.begin for it in rules], least) - 1
+    before = rules[at].time(least) // TEN_MS * TEN_MS
+    yield from marks_under(rules[at], [before, before + TEN_MS])
+    for rule in rules[at + 1 :]:
+        yield from marks_under(rule, [-(-rule.time(rule.begin) // TEN_MS) * TEN_MS])
+
+
+def marks_under(rule: Rule, firsts: list[int]) -> Iterator[Mark]:
+    """The first of these moments that has a tick under an origin, and each whole second after it that has one."""
+    first = next((it for it in firsts if rule.tick(it) is not None), None)
+    moment = first
+    while moment is not None and (tick := rule.tick(moment)) is not None:
+        yield Mark(tick, moment)
+        moment = (moment // SECOND + 1) * SECOND
+
+
+class Civil(NamedTuple):
+    """A moment's date, and its hundredths of a second since midnight."""
+
+    date: Optional[datetime.date]
+    hundredths: int
+
+    def date_text(self) -> str:
+        assert self.date
+        return f"{self.date.month:02}-{self.date.day:02}-{self.date.year:04}"
+
+    def clock(self) -> tuple[int, int, int, int]:
+        """Hours, minutes, seconds and hundredths."""
+        seconds, hundredths = divmod(self.hundredths, 100)
+        return seconds // 3_600, seconds // 60 % 60, seconds % 60, hundredths
+
+
+def civil(moment: int) -> Civil:
+    days, hundredths = divmod(moment // TEN_MS, 8_640_000)
+    ordinal = EPOCH + days
+    is_known = 1 <= ordinal <= datetime.date(YEARS[-1], 12, 31).toordinal()
+    return Civil(datetime.date.fromordinal(ordinal) if is_known else None, hundredths)
+
+
+def time_body(mark: Mark, is_external: bool) -> bytes:
+    """The data of a time packet."""
+    said = civil(mark.moment)
+    assert said.date
+    year = said.date.year
+    is_leap = year % 4 == 0 and (year % 100 != 0 or year % 400 == 0)
+    hour, minute, second, hundredths = said.clock()
+    word = is_external | 3 << 4 | is_leap << 8 | 1 << 9
+    digits = [f"{second:02}{hundredths:02}", f"{hour:02}{minute:02}", f"{said.date.month:02}{said.date.day:02}"]
+    return struct.pack("<I4H", word, *(int(it, 16) for it in [*digits, f"{year:04}"]))
+
+
+# ---- the setup record
+
+
+def cleaned(name: str) -> str:
+    """A name as it stands in the setup record."""
+    plain = "".join(it if " " <= it <= "~" and it not in ";:\\" else "_" for it in name)
+    return plain.strip(" ")[:32] or "NONE"
+
+
+def setup_text(setup: Setup, recording: Recording, first: Mark) -> str:
+    said = civil(first.moment)
+    hour, minute, second, _ = said.clock()
+    host, source = cleaned(setup.host), "E" if setup.is_external else "I"
+    lines = ["G\\PN:bpfrec", "G\\106:17", f"G\\OD:{said.date_text()}", "G\\DSI\\N:1", f"G\\DSI-1:{host}"]
+    lines += ["G\\DST-1:STO", f"R-1\\ID:{host}", "R-1\\RID:bpfrec", f"R-1\\R1:{cleaned(setup.program)}", "R-1\\TC1:SSR"]
+    lines += ["R-1\\RI3:Y", f"R-1\\RI4:{said.date_text()}-{hour:02}-{minute:02}-{second:02}", "R-1\\NSB:0"]
+    lines += ["R-1\\IDX\\E:T", "R-1\\IDX\\IT:C", "R-1\\IDX\\ICV:1", "R-1\\EV\\E:F", f"R-1\\N:{len(recording.channels) + 1}"]
+    lines += [f"R-1\\TK1-1:{recording.time_channel}", "R-1\\TK4-1:1", "R-1\\CHE-1:T", "R-1\\DSI-1:TIME", "R-1\\CDT-1:TIMEIN"]
+    lines += ["R-1\\TTF-1:1", "R-1\\TFMT-1:I", f"R-1\\TSRC-1:{source}"]
+    for number, channel in enumerate(sorted(recording.channels), 2):
+        name, net = setup.channels.get(channel, ("channel", 0))
+        label = cleaned(f"{cleaned(name)[:24]} {channel}")
+        lines += [f"R-1\\TK1-{number}:{channel}", f"R-1\\TK4-{number}:{number}", f"R-1\\CHE-{number}:T"]
+        lines += [f"R-1\\DSI-{number}:{label}", f"R-1\\CDT-{number}:ETHIN", f"R-1\\ENTF-{number}:0"]
+        lines += [f"R-1\\NNET-{number}:1", f"R-1\\ENBR-{number}-1:{net}", f"R-1\\ENAM-{number}-1:{cleaned(name)}"]
+    lines += ["R-1\\COM:Packets of type 0 on channel 0 with the tag CBPR hold the filter programs and the counts of bpfrec"]
+    return "".join(f"{it};\r\n" for it in [*lines, *setup.attributes])
+
+
+# ---- the file
+
+
+class Entry(NamedTuple):
+    """A packet that went out: its counter, channel, type and place."""
+
+    counter: int
+    channel: int
+    kind: int
+    at: int
+
+
+class File:
+    """A file as it grows."""
+
+    def __init__(self, most_named: int) -> None:
+        self.data, self.most_named = bytearray(), most_named
+        self.greatest = 0
+        self.sequences: Counter[int] = Counter()
+        self.entries: list[Entry] = []
+        self.nodes: list[Entry] = []
+        self.root: Optional[Entry] = None
+        self.counts: Counter[str] = Counter()
+
+    def put(self, what: str, channel: int, kind: int, counter: int, data: bytes) -> Entry:
+        """Writes a packet, and its entry into the index."""
+        entry = self.write(what, channel, kind, counter, data)
+        self.entries.append(entry)
+        if len(self.entries) == self.most_named:
+            self.put_node()
+        return entry
+
+    def write(self, what: str, channel: int, kind: int, counter: int, data: bytes) -> Entry:
+        entry = Entry(counter, channel, kind, len(self.data))
+        self.data += packet_of(channel, data, self.sequences[channel], kind, counter, True)
+        self.sequences[channel] += 1
+        self.greatest = max(self.greatest, counter)
+        self.counts[what] += 1
+        return entry
+
+    def put_node(self) -> None:
+        rows = [struct.pack("<QHBBQ", it.counter, it.channel, it.kind, 0, it.at) for it in self.entries]
+        data = struct.pack("<I", 1 << 31 | len(rows)) + b"".join(rows)
+        self.nodes.append(self.write("index", 0, INDEX, self.greatest, data))
+        self.entries = []
+        if len(self.nodes) == self.most_named:
+            self.put_root()
+
+    def put_root(self) -> None:
+        place = Entry(self.greatest, 0, INDEX, len(self.data))
+        rows = [struct.pack("<QQ", it.counter, it.at) for it in [*self.nodes, self.root or place]]
+        self.root = self.write("index", 0, INDEX, self.greatest, struct.pack("<I", len(rows)) + b"".join(rows))
+        self.nodes = []
+
+    def end(self) -> None:
+        if self.entries:
+            self.put_node()
+        if self.nodes or not self.root:
+            self.put_root()
+
+    def line(self) -> str:
+        """What the command prints."""
+        names = ("times", "packets", "records", "index")
+        return " ".join(f"{it} {self.counts[it]}" for it in names) + f" bytes {len(self.data)}"
+
+
+def put_time(file: File, mark: Mark, setup: Setup, recording: Recording, at: int) -> None:
+    if civil(mark.moment).date is None:
+        raise Refused(5, "Year", at)
+    file.put("times", recording.time_channel, TIME, mark.tick, time_body(mark, setup.is_external))
+
+
+def whole_file(data: bytes, setup: Setup, most_named: int = MOST_NAMED) -> File:
+    """The file of a recording."""
+    recording, file = Recording(data), File(most_named)
+    marks = marks_of(rules_of(setup.origins), recording.least)
+    first = next(marks, None)
+    if first is None:
+        raise Refused(4, "Origin", 0)
+    if civil(first.moment).date is None:
+        raise Refused(5, "Year", 0)
+    text = struct.pack("<I", 0x0C) + setup_text(setup, recording, first).encode("ascii")
+    file.put("setup", 0, SETUP, first.tick, text)
+    put_time(file, first, setup, recording, 0)
+    ahead = next(marks, None)
+    while taken := recording.take():
+        channel, piece = taken
+        counter = file.greatest if piece.counter is None else piece.counter
+        if counter < file.greatest - MOST_DISORDER:
+            raise Refused(2, "Disorder", piece.at)
+        if counter > file.greatest + MOST_GAP:
+            raise Refused(3, "Gap", piece.at)
+        while ahead and ahead.tick <= counter:
+            put_time(file, ahead, setup, recording, piece.at)
+            ahead = next(marks, None)
+        put_piece(file, recording, channel, piece._replace(counter=counter), ahead)
+    file.end()
+    return file
+
+
+def put_piece(file: File, recording: Recording, channel: int, piece: Piece, ahead: Optional[Mark]) -> None:
+    """Writes a piece up to the next time packet; the rest of it is the channel's next one."""
+    assert piece.counter is not None
+    if not piece.frames:
+        file.put("records", 0, COMPUTER, piece.counter, piece.record)
+        return
+    later = (at for at, it in enumerate(piece.frames) if ahead and it.counter >= ahead.tick)
+    count = next(later, len(piece.frames))
+    frames, rest = piece.frames[:count], piece.frames[count:]
+    words = [(it.counter, it.word & ~0xFFFF, it.bytes) for it in frames]
+    file.put("packets", channel, FRAMES, piece.counter, body_of(words))
+    if rest:
+        recording.channels[channel].appendleft(Piece(piece.at, rest[0].counter, rest))
