@@ -6,7 +6,7 @@ import pytest
 from reading import SAMPLES
 from support import ROOT, judge, outcome
 
-TOOLS = ("check_sums", "convert", "info", "live", "pcapng", "preflight", "salvage")
+TOOLS = ("check_sums", "check_ch10", "convert", "follow", "info", "live", "pcapng", "preflight", "salvage")
 OLD = next(iter(sorted(Path.home().glob(".pyenv/versions/3.[78].*/bin/python"))), None)
 
 each_tool = pytest.mark.parametrize("tool", TOOLS)
@@ -37,4 +37,8 @@ def test_an_old_python_is_told_which_it_needs(tool: str) -> None:
         pytest.skip("no Python before 3.9 is here")
     done = outcome(OLD, ROOT / "host/bin" / tool, SAMPLES[1])
     judge("no traceback by an old Python", "Traceback" not in done.stderr and done.stderr.count("\n") <= 1, done)
-    judge("it says which it needs", tool == "check_sums" or (done.returncode, "3.9" in done.stderr) == (2, True), done)
+    judge(
+        "it says which it needs",
+        tool.startswith("check_") or (done.returncode, "3.9" in done.stderr) == (2, True),
+        done,
+    )

@@ -251,8 +251,20 @@ def setup_text(setup: Setup, recording: Recording, first: Mark) -> str:
     lines = ["G\\PN:bpfrec", "G\\106:17", f"G\\OD:{said.date_text()}", "G\\DSI\\N:1", f"G\\DSI-1:{host}"]
     lines += ["G\\DST-1:STO", f"R-1\\ID:{host}", "R-1\\RID:bpfrec", f"R-1\\R1:{cleaned(setup.program)}", "R-1\\TC1:SSR"]
     lines += ["R-1\\RI3:Y", f"R-1\\RI4:{said.date_text()}-{hour:02}-{minute:02}-{second:02}", "R-1\\NSB:0"]
-    lines += ["R-1\\IDX\\E:T", "R-1\\IDX\\IT:C", "R-1\\IDX\\ICV:1", "R-1\\EV\\E:F", f"R-1\\N:{len(recording.channels) + 1}"]
-    lines += [f"R-1\\TK1-1:{recording.time_channel}", "R-1\\TK4-1:1", "R-1\\CHE-1:T", "R-1\\DSI-1:TIME", "R-1\\CDT-1:TIMEIN"]
+    lines += [
+        "R-1\\IDX\\E:T",
+        "R-1\\IDX\\IT:C",
+        "R-1\\IDX\\ICV:1",
+        "R-1\\EV\\E:F",
+        f"R-1\\N:{len(recording.channels) + 1}",
+    ]
+    lines += [
+        f"R-1\\TK1-1:{recording.time_channel}",
+        "R-1\\TK4-1:1",
+        "R-1\\CHE-1:T",
+        "R-1\\DSI-1:TIME",
+        "R-1\\CDT-1:TIMEIN",
+    ]
     lines += ["R-1\\TTF-1:1", "R-1\\TFMT-1:I", f"R-1\\TSRC-1:{source}"]
     for number, channel in enumerate(sorted(recording.channels), 2):
         name, net = setup.channels.get(channel, ("channel", 0))
@@ -260,7 +272,9 @@ def setup_text(setup: Setup, recording: Recording, first: Mark) -> str:
         lines += [f"R-1\\TK1-{number}:{channel}", f"R-1\\TK4-{number}:{number}", f"R-1\\CHE-{number}:T"]
         lines += [f"R-1\\DSI-{number}:{label}", f"R-1\\CDT-{number}:ETHIN", f"R-1\\ENTF-{number}:0"]
         lines += [f"R-1\\NNET-{number}:1", f"R-1\\ENBR-{number}-1:{net}", f"R-1\\ENAM-{number}-1:{cleaned(name)}"]
-    lines += ["R-1\\COM:Packets of type 0 on channel 0 with the tag CBPR hold the filter programs and the counts of bpfrec"]
+    lines += [
+        "R-1\\COM:Packets of type 0 on channel 0 with the tag CBPR hold the filter programs and the counts of bpfrec"
+    ]
     return "".join(f"{it};\r\n" for it in [*lines, *setup.attributes])
 
 

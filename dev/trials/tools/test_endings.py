@@ -33,7 +33,7 @@ from support import (
 )
 
 WANTED = {"bin/bpfrec": "make build"}
-CHECK_CH10 = ROOT / "host/bin/check_ch10"
+CHECK_CH10, FOLLOW = ROOT / "host/bin/check_ch10", ROOT / "host/bin/follow"
 FULL, CLOSED = "No space left on device", "Bad file descriptor"
 # Those that print, and those that wait for a pipe; all but convert end at a fault of a file with status 3.
 PRINTING = (
@@ -48,6 +48,7 @@ PRINTING = (
     "make",
     "show",
     "preflight",
+    "follow",
 )
 WAITING = ("check_sums", "check_ch10", "info", "pcapng", "salvage", "from-pcap", "to-pcap", "show")
 OF_CONVERT = ("from-pcap", "to-pcap", "make", "show")
@@ -75,6 +76,7 @@ def words_of(work: Path, tool: str, given: Path | None = None) -> list:
         "make": [CONVERT, "make", "--force", "1", "100", out],
         "show": [CONVERT, "show", given or feed],
         "preflight": [PREFLIGHT, given or settings, "--out", out],
+        "follow": [FOLLOW, recording],
     }
     return words[tool]
 
@@ -175,7 +177,9 @@ def least() -> int:
     return 1 + next(it for it in range(200, 0, -1) if not begins_in(it))
 
 
-@pytest.mark.parametrize("tool", ["check_sums", "info", "pcapng", "salvage", "from-pcap", "preflight", "live"])
+@pytest.mark.parametrize(
+    "tool", ["check_sums", "follow", "info", "pcapng", "salvage", "from-pcap", "preflight", "live"]
+)
 def test_a_tool_with_little_memory_works_or_says_so(work: Path, least: int, tool: str) -> None:
     """In each of some sizes of memory a tool does what it does in a larger one, or says that there is none."""
     words = [LIVE, work / "live.ch11", "no_interface"] if tool == "live" else words_of(work, tool)

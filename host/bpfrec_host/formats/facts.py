@@ -151,7 +151,11 @@ def count_in(loss: Any, name: str, place: str) -> int:
 def read(path: Union[str, int]) -> Facts:
     """The facts that a file has; `path` may be a descriptor too."""
     with open(path, "rb") as file:
-        data = file.read(MAX_FACTS_LEN + 1)
+        return facts_in(file.read(MAX_FACTS_LEN + 1))
+
+
+def facts_in(data: bytes) -> Facts:
+    """The facts that a file of these bytes has."""
     if len(data) > MAX_FACTS_LEN:
         raise NoFacts(f"it has more than {MAX_FACTS_LEN >> 20} MiB")
     try:

@@ -1,0 +1,133 @@
+"""The command line of bpfrec-follow."""
+
+from __future__ import annotations
+
+import argparse
+import os
+import signal
+import stat
+import sys
+import time
+from typing import Optional
+
+from bpfrec_host import printing
+from bpfrec_host.arguments import Parser, full_name, natural, short_name
+from bpfrec_host.follow.runs import first_of, following
+from bpfrec_host.follow.view import Recording, View
+from bpfrec_host.formats.limits import MAX_CHANNEL_ID
+from bpfrec_host.streams import STREAM, Refused, Taken, input_at
+
+ABOUT = """\
+Gives the frames of a recording that goes on as pcapng on standard output, each packet as soon as it is written, over
+the recordings of a run that follow one another, until the run ends:
+
+  bpfrec-follow flight.ch11 | wireshark -k -i -
+
+RECORDING is a recording, or the name of a run whose recordings are numbered; then it begins with the newest. Each
+channel is an interface with the name that the facts beside the recording have for it, and times are those of the facts.
+Comments have the filter of each channel, and at the first frame after a change the new one. Frames of a channel stand
+in their order; those of channels stand as the packets were written.
+"""
+MORE = """\
+A packet is written when it is full or when live closes it by --flush, so frames come that late. The recording is only
+read: a reader that is slow or leaves changes nothing of it.
+
+Status: 0 the run has ended, 1 a recording is damaged, 2 the arguments are wrong, 3 a file can't be read or written,
+4 out of memory, 130 interrupted.
+"""
+# How often it looks for more, in seconds, and for how long a next recording is waited for once the last has ended.
+PAUSE, PATIENCE = 0.02, 2.0
+BUFFER_LEN = 1 << 20
+
+
+def parser() -> Parser:
+    """The arguments of bpfrec-follow."""
+    made = Parser(prog=full_name("follow"), description=ABOUT, epilog=MORE)
+    made.add_argument("--channel", metavar="N", type=channel_of, action="append", help="this channel; several times")
+    made.add_argument("--now", action="store_true", help="leaves out the frames that are in the recording already")
+    made.add_argument("recording", metavar="RECORDING")
+    return made
+
+
+def channel_of(word: str) -> int:
+    """The channel ID that a word is."""
+    number = natural(word)
+    if number > MAX_CHANNEL_ID:
+        raise argparse.ArgumentTypeError(f"{word} is no channel ID, 0 to {MAX_CHANNEL_ID}")
+    return number
+
+
+def tell_fault(line: str) -> None:
+    """Tells a fault of a recording."""
+    printing.err(f"{short_name('follow')}: {line}")
+
+
+def follow(path: str, begins_now: bool, view: View) -> bool:
+    """Shows a recording and those that follow it, until the run ends: whether one was damaged."""
+    next_path: Optional[str] = path
+    is_damaged = False
+    while next_path:
+        recording = Recording(next_path, view, tell_fault)
+        try:
+            recording.hidden_to = recording.size() if begins_now else 0
+            next_path, begins_now = follow_one(recording), False
+        finally:
+            recording.close()
+        is_damaged |= recording.is_damaged
+    return is_damaged
+
+
+def follow_one(recording: Recording) -> Optional[str]:
+    """Shows a recording until it has ended: the one that follows; None where the run has ended."""
+    while not recording.has_all_ends() and not recording.has_ended():
+        show_more(recording)
+    recording.end()
+    recording.view.out.flush()
+    return next_of(recording)
+
+
+def show_more(recording: Recording) -> None:
+    """Shows what has come, or waits a little."""
+    if recording.read_on():
+        recording.view.out.flush()
+    else:
+        time.sleep(PAUSE)
+
+
+def next_of(recording: Recording) -> Optional[str]:
+    """The recording that follows one, which is waited for until that has ended by its facts, and a little longer."""
+    ends = None
+    while recording.known:
+        next_path = following(recording.path, recording.known.begun)
+        if next_path or ends is not None and time.monotonic() > ends:
+            return next_path
+        if recording.has_ended() and ends is None:
+            ends = time.monotonic() + PATIENCE
+        time.sleep(PAUSE)
+        recording.look_at_facts()
+    return None
+
+
+def run(arguments: list[str]) -> int:
+    """Follows a recording: the status."""
+    given = parser().parse_args(arguments)
+    try:
+        if sys.stdout.isatty():
+            raise Refused("standard output is a terminal, which shows no capture")
+        path = first_of(given.recording)
+        if not stat.S_ISREG(os.stat(path).st_mode):
+            raise Refused(f"{path}: it is no regular file, which could be followed")
+        if input_at(STREAM, [path]):
+            raise Taken(f"{STREAM}: it is {path} itself")
+    except Refused as refused:
+        tell_fault(str(refused))
+        return refused.status
+    # Its reader may leave whenever it likes, as Wireshark does.
+    signal.signal(signal.SIGPIPE, signal.SIG_DFL)
+    try:
+        with open(sys.stdout.fileno(), "wb", BUFFER_LEN, closefd=False) as out:
+            is_damaged = follow(path, given.now, View(out, given.channel or []))
+    except OSError as error:
+        error.filename = error.filename or STREAM
+        raise
+    return 1 if is_damaged else 0

@@ -1,0 +1,205 @@
+"""What is shown of a recording that goes on: the blocks of a capture, as its packets come."""
+
+from __future__ import annotations
+
+import os
+from typing import BinaryIO, Callable, Iterator, Optional
+
+from bpfrec_host.filter_texts import Texts
+from bpfrec_host.follow.runs import Known, is_written, known_of
+from bpfrec_host.formats import pcapng_blocks
+from bpfrec_host.formats.ch11.body import BadBody, End, Frames, Program
+from bpfrec_host.formats.ch11.follow import Follower, Front
+from bpfrec_host.formats.limits import (
+    BODY_WORD_LEN,
+    ETHERNET_DATA,
+    FRAME_HEADER_LEN,
+    HEADER_LEN,
+    MAX_COUNTER,
+    MAX_FRAME_LEN,
+    MIN_FRAME_LEN,
+    NANOSECONDS_A_TICK,
+)
+from bpfrec_host.live.names import facts_path
+from bpfrec_host.pcapng.index import body_of
+from bpfrec_host.pcapng.merging import program_text
+from bpfrec_host.pcapng.slices import CONTENT, FRAME, MARKS
+
+PROGRAM = "bpfrec-follow"
+Report = Callable[[str], None]
+
+
+class Interface:
+    """A channel as an interface of the capture, and its filter: the program that was said last, and those since."""
+
+    def __init__(self, number: int) -> None:
+        self.number = number
+        self.said: Optional[Program] = None
+        self.waiting: list[Program] = []
+
+    def is_new(self, program: Program) -> bool:
+        """Whether a program is another filter than the one before. A recording that follows begins with that, as its
+        version 0."""
+        last = self.waiting[-1] if self.waiting else self.said
+        return last is None or last.insns != program.insns or program.version > 0 and last != program
+
+
+class View:
+    """The capture that is written, over all recordings of a run."""
+
+    def __init__(self, out: BinaryIO, asked: list[int]) -> None:
+        self.out, self.asked = out, asked
+        self.interfaces: dict[int, Interface] = {}
+        self.texts = Texts()
+        self.frames = self.skipped = 0
+        out.write(pcapng_blocks.section(PROGRAM, []))
+
+    def shows(self, channel: int) -> bool:
+        """Whether a channel was asked for."""
+        return not self.asked or channel in self.asked
+
+    def program(self, program: Program, name: str) -> None:
+        """A filter's program came into force."""
+        if not self.shows(program.channel):
+            return
+        interface = self.interface(program.channel, name, program)
+        if interface.is_new(program):
+            interface.waiting.append(program)
+
+    def interface(self, channel: int, name: str, first: Optional[Program] = None) -> Interface:
+        """The interface of a channel, which is described where it is new, with its first program."""
+        found = self.interfaces.get(channel)
+        if found is None:
+            found = self.interfaces[channel] = Interface(len(self.interfaces))
+            found.said = first
+            text = program_text([first], self.texts) if first else f"channel {channel}"
+            self.out.write(pcapng_blocks.interface(name, f"channel {channel}", "", text))
+        return found
+
+    def frame(self, interface: Interface, moment: int, marks: int, frame: bytes) -> None:
+        """A frame, with a comment where the filter has changed since the one before."""
+        options = b""
+        if marks or interface.waiting:
+            said, interface.waiting = interface.waiting, []
+            interface.said = said[-1] if said else interface.said
+            options = pcapng_blocks.packet_options(marks, program_text(said, self.texts) if said else None)
+        self.out.write(pcapng_blocks.packet(interface.number, moment, frame, options))
+        self.frames += 1
+
+
+class Recording:
+    """A recording that is shown: its file, its facts, and the channels that have ended."""
+
+    def __init__(self, path: str, view: View, report: Report) -> None:
+        self.path, self.view, self.report = path, view, report
+        self.file = open(path, "rb", buffering=0)
+        self.follower = Follower(self.file.fileno(), self.take)
+        self.known: Optional[Known] = None
+        self.facts_file: Optional[tuple[int, int]] = None
+        self.ended: set[int] = set()
+        self.named: set[int] = set()
+        # Up to this place frames are not shown.
+        self.hidden_to = 0
+        self.is_damaged = False
+
+    def close(self) -> None:
+        """Closes the file."""
+        self.file.close()
+
+    def size(self) -> int:
+        """How many bytes it has by now."""
+        return os.fstat(self.file.fileno()).st_size
+
+    def read_on(self) -> bool:
+        """Shows what has come: whether anything had."""
+        before, size = self.follower.at, self.size()
+        self.look_at_facts()
+        for fault in self.follower.read_on(size):
+            self.is_damaged = True
+            self.report(f"{self.path}: {fault}")
+        return self.follower.at > before
+
+    def read_at(self, at: int, length: int) -> bytes:
+        """Bytes at a place; its fault has the file's name."""
+        try:
+            return os.pread(self.file.fileno(), length, at)
+        except OSError as error:
+            error.filename = self.path
+            raise
+
+    def end(self) -> None:
+        """Shows what is left of a recording that has ended."""
+        if not self.follower.reader:
+            self.follower.end()
+            while self.read_on():
+                pass
+
+    def look_at_facts(self) -> None:
+        """Reads the facts where they are new."""
+        try:
+            found = os.stat(facts_path(self.path))
+        except OSError:
+            return
+        file = (found.st_ino, found.st_mtime_ns)
+        if file != self.facts_file:
+            self.facts_file, self.known = file, known_of(self.path) or self.known
+
+    def take(self, front: Front) -> None:
+        """Shows a packet."""
+        if not front.header.is_plain():
+            return
+        if front.header.kind == ETHERNET_DATA:
+            self.take_frames(front)
+            return
+        record = self.follower.record(front)
+        if isinstance(record, Program):
+            self.named.add(record.channel)
+            self.view.program(record, self.name(record.channel))
+        elif isinstance(record, End):
+            self.named.add(record.channel)
+            self.ended.add(record.channel)
+
+    def take_frames(self, front: Front) -> None:
+        """Shows a packet of frames."""
+        header = front.header
+        self.named.add(header.channel)
+        if front.at < self.hidden_to or not self.view.shows(header.channel):
+            return
+        packet = self.read_at(front.at, header.packet_len)
+        what, fault = body_of(header, packet)
+        if fault is not None:
+            raise BadBody
+        if isinstance(what, Frames):
+            interface = self.view.interface(header.channel, self.name(header.channel))
+            for counter, marks, frame in self.frames_in(packet[HEADER_LEN : HEADER_LEN + header.data_len]):
+                self.view.frame(interface, self.moment_of(counter), marks, frame)
+
+    def frames_in(self, data: bytes) -> Iterator[tuple[int, int, bytes]]:
+        """The frames of a body, which is whole: counters, marks as in a feed, and bytes."""
+        at = BODY_WORD_LEN
+        for _ in range(int.from_bytes(data[:2], "little")):
+            counter, word = FRAME.unpack_from(data, at)
+            length, begin = word & MAX_FRAME_LEN, at + FRAME_HEADER_LEN
+            at = begin + length + (length & 1)
+            if word & CONTENT or length < MIN_FRAME_LEN:
+                self.view.skipped += 1
+                continue
+            yield counter & MAX_COUNTER, MARKS[word >> 30], data[begin : begin + length]
+
+    def name(self, channel: int) -> str:
+        """The name of a channel's interface."""
+        return (self.known.facts.interfaces.get(channel) if self.known else None) or f"channel {channel}"
+
+    def moment_of(self, counter: int) -> int:
+        """The moment of a counter, which a capture has from 1970 on."""
+        moment = self.known.facts.moment_of(counter) if self.known else counter * NANOSECONDS_A_TICK
+        return min(max(moment or 0, 0), pcapng_blocks.MOST_UNITS)
+
+    def has_all_ends(self) -> bool:
+        """Whether it has the record of each channel's end."""
+        wanted = set(self.known.facts.interfaces) if self.known else set()
+        return bool(wanted) and (wanted | self.named) <= self.ended
+
+    def has_ended(self) -> bool:
+        """Whether its facts say that it has ended; without facts, whether nobody writes it."""
+        return self.known.has_ended if self.known else not is_written(self.path)

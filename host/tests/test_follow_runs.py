@@ -1,0 +1,91 @@
+"""Tries which recordings host/bin/follow takes for those of a run, by their names and the facts beside them."""
+
+from __future__ import annotations
+
+import fcntl
+import json
+import os
+from pathlib import Path
+
+import pytest
+from bpfrec_host.follow.runs import first_of, following, is_written, known_of, names_of, number_of, numbered
+from bpfrec_host.live.names import Names
+from bpfrec_host.streams import Refused
+from support import judge
+
+WANTED: dict[str, str] = {}
+
+
+def write(path: Path, begun: str, state: str = "recording", moment: float = 0) -> str:
+    """A recording with its facts."""
+    path.write_bytes(b"")
+    os.utime(path, (moment, moment))
+    told = {"facts": 1, "host": "h", "begun": begun, "state": state, "losses": []}
+    told["origins"] = [{"origin": "1764590400.250000000", "counter": 0}]
+    Path(f"{path}.json").write_text(json.dumps(told))
+    return str(path)
+
+
+@pytest.mark.parametrize(
+    "name, number",
+    [
+        ("flight_00001.ch11", 1),
+        ("flight_123456.ch11", 123_456),
+        ("flight.ch11", None),
+        ("flight_1.ch11", None),
+        ("flight_0000x.ch11", None),
+        ("flight_00001.ch10", None),
+        ("other_00001.ch11", None),
+    ],
+)
+def test_numbers_stand_in_names(name: str, number: int) -> None:
+    judge(name, number_of(name, Names("flight.ch11")) == number)
+
+
+def test_a_numbered_recording_is_one_of_its_run() -> None:
+    for path, run in [
+        ("a/f_00003.ch11", "a/f.ch11"),
+        ("a/f.ch11", "a/f.ch11"),
+        ("f_x_00003", "f_x"),
+        ("f_3.ch11", "f_3.ch11"),
+    ]:
+        names = names_of(path)
+        judge(path, f"{names.stem}{names.ending}" == run, (names.stem, names.ending))
+
+
+def test_a_run_begins_with_its_newest_recording(work: Path) -> None:
+    for number, moment in ((1, 50), (2, 90), (3, 20)):
+        write(work / f"f_0000{number}.ch11", "x", moment=moment)
+    judge("the newest", first_of(str(work / "f.ch11")) == str(work / "f_00002.ch11"))
+    judge("a recording by its own name", first_of(str(work / "f_00003.ch11")) == str(work / "f_00003.ch11"))
+    judge("all in order", [it for it, _ in numbered(Names(str(work / "f.ch11")))] == [1, 2, 3])
+    with pytest.raises(Refused, match="none that is numbered, as .*g_00001.ch11"):
+        first_of(str(work / "g.ch11"))
+
+
+def test_the_next_recording_is_the_next_of_the_same_run(work: Path) -> None:
+    """One that an earlier run left is skipped, and one whose facts aren't there yet isn't the next yet."""
+    first = write(work / "f_00001.ch11", "2026-01-02T00:00:00Z")
+    write(work / "f_00002.ch11", "2026-01-01T00:00:00Z")
+    judge("an earlier run's", following(first, "2026-01-02T00:00:00Z") is None)
+    (work / "f_00003.ch11").write_bytes(b"")
+    judge("without facts yet", following(first, "2026-01-02T00:00:00Z") is None)
+    third = write(work / "f_00003.ch11", "2026-01-02T00:00:00Z")
+    judge("its own", following(first, "2026-01-02T00:00:00Z") == third)
+    judge("a recording alone has none", following(write(work / "g.ch11", "x"), "x") is None)
+
+
+def test_facts_say_when_it_began_and_whether_it_has_ended(work: Path) -> None:
+    known = known_of(write(work / "f.ch11", "then", "ended"))
+    judge("both", known is not None and (known.begun, known.has_ended) == ("then", True))
+    for text in ("", "{}", '{"facts": 1}', "[]"):
+        (work / "f.ch11.json").write_text(text)
+        judge(f"no facts: {text}", known_of(str(work / "f.ch11")) is None)
+    judge("none at all", known_of(str(work / "g.ch11")) is None)
+
+
+def test_a_lock_says_that_it_is_written(work: Path) -> None:
+    with open(work / "f.ch11", "wb") as file:
+        judge("nobody has it", not is_written(file.name))
+        fcntl.flock(file, fcntl.LOCK_EX)
+        judge("somebody has it", is_written(file.name))
