@@ -35,6 +35,8 @@ class Arguments(NamedTuple):
     options: list[str]
     every: Optional[int]
     size: Optional[int]
+    # After how many seconds the run ends; None where a signal ends it.
+    seconds: Optional[int]
     sync: int
     is_prefiltered: bool
     is_forced: bool
@@ -85,12 +87,17 @@ def fault_of(message: str) -> str:
 
 
 def number(least: int, most: int, said: str, units: Optional[dict[str, int]] = None) -> Callable[[str], int]:
-    """What reads a number of a range, without zeros ahead, and the unit behind it."""
+    """What reads a number of a range, without zeros ahead, and the unit behind it; or several of them, as a sum."""
     factors = units or {"": 1}
 
+    digits = rf"(?:0|[1-9][0-9]{{0,{len(str(most)) - 1}}})"
+
     def read(word: str) -> int:
-        found = re.fullmatch(rf"(0|[1-9][0-9]{{0,{len(str(most)) - 1}}})([a-zA-Z]?)", word)
-        value = int(found[1]) * factors.get(found[2], -1) if found else -1
+        parts = re.findall(rf"({digits})([a-zA-Z]?)", word)
+        # Of several parts each has its unit, as 1h30m.
+        is_number = re.fullmatch(rf"{digits}[a-zA-Z]?|(?:{digits}[a-zA-Z])+", word)
+        is_whole = is_number and all(unit in factors for _, unit in parts)
+        value = sum(int(count) * factors[unit] for count, unit in parts) if is_whole else -1
         if not least <= value <= most:
             raise argparse.ArgumentTypeError(f"needs a number {said}")
         return value
@@ -120,6 +127,7 @@ def parser() -> Parser:
     seconds = number(1, MAX_SECONDS, f"from 1 to {MAX_SECONDS}{IN_SECONDS}", TIMES)
     made.add_argument("--force", action="store_true", help="overwrites an OUT that exists")
     made.add_argument("--every", metavar="SECONDS", type=seconds, help="begins a new recording after this time")
+    made.add_argument("--for", metavar="SECONDS", dest="seconds", type=seconds, help="ends the run after this time")
     size = number(1, MAX_BYTES, f"from 1 on{IN_BYTES}", SIZES)
     made.add_argument("--size", metavar="BYTES", type=size, help="begins a new recording at BYTES bytes")
     sync = number(0, MAX_SECONDS, f"from 0 to {MAX_SECONDS}{IN_SECONDS}", TIMES)
@@ -169,6 +177,7 @@ def read(arguments: list[str]) -> Arguments:
         options=given.options,
         every=given.every,
         size=given.size,
+        seconds=given.seconds,
         sync=given.sync,
         is_prefiltered=given.prefilter,
         is_forced=given.force,

@@ -9,7 +9,9 @@ Without SETTINGS all frames are recorded: the first interface is channel 1, the 
 INTERFACE=CHANNEL names by its channel ID. With SETTINGS each interface is one of their channels, which then needs no
 feed; a channel without an interface keeps the feed that SETTINGS gives it. INTERFACE=CHANNEL:EXPRESSION gives a channel
 the filter that tcpdump makes of an expression, as eth0=1:'udp port 53', with VLAN tags as they are on the wire.
-Lines `set <channel> <file>` on standard input change filters.
+Lines on standard input change filters: `set <channel> <filter>`, where the filter is a file that is a listing or a text
+for bpfrec asm, or an expression, as `set 7 udp port 5004`. A line `next` begins the next recording of --every or --size,
+`stop` ends the run, and `help` prints what there is. --for SECONDS ends it after that time.
 
 An OUT that exists is refused unless --force is given, and no link is followed. OUT and OUT.json have the mode 0640,
 less what umask takes away, or MODE. What is written is forced to the disk each second, so lost power costs about two
@@ -21,7 +23,7 @@ The facts of a recording of interfaces are in OUT.json beside it: the origin of 
 interfaces, settings, filters, what was lost and when, and in the end the report and the audit. `info` and
 `convert to-pcap --facts` take times from it.
 
-SECONDS may end with s, m, h or d, and BYTES with k, M or G (powers of 1,000), as 10m and 2G.
+SECONDS may end with s, m, h or d, and BYTES with k, M or G (powers of 1,000), as 10m, 1h30m and 2G.
 
 With --every SECONDS or --size BYTES it begins a new recording when SECONDS have gone by since the last began, or when
 that has at least BYTES bytes; with both, at the first of them. Each recording is complete and audited on its own. A

@@ -3,8 +3,10 @@
 from __future__ import annotations
 
 import signal
+import subprocess
 import time
-from typing import Callable, NamedTuple, Optional, Protocol
+from pathlib import Path
+from typing import Callable, NamedTuple, Optional, Protocol, Sequence
 
 from bpfrec_host.formats.answers import Answer, file_fault, is_output_fault
 from bpfrec_host.formats.limits import MAX_VERSIONS
@@ -12,9 +14,12 @@ from bpfrec_host.live import children, outputs, system
 from bpfrec_host.live.arguments import Arguments
 from bpfrec_host.live.capture import Capture
 from bpfrec_host.live.console import Console
-from bpfrec_host.live.control.changes import Change
-from bpfrec_host.live.control.lines import ControlLines
+from bpfrec_host.live.control.changes import Change, Changes
+from bpfrec_host.live.control.lines import ControlLines, ControlPorts
+from bpfrec_host.live.control.made_filters import MadeFilter, make
+from bpfrec_host.live.control.words import Word
 from bpfrec_host.live.durability import Durability
+from bpfrec_host.live.end_of_run import EndOfRun
 from bpfrec_host.live.engine import FILE_FAULT
 from bpfrec_host.live.events import Events
 from bpfrec_host.live.facts import Writer
@@ -77,7 +82,9 @@ class Run:
         self.err = self.console.err
         self.observers = Observers(observer, folder)
         self.capture = Capture(programs.capture, given, folder, self.loop)
-        self.control = ControlLines(self.loop, folder, given, self.current, terminal)
+        changes = Changes(folder, given.keeps_filters(), self.make_filter)
+        ports_of_lines = ControlPorts(self.obey, self.err, terminal)
+        self.control = ControlLines(self.loop, given, changes, self.current, ports_of_lines)
         self.flush = Flush(given.flush, folder, self.control.push) if given.flush is not None else None
         self.notifier = Notifier()
         self.retention = Retention(
@@ -88,6 +95,8 @@ class Run:
         self.recordings = Recordings(self.writer, self.outputs, self.err)
         self.timed: list[Timed] = [self.watches, self.outputs, self.observers, self.retention, self.notifier]
         self.timed += [self.flush] if self.flush else []
+        self.end_of_run = EndOfRun(given.seconds, self.end)
+        self.timed.append(self.end_of_run)
         self.signals_came = 0
         plan = Plan(bool(given.routes), given.every, given.size, given.is_audited, given.is_strict)
         names = (programs.capture, programs.bpfrec)
@@ -174,6 +183,31 @@ class Run:
         self.outputs.look(self.current())
         self.machine.told_to_end(time.monotonic())
 
+    def end(self) -> None:
+        """Ends the run, where nothing has yet: its time is over, or a line says so."""
+        if not self.machine.is_ending():
+            self.machine.told_to_end(time.monotonic())
+
+    def obey(self, word: Word) -> None:
+        """Does what a line says that is a word alone."""
+        if word is Word.STOP:
+            self.end()
+        elif self.given.is_rotating():
+            self.machine.used_up(self.machine.current)
+        else:
+            self.err("live: next: recordings follow one another with --every or --size alone")
+
+    def make_filter(self, text: str, listing: Path) -> MadeFilter:
+        """Has the listing of a filter in words made."""
+        return make(text, listing, self.programs.bpfrec, self.start_maker)
+
+    def start_maker(self, arguments: Sequence[str], out: Path, errors: Path, ended: Callable[[int], None]) -> None:
+        """Starts a program that makes a listing; what waits for it goes on when it has ended."""
+        with open(out, "wb") as printed, open(errors, "wb") as told:
+            manner = children.Manner([self.guard.all])
+            child = children.start(arguments, (subprocess.DEVNULL, printed, told), manner)
+        self.loop.follow(child, ended)
+
     def end_guard(self, status: int) -> None:
         """The guard has ended, which it does by itself only once live has."""
         self.err(f"live: its guard was ended by signal {status - KILLED}: all goes on without it")
@@ -205,6 +239,7 @@ class Run:
         """A recorder has opened OUT."""
         recorder.let_live()
         self.machine.opened(recorder.recording)
+        self.end_of_run.begin()
         self.observers.begun(recorder)
         self.notifier.ready(recorder.about.out)
         self.durability.begin(recorder)

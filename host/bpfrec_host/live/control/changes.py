@@ -5,8 +5,10 @@ from __future__ import annotations
 import os
 import re
 from pathlib import Path
-from typing import NamedTuple, Optional
+from typing import Callable, NamedTuple, Optional
 
+from bpfrec_host.live.control.made_filters import MadeFilter, is_in_words
+from bpfrec_host.live.control.words import word_of
 from bpfrec_host.live.folder import Folder, copy_listing
 from bpfrec_host.live.standard_streams import another
 
@@ -16,6 +18,8 @@ MAX_LINE_LEN = 1 << 20
 # So much may wait for the recorder until no further line is read.
 MAX_WAITING = 1 << 16
 SET = re.compile(rb"set ([0-9]{1,9}) (.+)", re.DOTALL)
+# Makes the listing of a filter in words, in this file.
+Make = Callable[[str, Path], MadeFilter]
 
 
 class Input:
@@ -104,28 +108,66 @@ class Pipe:
             os.close(self.writer)
 
 
+class Held:
+    """A line that no recorder has yet: what the recorder gets of it, a word, or a filter that is made first."""
+
+    def __init__(self, line: bytes, change: Change = Change(0, None), made: Optional[MadeFilter] = None) -> None:
+        self.line, self.change, self.made = line, change, made
+        self.word = word_of(line)
+
+    def is_ready(self) -> bool:
+        """Whether all is known that it says."""
+        return self.made is None or self.made.has_ended
+
+    def fault(self) -> Optional[str]:
+        """What is wrong with it, once that is known."""
+        return f"live: {os.fsdecode(self.line)}: {self.made.fault}" if self.made and self.made.fault else None
+
+    def asked(self) -> tuple[bytes, Change]:
+        """The line for the recorder."""
+        if self.made is None or self.change.copy is None:
+            return self.line, self.change
+        return set_line(self.change.channel, self.change.copy), self.change
+
+
+def set_line(channel: int, listing: Path) -> bytes:
+    """The line that gives a channel the filter of a listing."""
+    return b"set %d %s" % (channel, os.fsencode(listing))
+
+
 class Changes:
-    """Copies of the listings that lines name, so that later recordings begin with the filters that were set."""
+    """Listings for the lines that change filters: copies of those that lines name, so that later recordings begin with
+    the filters that were set, and those that are made of filters in words."""
 
-    def __init__(self, folder: Folder, keeps: bool) -> None:
-        self.folder, self.keeps, self.count = folder, keeps, 0
+    def __init__(self, folder: Folder, keeps: bool, make: Make) -> None:
+        self.folder, self.keeps, self.make, self.count = folder, keeps, make, 0
 
-    def copied(self, line: bytes) -> tuple[bytes, Change]:
-        """A line for the recorder: where it names a listing, with the name of a copy."""
+    def held(self, line: bytes) -> Held:
+        """A line as it waits for the recorder."""
         found = SET.fullmatch(line)
-        if not found or not self.keeps:
-            return line, Change(0, None)
-        self.count += 1
-        copy = self.folder.top / f"change_{self.count}"
+        if not found:
+            return Held(line)
+        text = os.fsdecode(found[2]).strip()
+        if is_in_words(text):
+            copy = self.next_copy()
+            return Held(line, Change(int(found[1]), copy), self.make(text, copy))
+        if not self.keeps:
+            return Held(line)
+        copy = self.next_copy()
         if not copy_listing(os.fsdecode(found[2]), copy):
-            return line, Change(0, None)
-        return b"set %s %s" % (found[1], os.fsencode(copy)), Change(int(found[1]), copy)
+            return Held(line)
+        return Held(set_line(int(found[1]), copy), Change(int(found[1]), copy))
+
+    def next_copy(self) -> Path:
+        """The file of the next listing."""
+        self.count += 1
+        return self.folder.top / f"change_{self.count}"
 
     def answered(self, change: Change, is_installed: bool) -> None:
         """Keeps the listing of a line that the recorder took; another one's copy isn't wanted any more."""
         if change.copy is None:
             return
-        if is_installed:
+        if is_installed and self.keeps:
             change.copy.replace(self.folder.kept_filter(change.channel))
         else:
             change.copy.unlink(missing_ok=True)

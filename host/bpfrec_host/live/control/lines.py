@@ -2,13 +2,14 @@
 
 from __future__ import annotations
 
+import os
 from collections import deque
-from typing import Callable, Optional
+from typing import Callable, NamedTuple, Optional
 
 from bpfrec_host.formats.answers import Answer
 from bpfrec_host.live.arguments import Arguments
-from bpfrec_host.live.control.changes import MAX_WAITING, Change, Changes, Input
-from bpfrec_host.live.folder import Folder
+from bpfrec_host.live.control.changes import MAX_WAITING, Change, Changes, Held, Input
+from bpfrec_host.live.control.words import HELP, Word
 from bpfrec_host.live.loop import Loop
 from bpfrec_host.live.recorder import Recorder
 from bpfrec_host.live.status import Terminal
@@ -17,16 +18,26 @@ from bpfrec_host.live.status import Terminal
 MOST_UNANSWERED = 128
 
 
+class ControlPorts(NamedTuple):
+    """What lines have beside the recorder: what does a word, what prints a line, and the terminal on which it is
+    shown."""
+
+    perform: Callable[[Word], None]
+    err: Callable[[str], None]
+    terminal: Terminal
+
+
 class ControlLines:
     """The lines of a run; `current` gives the recording that goes on."""
 
     def __init__(
-        self, loop: Loop, folder: Folder, given: Arguments, current: Callable[[], Recorder], terminal: Terminal
+        self, loop: Loop, given: Arguments, changes: Changes, current: Callable[[], Recorder], ports: ControlPorts
     ) -> None:
-        self.loop, self.given, self.current, self.terminal = loop, given, current, terminal
-        self.input, self.changes = Input(), Changes(folder, given.keeps_filters())
+        self.loop, self.given, self.changes, self.current = loop, given, changes, current
+        self.perform, self.err, self.terminal = ports
+        self.input = Input()
         # The lines that no recorder has yet.
-        self.held: deque[tuple[bytes, Change]] = deque()
+        self.held: deque[Held] = deque()
 
     def is_open(self) -> bool:
         """Whether a line may come still, from standard input or from live itself."""
@@ -51,7 +62,7 @@ class ControlLines:
         for line in self.input.lines() or []:
             if descriptor is not None and self.terminal.is_of(descriptor):
                 self.terminal.note_typed()
-            self.held.append(self.changes.copied(line))
+            self.held.append(self.changes.held(line))
         if self.input.descriptor is None and descriptor is not None:
             self.loop.on_read(descriptor, None)
             self.current().lines.is_ending = not self.is_open()
@@ -63,8 +74,8 @@ class ControlLines:
         recorder = self.current()
         if not self.held:
             return
-        while self.held and not self.waits(recorder):
-            recorder.lines.put(*self.held.popleft())
+        while self.held and self.held[0].is_ready() and not self.waits(recorder):
+            self.pass_on(self.held.popleft(), recorder)
         recorder.lines.is_ending = recorder.lines.is_ending or not self.is_open()
         self.push(recorder)
 
@@ -82,9 +93,21 @@ class ControlLines:
         """Ends the lines of a recorder, once it has those that wait."""
         is_last = recorder is self.current() and not recorder.recording.has_failed and not recorder.recording.was_killed
         while self.held and is_last:
-            recorder.lines.put(*self.held.popleft())
+            self.pass_on(self.held.popleft(), recorder)
         recorder.lines.is_ending = True
         self.push(recorder)
+
+    def pass_on(self, held: Held, recorder: Recorder) -> None:
+        """Does what a line says, or hands it on; a filter that isn't made yet comes too late."""
+        fault = held.fault() if held.is_ready() else f"live: {os.fsdecode(held.line)}: the recording ends"
+        if fault:
+            self.err(fault)
+        elif held.word is Word.HELP:
+            self.err(HELP)
+        elif held.word:
+            self.perform(held.word)
+        else:
+            recorder.lines.put(*held.asked())
 
     def close(self, recorder: Recorder) -> None:
         """Ends the lines of a recorder that has ended."""

@@ -1,0 +1,171 @@
+"""Tries lines in words: which there are, what is a filter in words, and when a run ends that was given a time."""
+
+from __future__ import annotations
+
+from collections.abc import Callable, Sequence
+from pathlib import Path
+
+import pytest
+from bpfrec_host.live.arguments import read
+from bpfrec_host.live.control.changes import Changes, Held
+from bpfrec_host.live.control.made_filters import MadeFilter, arguments_for, is_in_words, make
+from bpfrec_host.live.control.words import Word, word_of
+from bpfrec_host.live.end_of_run import EndOfRun
+from bpfrec_host.live.folder import Folder, made_settings
+from support import judge
+
+WANTED: dict[str, str] = {}
+KEEPS = "1,6 0 0 1,"
+
+
+@pytest.mark.parametrize(
+    "line, word",
+    [
+        (b"stop", Word.STOP),
+        (b" next \r", Word.NEXT),
+        (b"help", Word.HELP),
+        (b"stop it", None),
+        (b"STOP", None),
+        (b"", None),
+        (b"\xff", None),
+        (b"set 1 stop", None),
+    ],
+)
+def test_a_line_is_a_word_alone(line: bytes, word: Word) -> None:
+    judge(repr(line), word_of(line) is word)
+
+
+def test_a_filter_is_in_words_where_it_is_no_listing_and_no_file_that_is_missing(
+    work: Path, monkeypatch: pytest.MonkeyPatch
+) -> None:
+    monkeypatch.chdir(work)
+    (work / "listing").write_text(f" \n{KEEPS}")
+    (work / "text.bpf").write_text("; all\nret #1\n")
+    (work / "folder").mkdir()
+    for text, wanted in [
+        ("listing", False),
+        ("text.bpf", True),
+        (f"{work}/text.bpf", True),
+        ("folder", False),
+        ("missing.txt", False),
+        ("missing.bpf", False),
+        ("some/where", False),
+        ("udp port 5004", True),
+        ("net 10.0.0.0/8", True),
+        ("arp", True),
+    ]:
+        judge(text, is_in_words(text) == wanted)
+    judge("a text is assembled", arguments_for("text.bpf", "bpfrec") == ["bpfrec", "asm", "./text.bpf"])
+    words = arguments_for("arp", "bpfrec") or []
+    judge("of an expression tcpdump makes one", words[-4:] == ["EN10MB", "-ddd", "--", "arp"], words)
+    monkeypatch.setenv("PATH", "")
+    judge("where it is there", arguments_for("arp", "bpfrec") is None)
+
+
+class Starter:
+    """Starts nothing, and ends it when it is told."""
+
+    def __init__(self) -> None:
+        self.ended: list[Callable[[int], None]] = []
+
+    def __call__(self, _: Sequence[str], out: Path, errors: Path, ended: Callable[[int], None]) -> None:
+        out.write_text(KEEPS)
+        errors.write_text("tcpdump: a warning\ntcpdump: syntax error\n")
+        self.ended.append(ended)
+
+
+def test_a_filter_that_is_made_waits_for_its_program(work: Path) -> None:
+    """With the last line of its errors where it can't be made, and nothing left of it."""
+    starter = Starter()
+    good, bad = (make("arp", work / name, "bpfrec", starter) for name in ("good", "bad"))
+    judge("it waits", not good.has_ended)
+    starter.ended[0](0)
+    starter.ended[1](1)
+    judge("one is there", good.has_ended and good.fault is None and good.listing.read_text() == KEEPS)
+    judge("one isn't", bad.fault == "tcpdump: syntax error" and not bad.listing.exists(), bad.fault)
+    judge("nothing else is left", sorted(it.name for it in work.iterdir() if it.name in ("good", "bad")) == ["good"])
+
+    def fails(*_: object) -> None:
+        raise OSError(11, "Resource temporarily unavailable")
+
+    refused = make("arp", work / "none", "bpfrec", fails)
+    judge("a program that can't be started", refused.fault == "Resource temporarily unavailable")
+
+
+@pytest.fixture
+def folder(work: Path, monkeypatch: pytest.MonkeyPatch) -> Folder:
+    """The private folder of a run that keeps filters."""
+    monkeypatch.setenv("TMPDIR", str(work))
+    given = read(["--every", "5", "out.ch11", "rx0"])
+    made = Folder(*made_settings(given.routes), given)
+    made.make_all()
+    return made
+
+
+@pytest.mark.parametrize("keeps", [True, False])
+def test_lines_wait_with_what_the_recorder_gets_of_them(folder: Folder, keeps: bool) -> None:
+    asked: list[str] = []
+
+    def make_filter(text: str, listing: Path) -> MadeFilter:
+        asked.append(text)
+        return MadeFilter(listing)
+
+    changes = Changes(folder, keeps, make_filter)
+    held = changes.held(b"set 1 udp port 5004")
+    made = held.made
+    assert made
+    judge("an expression is made first", asked == ["udp port 5004"] and not held.is_ready() and held.fault() is None)
+    made.listing.write_text(KEEPS)
+    made.end("tcpdump", 0)
+    line, change = held.asked()
+    judge("then its listing is handed on", line == f"set 1 {made.listing}".encode() and held.is_ready())
+    changes.answered(change, True)
+    is_kept = folder.kept_filter(1).exists() and folder.kept_filter(1).read_text() == KEEPS
+    judge("it is kept for later recordings, or goes", is_kept == keeps and not made.listing.exists())
+    wrong = changes.held(b"set 1 udp prt 5004")
+    assert wrong.made
+    wrong.made.refuse("syntax error")
+    judge("a fault has the line", wrong.fault() == "live: set 1 udp prt 5004: syntax error", wrong.fault())
+    other = changes.held(b"nonsense")
+    judge("another line goes as it is", other.asked()[0] == b"nonsense" and other.is_ready() and other.word is None)
+    judge("a word is one", Held(b"stop").word is Word.STOP)
+
+
+def test_a_run_ends_once_after_its_time_from_the_first_recording_on() -> None:
+    ended: list[int] = []
+    end = EndOfRun(3, lambda: ended.append(1))
+    judge("not before a recording has begun", end.deadline() is None)
+    end.begin()
+    moment = end.deadline()
+    assert moment is not None
+    end.begin()
+    judge("from the first one on", end.deadline() == moment)
+    end.tick(moment - 0.1)
+    judge("not before", ended == [])
+    end.tick(moment)
+    end.tick(moment + 9)
+    judge("once", ended == [1] and end.deadline() is None)
+    forever = EndOfRun(None, lambda: ended.append(2))
+    forever.begin()
+    judge("never without a time", forever.deadline() is None)
+
+
+@pytest.mark.parametrize(
+    "word, seconds",
+    [
+        ("90", 90),
+        ("10m", 600),
+        ("1h30m", 5_400),
+        ("1d2h3m4s", 93_784),
+        ("1h30", None),
+        ("m", None),
+        ("01m", None),
+        ("1x", None),
+    ],
+)
+def test_a_time_has_units(word: str, seconds: int | None) -> None:
+    try:
+        found = read(["--for", word, "out.ch11", "rx0"]).seconds
+    except SystemExit:
+        found = None
+    judge(word, found == seconds, found)
