@@ -8,10 +8,12 @@ from pathlib import Path
 import pytest
 from bpfrec_host.live.arguments import read
 from bpfrec_host.live.control.changes import Changes, Held
-from bpfrec_host.live.control.made_filters import MadeFilter, arguments_for, is_in_words, make
+from bpfrec_host.live.control.made_filters import MadeFilter, make
 from bpfrec_host.live.control.words import Word, word_of
 from bpfrec_host.live.end_of_run import EndOfRun
-from bpfrec_host.live.folder import Folder, made_settings
+from bpfrec_host.live.expressions import arguments_for, is_in_words
+from bpfrec_host.live.folder import Folder, made_settings, read_settings
+from bpfrec_host.live.names import Refusal
 from support import judge
 
 WANTED: dict[str, str] = {}
@@ -169,3 +171,50 @@ def test_a_time_has_units(word: str, seconds: int | None) -> None:
     except SystemExit:
         found = None
     judge(word, found == seconds, found)
+
+
+def settings_with(work: Path, *filters: str) -> str:
+    """Settings of channels from 1 on with these filters."""
+    tables = [f'[[channel]]\nid = {at}\nfilter = "{it}"\n' for at, it in enumerate(filters, 1)]
+    (work / "s.toml").write_text("".join(tables))
+    return str(work / "s.toml")
+
+
+def test_settings_give_filters_in_words(work: Path, monkeypatch: pytest.MonkeyPatch) -> None:
+    """Texts and expressions as listings, but where the arguments give another; a listing stays the file that it is."""
+    monkeypatch.setenv("BPFREC", str(assembler(work)))
+    monkeypatch.setenv("PATH", f"{tcpdump(work)}:/usr/bin:/bin")
+    (work / "text.bpf").write_text("ret #7\n")
+    (work / "listing").write_text(KEEPS)
+    path = settings_with(work, "udp port 5004", f"{work}/text.bpf", f"{work}/listing", "arp")
+    given = read([path, "out.ch11", "rx0=1", "rx1=2", "rx2=3", "rx3=4:ip"])
+    _, settings = read_settings(path)
+    made = Folder("", settings, given)
+    wanted = {1: "made of udp port 5004\n", 2: "assembled\n", 4: "made of ip\n"}
+    judge("their listings", made.listings == wanted, made.listings)
+    judge(
+        "the words are known",
+        {it: text for it, (_, text) in made.words.items()} == {1: "udp port 5004", 2: f"{work}/text.bpf"},
+    )
+    bad = settings_with(work, "bad one")
+    with pytest.raises(Refusal, match="filter bad one of channel 1: tcpdump: syntax error"):
+        Folder("", read_settings(bad)[1], read([bad, "out.ch11", "rx0=1"]))
+
+
+def program_at(path: Path, text: str) -> Path:
+    path.write_text(f"#!/bin/sh\n{text}\n")
+    path.chmod(0o755)
+    return path
+
+
+def assembler(work: Path) -> Path:
+    """Stands for bpfrec, and assembles."""
+    return program_at(work / "bpfrec", "echo assembled")
+
+
+def tcpdump(work: Path) -> Path:
+    """A folder with a program that stands for tcpdump."""
+    (work / "bin").mkdir()
+    refuses = 'if [ "$5" = "bad one" ]; then echo "tcpdump: syntax error" >&2; exit 1; fi'
+    program_at(work / "bin/tcpdump", f'{refuses}\necho "made of $5"')
+    return work / "bin"

@@ -9,8 +9,8 @@ from pathlib import Path
 import pytest
 from frames import numbered, numbers_in, records
 from namespace import socket_into
-from recordings import Traffic, begin, extracted, is_approved, parts_of, recordings
-from support import Running, judge, judge_quietly, wait_for
+from recordings import Traffic, begin, extracted, facts_of, is_approved, parts_of, recordings, write_settings
+from support import LIVE, PREFLIGHT, Running, judge, judge_quietly, outcome, wait_for
 
 WANTED = {"bin/bpfrec": "make build", "bin/capture": "make build", "ip": "iproute2", "tcpdump": "tcpdump"}
 pytestmark = [pytest.mark.usefixtures("namespace")]
@@ -111,3 +111,34 @@ def test_lines_ahead_of_the_end_of_input_are_all_answered(work: Path) -> None:
     running.interrupt()
     answers = [line.split()[2] for line in running.told().splitlines() if line.startswith("installed")]
     judge("in their order", running.ended()[0] == 0 and answers == ["1", "2", "3", "4", "5"], running.told())
+
+
+def test_settings_have_filters_in_words(work: Path) -> None:
+    """The same in all recordings of a run, and the facts have them."""
+    (work / "drops.bpf").write_text("; none\n ret #0\n")
+    settings = write_settings(work, 'id = 1\nfilter = "udp port 5004"', f'id = 2\nfilter = "{work}/drops.bpf"')
+    done = outcome(PREFLIGHT, "--live", settings, work / "set.ch11", "rx0=1", "rx1=2")
+    judge("preflight says how long they are", "filter udp port 5004: " in done.stdout and done.returncode == 0, done)
+    out = work / "set.ch11"
+    running = begin(work, out, "--quiet", "--every", 1_000, settings=settings, stdin=subprocess.PIPE)
+    with socket_into("tx0") as one, socket_into("tx1") as two:
+        for number in (1, 2):
+            wait_for("a recording", lambda: len(recordings(work, "set")) == number, 10)
+            time.sleep(0.4)
+            for port in (5_004, 5_005):
+                one.send(datagram(port))
+                two.send(datagram(port))
+            time.sleep(0.3)
+            type_line(running, "next" if number == 1 else "stop")
+    judge("it ends well", running.ended()[0] == 0, running.told())
+    kept = [[it.frame[36:38] for it in part] for part in parts_of(work, "set", 1)]
+    judge("one keeps its port", kept == [[(5_004).to_bytes(2, "big")]] * 2, kept)
+    judge("one keeps nothing", parts_of(work, "set", 2) == [[], []])
+    found = {it["channel"]: it.get("expression") for it in facts_of(recordings(work, "set")[1])["filters"]}
+    judge("the facts have the words", found == {1: "udp port 5004", 2: f"{work}/drops.bpf"}, found)
+    wrong = write_settings(work, 'id = 1\nfilter = "udp prt 5004"')
+    done = outcome(LIVE, wrong, work / "wrong.ch11", "rx0=1")
+    line = "live: filter udp prt 5004 of channel 1: tcpdump: "
+    judge("a wrong one is refused ahead", done.returncode == 2 and done.stderr.startswith(line), done)
+    done = outcome(PREFLIGHT, "--live", wrong, work / "wrong.ch11", "rx0=1")
+    judge("preflight says it too", done.returncode == 1 and "filter udp prt 5004 of channel 1: " in done.stdout, done)

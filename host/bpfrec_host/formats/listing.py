@@ -2,7 +2,10 @@
 
 from __future__ import annotations
 
+import os
+import stat
 import struct
+from typing import Optional
 
 from bpfrec_host.formats.limits import INSN_LEN
 
@@ -19,3 +22,13 @@ def listing_of(insns: bytes) -> str:
 def no_listing(path: str) -> str:
     """What is said of a file that isn't written as a listing is; it may be a text for the assembler."""
     return f"{path} is no listing: bpfrec asm makes one"
+
+
+def listing_in(path: str, most: int) -> Optional[bytes]:
+    """The first bytes of a regular file; None where it is none, or can't be read."""
+    try:
+        descriptor = os.open(path, os.O_RDONLY | os.O_NONBLOCK | os.O_CLOEXEC)
+        with open(descriptor, "rb") as file:
+            return file.read(most) if stat.S_ISREG(os.fstat(descriptor).st_mode) else None
+    except (OSError, ValueError):
+        return None

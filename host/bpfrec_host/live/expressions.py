@@ -1,45 +1,82 @@
-"""Filters of which no listing is given: all frames, or an expression of tcpdump, which makes its listing."""
+"""Filters in words, of which programs make listings: a text for `bpfrec asm`, or an expression of tcpdump; and the filter
+of all frames."""
 
 from __future__ import annotations
 
 import os
+import re
 import shutil
 import subprocess
+from typing import Container, Optional
 
+from bpfrec_host import program
+from bpfrec_host.formats.listing import listing_in
+from bpfrec_host.formats.settings import Settings
+from bpfrec_host.live.arguments import Arguments
 from bpfrec_host.live.names import Refusal
 from bpfrec_host.live.operands import Route
 
 ALL_FRAMES = "1,6 0 0 4294967295,"
-# An expression may name hosts, which are looked up.
+# An expression may name hosts, which are looked up: so many seconds at most.
 PATIENCE = 30
+# How much of a file says what it is.
+LOOKED_AT = 4_096
+# What is a file's name, and no expression.
+FILE_NAME = re.compile(r"\S*/\S*|\S+\.(?:txt|bpf)")
+NO_TCPDUMP = "tcpdump is missing, which makes a filter of an expression: apt-get install tcpdump"
+
+
+def is_in_words(text: str) -> bool:
+    """Whether a filter is a text for the assembler or an expression: not a listing, and no file that isn't there."""
+    data = listing_in(text, LOOKED_AT)
+    if data is None:
+        return not os.path.lexists(text) and not FILE_NAME.fullmatch(text)
+    return not data.lstrip()[:1].isdigit()
+
+
+def arguments_for(text: str, bpfrec: str) -> Optional[list[str]]:
+    """The program that makes a listing of a filter in words; None where it is missing. Of an expression it is tcpdump,
+    of no interface: so it finds the tags of VLANs in the frames' bytes, as the wire and the recorder have them."""
+    if os.path.lexists(text):
+        return [bpfrec, "asm", text if text.startswith("/") else f"./{text}"]
+    tcpdump = shutil.which("tcpdump")
+    if tcpdump is None:
+        return None
+    return ["env", "LC_ALL=C", "timeout", str(PATIENCE), tcpdump, "-y", "EN10MB", "-ddd", "--", text]
+
+
+def listing_in_words(place: str, text: str) -> str:
+    """The listing of a filter in words, which stands at this place; a Refusal where it has none."""
+    arguments = arguments_for(text, program.find())
+    if arguments is None:
+        raise Refusal(3, f"live: {NO_TCPDUMP}")
+    done = subprocess.run(arguments, stdin=subprocess.DEVNULL, capture_output=True, check=False)
+    if done.returncode != 0:
+        told = done.stderr.decode(errors="replace").strip().splitlines()
+        raise Refusal(2, f"live: {place}: {told[-1] if told else f'{arguments[0]}: status {done.returncode}'}")
+    return done.stdout.decode()
 
 
 def listing_of(route: Route) -> str:
-    """The listing of an interface's filter. Of no interface: so it finds the tags of VLANs in the frames' bytes, as the
-    wire and the recorder have them."""
+    """The listing of an interface's filter."""
     if route.expression is None:
         return ALL_FRAMES
-    program = shutil.which("tcpdump")
-    if program is None:
-        raise Refusal(3, "live: tcpdump is missing, which makes a filter of an expression: apt-get install tcpdump")
-    arguments = [program, "-y", "EN10MB", "-ddd", "--", route.expression]
-    try:
-        done = subprocess.run(
-            arguments,
-            stdin=subprocess.DEVNULL,
-            capture_output=True,
-            check=False,
-            timeout=PATIENCE,
-            env={**os.environ, "LC_ALL": "C"},
-        )
-    except (OSError, subprocess.TimeoutExpired) as error:
-        raise Refusal(3, f"live: {route.interface}={route.channel}:{route.expression}: tcpdump: {error}") from None
-    if done.returncode != 0:
-        told = done.stderr.decode(errors="replace").strip().splitlines()
-        raise Refusal(
-            2, f"live: {route.interface}={route.channel}:{route.expression}: {told[-1] if told else 'tcpdump'}"
-        )
-    return done.stdout.decode()
+    return listing_in_words(f"{route.interface}={route.channel}:{route.expression}", route.expression)
+
+
+def gives_filter(route: Route, given: Arguments) -> bool:
+    """Whether the arguments give an interface its filter."""
+    return bool(route.expression) or given.settings is None
+
+
+def words_in(settings: Settings, given: Container[int]) -> dict[int, tuple[str, str]]:
+    """The filters that settings give in words, by channel, each with its place; but of channels with another filter."""
+    found = {}
+    for channel in settings.channels:
+        named, text = channel.table.get("id"), channel.path("filter")
+        if isinstance(named, int) and named not in given and text is not None and is_in_words(text):
+            found[named] = (f"filter {text} of {channel.name}", text)
+    return found
 
 
 def settings_text(routes: list[Route]) -> str:

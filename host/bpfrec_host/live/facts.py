@@ -13,9 +13,10 @@ from typing import Any, NamedTuple, Optional
 
 from bpfrec_host.formats.facts import NoFacts, origin_in, utc_of
 from bpfrec_host.formats.limits import MAX_LISTING_LEN
+from bpfrec_host.formats.listing import listing_in
 from bpfrec_host.live.adapters import adapter_of
 from bpfrec_host.live.arguments import Arguments
-from bpfrec_host.live.folder import Folder, listing_in
+from bpfrec_host.live.folder import Folder
 from bpfrec_host.live.names import FOLLOWING, Files, facts_path, remove
 from bpfrec_host.live.synchronisation import synchronisation
 from bpfrec_host.streams import force_folder
@@ -84,6 +85,7 @@ class Writer:
         text = self.answer("dis", "-", given=listing)
         made: Entry = {"channel": channel, "listing": listing.decode(errors="ignore"), "text": text}
         given = [it.expression for it in self.given.routes if it.channel == channel and it.expression]
+        given += [text for named, (_, text) in self.folder.words.items() if named == channel]
         return {**made, "expression": given[0]} if given else made
 
     def answer(self, *arguments: str, given: bytes = b"") -> str:

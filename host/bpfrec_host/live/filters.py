@@ -7,16 +7,20 @@ from bpfrec_host.formats.answers import is_no_listing
 from bpfrec_host.formats.listing import no_listing
 from bpfrec_host.formats.settings import Settings
 from bpfrec_host.live.arguments import Arguments
+from bpfrec_host.live.expressions import is_in_words
 from bpfrec_host.live.names import Refusal, is_special, unreadable
 
 
 def judge_filters(settings: Settings, given: Arguments) -> None:
-    """Refuses a filter that can't be installed, but of a channel whose filter the arguments give."""
+    """Refuses a filter that can't be installed, but of a channel whose filter the arguments give, or SETTINGS in
+    words."""
     replaced = {it.channel for it in given.routes if it.expression or given.settings is None}
     judged = set()
     for channel in settings.recorded():
         path = channel.path("filter")
-        if path is not None and path not in judged and channel.table.get("id") not in replaced:
+        if path is None or path in judged or is_in_words(path):
+            continue
+        if channel.table.get("id") not in replaced:
             judged.add(path)
             judge_filter(channel.name, path)
 

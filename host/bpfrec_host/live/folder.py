@@ -6,7 +6,7 @@ Its files, below `top`:
     events          what the capture notes, a line of JSON each
     kept            with --flush: how many frames of each interface the capture has counted that its filter keeps
     now             a link to the folder of the recording that goes on; to `gate` until OUT is there
-    given/          the filters that the arguments give channels
+    given/          the filters that the arguments give channels, and those that SETTINGS give in words
     filters/        of recordings that follow one another, and with --flush: the filter that each channel has by now
     <number>/       a recording: <channel>.pipe, settings.toml, answers, report, audit, audit_errors, each of the last
                     three `.room` until it is printed into, and what `guard` needs: about.json
@@ -18,16 +18,16 @@ import fcntl
 import os
 import re
 import secrets
-import stat
 from pathlib import Path
 from typing import Any, BinaryIO, Optional
 
 from bpfrec_host.formats.limits import MAX_LISTING_LEN
+from bpfrec_host.formats.listing import listing_in
 from bpfrec_host.formats.settings import NoReader, NoToml, Settings, settings_of
 from bpfrec_host.formats.settings_text import text_of
 from bpfrec_host.live import system
 from bpfrec_host.live.arguments import Arguments
-from bpfrec_host.live.expressions import listing_of, settings_text
+from bpfrec_host.live.expressions import gives_filter, listing_in_words, listing_of, settings_text, words_in
 from bpfrec_host.live.names import Refusal
 from bpfrec_host.live.operands import Route
 
@@ -95,8 +95,10 @@ class Folder:
 
     def __init__(self, text: str, settings: Settings, given: Arguments) -> None:
         self.text, self.settings, self.routes = text, settings, given.routes
-        # The listings that the arguments give channels, in place of those of SETTINGS.
-        self.listings = {it.channel: listing_of(it) for it in given.routes if it.expression or given.settings is None}
+        # The listings of filters that the arguments give channels, or SETTINGS in words.
+        self.listings = {it.channel: listing_of(it) for it in given.routes if gives_filter(it, given)}
+        self.words = words_in(settings, {it.channel for it in given.routes if gives_filter(it, given)})
+        self.listings |= {channel: listing_in_words(*named) for channel, named in self.words.items()}
         self.keeps_filters = given.keeps_filters()
         self.holder = os.environ.get("TMPDIR") or "/tmp"
         self.top = Path(self.holder, f"bpfrec.{secrets.token_hex(8)}")
@@ -218,7 +220,7 @@ class Folder:
         return self.top / "filters" / str(channel)
 
     def given_filter(self, channel: int) -> Path:
-        """Where the filter is that the arguments give a channel."""
+        """Where the listing is of a filter that the arguments give a channel, or SETTINGS in words."""
         return self.top / "given" / str(channel)
 
     def filter_of(self, channel: int, path: Any) -> Any:
@@ -304,16 +306,6 @@ def copy_listing(path: str, copy: Path) -> bool:
         copy.unlink(missing_ok=True)
         return False
     return True
-
-
-def listing_in(path: str, most: int) -> Optional[bytes]:
-    """The first bytes of a regular file; None where it is none, or can't be read."""
-    try:
-        descriptor = os.open(path, os.O_RDONLY | os.O_NONBLOCK | os.O_CLOEXEC)
-        with open(descriptor, "rb") as file:
-            return file.read(most) if stat.S_ISREG(os.fstat(descriptor).st_mode) else None
-    except (OSError, ValueError):
-        return None
 
 
 def write_room(path: Path, length: int) -> None:

@@ -80,16 +80,18 @@ def judge(given: argparse.Namespace, report: Report) -> None:
             judge_capture(settings, channel, given.capture, report)
 
 
-def judge_settings(settings: Settings, report: Report, piped: Container[int] = ()) -> list[Channel]:
-    """Judges settings with their filters and feeds, but for the channels whose feed is a pipe of live's: the channels
-    that have a valid filter."""
+def judge_settings(
+    settings: Settings, report: Report, piped: Container[int] = (), worded: Container[int] = ()
+) -> list[Channel]:
+    """Judges settings with their filters and feeds, but for the channels whose feed is a pipe of live's, or whose filter
+    is in words that it takes: the channels that have a valid filter."""
     judge_top(settings, report)
     for channel in settings.channels:
         judge_channel_keys(settings, channel, report)
     judge_ids(settings, report)
     valid = []
     for channel in settings.recorded():
-        if judge_filter(settings, channel, report):
+        if channel.table.get("id") not in worded and judge_filter(settings, channel, report):
             valid.append(channel)
         if channel.table.get("id") not in piped:
             judge_channel_feed(settings, channel, report)

@@ -11,7 +11,8 @@ import shutil
 import socket
 import struct
 import time
-from typing import Callable, Optional
+from functools import partial
+from typing import Callable, Container, Optional
 
 from bpfrec_host import program
 from bpfrec_host.convert.moments import moment_of
@@ -27,7 +28,7 @@ from bpfrec_host.formats.settings import Settings
 from bpfrec_host.live.adapters import asked
 from bpfrec_host.live.ahead import refuse_few_descriptors, refuse_holder, refuse_together
 from bpfrec_host.live.arguments import Arguments, read
-from bpfrec_host.live.expressions import listing_of
+from bpfrec_host.live.expressions import gives_filter, listing_in_words, listing_of, words_in
 from bpfrec_host.live.folder import is_channel
 from bpfrec_host.live.folder import judge_settings as refuse_settings
 from bpfrec_host.live.names import Files, Names, Refusal, is_special, refuse_long
@@ -53,8 +54,12 @@ OFFLOADS = {"gro": (0x2B, 1), "gso": (0x23, 1), "tso": (0x1E, 1), "lro": (0x25, 
 VALUE = struct.Struct("II")
 
 
-def judge_live(arguments: list[str], judge: Callable[[Settings, Report, set[int]], object], report: Report) -> None:
-    """Judges the arguments of a run of live. `judge` takes settings, and the channels that have interfaces."""
+Judge = Callable[[Settings, Report, Container[int], Container[int]], object]
+
+
+def judge_live(arguments: list[str], judge: Judge, report: Report) -> None:
+    """Judges the arguments of a run of live. `judge` takes settings, the channels that have interfaces, and those whose
+    filter is in words."""
     try:
         given = read(arguments)
         refuse_together(given)
@@ -69,8 +74,13 @@ def judge_live(arguments: list[str], judge: Callable[[Settings, Report, set[int]
         report.fault("live", without_name(refusal))
         return
     if settings:
-        judge(settings, report, {it.channel for it in given.routes})
-    judge_expressions(given, report)
+        worded = words_in(settings, {it.channel for it in given.routes if gives_filter(it, given)})
+        judge(settings, report, {it.channel for it in given.routes}, worded)
+        for place, text in worded.values():
+            judge_words(given.settings or "", text, partial(listing_in_words, place, text), report)
+    for route in given.routes:
+        if route.expression:
+            judge_words(route.interface, route.expression, partial(listing_of, route), report)
     judge_live_out(given, settings, report)
     for route in given.routes:
         judge_interface(route.interface, report)
@@ -102,15 +112,13 @@ def with_pipes(settings: Settings, given: Arguments) -> None:
                 channel.table["feed"] = f"{NOWHERE}/{route.channel}"
 
 
-def judge_expressions(given: Arguments, report: Report) -> None:
-    """The filters that the arguments give."""
-    for route in given.routes:
-        if route.expression:
-            try:
-                count = listing_of(route).split("\n")[0].split(",")[0]
-                report.note(route.interface, f"filter {route.expression}: {count} instructions")
-            except Refusal as refusal:
-                report.fault(route.interface, without_name(refusal))
+def judge_words(place: str, text: str, listing: Callable[[], str], report: Report) -> None:
+    """A filter in words, at this place."""
+    try:
+        count = re.split("[,\n]", listing())[0]
+        report.note(place, f"filter {text}: {count} instructions")
+    except Refusal as refusal:
+        report.fault(place, without_name(refusal))
 
 
 def judge_live_out(given: Arguments, settings: Optional[Settings], report: Report) -> None:

@@ -7,8 +7,9 @@ import re
 from pathlib import Path
 from typing import Callable, NamedTuple, Optional
 
-from bpfrec_host.live.control.made_filters import MadeFilter, is_in_words
+from bpfrec_host.live.control.made_filters import MadeFilter
 from bpfrec_host.live.control.words import word_of
+from bpfrec_host.live.expressions import is_in_words
 from bpfrec_host.live.folder import Folder, copy_listing
 from bpfrec_host.live.standard_streams import another
 
