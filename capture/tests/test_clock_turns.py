@@ -2,6 +2,7 @@
 
 import json
 import random
+from typing import Any
 
 import pytest
 from support import MILLISECOND, SECOND
@@ -35,7 +36,7 @@ def test_an_event_has_the_origin_the_counter_and_by_how_much_the_clock_was_set(u
     assert json.loads(unit.path.read_text()) == event
 
 
-def noted(unit: Clocks) -> list[dict]:
+def noted(unit: Clocks) -> list[dict[str, Any]]:
     """The origins that are noted, in order."""
     return [json.loads(it) for it in unit.path.read_text().splitlines()]
 
@@ -60,7 +61,7 @@ def test_an_origin_is_noted_again_once_frames_have_shown_their_scale(unit: Clock
     unit.ask("tai", 37)
     for _ in range(3):
         unit.look(SECOND)
-    at_0 = {"origin": seconds(unit.origin), "counter": 0}
+    at_0: dict[str, Any] = {"origin": seconds(unit.origin), "counter": 0}
     assert noted(unit) == [{**at_0, "scale": None}, {**at_0, "scale": "TAI", "tai_offset": 37}]
     unit.ask("utc")
     unit.look(SECOND)

@@ -15,8 +15,8 @@ THREE_ORIGINS = [
 ]
 BEFORE_1970 = [("-3589.750000000", 0, None), ("10.000000000", 9, "3599.750000000")]
 # Of an adapter's clock, which ran UTC and then TAI; and one of which nobody knows how it ran.
-TAI_37 = [("1764590400.250000000", 0, None, "UTC"), ("1764590437.250000123", 17, None, "TAI", 37)]
-UNKNOWN_SCALE = [("1764590400.250000000", 0, None, None)]
+TAI_37: list[tuple] = [("1764590400.250000000", 0, None, "UTC"), ("1764590437.250000123", 17, None, "TAI", 37)]
+UNKNOWN_SCALE: list[tuple] = [("1764590400.250000000", 0, None, None)]
 ODD_VALUES: list[object] = [None, True, False, -1, 0, 1, 2, 1.0, 1e300]
 ODD_VALUES += [2**48 - 1, 2**48, 2**63 - 1, 2**63, 10**30]
 ODD_VALUES += ["", "x", "1", "-1.5", "0.0000000000", "-0.000000001", "+1.000000000", "1764590400.250000000\n"]

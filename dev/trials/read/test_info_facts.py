@@ -188,7 +188,9 @@ def test_a_scale_that_nobody_knows_is_said_where_a_time_is_shown(sample: Path) -
     judge("in JSON no UTC is known", times == [None] * 2 and found["facts"]["origins"][0]["scale"] is None, found)
     page = sample.with_suffix(".html")
     run(INFO, "--html", page, sample)
-    judge("on the page", page.read_text().count("(scale unknown)") == 3 and "Times are UTC, from" not in page.read_text())
+    judge(
+        "on the page", page.read_text().count("(scale unknown)") == 3 and "Times are UTC, from" not in page.read_text()
+    )
 
 
 def test_a_damaged_place_has_its_time_without_a_scale(sample: Path) -> None:
@@ -319,7 +321,7 @@ def test_damaged_facts_are_taken_or_refused_as_formats_says(sample: Path) -> Non
     traceback."""
     draw, refused = random.Random(SEED), 0
     for turn in range(DAMAGED):
-        origins = draw.choice([THREE_ORIGINS[:2], THREE_ORIGINS, BEFORE_1970, TAI_37, UNKNOWN_SCALE])
+        origins: list = draw.choice([THREE_ORIGINS[:2], THREE_ORIGINS, BEFORE_1970, TAI_37, UNKNOWN_SCALE])
         refused += judge_damaged(turn, sample, damaged_facts(draw, facts_of_run(origins, [(1, 2, 3), (4, 5, 6)])))
     judge(
         f"{DAMAGED} damaged facts, of which {refused} are refused, and the rest of the answer stays",

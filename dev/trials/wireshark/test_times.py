@@ -63,9 +63,7 @@ def test_times_are_those_of_the_facts(work: Path, three: Path, origins: list) ->
     judge("and by the preference", times_in(work, recording, *named) == wanted)
 
 
-@pytest.mark.parametrize(
-    "origins, scale", [(TAI_37, ""), (UNKNOWN_SCALE, ", scale unknown")], ids=["known", "unknown"]
-)
+@pytest.mark.parametrize("origins, scale", [(TAI_37, ""), (UNKNOWN_SCALE, ", scale unknown")], ids=["known", "unknown"])
 def test_a_scale_that_nobody_knows_is_said_of_each_row(work: Path, three: Path, origins: list, scale: str) -> None:
     recording = work / "x.ch11"
     shutil.copy(three, recording)

@@ -100,7 +100,7 @@ def add_to_pcap(commands: "Commands[Parser]") -> None:
         "--facts",
         metavar="FILE",
         help="the facts beside the recording that the feed comes from, as flight.ch11.json: by them each frame "
-        "has its UTC time, even if the clock was set during the recording or ran atomic time (TAI); a line says if "
+        "has its UTC time, even if the clock was set during the recording, or ran atomic time (TAI). A line says if "
         "nobody knows how it ran",
     )
     made.add_argument("--drop-check-sequence", action="store_true", help="leave each frame's FCS out")
