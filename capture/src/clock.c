@@ -189,8 +189,8 @@ void report_origin(void) {
     note_origin(0, 0, 0);
 }
 
-/* Notes again what holds once frames have shown another scale. An adapter's clock has no settings of which origins
- * would be lost. */
+/* Notes again what holds once frames have shown another scale. Only those of an adapter's clock do so later, whose
+ * settings aren't seen: it has no other origins. */
 static void follow_scale(void) {
     struct scale scale = scale_of_run();
     if (is_same_scale(&scale, &noted_scale))

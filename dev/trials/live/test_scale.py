@@ -1,4 +1,4 @@
-"""Tries an adapter's clock that runs UTC, TAI or neither: the facts say which, and what reads them gives UTC or says so.
+"""Tries an adapter's clock that runs UTC, TAI or neither: facts say which, and what reads them gives UTC or says so.
 
 The adapter is played by a library that is preloaded (dev/trials/lib/set_clock.c): its clock is ahead of the host's.
 """

@@ -42,8 +42,8 @@ class NoFacts(Exception):
 
 class Origin(NamedTuple):
     """The moment of counter 0, in nanoseconds since 1970, as it holds from a counter on; by how many seconds the clock
-    was set, where it was. The moment is UTC but where nobody knows its scale. The text is in that scale, of which TAI is
-    ahead of UTC by so many seconds."""
+    was set, where it was. The moment is UTC but where nobody knows the scale; the text is in that scale, of which TAI
+    is ahead of UTC by so many seconds."""
 
     text: str
     moment: int

@@ -37,9 +37,9 @@ between two frames is that of their counters.
 """
 MORE = f"""\
 In JSON lengths of time are ticks of 100 ns, and what isn't known is null, as all that comes from facts if there are
-none, and UTC if the scale is unknown. If over {MOST_SECONDS:,} seconds have frames, rates are for longer times, which are printed. The first {MOST_PLACES:,}
-gaps, damaged places and origins are printed one by one, and the first {MAX_VERSIONS:,} versions of a channel's filter; all
-are counted.
+none, and times of a scale that is unknown. If over {MOST_SECONDS:,} seconds have frames, rates are for longer times, which
+are printed. The first {MOST_PLACES:,} gaps, damaged places and origins are printed one by one, and the first {MAX_VERSIONS:,}
+versions of a channel's filter; all are counted.
 
 A RECORDING.json that can't be read, or has no facts of a recording, is reported on standard error, and changes neither
 the rest nor the status.

@@ -31,7 +31,7 @@ def seconds(ticks: Optional[int]) -> str:
 
 
 def origin_text(origin: facts.Origin) -> str:
-    """The moment of counter 0, from which counter on it holds, by how much the clock was set, and whether it ran TAI."""
+    """The moment of counter 0, from which counter on it holds, by how much the clock was set, and that it ran TAI."""
     remarks = [
         *([f"the clock was set by {origin.set_by} s"] if origin.set_by else []),
         *([f"the clock ran TAI, {origin.tai_offset} s ahead"] if origin.scale == facts.TAI else []),

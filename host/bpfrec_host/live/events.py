@@ -28,7 +28,7 @@ class Origin(NamedTuple):
         """The origin as the facts have it, with its scale also where nobody knows it."""
         return {name: value for name, value in self._asdict().items() if value is not None or name == "scale"}
 
-    def is_again(self, other: "Origin") -> bool:
+    def is_again(self, other: Origin) -> bool:
         """Whether it is another origin once more, of which no more than the scale may be a new one."""
         return self[:3] == other[:3]
 

@@ -187,7 +187,7 @@ def numbered(interface: Interface, part: Part, last: int) -> Iterator[Sorted]:
 
 
 def how_much_is_known(origins: list[Origin]) -> tuple[int, int]:
-    """By what one list of a run's origins says more than another: how many there are, and of how many the scale is known."""
+    """How much a list of a run's origins says: how many it has, and of how many the scale is known."""
     return len(origins), sum(it.scale is not None for it in origins)
 
 
