@@ -14,11 +14,10 @@
 #include <sys/ioctl.h>
 #include <sys/socket.h>
 #include <sys/stat.h>
-#include <sys/timex.h>
 #include <time.h>
 #include <unistd.h>
 
-enum { FEATURES_A_BLOCK = 32, TAI_AHEAD_SECONDS = 37, CLOCK_LEN = 32 };
+enum { FEATURES_A_BLOCK = 32, CLOCK_LEN = 32 };
 
 static const char *const JOINING[] = {"rx-gro", "rx-lro", "rx-gro-hw", "tx-generic-segmentation",
                                       "tx-tcp-segmentation"};
@@ -119,12 +118,6 @@ uint64_t ring_len(int socket) {
     return len;
 }
 
-/* How far TAI is ahead of UTC, in seconds: as the kernel was told, or as it has been since 2017. */
-static int tai_ahead(void) {
-    struct timex times = {0};
-    return adjtimex(&times) >= 0 && times.tai != 0 ? times.tai : TAI_AHEAD_SECONDS;
-}
-
 void log_clock(const char *interface, int number, enum stamping stamping) {
     char clock[CLOCK_LEN] = "";
     if (number >= 0)
@@ -137,17 +130,18 @@ void log_clock(const char *interface, int number, enum stamping stamping) {
         log_line("%s clock adapter%s: its first frame shows the scale", interface, clock);
 }
 
-void log_adapter_clock(const char *interface, nanoseconds stamp) {
+struct scale log_adapter_clock(const char *interface, nanoseconds stamp) {
     struct timespec now;
     clock_gettime(CLOCK_REALTIME, &now);
-    nanoseconds wall = (nanoseconds)now.tv_sec * NANOSECONDS_PER_SECOND + now.tv_nsec;
-    double ahead = (double)(stamp - wall) / NANOSECONDS_PER_SECOND, tai = tai_ahead();
-    if (ahead > tai - 1 && ahead < tai + 1)
-        log_line("%s: the adapter's clock runs TAI, %.0f s ahead of UTC, and so do the times of its frames", interface,
-                 tai);
-    else if (ahead > 1 || ahead < -1)
-        log_line("%s: the adapter's clock is %+.3f s ahead of the host's, and so are the times of its frames",
-                 interface, ahead);
-    else
+    nanoseconds ahead = stamp - ((nanoseconds)now.tv_sec * NANOSECONDS_PER_SECOND + now.tv_nsec);
+    struct scale scale = scale_ahead(ahead);
+    if (scale.kind == SCALE_TAI)
+        log_line("%s: the adapter's clock runs TAI, %d s ahead of UTC, and so do the times of its frames", interface,
+                 scale.tai_offset);
+    else if (scale.kind == SCALE_UTC)
         log_line("%s: the adapter's clock runs UTC, and so do the times of its frames", interface);
+    else
+        log_line("%s: the adapter's clock is %+.3f s ahead of the host's, and so are the times of its frames",
+                 interface, (double)ahead / NANOSECONDS_PER_SECOND);
+    return scale;
 }

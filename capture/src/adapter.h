@@ -3,6 +3,7 @@
 #define ADAPTER_H
 
 #include "moment.h"
+#include "scale.h"
 
 #include <stdbool.h>
 
@@ -34,7 +35,7 @@ uint64_t ring_len(int socket);
  * known. */
 void log_clock(const char *interface, int number, enum stamping stamping);
 
-/* Logs in which scale an adapter's own clock runs, by a frame that comes now. */
-void log_adapter_clock(const char *interface, nanoseconds stamp);
+/* Finds and logs in which scale an adapter's own clock runs, by a frame that comes now. */
+struct scale log_adapter_clock(const char *interface, nanoseconds stamp);
 
 #endif

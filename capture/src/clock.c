@@ -2,6 +2,7 @@
 #include "clock.h"
 #include "events.h"
 #include "log.h"
+#include "scale.h"
 
 #include <inttypes.h>
 #include <pthread.h>
@@ -43,8 +44,9 @@ static atomic_uint newest;        /* the number of the last setting */
 static _Atomic int64_t last_look; /* which saw no setting */
 static unsigned reported;         /* the number of the last setting that was reported */
 static struct origin origin;
-static nanoseconds turned;      /* by how much counters have begun at 0 again since the beginning */
-static uint64_t counter_before; /* at the last look */
+static struct scale noted_scale; /* of the origins that were noted last */
+static nanoseconds turned;       /* by how much counters have begun at 0 again since the beginning */
+static uint64_t counter_before;  /* at the last look */
 static unsigned first_high;  /* the setting that held when counters came into their upper half, or at the beginning */
 static unsigned last_before; /* the last setting before they began at 0 again */
 static pthread_mutex_t lock = PTHREAD_MUTEX_INITIALIZER;
@@ -140,9 +142,10 @@ static int64_t holds_from(const struct setting *setting) {
 
 /* Notes for the facts that by a setting counters count from its origin, from a counter on. */
 static void note_origin(unsigned number, nanoseconds since, uint64_t counter) {
-    char text[SECONDS_TEXT_LEN];
+    char text[SECONDS_TEXT_LEN], scale[SCALE_TEXT_LEN];
     print_seconds(origin.at + since + set_by(number), text);
-    note_event("{\"origin\": \"%s\", \"counter\": %" PRIu64 "}", text, counter);
+    print_scale(&noted_scale, scale);
+    note_event("{\"origin\": \"%s\", \"counter\": %" PRIu64 ", %s}", text, counter, scale);
 }
 
 /* Notes again, where counters have begun at 0 again and are in their lower half, what holds for those in the upper
@@ -162,17 +165,38 @@ static void report_setting(unsigned number) {
     setting->counter = counter_of(holds_from(setting));
     int64_t by = setting->ahead - setting_of(number - 1)->ahead;
     bool is_before = turned != 0 && counter_before < UPPER_HALF && setting->counter >= UPPER_HALF;
-    char text[SECONDS_TEXT_LEN], by_text[SECONDS_TEXT_LEN];
+    char text[SECONDS_TEXT_LEN], by_text[SECONDS_TEXT_LEN], scale[SCALE_TEXT_LEN];
+    print_scale(&noted_scale, scale);
     print_seconds(origin.at + turned - (is_before ? COUNTER_TURN : 0) + set_by(number), text);
     print_seconds(by, by_text);
     log_line("origin %s from counter %" PRIu64 " on: the clock was set by %s%s s", text, setting->counter,
              by < 0 ? "" : "+", by_text);
-    note_event("{\"origin\": \"%s\", \"counter\": %" PRIu64 ", \"set_by\": \"%s\"}", text, setting->counter, by_text);
+    note_event("{\"origin\": \"%s\", \"counter\": %" PRIu64 ", \"set_by\": \"%s\", %s}", text, setting->counter,
+               by_text, scale);
     /* It came just before counters began at 0 again, and holds for those too. */
     if (is_before) {
         last_before = number;
         note_origin(number, turned, 0);
     }
+    note_upper_half();
+}
+
+void report_origin(void) {
+    char text[SECONDS_TEXT_LEN];
+    print_seconds(origin.at, text);
+    log_line("origin %s", text);
+    noted_scale = scale_of_run();
+    note_origin(0, 0, 0);
+}
+
+/* Notes again what holds once frames have shown another scale. Only those of an adapter's clock do so later, whose
+ * settings aren't seen: it has no other origins. */
+static void follow_scale(void) {
+    struct scale scale = scale_of_run();
+    if (is_same_scale(&scale, &noted_scale))
+        return;
+    noted_scale = scale;
+    note_origin(reported, turned, 0);
     note_upper_half();
 }
 
@@ -196,6 +220,7 @@ static void follow_counter(void) {
 }
 
 void report_settings(bool is_end) {
+    follow_scale();
     follow_counter();
     while (reported != atomic_load(&newest)) {
         if (!is_end && steady_now() - setting_of(reported + 1)->before < BEFORE_REPORT)

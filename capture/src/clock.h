@@ -14,11 +14,15 @@ struct frame_clock {
 /* Notes where the wall clock stands beside the one that runs on, and the origin of counters. */
 void start_clock(const struct origin *origin);
 
+/* Reports the origin of counters at the beginning, with the scale of the frames that is known by then. */
+void report_origin(void);
+
 /* Sees whether the wall clock was set since somebody looked last. */
 void follow_clock(void);
 
 /* Reports the settings that weren't reported, each with the origin from then on: those that are a moment old, since
- * frames show when a setting was, or at the end all; and the origin once counters have begun at 0 again. */
+ * frames show when a setting was, or at the end all; and the origin once counters have begun at 0 again. Notes the
+ * origin anew once the scale of the frames is another one. */
 void report_settings(bool is_end);
 
 /* The moment of a frame by the clock that runs on: what the wall clock would have said if it hadn't been set. */

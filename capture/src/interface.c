@@ -27,6 +27,11 @@ static bool is_up(const struct interface *interface) {
 
 /* ---- frames */
 
+/* Whether a frame that is taken now may have come so long ago that it doesn't show how far its clock is ahead. */
+static bool may_have_waited(const struct interface *interface) {
+    return steady_now() - interface->clock.none_before > NANOSECONDS_PER_SECOND;
+}
+
 static void take_frame(unsigned char *user, const struct pcap_pkthdr *head, const unsigned char *bytes) {
     struct interface *interface = (struct interface *)user;
     const struct captured captured = {bytes, head->caplen, head->caplen >= head->len, interface->has_check_sequences,
@@ -38,9 +43,10 @@ static void take_frame(unsigned char *user, const struct pcap_pkthdr *head, cons
         interface->is_down = false;
         log_line("%s: it is up again", interface->name);
     }
-    if (interface->is_scale_unknown) {
+    if (interface->is_scale_unknown && !may_have_waited(interface)) {
+        const struct scale scale = log_adapter_clock(interface->name, moment);
         interface->is_scale_unknown = false;
-        log_adapter_clock(interface->name, moment);
+        show_scale(interface->name, &scale);
     }
     if (!interface->arguments->uses_adapter_clock)
         moment = steady_moment(&interface->clock, moment);
@@ -173,7 +179,8 @@ static void wait_for_frames(struct interface *interface) {
     note_all_written(&interface->feed.output);
     int64_t begin = steady_now();
     int ready = poll(waits, WAITS, pause_of(interface));
-    if (ready == 0)
+    /* Where it took time no frame was there at its beginning. */
+    if (ready == 0 || (interface->is_scale_unknown && steady_now() - begin >= NANOSECONDS_PER_MS))
         note_none_before(&interface->clock, begin - LAST_BLOCK);
     /* libpcap says nothing of an interface that is only down, and the kernel nothing of one that goes once it is. */
     if ((waits[IN_USE].revents & (POLLERR | POLLHUP)) != 0 || (ready == 0 && interface->is_down))

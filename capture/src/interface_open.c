@@ -147,6 +147,8 @@ static bool set_prefilter(const struct interface *interface) {
 
 /* Opens an interface that is there by now, as it was asked for. */
 static bool open_all_of(struct interface *interface) {
+    static const struct scale UTC = {.kind = SCALE_UTC};
+    note_none_before(&interface->clock, steady_now());
     interface->number = if_nametoindex(interface->name);
     for (int kind = 0; kind < RINGS; kind++)
         if (!open_ring(interface, (enum ring_kind)kind))
@@ -158,6 +160,8 @@ static bool open_all_of(struct interface *interface) {
     bool is_nano = pcap_get_tstamp_precision(interface->rings.each[QUIET_RING].pcap) == PCAP_TSTAMP_PRECISION_NANO;
     interface->nanoseconds_per_unit = is_nano ? 1 : 1000;
     note_adapter(interface);
+    if (!interface->is_scale_unknown)
+        show_scale(interface->name, &UTC);
     return true;
 }
 

@@ -167,7 +167,6 @@ static void follow_parent(pid_t parent) {
 
 /* Begins what interfaces need beside their frames: facts, counters, no privileges. Whether it could. */
 static bool begin_live(struct work *works, const struct arguments *arguments) {
-    char text[SECONDS_TEXT_LEN];
     for (int i = 0; i < arguments->count; i++)
         log_opened(&works[i].interface);
     if (!drop_privileges(arguments) || (arguments->events != NULL && !open_events(arguments->events)) ||
@@ -178,9 +177,7 @@ static bool begin_live(struct work *works, const struct arguments *arguments) {
     follow_parent(arguments->parent);
     limit_writing(arguments);
     forbid_other_calls();
-    print_seconds(arguments->origin.at, text);
-    log_line("origin %s", text);
-    note_event("{\"origin\": \"%s\", \"counter\": 0}", text);
+    report_origin();
     return true;
 }
 

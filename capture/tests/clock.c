@@ -2,6 +2,7 @@
 #define _GNU_SOURCE
 #include "clock.h"
 #include "events.h"
+#include "scale.h"
 #include "script.h"
 
 static struct frame_clock frames[2];
@@ -10,6 +11,14 @@ static void answer(const char *call) {
     if (is(call, "start")) {
         const struct origin origin = {0, next_number()};
         start_clock(&origin);
+    } else if (is(call, "origin")) {
+        report_origin();
+    } else if (is(call, "tai")) {
+        const struct scale scale = {SCALE_TAI, (int)next_number()};
+        show_scale("e0", &scale);
+    } else if (is(call, "utc")) {
+        const struct scale scale = {SCALE_UTC, 0};
+        show_scale("e0", &scale);
     } else if (is(call, "look")) {
         follow_clock();
     } else if (is(call, "frame")) {

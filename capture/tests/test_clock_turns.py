@@ -2,6 +2,7 @@
 
 import json
 import random
+from typing import Any
 
 import pytest
 from support import MILLISECOND, SECOND
@@ -31,8 +32,59 @@ def test_a_setting_before_counters_begin_at_0_again_holds_after_it_too(unit: Clo
 def test_an_event_has_the_origin_the_counter_and_by_how_much_the_clock_was_set(unit: Clocks) -> None:
     unit.start()
     (line,) = unit.look(SECOND, -2 * SECOND, is_end=True)
-    event = {"origin": seconds(line.origin), "counter": line.counter, "set_by": "-2.000000000"}
+    event = {"origin": seconds(line.origin), "counter": line.counter, "set_by": "-2.000000000", "scale": None}
     assert json.loads(unit.path.read_text()) == event
+
+
+def noted(unit: Clocks) -> list[dict[str, Any]]:
+    """The origins that are noted, in order."""
+    return [json.loads(it) for it in unit.path.read_text().splitlines()]
+
+
+def test_each_origin_has_the_scale_that_is_known_by_then(unit: Clocks) -> None:
+    """The first, that of a setting and the one that counters begin at 0 again with."""
+    unit.start(before=TURN - 3 * SECOND)
+    unit.ask("utc")
+    unit.ask("origin")
+    unit.look(10 * MILLISECOND, 5 * SECOND, is_end=True)
+    unit.look(2 * SECOND)
+    first, setting, *turned = noted(unit)
+    assert first == {"origin": seconds(unit.origin), "counter": 0, "scale": "UTC"}
+    assert (setting["set_by"], setting["scale"]) == ("5.000000000", "UTC")
+    assert len(turned) > 1 and {it["scale"] for it in turned} == {"UTC"}
+
+
+def test_an_origin_is_noted_again_once_frames_have_shown_their_scale(unit: Clocks) -> None:
+    """From its counter on, once."""
+    unit.start()
+    unit.ask("origin")
+    unit.ask("tai", 37)
+    for _ in range(3):
+        unit.look(SECOND)
+    at_0: dict[str, Any] = {"origin": seconds(unit.origin), "counter": 0}
+    assert noted(unit) == [{**at_0, "scale": None}, {**at_0, "scale": "TAI", "tai_offset": 37}]
+    unit.ask("utc")
+    unit.look(SECOND)
+    assert noted(unit)[2:] == [{**at_0, "scale": None}]
+
+
+def test_a_scale_that_shows_after_counters_began_at_0_again_is_of_those_before_too(unit: Clocks) -> None:
+    unit.start(before=TURN - 2 * SECOND)
+    unit.ask("origin")
+    unit.look(2 * SECOND)
+    before = noted(unit)[1:]
+    unit.ask("tai", 38)
+    unit.look(SECOND)
+    assert noted(unit)[len(before) + 1 :] == [{**it, "scale": "TAI", "tai_offset": 38} for it in before]
+
+
+def test_origins_of_a_clock_that_runs_tai_stay_so_when_counters_begin_at_0_again(unit: Clocks) -> None:
+    unit.start(before=TURN - 3 * SECOND)
+    unit.ask("tai", 37)
+    unit.ask("origin")
+    unit.look(3 * SECOND)
+    found = noted(unit)
+    assert len(found) == 3 and all((it["scale"], it["tai_offset"]) == ("TAI", 37) for it in found)
 
 
 def test_a_setting_just_before_counters_begin_at_0_again_is_noted_for_both_sides(unit: Clocks) -> None:

@@ -8,7 +8,7 @@ from pathlib import Path
 import pytest
 from captures import fields_of, ticks
 from damage import damaged
-from expected_facts import THREE_ORIGINS, facts_of_run, moments_by
+from expected_facts import TAI_37, THREE_ORIGINS, UNKNOWN_SCALE, facts_of_run, moments_by, origins_in
 from frames import counters, feed_of
 from pcapng import frame_of, times_of, whole
 from support import CONVERT, ROOT, judge, judge_quietly, outcome, run
@@ -67,6 +67,34 @@ def test_frames_have_the_times_of_their_origins(work: Path, feed: Path, name: st
     wanted = moments_by(origins, at)
     judge("have their times", times_of(capture.read_bytes()) == wanted)
     judge("as tshark reads them", [ticks(it[1]) for it in fields_of(capture)] == [it // 100 % 2**48 for it in wanted])
+
+
+def test_times_of_a_clock_that_ran_tai_are_utc(work: Path) -> None:
+    """Frames before and after it was known, to the nanosecond: 37 s less than the clock had."""
+    feed, capture, facts = work / "at.feed", work / "at.pcap", write_facts(work / "at.json", *TAI_37)
+    feed.write_bytes(feed_at([0, 16, 17, 18]))
+    noon = 1_764_590_400_250_000_000
+    judge("no line says more", by_facts(facts, feed, capture) == (0, "frames 4\n"))
+    wanted = [noon, noon + 1_600, noon + 123 + 1_700, noon + 123 + 1_800]
+    judge("UTC", times_of(capture.read_bytes()) == wanted, times_of(capture.read_bytes()))
+
+
+def test_a_scale_that_nobody_knows_is_said_in_a_line(work: Path) -> None:
+    """And times are as the clock had them."""
+    feed, capture, facts = work / "at.feed", work / "at.pcap", write_facts(work / "at.json", *UNKNOWN_SCALE)
+    feed.write_bytes(feed_at([7]))
+    line = f"convert: {facts}: the scale of its times is unknown, and they are taken as they are\n"
+    judge("a line says so", by_facts(facts, feed, capture) == (0, f"frames 1\n{line}"))
+    judge("as they are", times_of(capture.read_bytes()) == [1_764_590_400_250_000_700])
+
+
+def test_a_scale_that_came_to_be_known_is_known_of_all_frames(work: Path) -> None:
+    """An origin that holds from the same counter on takes the place of the one before."""
+    origins = [("1764590437.250000000", 0, None, None), ("1764590437.250000000", 0, None, "TAI", 37)]
+    feed, capture, facts = work / "at.feed", work / "at.pcap", write_facts(work / "at.json", *origins)
+    feed.write_bytes(feed_at([7]))
+    judge("no line", by_facts(facts, feed, capture) == (0, "frames 1\n"))
+    judge("UTC", times_of(capture.read_bytes()) == [1_764_590_400_250_000_700])
 
 
 def test_one_origin_of_facts_is_as_the_option_origin(work: Path, feed: Path) -> None:
@@ -146,6 +174,14 @@ def no_facts() -> dict[str, tuple[bytes, str]]:
             text(origins=[{"origin": "1764590400.25", "counter": 0}]),
             "origin 1 of 1: origin isn't seconds with nine digits behind the point, as 1764590400.250000000",
         ),
+        "no_tai_offset": (
+            text(origins=[{"origin": "0.000000000", "counter": 0, "scale": "TAI"}]),
+            "origin 1 of 1: tai_offset is no number from 0 to 100000",
+        ),
+        "other_scale": (
+            text(origins=[{"origin": "0.000000000", "counter": 0, "scale": "GPS"}]),
+            "origin 1 of 1: scale is neither UTC nor TAI nor null",
+        ),
         "true": (
             text(origins=[{"origin": "0.000000000", "counter": True}]),
             "origin 1 of 1: counter is no number from 0 to 281474976710655",
@@ -206,7 +242,7 @@ def judge_damaged(turn: int, work: Path, data: bytes) -> bool:
     is_out = status == 1 and told.startswith(f"convert: {feed}: counter ")
     judge_quietly(f"facts {turn}: {data!r} {told}", (status == 0 or is_refused or is_out) and told.count("\n") == 1)
     if status == 0:
-        origins = [(it["origin"], it["counter"]) for it in json.loads(data.decode(errors="replace"))["origins"]]
+        origins = origins_in(json.loads(data.decode(errors="replace")))
         judge_quietly(f"facts {turn}: {origins}", times_of(capture.read_bytes()) == moments_by(origins, given))
     return is_refused
 

@@ -8,22 +8,28 @@ from pathlib import Path
 from typing import Optional, cast
 
 import pytest
+from bpfrec_host.formats import facts
 from bpfrec_host.live import arguments, folder
 from bpfrec_host.live.capture import Capture
 from bpfrec_host.live.capture_lines import CaptureLines
 from bpfrec_host.live.events import Counted, Event, Events, Loss, LostInAll, Origin, event_in
+from bpfrec_host.live.facts import utc_of_origin
 from bpfrec_host.live.loop import Loop
 from bpfrec_host.live.model import KILLED
 from bpfrec_host.live.ports import Counts
 
-ORIGIN = '{"origin": "1764590400.250000000", "counter": 0}'
-SET = '{"origin": "1764586800.250000123", "counter": 7, "set_by": "-3600.000000000"}'
+ORIGIN = '{"origin": "1764590400.250000000", "counter": 0, "scale": "UTC"}'
+SET = '{"origin": "1764586800.250000123", "counter": 7, "set_by": "-3600.000000000", "scale": "UTC"}'
+TAI = '{"origin": "1764590437.250000000", "counter": 0, "scale": "TAI", "tai_offset": 37}'
+NOBODY_KNOWS = '{"origin": "1764590437.250000000", "counter": 0, "scale": null}'
 LOST = '{"lost": "e0", "from": 0, "to": 9, "dropped": 1, "missed": 2, "skipped": 3, "feed": 4}'
 COUNTS = '{"counts": "e0", "counter": 9, "frames": 1, "bytes": 2, "dropped": 3, "missed": 4, "skipped": 5, "waited": 6, "feed": 7}'
 IN_ALL = '{"lost_in_all": "e0", "dropped": 1, "skipped": 2, "missed": 3}'
 EVENTS: dict[str, Event] = {
-    ORIGIN: Origin("1764590400.250000000", 0, None),
-    SET: Origin("1764586800.250000123", 7, "-3600.000000000"),
+    ORIGIN: Origin("1764590400.250000000", 0, None, "UTC", None),
+    SET: Origin("1764586800.250000123", 7, "-3600.000000000", "UTC", None),
+    TAI: Origin("1764590437.250000000", 0, None, "TAI", 37),
+    NOBODY_KNOWS: Origin("1764590437.250000000", 0, None, None, None),
     LOST: Loss("e0", 0, 9, 1, 2, 3, 4),
     COUNTS: Counted("e0", 9, Counts(1, 2, 3, 4, 5, 6), 7),
     IN_ALL: LostInAll("e0", 1, 2, 3),
@@ -62,6 +68,38 @@ def test_facts_have_what_was_noted_of_a_feed_as_it_was_noted(tmp_path: Path) -> 
     events.forget(7)
     assert events.facts(7) == {**events.facts(9), "counts": [], "losses": []}
     assert len(events.facts(4)["losses"]) == 1 and events.lost_in_all == [EVENTS[IN_ALL]]
+
+
+# What is noted, the origins of the facts, and the first one as UTC.
+SCALES: dict[str, tuple[list[str], list[str], Optional[str]]] = {
+    "utc": ([ORIGIN], [ORIGIN], "2025-12-01T12:00:00.250000000Z"),
+    "tai": ([TAI], [TAI], "2025-12-01T12:00:00.250000000Z"),
+    "nobody_knows": ([NOBODY_KNOWS], [NOBODY_KNOWS], None),
+    "comes_to_be_known": ([NOBODY_KNOWS, TAI], [TAI], "2025-12-01T12:00:00.250000000Z"),
+    "is_known_no_more": ([NOBODY_KNOWS, TAI, NOBODY_KNOWS], [NOBODY_KNOWS], None),
+    "a_later_one_is_another": ([ORIGIN, SET], [ORIGIN, SET], "2025-12-01T12:00:00.250000000Z"),
+}
+
+
+@pytest.mark.parametrize("name", SCALES)
+def test_each_origin_of_the_facts_has_its_scale_and_the_first_one_as_utc(tmp_path: Path, name: str) -> None:
+    """An origin that comes again with its scale takes its own place."""
+    noted, wanted, utc = SCALES[name]
+    (tmp_path / "events").write_text("".join(f"{it}\n" for it in noted))
+    events = Events(tmp_path / "events")
+    assert events.read() == len(noted)
+    origins = events.facts(0)["origins"]
+    assert json.dumps(origins) == f"[{', '.join(wanted)}]"
+    assert utc_of_origin(origins) == utc
+
+
+def test_facts_are_read_as_they_were_written(tmp_path: Path) -> None:
+    """By what info, convert, pcapng share."""
+    for scale, moment in ((TAI, 1_764_590_400_250_000_000), (NOBODY_KNOWS, 1_764_590_437_250_000_000)):
+        told = {"facts": 1, "host": "fc1", "origins": [json.loads(scale)], "losses": []}
+        (tmp_path / "facts").write_text(json.dumps(told))
+        known = facts.read(str(tmp_path / "facts"))
+        assert (known.moment_of(0), known.are_all_utc()) == (moment, scale == TAI)
 
 
 def test_a_line_that_comes_in_parts_is_an_event_and_others_are_passed(tmp_path: Path) -> None:

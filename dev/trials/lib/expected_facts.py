@@ -14,20 +14,33 @@ THREE_ORIGINS = [
     ("1764586800.250000123", 32, "-3600.749999877"),
 ]
 BEFORE_1970 = [("-3589.750000000", 0, None), ("10.000000000", 9, "3599.750000000")]
+# Of an adapter's clock, which ran UTC and then TAI; and one of which nobody knows how it ran.
+TAI_37: list[tuple] = [("1764590400.250000000", 0, None, "UTC"), ("1764590437.250000123", 17, None, "TAI", 37)]
+UNKNOWN_SCALE: list[tuple] = [("1764590400.250000000", 0, None, None)]
 ODD_VALUES: list[object] = [None, True, False, -1, 0, 1, 2, 1.0, 1e300]
 ODD_VALUES += [2**48 - 1, 2**48, 2**63 - 1, 2**63, 10**30]
 ODD_VALUES += ["", "x", "1", "-1.5", "0.0000000000", "-0.000000001", "+1.000000000", "1764590400.250000000\n"]
 ODD_VALUES += ["\u0661.000000000", "-62135596800.000000000", "-62135596800.000000001"]
 ODD_VALUES += ["253370764799.999999999", "253370764800.000000000", "1" * 13 + ".000000000"]
+ODD_VALUES += ["UTC", "TAI", "tai", 100_000, 100_001]
 ODD_VALUES += ["\ud800", "a" * 255, "a" * 256, [], [[]], [1], {}, {"a": {}}]
 
 
+def object_of(origin: str, counter: int, set_by: str | None, *scale: object) -> dict:
+    """An origin as facts have it; of before scales were noted it has none."""
+    setting = {} if set_by is None else {"set_by": set_by}
+    return {"origin": origin, "counter": counter, **setting, **dict(zip(("scale", "tai_offset"), scale))}
+
+
+def origins_in(told: dict) -> list[tuple]:
+    """The origins of facts."""
+    names = ("scale", "tai_offset")
+    return [(it["origin"], it["counter"], None, *(it[name] for name in names if name in it)) for it in told["origins"]]
+
+
 def facts_of_run(origins: list, losses: tuple | list = ()) -> dict:
-    """Facts with these origins, each of seconds, a counter and by how much the clock was set, and losses."""
-    told = [
-        {"origin": origin, "counter": counter, **({} if set_by is None else {"set_by": set_by})}
-        for origin, counter, set_by in origins
-    ]
+    """Facts with these origins, each of seconds, a counter, by how much the clock was set and its scale, and losses."""
+    told = [object_of(*it) for it in origins]
     lost = [
         {"interface": "eth0", "from": 1_200, "to": 11_200, **dict(zip(("dropped", "missed", "skipped"), it))}
         for it in losses
@@ -56,9 +69,14 @@ def facts_of_run(origins: list, losses: tuple | list = ()) -> dict:
 
 
 def origin_at(origins: list, counter: int) -> Fraction | None:
-    """The origin that holds at a counter; None before the first one."""
-    found = [Fraction(it[0]) for it in origins if it[1] <= counter]
+    """The origin that holds at a counter, less what TAI is ahead of UTC; None before the first one."""
+    found = [Fraction(it[0]) - (it[4] if it[3:4] == ("TAI",) else 0) for it in origins if it[1] <= counter]
     return found[-1] if found else None
+
+
+def is_utc(origins: list, counter: int) -> bool:
+    """Whether somebody knows in which scale the origin is that holds at a counter."""
+    return [it[3:4] != (None,) for it in origins if it[1] <= counter][-1:] == [True]
 
 
 def moments_by(origins: list, counters: list[int]) -> list[int]:
@@ -92,7 +110,9 @@ def drawn_origins(draw: random.Random, most: int) -> list[tuple]:
     at = draw.choice([0, -3_589_750_000_000, draw.randrange(-(10**18), 10**19), 1_764_590_400_250_000_000])
     for counter in counters:
         sign, whole = "-" if at < 0 else "", abs(at)
-        found.append((f"{sign}{whole // 10**9}.{whole % 10**9:09}", counter, draw.choice([None, "-3600.000000000"])))
+        scale: tuple = draw.choice([(), ("UTC",), ("TAI", draw.choice([0, 37, 38, 100_000]))])
+        set_by = draw.choice([None, "-3600.000000000"])
+        found.append((f"{sign}{whole // 10**9}.{whole % 10**9:09}", counter, set_by, *scale))
         at += draw.choice([-3_600_000_000_000, 500_001, draw.randrange(-(10**12), 10**12)])
     return found
 
@@ -111,10 +131,14 @@ def is_count(value: object, most: int) -> bool:
 
 
 def is_origin(value: object) -> bool:
+    if not isinstance(value, dict) or value.get("scale", "UTC") not in ("UTC", "TAI", None):
+        return False
+    is_tai = value.get("scale") == "TAI"
+    if is_tai and not is_count(value.get("tai_offset"), 100_000):
+        return False
     return (
-        isinstance(value, dict)
-        and are_seconds(value.get("origin"))
-        and -62_135_596_800 <= Fraction(value["origin"]) < 253_370_764_800
+        are_seconds(value.get("origin"))
+        and -62_135_596_800 <= Fraction(value["origin"]) - is_tai * value.get("tai_offset", 0) < 253_370_764_800
         and is_count(value.get("counter"), 2**48 - 1)
         and (value.get("set_by") is None or are_seconds(value["set_by"]))
     )

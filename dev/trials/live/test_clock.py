@@ -54,6 +54,7 @@ def test_the_facts_have_the_origins_that_are_told(work: Path) -> None:
     judge("live: counters go on, and with the origins that are told each frame has its time", True)
     facts = facts_of(out)["origins"]
     judge("the facts have the origins that are told, in order", origins_of(facts) == origins_told(told))
+    judge("each has its scale", {it["scale"] for it in facts} == {"UTC"}, facts)
     steps = [nanoseconds(*it["set_by"].split(".")) for it in facts[1:]]
     judge(
         "and by how much the clock was set",

@@ -73,7 +73,7 @@ def test_facts_stand_beside_a_recording_from_its_beginning(work: Path) -> None:
     judge_facts(early, out, settings, filters)
     judge(
         "facts: there from the beginning, with their keys and values",
-        early["origins"] == [{"origin": origin, "counter": 0}]
+        early["origins"] == [{"origin": origin, "counter": 0, "scale": "UTC"}]
         and early["state"] == "recording"
         and [early[key] for key in ("report", "audit", "status")] == [None] * 3,
     )
@@ -187,7 +187,8 @@ def test_recordings_that_follow_one_another_have_facts_each(work: Path, pause: f
         (status, printed, running.told(), [(it["recording"], it["state"], it["status"]) for it in facts]),
     )
     origin = present(re.search(r"origin (\d+\.\d{9})\n", running.told()))[1]
-    judge("facts: each has the origin", all(it["origins"][0] == {"origin": origin, "counter": 0} for it in facts))
+    wanted = {"origin": origin, "counter": 0, "scale": "UTC"}
+    judge("facts: each has the origin", all(it["origins"][0] == wanted for it in facts))
     counts = [it["counts"][0]["frames"] for it in facts]
     judge(f"facts: counts go on: {counts}", counts == sorted(counts) and counts[-1] == sent)
     has_ends = [it["status"] == 0 and it["audit"][-1] == YES and "\n".join(it["report"]) in printed for it in facts]

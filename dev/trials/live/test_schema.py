@@ -128,6 +128,7 @@ def test_the_example_of_the_page_is_as_its_schema_says() -> None:
         judge_quietly(f"without {key} it isn't", faults(wrong, schema_of("facts")))
         judge_quietly(f"with another {key} it isn't", faults({**example, key: object()}, schema_of("facts")))
     changes = [("counts", "frames", -1), ("losses", "dropped", "1"), ("origins", "origin", "1764590400.25")]
+    changes += [("origins", "scale", "GPS"), ("origins", "scale", "TAI"), ("origins", "tai_offset", 100_001)]
     changes += [("adapters", "address", "none"), ("interfaces", "channel", 0), ("filters", "listing", None)]
     for key, name, value in changes:
         wrong = {**example, key: [{**example[key][0], name: value}]}

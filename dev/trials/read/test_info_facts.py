@@ -14,11 +14,16 @@ from bpfrec_host.info.facts_file import facts_beside
 from bpfrec_host.program import Audit
 from expected_facts import (
     BEFORE_1970,
+    TAI_37,
     THREE_ORIGINS,
+    UNKNOWN_SCALE,
     are_facts,
     damaged_facts,
     drawn_origins,
     facts_of_run,
+    is_utc,
+    object_of,
+    origins_in,
     time_by,
     value_of,
 )
@@ -126,7 +131,7 @@ def test_json_has_the_facts_too(three: Path) -> None:
         "path": f"{three}.json",
         "host": "fc1\n\ud800<b>",
         "origin_count": 3,
-        "origins": [dict(zip(("origin", "counter", "set_by"), it)) for it in THREE_ORIGINS],
+        "origins": [{**object_of(*it), "set_by": it[2], "scale": "UTC", "tai_offset": None} for it in THREE_ORIGINS],
         "losses": {"dropped": 1_120, "missed": 0, "skipped": 3},
     }
     times = [found["channels"]["1"][it] for it in ("first_time", "last_time")]
@@ -144,6 +149,62 @@ def test_the_page_says_that_times_are_utc(three: Path) -> None:
         and "<td class=bad>1,120 dropped, 3 skipped</td>" in text
         and text.count("2025-12-01T11:00:00.2500033Z") == 2,
     )
+
+
+# ---- time scales
+
+
+def test_times_of_a_clock_that_ran_tai_are_utc(sample: Path) -> None:
+    """By the second origin, 37 s less than its clock had."""
+    put_beside(sample, facts_of_run(TAI_37))
+    told, time = run(INFO, sample), "2025-12-01T12:00:00.2500033Z"
+    rows = [
+        "origin                     2025-12-01T12:00:00.250000000Z from counter 0 on",
+        "origin                     2025-12-01T12:00:00.250000123Z from counter 17 on: the clock ran TAI, 37 s ahead",
+        f"  first time                 {time}",
+    ]
+    judge("the text has UTC, and says of TAI", all(it in told.splitlines() for it in rows), told)
+    found = json_of(sample)
+    scales = [(it["scale"], it["tai_offset"]) for it in found["facts"]["origins"]]
+    judge("the scales in JSON", scales == [("UTC", None), ("TAI", 37)], found)
+    judge("and UTC", found["channels"]["1"]["first_time"] == time, found)
+    page = sample.with_suffix(".html")
+    run(INFO, "--html", page, sample)
+    judge("the page has UTC", "Times are UTC, from" in page.read_text() and page.read_text().count(time) == 2)
+
+
+def test_a_scale_that_nobody_knows_is_said_where_a_time_is_shown(sample: Path) -> None:
+    """Nothing says that such a time is UTC."""
+    put_beside(sample, facts_of_run(UNKNOWN_SCALE))
+    told = run(INFO, sample)
+    rows = [
+        "origin                     2025-12-01T12:00:00.250000000 (scale unknown) from counter 0 on",
+        "  first time                 2025-12-01T12:00:00.2500032 (scale unknown)",
+        "  last time                  2025-12-01T12:00:00.2500032 (scale unknown)",
+    ]
+    judge("in the text", all(it in told.splitlines() for it in rows), told)
+    found = json_of(sample)
+    times = [found["channels"]["1"][it] for it in ("first_time", "last_time")]
+    judge("in JSON no UTC is known", times == [None] * 2 and found["facts"]["origins"][0]["scale"] is None, found)
+    page = sample.with_suffix(".html")
+    run(INFO, "--html", page, sample)
+    judge(
+        "on the page", page.read_text().count("(scale unknown)") == 3 and "Times are UTC, from" not in page.read_text()
+    )
+
+
+def test_a_damaged_place_has_its_time_without_a_scale(sample: Path) -> None:
+    put_beside(sample, facts_of_run(UNKNOWN_SCALE))
+    sample.write_bytes(sample.read_bytes()[:-1])
+    told = outcome(INFO, sample).stdout
+    judge("in the overview", "at 0.0000032 s, 2025-12-01T12:00:00.2500032 (scale unknown)\n" in told, told)
+
+
+def test_facts_of_before_scales_were_noted_are_utc(sample: Path) -> None:
+    """As they were, also of an adapter's clock."""
+    put_beside(sample, {**facts_of_run([("1764590400.250000000", 0, None)]), "clock": "adapter"})
+    found = json_of(sample)
+    judge("in UTC", found["channels"]["1"]["first_time"] == "2025-12-01T12:00:00.2500032Z", found)
 
 
 @pytest.mark.parametrize("encoding, host", [("utf-8", "m\u00fcnchen"), ("ascii", "m?nchen")], ids=["utf-8", "ascii"])
@@ -184,7 +245,7 @@ def judge_times(path: Path, bare: dict, found: Recording, answer: Audit, origins
         wanted = [time_by(origins, moment[f"{which}_counter"]) for which in ("first", "last")]
         got = [told[int(name)]["first_time"], told[int(name)]["last_time"]]
         judge_quietly(f"channel {name} of {origins}: {got}, {wanted}", got == wanted)
-    for counter in [*counters, *(it + step for _, it, _ in origins for step in (-1, 0, 1))]:
+    for counter in [*counters, *(it[1] + step for it in origins for step in (-1, 0, 1))]:
         if 0 <= counter < 2**48:
             judge_quietly(f"counter {counter} of {origins}", time_of(counter, known) == time_by(origins, counter))
     judge_quietly("text and page", [*text_parts(found, answer, known), *page_parts("x", found, answer, known)])
@@ -247,8 +308,9 @@ def judge_damaged(turn: int, sample: Path, data: bytes) -> bool:
     ]
     judge_quietly("text, page and JSON", all(pages))
     if not is_refused:
-        origins = [(it["origin"], it["counter"], None) for it in told["origins"]]
-        judge_quietly(f"facts {turn}: {origins}", said["channels"][1]["first_time"] == time_by(origins, 32))
+        origins = origins_in(told)
+        wanted = time_by(origins, 32) if is_utc(origins, 32) else None
+        judge_quietly(f"facts {turn}: {origins}", said["channels"][1]["first_time"] == wanted)
     if turn < BY_PROCESS:
         judge_by_process(f"facts {turn}", sample, is_refused)
     return is_refused
@@ -259,7 +321,7 @@ def test_damaged_facts_are_taken_or_refused_as_formats_says(sample: Path) -> Non
     traceback."""
     draw, refused = random.Random(SEED), 0
     for turn in range(DAMAGED):
-        origins = draw.choice([THREE_ORIGINS[:2], THREE_ORIGINS, BEFORE_1970])
+        origins: list = draw.choice([THREE_ORIGINS[:2], THREE_ORIGINS, BEFORE_1970, TAI_37, UNKNOWN_SCALE])
         refused += judge_damaged(turn, sample, damaged_facts(draw, facts_of_run(origins, [(1, 2, 3), (4, 5, 6)])))
     judge(
         f"{DAMAGED} damaged facts, of which {refused} are refused, and the rest of the answer stays",

@@ -14,6 +14,7 @@ GOOD = facts_of_run(THREE_ORIGINS, [(1, 2, 3)])
 NO_JSON = "it is no JSON that can be read"
 NO_SECONDS = "isn't seconds with nine digits behind the point"
 NO_COUNTER = "origin 2 of 2: counter is no number from 0 to 281474976710655"
+NO_OFFSET = "tai_offset is no number from 0 to 100000"
 NO_LOSS = "is no number from 0 to 9223372036854775807"
 
 
@@ -49,6 +50,14 @@ CASES = {
     "set_by_number": (second_origin(set_by=-3600), f"origin 2 of 2: set_by {NO_SECONDS}"),
     "set_by_fraction": (second_origin(set_by=1.5), f"origin 2 of 2: set_by {NO_SECONDS}"),
     "set_by_great": (second_origin(set_by=10**30), f"origin 2 of 2: set_by {NO_SECONDS}"),
+    "scale_of_gps": (second_origin(scale="GPS"), "origin 2 of 2: scale is neither UTC nor TAI nor null"),
+    "no_tai_offset": (second_origin(scale="TAI"), f"origin 2 of 2: {NO_OFFSET}"),
+    "tai_offset_past": (second_origin(scale="TAI", tai_offset=100_001), f"origin 2 of 2: {NO_OFFSET}"),
+    "tai_offset_text": (second_origin(scale="TAI", tai_offset="37"), f"origin 2 of 2: {NO_OFFSET}"),
+    "tai_of_year_0": (
+        second_origin(origin="-62135596800.000000000", scale="TAI", tai_offset=37),
+        "origin 2 of 2: origin is of no year from 1 to 9998",
+    ),
     "no_losses": ({**GOOD, "losses": None}, "losses is no list"),
     "empty_loss": ({**GOOD, "losses": [*GOOD["losses"], {}]}, f"loss 2 of 2: dropped {NO_LOSS}"),
     "great_loss": (

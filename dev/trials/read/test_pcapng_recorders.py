@@ -77,6 +77,18 @@ def test_a_clock_that_was_set_counts_as_right_among_recorders(work: Path) -> Non
     judge("frames alternate", [it for it, _ in seen] == [0, 1, 0, 1, 0, 1], seen)
 
 
+def test_recorders_by_tai_and_by_utc_are_merged_by_utc(work: Path) -> None:
+    """The first has an adapter's clock, 37 s ahead; its first facts knew no scale yet."""
+    by_tai = [("1764590437.000000000", 0, None, "TAI", 37)]
+    unknown = [("1764590437.000000000", 0, None, None)]
+    first = recording_at(work / "first.ch11", [0], 1, facts_by("fc1", "eth0", unknown))
+    one = recording_at(work / "one.ch11", [10, 30, 50], 2, facts_by("fc1", "eth0", by_tai))
+    two = recording_at(work / "two.ch11", [20, 40, 60], 3, facts_by("fc2", "eth0"))
+    names, seen = captured(work, first, one, two)
+    judge("one run has one interface", names == ["eth0 of fc1", "eth0 of fc2"], names)
+    judge("frames alternate", [it for it, _ in seen] == [0, 0, 1, 0, 1, 0, 1], seen)
+
+
 def test_frames_stand_in_their_order_where_counters_begin_at_0_again(work: Path) -> None:
     """Counters turn in the second recording of a run, as facts then say."""
     whole, turn = 1 << 48, "1764590400.000000000"

@@ -6,7 +6,7 @@ import shutil
 from pathlib import Path
 
 import pytest
-from expected_facts import THREE_ORIGINS, facts_of_run, moments_by
+from expected_facts import TAI_37, THREE_ORIGINS, UNKNOWN_SCALE, facts_of_run, moments_by
 from frames import FRAMES, body_of, end_packet, numbered, packet_of, program_packet, with_check_sequence
 from reading import SEED, recording_of_three
 from seen_frames import SECOND, Seen, feeds_of, judge_whole, made, seen_in
@@ -22,7 +22,9 @@ def three(place: Path) -> Path:
 
 
 @pytest.mark.parametrize(
-    "origins", [THREE_ORIGINS, [("1764590400.250000001", 0, None)]], ids=["clock_was_set", "one_origin"]
+    "origins",
+    [THREE_ORIGINS, [("1764590400.250000001", 0, None)], TAI_37],
+    ids=["clock_was_set", "one_origin", "clock_ran_tai"],
 )
 def test_times_are_those_of_the_facts(work: Path, three: Path, origins: list) -> None:
     """Times are those of the facts beside the recording."""
@@ -73,6 +75,39 @@ def test_a_slice_has_the_frames_of_its_times_and_channels(work: Path, three: Pat
             f"slice {turn}: {begin} to {end} of {chosen}", sorted(seen) == sorted(wanted), (len(seen), len(wanted))
         )
     judge(f"{SLICES} slices", True)
+
+
+def frames_at(path: Path, counters: list[int], origins: list) -> Path:
+    """A recording of a frame at each counter, with its facts."""
+    body = body_of([(it, 0, with_check_sequence(numbered(at))) for at, it in enumerate(counters)])
+    path.write_bytes(program_packet(1, 0) + packet_of(1, body, 0, FRAMES, counters[0], True))
+    Path(f"{path}.json").write_text(json.dumps(facts_of_run(origins)))
+    return path
+
+
+def test_a_slice_by_utc_of_a_clock_that_ran_tai_has_the_frames_of_its_utc(work: Path) -> None:
+    """To the tick, by the second origin."""
+    recording, noon = frames_at(work / "tai.ch11", [20, 30, 40], TAI_37), 1_764_590_400_250_000_123
+    words = ["--from", utc(noon + 2_001), "--to", utc(noon + 4_000)]
+    judge("the second of three", [it.moment for it in seen_in(made(work, *words, recording))] == [noon + 3_000])
+
+
+def test_a_scale_that_nobody_knows_is_said_and_no_utc_is_taken(work: Path) -> None:
+    """Times are as the clock had them, on standard error, in the capture, and where a slice is asked for by UTC."""
+    recording = frames_at(work / "odd.ch11", [20, 30], UNKNOWN_SCALE)
+    done = outcome(PCAPNG, work / "odd.pcapng", recording)
+    line = f"pcapng: {recording}: the scale of its times is unknown, and they are taken as they are\n"
+    told = (done.returncode, done.stdout, done.stderr)
+    judge("a line says so", told == (0, "frames 2 skipped 0\n", line), done)
+    noon = 1_764_590_400_250_000_000
+    judge("as they are", [it.moment for it in seen_in(work / "odd.pcapng")] == [noon + 2_000, noon + 3_000])
+    comment = b"odd.ch11: times by its facts, of host fc1, scale unknown"
+    judge("the capture says so", comment in (work / "odd.pcapng").read_bytes())
+    done = outcome(PCAPNG, "--force", "--from", utc(noon), work / "odd.pcapng", recording)
+    why = f"pcapng: {recording}: the scale of its times is unknown, so times are seconds since counter 0, as 12.5\n"
+    judge("UTC is refused", (done.returncode, done.stderr) == (1, line + why), done)
+    seen = seen_in(made(work, "--from", "0.0000021", recording))
+    judge("seconds are not", [it.moment for it in seen] == [noon + 3_000])
 
 
 def test_a_slice_at_a_shared_counter_has_the_frames_of_both_packets(work: Path) -> None:

@@ -8,7 +8,18 @@ from pathlib import Path
 from typing import Any
 
 import pytest
-from expected_facts import BEFORE_1970, THREE_ORIGINS, are_facts, damaged_facts, facts_of_run, moments_by, value_of
+from expected_facts import (
+    BEFORE_1970,
+    TAI_37,
+    THREE_ORIGINS,
+    UNKNOWN_SCALE,
+    are_facts,
+    damaged_facts,
+    facts_of_run,
+    moments_by,
+    origins_in,
+    value_of,
+)
 from pcapng import frames_in
 from reading import SEED, recording_of_three
 from recorder import RECORDINGS
@@ -35,7 +46,9 @@ def counters_in(recording: Path) -> list[int]:
     return [int(it["counter"]) for it in expected_rows(recording) if "number" in it]
 
 
-@pytest.mark.parametrize("origins", [THREE_ORIGINS, BEFORE_1970], ids=["three_origins", "before_1970"])
+@pytest.mark.parametrize(
+    "origins", [THREE_ORIGINS, BEFORE_1970, TAI_37], ids=["three_origins", "before_1970", "tai_37"]
+)
 def test_times_are_those_of_the_facts(work: Path, three: Path, origins: list) -> None:
     """Times are those of the facts beside the recording, or of those that the preference names."""
     recording, counters = work / "x.ch11", counters_in(three)
@@ -48,6 +61,16 @@ def test_times_are_those_of_the_facts(work: Path, three: Path, origins: list) ->
     (work / "x.ch11.json").rename(work / "elsewhere.json")
     named = ["-o", f"ch11.facts:{work}/elsewhere.json"]
     judge("and by the preference", times_in(work, recording, *named) == wanted)
+
+
+@pytest.mark.parametrize("origins, scale", [(TAI_37, ""), (UNKNOWN_SCALE, ", scale unknown")], ids=["known", "unknown"])
+def test_a_scale_that_nobody_knows_is_said_of_each_row(work: Path, three: Path, origins: list, scale: str) -> None:
+    recording = work / "x.ch11"
+    shutil.copy(three, recording)
+    (work / "x.ch11.json").write_text(json.dumps(facts_of_run(origins)))
+    lines = printed(work, "-r", recording, "-Y", "ch11.number", "-T", "fields", "-e", "ch11.time")
+    told = f"absolute{scale}, by {recording}.json"
+    judge("each row says whether its scale is known", lines and set(lines) == {told}, lines[:3])
 
 
 def test_times_are_those_of_convert(work: Path, three: Path) -> None:
@@ -66,13 +89,11 @@ def test_drawn_facts_are_taken_or_refused_as_formats_says(work: Path) -> None:
     shutil.copy(RECORDINGS / "two_versions_checked.ch11", recording)
     counts = [0, 0]
     for turn in range(DRAWN):
-        data = damaged_facts(draw, facts_of_run(THREE_ORIGINS, [(1, 2, 3)]))
+        data = damaged_facts(draw, facts_of_run(draw.choice([THREE_ORIGINS, TAI_37]), [(1, 2, 3)]))
         (work / "x.ch11.json").write_bytes(data)
         told: Any = value_of(data)
         is_known = are_facts(told)
-        origins = (
-            [(it["origin"], it["counter"], None) for it in told["origins"]] if is_known else [("0.000000000", 0, None)]
-        )
+        origins = origins_in(told) if is_known else [("0.000000000", 0, None)]
         counts[is_known] += 1
         judge_quietly(f"draw {turn}: {data!r}", times_in(work, recording) == moments_by(origins, [32]))
     judge(f"{counts[1]} facts, and {counts[0]} that are none", min(counts) > 5)

@@ -93,13 +93,15 @@ def add_to_pcap(commands: "Commands[Parser]") -> None:
         metavar="WHEN",
         type=moment_of,
         default="zero",
-        help="the moment of counter 0, as given to from-pcap or as capture printed it; zero (1970-01-01) by default",
+        help="the moment of counter 0, as given to from-pcap or as capture printed it, in UTC: less by 37 s if an "
+        "adapter's clock ran atomic time (TAI); zero (1970-01-01) by default",
     )
     times.add_argument(
         "--facts",
         metavar="FILE",
         help="the facts beside the recording that the feed comes from, as flight.ch11.json: by them each frame "
-        "has its time, even if the clock was set during the recording",
+        "has its UTC time, even if the clock was set during the recording, or ran atomic time (TAI). A line says if "
+        "nobody knows how it ran",
     )
     made.add_argument("--drop-check-sequence", action="store_true", help="leave each frame's FCS out")
     add_force(made)

@@ -7,6 +7,7 @@ import re
 import time
 from typing import Callable, Optional
 
+from bpfrec_host import printing
 from bpfrec_host.formats.limits import NANOSECONDS_A_SECOND, NANOSECONDS_A_TICK
 from bpfrec_host.streams import STREAM, Input, Refused, Unreadable, identity
 
@@ -55,11 +56,14 @@ def moments_by_facts(path: str, feed: str) -> Callable[[int], Optional[int]]:
     if path == feed == STREAM or identity(path, 0) is not None and identity(path, 0) == identity(feed, 0):
         raise Refused(f"{'standard input' if STREAM in (path, feed) else path} can't be the feed and the facts")
     try:
-        return facts.read(0 if path == "-" else path).moment_of
+        known = facts.read(0 if path == "-" else path)
     except OSError as fault:
         raise Unreadable(f"{path}: {fault.strerror}") from None
     except facts.NoFacts as fault:
         raise Refused(f"{path}: no facts of a recording: {fault}") from None
+    if not known.are_all_utc():
+        printing.err(f"convert: {path}: {facts.SCALE_UNKNOWN}")
+    return known.moment_of
 
 
 def captured_time(feed: Input, counter: int, moment: Optional[int]) -> tuple[int, int]:

@@ -17,6 +17,7 @@ from bpfrec_host.formats.limits import (
     MAX_COUNTER,
     MAX_FACTS_LEN,
     MAX_HOST_LEN,
+    MAX_TAI_OFFSET,
     NANOSECONDS_A_SECOND,
     NANOSECONDS_A_TICK,
 )
@@ -30,6 +31,9 @@ MAX_DIGITS = len(str(MAX_COUNT))
 # Stands for each number that is no whole number, or too long a one.
 OTHER_NUMBER = float("nan")
 LOST = ("dropped", "missed", "skipped")
+UTC, TAI = "UTC", "TAI"
+# What is said of times that may not be UTC.
+SCALE_UNKNOWN = "the scale of its times is unknown, and they are taken as they are"
 
 
 class NoFacts(Exception):
@@ -38,12 +42,15 @@ class NoFacts(Exception):
 
 class Origin(NamedTuple):
     """The moment of counter 0, in nanoseconds since 1970, as it holds from a counter on; by how many seconds the clock
-    was set, where it was."""
+    was set, where it was. The moment is UTC but where nobody knows the scale; the text is in that scale, of which TAI
+    is ahead of UTC by so many seconds."""
 
     text: str
     moment: int
     counter: int
     set_by: Optional[str]
+    scale: Optional[str] = UTC
+    tai_offset: int = 0
 
 
 class Facts:
@@ -62,11 +69,20 @@ class Facts:
         self.holding = holding(self.origins)
         self.counters = [it.counter for it in self.holding]
 
-    def moment_of(self, counter: int) -> Optional[int]:
-        """The moment of a frame with this counter, in nanoseconds since 1970, by the last origin whose counter is at
-        most this one; None where there is none."""
+    def origin_at(self, counter: int) -> Optional[Origin]:
+        """The last origin whose counter is at most this one; None where there is none."""
         at = bisect_right(self.counters, counter) - 1
-        return None if at < 0 else self.holding[at].moment + counter * NANOSECONDS_A_TICK
+        return None if at < 0 else self.holding[at]
+
+    def moment_of(self, counter: int) -> Optional[int]:
+        """The moment of a frame with this counter, in nanoseconds since 1970, which is UTC but where nobody knows the
+        origin's scale; None where there is no origin."""
+        origin = self.origin_at(counter)
+        return None if origin is None else origin.moment + counter * NANOSECONDS_A_TICK
+
+    def are_all_utc(self) -> bool:
+        """Whether all moments are UTC, since the scale of each origin that holds is known."""
+        return all(it.scale for it in self.holding)
 
 
 def is_number(value: Any, least: int, most: int) -> bool:
@@ -99,13 +115,29 @@ def origin_in(told: Any, name: str) -> Origin:
     set_by: Any = told.get("set_by")
     if moment is None:
         raise NoFacts(f"{name}: origin isn't seconds with nine digits behind the point, as 1764590400.250000000")
+    scale, tai_offset = scale_in(told, name)
+    moment -= tai_offset * NANOSECONDS_A_SECOND
     if not FIRST_MOMENT <= moment < END_MOMENT:
         raise NoFacts(f"{name}: origin is of no year from 1 to 9998")
     if not is_number(counter, 0, MAX_COUNTER):
         raise NoFacts(f"{name}: counter is no number from 0 to {MAX_COUNTER}")
     if set_by is not None and nanoseconds_of(set_by) is None:
         raise NoFacts(f"{name}: set_by isn't seconds with nine digits behind the point")
-    return Origin(told["origin"], moment, counter, set_by)
+    return Origin(told["origin"], moment, counter, set_by, scale, tai_offset)
+
+
+def scale_in(told: dict[str, Any], name: str) -> tuple[Optional[str], int]:
+    """The time scale of an origin, and by how many seconds it is ahead of UTC. Facts that were written before scales
+    were noted are in UTC."""
+    scale: Any = told.get("scale", UTC)
+    if scale not in (UTC, TAI, None):
+        raise NoFacts(f"{name}: scale is neither {UTC} nor {TAI} nor null")
+    if scale != TAI:
+        return scale, 0
+    tai_offset: Any = told.get("tai_offset")
+    if not is_number(tai_offset, 0, MAX_TAI_OFFSET):
+        raise NoFacts(f"{name}: tai_offset is no number from 0 to {MAX_TAI_OFFSET}")
+    return TAI, tai_offset
 
 
 def holding(origins: list[Origin]) -> list[Origin]:

@@ -4,8 +4,9 @@ from __future__ import annotations
 
 from typing import Any, Optional
 
+from bpfrec_host.formats.facts import TAI, Origin
 from bpfrec_host.info.contents import KINDS, MOST_PLACES, Channel, Recording
-from bpfrec_host.info.facts_file import FactsFile, time_of
+from bpfrec_host.info.facts_file import FactsFile, utc_at
 
 
 def object_of(recording: Recording, audit: Optional[str], beside: Optional[FactsFile] = None) -> dict[str, Any]:
@@ -34,8 +35,19 @@ def beside_object(beside: FactsFile) -> dict[str, Any]:
         "path": beside.path,
         "host": beside.known.host,
         "origin_count": len(origins),
-        "origins": [{"origin": it.text, "counter": it.counter, "set_by": it.set_by} for it in origins[:MOST_PLACES]],
+        "origins": [origin_object(it) for it in origins[:MOST_PLACES]],
         "losses": beside.known.losses,
+    }
+
+
+def origin_object(origin: Origin) -> dict[str, Any]:
+    """An origin of the facts, as it stands there."""
+    return {
+        "origin": origin.text,
+        "counter": origin.counter,
+        "set_by": origin.set_by,
+        "scale": origin.scale,
+        "tai_offset": origin.tai_offset if origin.scale == TAI else None,
     }
 
 
@@ -49,8 +61,8 @@ def channel_object(channel: Channel, beside: Optional[FactsFile]) -> dict[str, A
         "dropped_by_filter": channel.dropped(),
         "first_counter": first,
         "last_counter": last,
-        "first_time": time_of(first, beside),
-        "last_time": time_of(last, beside),
+        "first_time": utc_at(first, beside),
+        "last_time": utc_at(last, beside),
         "least_counter": least,
         "greatest_counter": greatest,
         "time": channel.span(),

@@ -31,13 +31,15 @@ and what `bpfrec audit` answers. Packets behind a damaged place are counted too 
 
 If the facts of the recording are beside it, as RECORDING.json, it prints from them the host, each origin (the moment
 of counter 0) with the counter from which on it is right, and the frames that were lost. For each channel it prints
-the times of its first and last frame. These times are UTC. The time between two frames is that of their counters.
+the times of its first and last frame. These times are UTC: if an adapter's clock ran atomic time (TAI), they are less
+by the seconds that it is ahead. Where nobody knows how the clock ran, `scale unknown` stands behind its times. The time
+between two frames is that of their counters.
 """
 MORE = f"""\
 In JSON lengths of time are ticks of 100 ns, and what isn't known is null, as all that comes from facts if there are
-none. If over {MOST_SECONDS:,} seconds have frames, rates are for longer times, which are printed. The first {MOST_PLACES:,}
-gaps, damaged places and origins are printed one by one, and the first {MAX_VERSIONS:,} versions of a channel's filter; all
-are counted.
+none, and times of a scale that is unknown. If over {MOST_SECONDS:,} seconds have frames, rates are for longer times, which
+are printed. The first {MOST_PLACES:,} gaps, damaged places and origins are printed one by one, and the first {MAX_VERSIONS:,}
+versions of a channel's filter; all are counted.
 
 A RECORDING.json that can't be read, or has no facts of a recording, is reported on standard error, and changes neither
 the rest nor the status.

@@ -43,7 +43,20 @@ def on_a_line(given: str) -> str:
     return "".join(it if it.isprintable() else "?" for it in given)
 
 
+def in_scale(time: str, scale: Optional[str]) -> str:
+    """A time, which ends in Z where it is UTC; where nobody knows its scale it says so."""
+    return time if scale else f"{time.rstrip('Z')} (scale unknown)"
+
+
+def utc_at(counter: Optional[int], beside: Optional[FactsFile]) -> Optional[str]:
+    """The UTC time of a counter, by the facts; None where it isn't known, or its scale isn't."""
+    origin = None if beside is None or counter is None else beside.known.origin_at(counter)
+    return time_of(counter, beside) if origin and origin.scale else None
+
+
 def time_of(counter: Optional[int], beside: Optional[FactsFile]) -> Optional[str]:
-    """The time of a counter, by the facts; None where it isn't known."""
-    moment = None if beside is None or counter is None else beside.known.moment_of(counter)
-    return None if moment is None else facts.tick_of(moment)
+    """The time of a counter, by the facts, as people read it; None where it isn't known."""
+    if beside is None or counter is None:
+        return None
+    origin, moment = beside.known.origin_at(counter), beside.known.moment_of(counter)
+    return None if origin is None or moment is None else in_scale(facts.tick_of(moment), origin.scale)

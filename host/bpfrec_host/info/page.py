@@ -95,6 +95,13 @@ def bad_rows(recording: Recording, audit: program.Audit, beside: Optional[FactsF
     ]
 
 
+def times_text(beside: FactsFile) -> str:
+    """What the page says of its times."""
+    name = on_a_line(os.path.basename(beside.path))
+    unknown = "" if beside.known.are_all_utc() else " but where their scale is unknown"
+    return f"Times are UTC{unknown}, from the facts in {name}."
+
+
 def page_parts(
     name: str, recording: Recording, audit: program.Audit, beside: Optional[FactsFile] = None
 ) -> Iterator[str]:
@@ -102,7 +109,7 @@ def page_parts(
     axis, texts = Axis(recording.channels.values()), Texts()
     whole = table(rows_of_whole(recording, audit, beside), bad_rows(recording, audit, beside))
     span = f"Counters {number(axis.first)} to {number(axis.last)}, {seconds(axis.last - axis.first)}, in each timeline."
-    times = f" Times are UTC, from the facts in {on_a_line(os.path.basename(beside.path))}." if beside else ""
+    times = f" {times_text(beside)}" if beside else ""
     yield (
         "<!DOCTYPE html>\n<html lang=en><meta charset=utf-8>"
         '<meta name=viewport content="width=device-width, initial-scale=1">'

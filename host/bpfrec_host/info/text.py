@@ -7,7 +7,7 @@ from typing import Iterator, Optional, Union
 from bpfrec_host.formats import ch11, facts
 from bpfrec_host.formats.limits import TICKS_A_SECOND
 from bpfrec_host.info.contents import KINDS, MOST_PLACES, Channel, Missing, Recording
-from bpfrec_host.info.facts_file import FactsFile, interface_of, on_a_line, time_of
+from bpfrec_host.info.facts_file import FactsFile, in_scale, interface_of, on_a_line, time_of
 from bpfrec_host.info.overview import overview
 from bpfrec_host.program import Audit
 
@@ -31,9 +31,13 @@ def seconds(ticks: Optional[int]) -> str:
 
 
 def origin_text(origin: facts.Origin) -> str:
-    """The moment of counter 0, from which counter on it holds, and by how much the clock was set."""
-    setting = f": the clock was set by {origin.set_by} s" if origin.set_by else ""
-    return f"{facts.utc_of(origin.moment)} from counter {number(origin.counter)} on{setting}"
+    """The moment of counter 0, from which counter on it holds, by how much the clock was set, and that it ran TAI."""
+    remarks = [
+        *([f"the clock was set by {origin.set_by} s"] if origin.set_by else []),
+        *([f"the clock ran TAI, {origin.tai_offset} s ahead"] if origin.scale == facts.TAI else []),
+    ]
+    moment = in_scale(facts.utc_of(origin.moment), origin.scale)
+    return f"{moment} from counter {number(origin.counter)} on{': ' if remarks else ''}{', '.join(remarks)}"
 
 
 def rows_of(channel: Channel, beside: Optional[FactsFile]) -> list[Row]:

@@ -15,15 +15,22 @@ Entry = dict[str, Any]
 
 
 class Origin(NamedTuple):
-    """The moment from which counters count, from a counter on, and by how much the clock was set: each in seconds."""
+    """The moment from which counters count, from a counter on, and by how much the clock was set: each in seconds. And
+    in which time scale it is, None where nobody knows, with how many seconds TAI is ahead of UTC."""
 
     origin: str
     counter: int
     set_by: Optional[str]
+    scale: Optional[str]
+    tai_offset: Optional[int]
 
     def facts(self) -> Entry:
-        """The origin as the facts have it."""
-        return {name: value for name, value in self._asdict().items() if value is not None}
+        """The origin as the facts have it, with its scale also where nobody knows it."""
+        return {name: value for name, value in self._asdict().items() if value is not None or name == "scale"}
+
+    def is_again(self, other: Origin) -> bool:
+        """Whether it is another origin once more, of which no more than the scale may be a new one."""
+        return self[:3] == other[:3]
 
 
 class Loss(NamedTuple):
@@ -76,7 +83,7 @@ Event = Union[Origin, Loss, Counted, LostInAll]
 
 def origin_of(told: Entry) -> Origin:
     """The origin that an object is."""
-    return Origin(told["origin"], told["counter"], told.get("set_by"))
+    return Origin(told["origin"], told["counter"], told.get("set_by"), told.get("scale"), told.get("tai_offset"))
 
 
 def loss_of(told: Entry) -> Loss:
@@ -147,6 +154,9 @@ class Events:
     def take(self, event: Event) -> None:
         """Takes an event."""
         if isinstance(event, Origin):
+            # It comes again once frames have shown their scale.
+            if self.origins and event.is_again(self.origins[-1]):
+                self.origins.pop()
             self.origins.append(event)
         elif isinstance(event, Loss):
             self.losses.setdefault(event.feed, []).append(event)

@@ -122,11 +122,13 @@ class Writer:
 
 
 def utc_of_origin(origins: list[Entry]) -> Optional[str]:
-    """The moment of counter 0 as UTC, by the first origin; None where there is none of a year with four digits."""
+    """The moment of counter 0 as UTC, by the first origin; None where there is none of a year with four digits, or
+    nobody knows its scale."""
     try:
-        return utc_of(origin_in(origins[0], "origin").moment) if origins else None
+        first = origin_in(origins[0], "origin") if origins else None
     except NoFacts:
         return None
+    return utc_of(first.moment) if first and first.scale else None
 
 
 def replace(path: str, files: Files, data: bytes) -> None:

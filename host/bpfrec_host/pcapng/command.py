@@ -30,11 +30,12 @@ begin as those of bpfrec export, and go on with the filter's text.
 The packets of the slice are found by the headers of all packets, and no others are read. Of a channel whose packets
 rise by their counters, frames are looked for in the packets of the slice alone; else in all.
 
-If the facts are beside a recording, as RECORDING.json, times are those of the facts; without facts they are the time
-since the relative time counter (RTC) was 0, from 1970 on. All recordings must have facts, or none.
+If the facts are beside a recording, as RECORDING.json, times are UTC by the facts; without facts they are the time
+since the relative time counter (RTC) was 0, from 1970 on. All recordings must have facts, or none. If the facts don't
+know in which scale a clock ran, its times are taken as they are, which is reported on standard error.
 """
 MORE = """\
-TIME is seconds since counter 0, as 12.5, or UTC as 2025-12-01T12:00:00.25Z, which needs facts.
+TIME is seconds since counter 0, as 12.5, or UTC as 2025-12-01T12:00:00.25Z, which needs facts that know it.
 
 As OUT, `-` is standard output, and as RECORDING standard input; a pipe is copied into TMPDIR. It prints
 `frames <n> skipped <m>`, on standard error if OUT is standard output: m frames have another content, or fewer than 18
@@ -103,6 +104,8 @@ def recording_at(path: str, given: argparse.Namespace) -> Recording:
     """A recording with its times, of which nothing but the headers is read."""
     index = Index(path, tell_fault)
     times = Times(path, facts_beside(path))
+    if times.facts and not times.facts.are_all_utc():
+        tell_fault(f"{path}: {facts.SCALE_UNKNOWN}")
     ranges = times.ranges(given.since, given.until)
     index.read()
     return Recording(index, times, ranges)

@@ -28,7 +28,7 @@ class Run(NamedTuple):
     """A run of a recorder, whose recordings have one host, one first origin and the same interfaces, by their facts."""
 
     host: str
-    origin: int
+    origin: str
     interfaces: tuple[tuple[int, str], ...] = ()
 
 
@@ -59,7 +59,8 @@ class Recording(NamedTuple):
 
     def run(self) -> Run:
         """The run that it is of."""
-        facts, origin = self.times.facts, self.times.known[0].moment
+        # As it was noted: its scale may have come to be known since.
+        facts, origin = self.times.facts, self.times.known[0].text
         if facts is None:
             return Run(self.headers.path, origin)
         return Run(facts.host, origin, tuple(sorted(facts.interfaces.items())))
@@ -154,7 +155,9 @@ def program_text(programs: list[Program], texts: Texts) -> str:
 def recording_text(recording: Recording) -> str:
     """What a comment says of a recording."""
     name, facts = os.path.basename(recording.headers.path), recording.times.facts
-    return f"{name}: times {f'by its facts, of host {facts.host}' if facts else 'since counter 0, from 1970 on'}"
+    if facts is None:
+        return f"{name}: times since counter 0, from 1970 on"
+    return f"{name}: times by its facts, of host {facts.host}{'' if facts.are_all_utc() else ', scale unknown'}"
 
 
 def interfaces_of(recordings: list[Recording], asked: Optional[list[Union[int, str]]]) -> list[Interface]:
@@ -183,12 +186,17 @@ def numbered(interface: Interface, part: Part, last: int) -> Iterator[Sorted]:
         yield moment + frame.counter * NANOSECONDS_A_TICK, interface, part, frame
 
 
+def how_much_is_known(origins: list[Origin]) -> tuple[int, int]:
+    """How much a list of a run's origins says: how many it has, and of how many the scale is known."""
+    return len(origins), sum(it.scale is not None for it in origins)
+
+
 def last_moments(recordings: list[Recording]) -> dict[Run, int]:
     """The moment of counter 0 of each run, by the last origin that any of its recordings knows: a clock that is set is
     right from then on."""
     known: dict[Run, list[Origin]] = {}
     for recording in recordings:
-        known[recording.run()] = max(known.get(recording.run(), []), recording.times.known, key=len)
+        known[recording.run()] = max(known.get(recording.run(), []), recording.times.known, key=how_much_is_known)
     return {run: origins[-1].moment for run, origins in known.items()}
 
 

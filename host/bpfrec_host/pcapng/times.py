@@ -55,8 +55,9 @@ class Times:
     def ranges(self, since: Optional[Time], until: Optional[Time]) -> list[Range]:
         """The counters whose times are from one on and before another, of each origin."""
         for moment in (since, until):
-            if moment is not None and moment.is_absolute and self.facts is None:
-                raise Refused(f"{self.path}: no facts beside it, so times are seconds since counter 0, as 12.5")
+            if moment is not None and moment.is_absolute and not (self.facts and self.facts.are_all_utc()):
+                why = "the scale of its times is unknown" if self.facts else "no facts beside it"
+                raise Refused(f"{self.path}: {why}, so times are seconds since counter 0, as 12.5")
         ends = [it.counter for it in self.origins[1:]] + [MAX_COUNTER + 1]
         found = []
         for origin, end in zip(self.origins, ends):

@@ -39,6 +39,7 @@ local NANOSECONDS_A_TICK = 100
 local NANOSECONDS_A_SECOND = 1000000000
 local MAX_FACTS_LEN = 67108864
 local MAX_HOST_LEN = 255
+local MAX_TAI_OFFSET = 100000
 -- As digits, which no number here holds.
 local MAX_COUNT = "9223372036854775807"
 

@@ -31,6 +31,24 @@ local function moment_in(text)
   return seconds, rest
 end
 
+local function is_null(value)
+  return type(value) == "table" and value.constant == "null"
+end
+
+-- By how many seconds the time scale of an origin is ahead of UTC, and whether it is known. Facts that were written
+-- before scales were noted are in UTC.
+local function ahead_of_utc(told, name)
+  if told.scale == "TAI" then
+    if not is_count(told.tai_offset, format("%.0f", MAX_TAI_OFFSET)) then
+      error(format("%s: tai_offset is no number from 0 to %.0f", name, MAX_TAI_OFFSET), 0)
+    end
+    return tonumber(told.tai_offset.digits), true
+  elseif told.scale ~= nil and told.scale ~= "UTC" and not is_null(told.scale) then
+    error(name .. ": scale is neither UTC nor TAI nor null", 0)
+  end
+  return 0, not is_null(told.scale)
+end
+
 -- The origin that a value of JSON is.
 local function origin_in(value, name)
   local told = members_of(value, false)
@@ -40,16 +58,18 @@ local function origin_in(value, name)
   local seconds, nanoseconds = moment_in(told.origin)
   if not seconds then
     error(name .. ": origin isn't seconds with nine digits behind the point", 0)
-  elseif seconds < FIRST_SECOND or seconds >= END_SECOND then
+  end
+  local ahead, is_known = ahead_of_utc(told, name)
+  seconds = seconds - ahead
+  if seconds < FIRST_SECOND or seconds >= END_SECOND then
     error(name .. ": origin is of no year from 1 to 9998", 0)
   elseif not is_count(told.counter, format("%.0f", MAX_COUNTER)) then
     error(name .. ": counter is no number from 0 to 2^48 - 1", 0)
   end
-  local is_null = told.set_by == nil or type(told.set_by) == "table" and told.set_by.constant == "null"
-  if not is_null and not moment_in(told.set_by) then
+  if told.set_by ~= nil and not is_null(told.set_by) and not moment_in(told.set_by) then
     error(name .. ": set_by isn't seconds with nine digits behind the point", 0)
   end
-  return { counter = tonumber(told.counter.digits), seconds = seconds, nanoseconds = nanoseconds }
+  return { counter = tonumber(told.counter.digits), seconds = seconds, nanoseconds = nanoseconds, is_known = is_known }
 end
 
 -- The origins that hold for some counter, by rising counters: a later one takes the place of each that holds from the
@@ -157,6 +177,11 @@ local function times_of(bytes, named)
   local is_read, origins = pcall(facts_in, path)
   if not is_read then
     return { note = "since counter 0: " .. path .. ": no facts of a recording: " .. tostring(origins) }
+  end
+  for _, origin in ipairs(origins) do
+    if not origin.is_known then
+      return { origins = origins, note = "absolute, scale unknown, by " .. path }
+    end
   end
   return { origins = origins, note = "absolute, by " .. path }
 end
