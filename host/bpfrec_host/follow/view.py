@@ -10,6 +10,7 @@ from bpfrec_host.follow.runs import Known, is_written, known_of
 from bpfrec_host.formats import pcapng_blocks
 from bpfrec_host.formats.ch11.body import BadBody, End, Frames, Program
 from bpfrec_host.formats.ch11.follow import Follower, Front
+from bpfrec_host.formats.facts import SCALE_UNKNOWN
 from bpfrec_host.formats.limits import (
     BODY_WORD_LEN,
     ETHERNET_DATA,
@@ -100,6 +101,7 @@ class Recording:
         self.named: set[int] = set()
         # Up to this place frames are not shown.
         self.hidden_to = 0
+        self.has_shown_frames = False
         self.is_damaged = False
 
     def close(self) -> None:
@@ -170,6 +172,7 @@ class Recording:
         if fault is not None:
             raise BadBody
         if isinstance(what, Frames):
+            self.report_scale()
             interface = self.view.interface(header.channel, self.name(header.channel))
             for counter, marks, frame in self.frames_in(packet[HEADER_LEN : HEADER_LEN + header.data_len]):
                 self.view.frame(interface, self.moment_of(counter), marks, frame)
@@ -185,6 +188,12 @@ class Recording:
                 self.view.skipped += 1
                 continue
             yield counter & MAX_COUNTER, MARKS[word >> 30], data[begin : begin + length]
+
+    def report_scale(self) -> None:
+        """Says ahead of the first frames where nobody knows in which scale their times are."""
+        if not self.has_shown_frames and self.known and not self.known.facts.are_all_utc():
+            self.report(f"{facts_path(self.path)}: {SCALE_UNKNOWN}")
+        self.has_shown_frames = True
 
     def name(self, channel: int) -> str:
         """The name of a channel's interface."""
