@@ -1,11 +1,13 @@
-//! The tests of filters, frames, packets and blocks, by the public calls of their crates. They stand in one
-//! crate, since a crate with tests of its own is proved twice.
+//! The tests of filters, frames, packets, blocks and clocks, by the public calls of their crates. They stand in
+//! one crate, since a crate with tests of its own is proved twice.
 #![tactic(auto)]
 
 #[cfg(test)]
 mod assembler;
 #[cfg(test)]
 mod blocks;
+#[cfg(test)]
+mod clock;
 #[cfg(test)]
 mod disassembler;
 #[cfg(test)]
