@@ -44,6 +44,7 @@ OFFERED = {
     "frame_at": "a single frame of a body, for a reader that wants no others",
     "read_origin": "the origin of a recording, for what writes a whole Chapter 11 file of it",
     "time_body": "the time packets of such a file",
+    "setup_text": "its setup record",
     "into_before": "the packets before a fault, for a reader of a recording that is held whole",
 }
 

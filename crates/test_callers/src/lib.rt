@@ -9,6 +9,7 @@ pub mod calls_bpf_machine;
 pub mod calls_bpf_verify;
 pub mod calls_ch11_clock;
 pub mod calls_ch11_packet;
+pub mod calls_ch11_setup;
 pub mod calls_cli_record_streams;
 pub mod calls_cli_streams;
 pub mod calls_eth_frame;

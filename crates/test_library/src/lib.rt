@@ -1,5 +1,5 @@
-//! The tests of filters, frames, packets, blocks and clocks, by the public calls of their crates. They stand in
-//! one crate, since a crate with tests of its own is proved twice.
+//! The tests of filters, frames, packets, blocks, clocks and setup records, by the public calls of their
+//! crates. They stand in one crate, since a crate with tests of its own is proved twice.
 #![tactic(auto)]
 
 #[cfg(test)]
@@ -18,6 +18,8 @@ mod insn;
 mod machine;
 #[cfg(test)]
 mod packet;
+#[cfg(test)]
+mod setup;
 #[cfg(test)]
 mod shared;
 #[cfg(test)]
