@@ -1,4 +1,5 @@
--- The moments that a time packet tells: a date of the Gregorian calendar and a time of day to 10 ms.
+-- The moments that a time packet tells: a date of the Gregorian calendar and a time of day to 10
+-- ms.
 use Rattle.std.specs.Prelude.{ℕ, ◌+◌, ◌*◌, ◌<◌, ◌≡◌, ℤ, pos, ◌+ℤ◌, ◌*ℤ◌}
 use Rattle.std.specs.Int.{IsInRange}
 use Rattle.jiff_core.specs.Calendar.{days_in_month, days_from_civil}
@@ -19,8 +20,8 @@ abbrev pub hundredths_of_day : CivilTime → ℕ
 hundredths_of_day time =
     ((time.hour * 60 + time.minute) * 60 + time.second) * 100 + time.hundredth
 
--- hundredths of a second since 1970-01-01, by the number of days, which is counted by the lengths of
--- years and months
+-- hundredths of a second since 1970-01-01, by the number of days, which is counted by the lengths
+-- of years and months
 abbrev pub moment_of : CivilTime → ℤ
 moment_of time =
     days_from_civil (pos time.year) time.month time.day *ℤ pos 8_640_000

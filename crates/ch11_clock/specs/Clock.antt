@@ -10,15 +10,15 @@ use Rattle.ch11_clock.specs.declared.origin.Origin.{Origin}
 abbrev pub time_under : Origin → ℕ → ℤ
 time_under origin counter = origin.nanos +ℤ pos (counter * 100)
 
--- the origin that holds at a counter: of these, the last in the list that begins at it or ahead of it,
--- else the first
+-- the origin that holds at a counter: of these, the last in the list that begins at it or ahead of
+-- it, else the first
 abbrev pub origin_at : (first : Origin) → List Origin → ℕ → Origin
 origin_at first [] counter = first
 origin_at first (origin ∷ origins) counter =
     origin_at (if nat_le origin.counter counter then origin else first) origins counter
 
--- the time of a counter, by the origins that were noted in this order, of which the first holds from
--- counter 0 on, whatever its own counter is
+-- the time of a counter, by the origins that were noted in this order, of which the first holds
+-- from counter 0 on, whatever its own counter is
 abbrev pub clock_time : List Origin → ℕ → ℤ
 clock_time [] counter = pos 0
 clock_time (first ∷ origins) counter = time_under (origin_at first origins counter) counter
@@ -42,8 +42,8 @@ abbrev pub started : List Origin → List Origin
 started [] = []
 started (first ∷ origins) = from_start first ∷ origins
 
--- the origins that hold at some counter, of those that were noted in this order: an origin ends the rule
--- of all before it that begin at its counter or later
+-- the origins that hold at some counter, of those that were noted in this order: an origin ends the
+-- rule of all before it that begin at its counter or later
 abbrev pub held_origins : List Origin → List Origin
 held_origins [] = []
 held_origins (origin ∷ origins) =

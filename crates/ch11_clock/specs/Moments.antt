@@ -1,4 +1,5 @@
--- Moments at which time packets may stand, in hundredths of a second since 1970-01-01, and their ticks.
+-- Moments at which time packets may stand, in hundredths of a second since 1970-01-01, and their
+-- ticks.
 use Rattle.std.specs.Prelude.{ℕ, ◌<◌, ◌≤◌, ◌≡◌, ℤ, pos, neg_ℤ, ◌+ℤ◌, ◌*ℤ◌, ◌<ℤ◌, ◌≤ℤ◌}
 use Rattle.std.specs.Int.{int_rem_euclid}
 use Rattle.ch11_clock.specs.declared.origin.Origin.{Origin}

@@ -7,14 +7,14 @@ use Rattle.ch11_clock.specs.Moments.{IsMoment}
 
 -- ---- the time packets of a recording
 
--- a time packet stands at this moment with this tick, under a rule that ends at a counter: its first
--- moment is `start`, and each whole second behind that follows
+-- a time packet stands at this moment with this tick, under a rule that ends at a counter: its
+-- first moment is `start`, and each whole second behind that follows
 pub record IsPointOf (rule : Origin) (end : ℕ) (start moment : ℤ) (tick : ℕ) : Type 0 where
   pub has : IsTickOf rule end moment tick
   pub due : (moment ≡ start) ⊎ (IsWholeSecond moment × (start <ℤ moment))
 
--- one stands there under one of these rules, each of which begins a new time: its first moment is the
--- first at or behind the time of its beginning
+-- one stands there under one of these rules, each of which begins a new time: its first moment is
+-- the first at or behind the time of its beginning
 abbrev pub IsLaterPoint : List Origin → ℤ → ℕ → Type 0
 IsLaterPoint [] moment tick = ⊥
 IsLaterPoint (rule ∷ rules) moment tick =
@@ -28,9 +28,9 @@ IsPointFrom [] start moment tick = ⊥
 IsPointFrom (rule ∷ rules) start moment tick =
     IsPointOf rule (rule_end rules) start moment tick ⊎ IsLaterPoint rules moment tick
 
--- the first moment of a recording, under the rule that holds at its least counter: the last that isn't
--- behind that counter's time, or the next one where that has no tick under the rule; where the next one
--- has none either, no moment behind it has one
+-- the first moment of a recording, under the rule that holds at its least counter: the last that
+-- isn't behind that counter's time, or the next one where that has no tick under the rule; where
+-- the next one has none either, no moment behind it has one
 abbrev pub IsFirstMoment : (rule : Origin) (end least : ℕ) (moment : ℤ) → Type 0
 IsFirstMoment rule end least moment =
     (IsLastAt (time_under rule least) moment × HasTick rule end moment)
@@ -53,7 +53,8 @@ AgreesWithClock rules moment tick =
 
 -- ---- a walk over them
 
--- the time packets that are still to come: under which rules, and the first moment of the first of these
+-- the time packets that are still to come: under which rules, and the first moment of the first of
+-- these
 pub record PointsLeft : Type 0 where
   pub rules : List Origin
   pub start : ℤ
@@ -67,7 +68,8 @@ ArePointsFrom least rules left =
     (moment : ℤ) (tick : ℕ)
     → IsPointFrom left.rules left.start moment tick ↔ IsTimePoint least rules moment tick
 
--- of those that were still to come this one has the least tick, and those with a greater one are left
+-- of those that were still to come this one has the least tick, and those with a greater one are
+-- left
 pub record IsNextPoint (old new : PointsLeft) (moment : ℤ) (tick : ℕ) : Type 0 where
   pub is : IsPointFrom old.rules old.start moment tick
   pub least : (other : ℤ) (its : ℕ) → IsPointFrom old.rules old.start other its → tick ≤ its

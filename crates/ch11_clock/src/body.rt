@@ -10,8 +10,8 @@ use jiff_core::civil::is_leap_year;
 /// The number of bytes of the body of a time packet.
 pub const TIME_BODY_LEN: usize = 12;
 
-/// The body of the time packet of a moment, in hundredths of a second since 1970-01-01. `None` outside
-/// of the years 1 to 3999.
+/// The body of the time packet of a moment, in hundredths of a second since 1970-01-01. `None`
+/// outside of the years 1 to 3999.
 pub fn time_body(moment: i64, is_external: bool) -> Option<[u8; TIME_BODY_LEN]>
     ensures some { IfSome result (λ bytes. (time : Time) × IsTimeOf time moment
         × (bytes ≡ time_bytes is_external time)) }

@@ -8,8 +8,8 @@ ghost use Rattle.ch11_clock.specs.Clock.{started, held_origins, clock_time, IsCl
 ghost use Rattle.ch11_clock.specs.OriginText.{origin_said, SaysOrigin};
 ghost use Rattle.ch11_clock.specs.TimePoints.{IsTimePoint, AgreesWithClock};
 
-/// Law: a moment has one date and time of day at most, and the body of a time packet says one, of one
-/// source.
+/// Law: a moment has one date and time of day at most, and the body of a time packet says one, of
+/// one source.
 pub fn a_time_packet_says_one_time()
     ensures moment { (time other : CivilTime) (moment : ℤ) → IsTimeOf time moment
         → IsTimeOf other moment → time ≡ other }

@@ -18,8 +18,8 @@ pub struct Origin {
 impl Origin {
     ghost use Rattle.std.specs.Prelude.{◌≡◌, ◌↔◌, IsSome, IfSome};
 
-    /// An origin with these parts. `None` where the counter has more than 48 bits, or the time lies 10^12
-    /// seconds or more from 1970.
+    /// An origin with these parts. `None` where the counter has more than 48 bits, or the time lies
+    /// 10^12 seconds or more from 1970.
     pub fn new(counter: u64, nanos: i128) -> Option<Origin>
         ensures in_range { IsSome result ↔ IsOrigin counter nanos }
         ensures counter { IfSome result (λ origin. origin.counter ≡ counter) }

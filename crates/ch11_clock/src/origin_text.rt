@@ -13,9 +13,9 @@ const FRACTION_DIGITS: usize = 9;
 /// The number of nanoseconds of a second.
 const NANOS: u128 = 1_000_000_000;
 
-/// The nanoseconds since 1970-01-01 that a text says: seconds of 1 to 12 decimal digits, with a minus
-/// ahead of a time before it, and where they have a fraction a point and 1 to 9 digits. `None` where
-/// it is no such text.
+/// The nanoseconds since 1970-01-01 that a text says: seconds of 1 to 12 decimal digits, with a
+/// minus ahead of a time before it, and where they have a fraction a point and 1 to 9 digits.
+/// `None` where it is no such text.
 pub fn read_origin(text: &[u8]) -> Option<i128>
     ensures said { result ≡ origin_said text.now }
     ensures fits { IfSome result (λ nanos. (counter : ℕ) → counter < 2 ^ 48

@@ -56,13 +56,14 @@ behind_line_end (byte ∷ []) = None
 behind_line_end (byte ∷ other ∷ bytes) =
     if byte == 13 then (if other == 10 then Some bytes else None) else None
 
--- the attribute that stands first, and what follows it: its name ends at the first colon, its value at
--- the first semicolon behind that, and its line there
+-- the attribute that stands first, and what follows it: its name ends at the first colon, its value
+-- at the first semicolon behind that, and its line there
 abbrev pub first_attribute : List ℕ → Option (AttributeData × List ℕ)
 first_attribute text =
     option_and_then
     (λ named. option_and_then
-    (λ valued. option_map (λ rest. (attribute_of named.0 valued.0, rest)) (behind_line_end valued.1))
+    (λ valued. option_map (λ rest. (attribute_of named.0 valued.0, rest))
+    (behind_line_end valued.1))
     (cut_at 59 named.1))
     (cut_at 58 text)
 
@@ -70,4 +71,5 @@ first_attribute text =
 abbrev pub HoldsAttributes : List ℕ → List AttributeData → Type 0
 HoldsAttributes text [] = text ≡ []
 HoldsAttributes text (attribute ∷ attributes) =
-    (rest : List ℕ) × (first_attribute text ≡ Some (attribute, rest)) × HoldsAttributes rest attributes
+    (rest : List ℕ) × (first_attribute text ≡ Some (attribute, rest))
+    × HoldsAttributes rest attributes

@@ -6,8 +6,8 @@ use Rattle.ch11_setup.specs.Dates.{date_text, date_time_text}
 
 -- ---- the recording
 
--- general information: the format's edition, the date of the first time packet, and the host, the one
--- source of data
+-- general information: the format's edition, the date of the first time packet, and the host, the
+-- one source of data
 abbrev pub general_attributes : (host : List ℕ) → CivilTime → List AttributeData
 general_attributes host time =
     attribute_of (codes "G\\PN") (codes "bpfrec")
@@ -29,8 +29,8 @@ recorder_attributes host program time =
     ∷ attribute_of (codes "R-1\\RI4") (date_time_text time)
     ∷ []
 
--- what else the file has: no bits of the secondary kind, an index by counts, no events, and how many
--- data sources
+-- what else the file has: no bits of the secondary kind, an index by counts, no events, and how
+-- many data sources
 abbrev pub content_attributes : (sources : ℕ) → List AttributeData
 content_attributes sources =
     attribute_of (codes "R-1\\NSB") (codes "0")

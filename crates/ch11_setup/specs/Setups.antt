@@ -49,8 +49,8 @@ pub record IsSetupChannel (channel : SetupChannel) : Type 0 where
   pub id_in : channel.id < 2 ^ 16
   pub net_in : channel.net < 2 ^ 8
 
--- the numbers of a setup record have their widths, its time is in the calendar, and what a user adds are
--- attributes
+-- the numbers of a setup record have their widths, its time is in the calendar, and what a user
+-- adds are attributes
 pub record IsSetup (setup : Setup) : Type 0 where
   pub time : IsCivilTime setup.time
   pub time_channel : setup.time_channel < 2 ^ 16

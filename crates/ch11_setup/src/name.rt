@@ -11,8 +11,8 @@ const NAME_LEN: usize = 32;
 /// The greatest number of them in the name of a channel's data source.
 const SOURCE_NAME_LEN: usize = 24;
 
-/// A text as a name: in printable ASCII without `:`, `;` and `\`, with `_` for each other character,
-/// without blanks at its ends, its first 32 characters, or `NONE`.
+/// A text as a name: in printable ASCII without `:`, `;` and `\`, with `_` for each other
+/// character, without blanks at its ends, its first 32 characters, or `NONE`.
 pub fn clean(alloc: Global, text: &[u8]) -> Result<String, AllocError>
     ensures { IfOk result (λ name. string_bytes name ≡ cleaned text.now) }
 {
