@@ -42,6 +42,9 @@ FOR_TESTS = {"test_samples", "test_callers"}
 OFFERED = {
     "run_world": "the core, driven by a list of events: the theorem is stated of it",
     "frame_at": "a single frame of a body, for a reader that wants no others",
+    "read_origin": "the origin of a recording, for what writes a whole Chapter 11 file of it",
+    "time_body": "the time packets of such a file",
+    "setup_text": "its setup record",
     "into_before": "the packets before a fault, for a reader of a recording that is held whole",
 }
 

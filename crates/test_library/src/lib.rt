@@ -1,11 +1,13 @@
-//! The tests of filters, frames, packets and blocks, by the public calls of their crates. They stand in one
-//! crate, since a crate with tests of its own is proved twice.
+//! The tests of filters, frames, packets, blocks, clocks and setup records, by the public calls of their
+//! crates. They stand in one crate, since a crate with tests of its own is proved twice.
 #![tactic(auto)]
 
 #[cfg(test)]
 mod assembler;
 #[cfg(test)]
 mod blocks;
+#[cfg(test)]
+mod clock;
 #[cfg(test)]
 mod disassembler;
 #[cfg(test)]
@@ -16,6 +18,8 @@ mod insn;
 mod machine;
 #[cfg(test)]
 mod packet;
+#[cfg(test)]
+mod setup;
 #[cfg(test)]
 mod shared;
 #[cfg(test)]

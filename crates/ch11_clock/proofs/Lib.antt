@@ -1,0 +1,9 @@
+pub mod YearBounds
+pub mod OneCivilTime
+pub mod TickOrder
+pub mod PointSteps
+pub mod FirstMoments
+pub mod PointTimes
+pub mod HeldOrigins
+pub mod DigitsRead
+pub mod OriginRead

@@ -1,0 +1,6 @@
+pub mod Attributes
+pub mod Names
+pub mod Dates
+pub mod Lines
+pub mod Setups
+pub mod Sources

@@ -1,0 +1,59 @@
+-- The attributes of the setup record of a recording, all of them.
+use Rattle.std.specs.Prelude.{ℕ, ◌+◌, ◌<◌, ◌^◌, List, [], ◌∷◌, ◌++◌, map, length}
+use Rattle.std.specs.List.{AllByRecursion}
+use Rattle.ch11_clock.specs.CivilTime.{IsCivilTime}
+use Rattle.ch11_setup.specs.declared.setup.Setup.{Setup}
+use Rattle.ch11_setup.specs.declared.setup.SetupChannel.{SetupChannel}
+use Rattle.ch11_setup.specs.declared.attribute.Attribute.{Attribute}
+use Rattle.ch11_setup.specs.Attributes.{AttributeData, attribute_of, AreAttributes}
+use Rattle.ch11_setup.specs.Names.{cleaned, source_name}
+use Rattle.ch11_setup.specs.Lines.{general_attributes, recorder_attributes, content_attributes, time_attributes}
+use Rattle.ch11_setup.specs.Lines.{channel_attributes, comment_attribute}
+
+-- Ethernet channels, in order, from the n-th data source on
+abbrev pub channels_attributes : (n : ℕ) → List SetupChannel → List AttributeData
+channels_attributes n [] = []
+channels_attributes n (channel ∷ channels) =
+    channel_attributes n channel.id channel.net (source_name channel.name.now channel.id)
+    (cleaned channel.name.now)
+    ++ channels_attributes (n + 1) channels
+
+-- what a user adds
+abbrev pub given_attribute : Attribute → AttributeData
+given_attribute attribute = attribute_of attribute.name.now attribute.value.now
+
+abbrev pub given_attributes : List Attribute → List AttributeData
+given_attributes attributes = map given_attribute attributes
+
+-- what is said of the recording and its recorder
+abbrev pub recording_attributes : Setup → List AttributeData
+recording_attributes setup =
+    general_attributes (cleaned setup.host.now) setup.time
+    ++ (recorder_attributes (cleaned setup.host.now) (cleaned setup.program.now) setup.time
+    ++ content_attributes (length setup.channels.now + 1))
+
+-- the data sources: the time channel, and the Ethernet channels
+abbrev pub source_attributes : Setup → List AttributeData
+source_attributes setup =
+    time_attributes setup.time_channel setup.is_external
+    ++ channels_attributes 2 setup.channels.now
+
+-- all attributes of a setup record, in order
+abbrev pub setup_attributes : Setup → List AttributeData
+setup_attributes setup =
+    recording_attributes setup
+    ++ (source_attributes setup ++ (comment_attribute ∷ given_attributes setup.attributes.now))
+
+-- a channel's numbers have their widths
+pub record IsSetupChannel (channel : SetupChannel) : Type 0 where
+  pub id_in : channel.id < 2 ^ 16
+  pub net_in : channel.net < 2 ^ 8
+
+-- the numbers of a setup record have their widths, its time is in the calendar, and what a user
+-- adds are attributes
+pub record IsSetup (setup : Setup) : Type 0 where
+  pub time : IsCivilTime setup.time
+  pub time_channel : setup.time_channel < 2 ^ 16
+  pub number : length setup.channels.now < 2 ^ 16
+  pub channels : AllByRecursion IsSetupChannel setup.channels.now
+  pub given : AreAttributes (given_attributes setup.attributes.now)
