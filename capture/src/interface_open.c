@@ -31,7 +31,7 @@ static bool refused_permission(const char *name) {
     ssize_t len = readlink("/proc/self/exe", path, sizeof path - 1);
     if (len > 0)
         path[len] = 0;
-    log_line("%s: no permission to capture: be root, or have a group capture, as USING.md says: "
+    log_line("%s: no permission to capture: be root, or have a group capture, as using/record.md says: "
              "chgrp recorder F && chmod 750 F && setcap cap_net_raw=ep F, where F is %s",
              name, path);
     return false;

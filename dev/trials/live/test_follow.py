@@ -137,6 +137,7 @@ def test_frames_of_recordings_that_follow_one_another_are_shown_once(work: Path)
     judge("the filter that was changed is said once", len(texts) == 1, follower.comments)
 
 
+@pytest.mark.timed
 def test_a_frame_is_shown_soon_after_it_came(work: Path) -> None:
     """At nearly a thousand a second of 300 bytes, half of them within a second; on a quiet machine within 0.3."""
     out = work / "soon.ch11"
@@ -156,6 +157,7 @@ def test_a_frame_is_shown_soon_after_it_came(work: Path) -> None:
     judge(f"half of them within a second: {statistics.median(late):.3f}", statistics.median(late) <= 1)
 
 
+@pytest.mark.timed
 def test_few_frames_are_shown_as_live_flushes(work: Path) -> None:
     """Twenty a second, half of them within 2.5 s by --flush 1; on a quiet machine within 1.5."""
     out = work / "few.ch11"

@@ -132,5 +132,5 @@ def test_a_lacking_permission_is_a_fault(work: Path) -> None:
         text=True,
         env={**os.environ, "TMPDIR": str(work)},
     )
-    line = "capture: no permission to capture: be root, or have a group capture, as USING.md says: chgrp recorder F && "
+    line = "capture: no permission to capture: be root, or have a group capture, as using/record.md says: chgrp recorder F && "
     judge("no permission", done.returncode == 1 and line in done.stdout, done.stdout + done.stderr)

@@ -267,7 +267,7 @@ def test_a_lacking_permission_is_said_in_one_line(work: Path) -> None:
         path.chmod(path.stat().st_mode | 0o555)
     (work / "private").chmod(0o777)
     line = (
-        r"capture: rx0: no permission to capture: be root, or have a group capture, as USING.md says: "
+        r"capture: rx0: no permission to capture: be root, or have a group capture, as using/record.md says: "
         r"chgrp recorder F && chmod 750 F && setcap cap_net_raw=ep F, where F is \S+/capture\n"
     )
     calls: list[tuple[Path, list[object]]] = [

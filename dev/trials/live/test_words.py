@@ -86,6 +86,7 @@ def test_next_needs_recordings_that_follow_one_another_and_help_says_what_there_
     judge("and it ends", running.ended()[0] == 0, running.told())
 
 
+@pytest.mark.timed
 def test_a_run_ends_after_its_time(work: Path) -> None:
     """With all frames, as by a signal."""
     out = work / "time.ch11"

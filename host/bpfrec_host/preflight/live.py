@@ -39,7 +39,7 @@ from bpfrec_host.preflight.report import Report
 
 MEBIBYTE = 1 << 20
 # How a group gets the permission, as capture itself says it.
-BY_GROUP = "as USING.md says: chgrp recorder F && chmod 750 F && setcap cap_net_raw=ep F, where F is"
+BY_GROUP = "as using/record.md says: chgrp recorder F && chmod 750 F && setcap cap_net_raw=ep F, where F is"
 # What capture says of another origin than these.
 ORIGINS = "now, zero, or a time as 1764590400.25 or 2025-12-01T12:00:00.25Z; with -r first too"
 NO_FIRST = "it needs -r, since the first frames of interfaces aren't known"
