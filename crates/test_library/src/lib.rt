@@ -1,4 +1,4 @@
-//! The tests of filters, frames, packets and blocks, by the public calls of their crates. They stand in one
+//! The tests of filters, frames, packets, indexes and blocks, by the public calls of their crates. They stand in one
 //! crate, since a crate with tests of its own is proved twice.
 #![tactic(auto)]
 
@@ -10,6 +10,8 @@ mod blocks;
 mod disassembler;
 #[cfg(test)]
 mod frame_and_feed;
+#[cfg(test)]
+mod index;
 #[cfg(test)]
 mod insn;
 #[cfg(test)]
