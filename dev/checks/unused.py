@@ -39,7 +39,7 @@ CALL = re.compile(r"^ *pub (?:const )?fn (\w+)")
 # Libraries that are there for tests and pages alone.
 FOR_TESTS = {"test_samples", "test_callers"}
 # Libraries that stand ahead of the commands that will call them.
-AHEAD = {"ch11_index"}
+AHEAD = {"ch11_index", "ch11_merge"}
 # Public calls that the program makes no use of, and what they are there for.
 OFFERED = {
     "run_world": "the core, driven by a list of events: the theorem is stated of it",

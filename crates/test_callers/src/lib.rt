@@ -8,6 +8,7 @@ pub mod calls_bpf_insn;
 pub mod calls_bpf_machine;
 pub mod calls_bpf_verify;
 pub mod calls_ch11_index;
+pub mod calls_ch11_merge;
 pub mod calls_ch11_packet;
 pub mod calls_cli_record_streams;
 pub mod calls_cli_streams;

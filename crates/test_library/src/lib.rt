@@ -1,4 +1,4 @@
-//! The tests of filters, frames, packets, indexes and blocks, by the public calls of their crates. They stand in one
+//! The tests of filters, frames, packets, their order, indexes and blocks, by the public calls of their crates. They stand in one
 //! crate, since a crate with tests of its own is proved twice.
 #![tactic(auto)]
 
@@ -16,6 +16,8 @@ mod index;
 mod insn;
 #[cfg(test)]
 mod machine;
+#[cfg(test)]
+mod merge;
 #[cfg(test)]
 mod packet;
 #[cfg(test)]
