@@ -38,13 +38,12 @@ GOALS = ("Answers", "Invariants", "Proof", "Checks")
 CALL = re.compile(r"^ *pub (?:const )?fn (\w+)")
 # Libraries that are there for tests and pages alone.
 FOR_TESTS = {"test_samples", "test_callers"}
+# Libraries that stand ahead of the commands that will call them.
+AHEAD = {"ch11_clock", "ch11_setup", "ch11_index", "ch11_merge"}
 # Public calls that the program makes no use of, and what they are there for.
 OFFERED = {
     "run_world": "the core, driven by a list of events: the theorem is stated of it",
     "frame_at": "a single frame of a body, for a reader that wants no others",
-    "read_origin": "the origin of a recording, for what writes a whole Chapter 11 file of it",
-    "time_body": "the time packets of such a file",
-    "setup_text": "its setup record",
     "into_before": "the packets before a fault, for a reader of a recording that is held whole",
 }
 
@@ -105,7 +104,7 @@ def unused_calls(code: Code) -> Iterator[Place]:
     tests = {it for it in crates() if crates()[it].has_tests()} | FOR_TESTS
     callers = [(file, words) for file, words in code if crate_of(file) not in tests]
     for file, _ in code:
-        if crate_of(file) in tests or is_program(crate_of(file)):
+        if crate_of(file) in tests | AHEAD or is_program(crate_of(file)):
             continue
         for at, name in calls_in(file):
             if name not in OFFERED and not any(name in words for other, words in callers if other != file):

@@ -8,6 +8,8 @@ pub mod calls_bpf_insn;
 pub mod calls_bpf_machine;
 pub mod calls_bpf_verify;
 pub mod calls_ch11_clock;
+pub mod calls_ch11_index;
+pub mod calls_ch11_merge;
 pub mod calls_ch11_packet;
 pub mod calls_ch11_setup;
 pub mod calls_cli_record_streams;

@@ -1,5 +1,5 @@
-//! The tests of filters, frames, packets, blocks, clocks and setup records, by the public calls of their
-//! crates. They stand in one crate, since a crate with tests of its own is proved twice.
+//! The tests of filters, frames, packets, blocks, and of the parts of a Chapter 11 file, by the public calls of
+//! their crates. They stand in one crate, since a crate with tests of its own is proved twice.
 #![tactic(auto)]
 
 #[cfg(test)]
@@ -13,9 +13,13 @@ mod disassembler;
 #[cfg(test)]
 mod frame_and_feed;
 #[cfg(test)]
+mod index;
+#[cfg(test)]
 mod insn;
 #[cfg(test)]
 mod machine;
+#[cfg(test)]
+mod merge;
 #[cfg(test)]
 mod packet;
 #[cfg(test)]

@@ -1,0 +1,4 @@
+pub mod IndexBytes
+pub mod FileIndex
+pub mod Rooms
+pub mod IndexRead

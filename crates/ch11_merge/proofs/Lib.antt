@@ -1,0 +1,9 @@
+pub mod Cutting
+pub mod Places
+pub mod Merged
+pub mod Leasts
+pub mod Answering
+pub mod Runs
+pub mod PartsTaken
+pub mod TimesAhead
+pub mod ShortPieces

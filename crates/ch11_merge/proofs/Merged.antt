@@ -1,0 +1,171 @@
+-- A merge keeps what each channel holds, and is the only one.
+use Rattle.std.proofs.Common.{ℕ, ◌≡◌, ◌≢◌, inl, inr, List, [], ◌∷◌, ◌++◌, map, refl, sym, ◌∙◌, ap, subst, arith, Some, None, append_assoc, append-nil}
+use Rattle.std.specs.Prelude.{false, nat_lt, slice_get, slice_set}
+use Rattle.std.specs.List.{flat_map}
+use Rattle.std.proofs.lemmas.Bool.{cases_Bool, both_ways, true≢false, cases_eq, eq-eqb, ne_eqb}
+use Rattle.std.proofs.lemmas.Bool.Decides.{nat_tests}
+use Rattle.std.proofs.lemmas.List.{map-append}
+use Rattle.std.proofs.lemmas.Grind.{flat_map-append}
+use Rattle.std.proofs.lemmas.Option.{same_Some}
+use Rattle.ch11_packet.specs.FramesRead.{ReadFrameData}
+use Rattle.ch11_merge.specs.declared.source.Head.{Head}
+use Rattle.ch11_merge.specs.declared.source.Head.TheVariants.{At, Uncounted, End}
+use Rattle.ch11_merge.specs.Merging.{FilePiece, ChannelLeft, Merged, head_of, is_ahead, IsNextAt, is_due}
+use Rattle.ch11_merge.specs.Merging.{frames_before, frames_from, piece_of, part_before, part_from, TakesPart, channel_with}
+use Rattle.ch11_merge.specs.Merging.{TimeIsNext, PieceIsNext, NothingLeft, Merges}
+use Rattle.ch11_merge.specs.Merging.FilePiece.{OfFrames, OfRecord}
+use Rattle.ch11_merge.specs.Merging.Merged.{OfTime, OfPiece}
+use Rattle.ch11_merge.specs.Kept.{Held, held_in, held_of, AreNamedApart, times_in, FollowEachOther}
+use Rattle.ch11_merge.specs.Kept.Held.{HeldFrame}
+use Rattle.ch11_merge.proofs.Places.{all_there, set_there, set_elsewhere, set_cases}
+
+-- ---- kept
+
+frames_split : (tick : ℕ) (frames : List ReadFrameData) → frames_before tick frames ++ frames_from tick frames ≡ frames
+frames_split tick [] = refl
+frames_split tick (f ∷ fs) = elim (cases_Bool (nat_lt f.counter tick)) as (λ _. frames_before tick (f ∷ fs) ++ frames_from tick (f ∷ fs) ≡ f ∷ fs) [
+  | inl on ↦ rw on (ap (λ (xs : List ReadFrameData). f ∷ xs) (frames_split tick fs))
+  | inr off ↦ rw off refl
+]
+
+piece_held : (frames : List ReadFrameData) → flat_map held_in (piece_of frames) ≡ map HeldFrame frames
+piece_held [] = refl
+piece_held (f ∷ fs) = rw append-nil refl
+
+part_held : (tick : ℕ) (piece : FilePiece) → held_in (part_before tick piece) ++ flat_map held_in (part_from tick piece) ≡ held_in piece
+part_held tick (OfFrames fs) =
+    ap (λ (hs : List Held). map HeldFrame (frames_before tick fs) ++ hs) (piece_held (frames_from tick fs))
+    ∙ sym (map-append HeldFrame (frames_before tick fs) (frames_from tick fs)) ∙ ap (map HeldFrame) (frames_split tick fs)
+part_held tick (OfRecord counter body) = refl
+
+takes_held : (tick : ℕ) (old : List FilePiece) (taken : FilePiece) (new : List FilePiece) → TakesPart tick old taken new
+    → held_in taken ++ flat_map held_in new ≡ flat_map held_in old
+takes_held tick [] taken new t = absurd t
+takes_held tick (p ∷ ps) taken new t =
+    rw (t.0, t.1, flat_map-append held_in (part_from tick p) ps, ← append_assoc, part_held tick p) refl
+
+-- a channel's ID stays
+apart_with : (channels : List ChannelLeft) (at channel : ℕ) (of : ChannelLeft) (rest : List FilePiece) → AreNamedApart channels
+    → slice_get channels at ≡ Some of → of.channel ≡ channel → AreNamedApart (slice_set channels at (channel_with channel rest))
+apart_with channels at channel of rest apart there named k j c d is other same =
+    elim (set_cases channels at (channel_with channel rest) k c is) as (λ _. k ≡ j) [
+      | inl here ↦ elim (set_cases channels at (channel_with channel rest) j d other) as (λ _. k ≡ j) [
+        | inl too ↦ here.0 ∙ sym too.0
+        | inr away ↦ here.0 ∙ apart at j of d there away.1 (named ∙ (sym (ap (λ (x : ChannelLeft). x.channel) here.1) ∙ same))
+      ]
+      | inr away ↦ elim (set_cases channels at (channel_with channel rest) j d other) as (λ _. k ≡ j) [
+        | inl too ↦ apart k at c of away.1 there (same ∙ (ap (λ (x : ChannelLeft). x.channel) too.1 ∙ sym named)) ∙ sym too.0
+        | inr both ↦ apart k j c d away.1 both.1 same
+      ]
+    ]
+
+pub kept : (after : ℕ → ℕ) (tick : ℕ) (channels : List ChannelLeft) (out : List Merged) → AreNamedApart channels → Merges after tick channels out
+    → (k : ℕ) (c : ChannelLeft) → slice_get channels k ≡ Some c → held_of c.channel out ≡ flat_map held_in c.pieces
+kept after tick channels [] apart m k c is = rw (all_there (λ (d : ChannelLeft). d.pieces ≡ []) channels k c m is) refl
+kept after tick channels (OfTime time ∷ out) apart m k c is = kept after (after tick) channels out apart m.2 k c is
+kept after tick channels (OfPiece channel piece ∷ out) apart m k c is =
+    let s = m.1 in
+    let still = apart_with channels s.at channel s.of s.rest apart s.is_next.there s.named in
+    let more = subst (λ (new : List ChannelLeft). Merges after tick new out) s.others m.2 in
+    elim (cases_eq k s.at) as (λ _. held_of c.channel (OfPiece channel piece ∷ out) ≡ flat_map held_in c.pieces) [
+      | inl here ↦
+          let same : s.of ≡ c = same_Some s.of c (sym s.is_next.there ∙ (ap (slice_get channels) (sym here) ∙ is)) in
+          let id : channel ≡ c.channel = sym s.named ∙ ap (λ (x : ChannelLeft). x.channel) same in
+          let rest = kept after tick (slice_set channels s.at (channel_with channel s.rest)) out still more s.at (channel_with channel s.rest)
+          (set_there channels s.at s.of (channel_with channel s.rest) s.is_next.there) in
+          let held = takes_held tick s.of.pieces piece s.rest s.takes in
+          rw (eq-eqb channel c.channel id) (ap (λ (n : ℕ). held_in piece ++ held_of n out) (sym id) ∙ (ap (λ (hs : List Held). held_in piece ++ hs) rest
+          ∙ (held ∙ ap (λ (x : ChannelLeft). flat_map held_in x.pieces) same)))
+      | inr away ↦
+          let other : channel ≢ c.channel = λ (e : channel ≡ c.channel). away (sym (apart s.at k s.of c s.is_next.there is (s.named ∙ e))) in
+          rw (ne_eqb channel c.channel other) (kept after tick (slice_set channels s.at (channel_with channel s.rest)) out still more k c
+          (set_elsewhere channels s.at k c (channel_with channel s.rest) is away))
+    ]
+
+-- ---- one merge
+
+one_tie : (a b : Head) (m n : ℕ) → a ≢ End → is_ahead a m b n ≡ false → is_ahead b n a m ≡ false → m ≡ n
+one_tie (At a) (At b) m n some p q = grind (arith, nat_tests)
+one_tie (At a) Uncounted m n some p q = absurd (true≢false p)
+one_tie (At a) End m n some p q = absurd (true≢false p)
+one_tie Uncounted (At b) m n some p q = absurd (true≢false q)
+one_tie Uncounted Uncounted m n some p q = grind (arith, nat_tests)
+one_tie Uncounted End m n some p q = absurd (true≢false p)
+one_tie End b m n some p q = absurd (some refl)
+
+pub has_head : (pieces : List FilePiece) → pieces ≢ [] → head_of pieces ≢ End
+has_head [] some = absurd (some refl)
+has_head (OfFrames [] ∷ ps) some = λ e. cc
+has_head (OfFrames (f ∷ fs) ∷ ps) some = λ e. cc
+has_head (OfRecord (Some n) body ∷ ps) some = λ e. cc
+has_head (OfRecord None body ∷ ps) some = λ e. cc
+
+-- one channel has the next piece
+pub one_next : (channels : List ChannelLeft) (at other : ℕ) (c d : ChannelLeft) → AreNamedApart channels → IsNextAt channels at c → IsNextAt channels other d
+    → (at ≡ other) × (d ≡ c)
+one_next channels at other c d apart p q =
+    let id : c.channel ≡ d.channel = one_tie (head_of c.pieces) (head_of d.pieces) c.channel d.channel (has_head c.pieces p.some)
+    (all_there (λ (e : ChannelLeft). is_ahead (head_of e.pieces) e.channel (head_of d.pieces) d.channel ≡ false) channels at c q.least p.there)
+    (all_there (λ (e : ChannelLeft). is_ahead (head_of e.pieces) e.channel (head_of c.pieces) c.channel ≡ false) channels other d p.least q.there) in
+    let same : at ≡ other = apart at other c d p.there q.there id in
+    (same, same_Some d c (sym q.there ∙ (ap (slice_get channels) (sym same) ∙ p.there)))
+
+nothing_next : (channels : List ChannelLeft) (at : ℕ) (c : ChannelLeft) → NothingLeft channels → IsNextAt channels at c → ⊥
+nothing_next channels at c none p = p.some (all_there (λ (d : ChannelLeft). d.pieces ≡ []) channels at c none p.there)
+
+not_both : (tick : ℕ) (channels : List ChannelLeft) (channel : ℕ) (piece : FilePiece) (new : List ChannelLeft) → AreNamedApart channels
+    → TimeIsNext tick channels → PieceIsNext tick channels channel piece new → ⊥
+not_both tick channels channel piece new apart t p =
+    let same = one_next channels t.at p.at t.of p.of apart t.is_next p.is_next in
+    both_ways (is_due tick (head_of t.of.pieces)) (subst (λ (c : ChannelLeft). is_due tick (head_of c.pieces) ≡ false) same.1 p.early) t.due
+
+one_part : (tick : ℕ) (old : List FilePiece) (a b : FilePiece) (r s : List FilePiece) → TakesPart tick old a r → TakesPart tick old b s → (b ≡ a) × (s ≡ r)
+one_part tick [] a b r s p q = absurd p
+one_part tick (o ∷ os) a b r s p q = (q.0 ∙ sym p.0, q.1 ∙ sym p.1)
+
+-- a step by a piece is one
+record IsSameStep (channel other : ℕ) (piece taken : FilePiece) (new left : List ChannelLeft) : Type 0 where
+  pub channel_is : other ≡ channel
+  pub piece_is : taken ≡ piece
+  pub left_is : left ≡ new
+
+one_step : (tick : ℕ) (channels : List ChannelLeft) (channel other : ℕ) (piece taken : FilePiece) (new left : List ChannelLeft) → AreNamedApart channels
+    → PieceIsNext tick channels channel piece new → PieceIsNext tick channels other taken left → IsSameStep channel other piece taken new left
+one_step tick channels channel other piece taken new left apart p q =
+    let same = one_next channels p.at q.at p.of q.of apart p.is_next q.is_next in
+    let parts = one_part tick p.of.pieces piece taken p.rest q.rest p.takes
+    (subst (λ (c : ChannelLeft). TakesPart tick c.pieces taken q.rest) same.1 q.takes) in
+    let id : other ≡ channel = sym q.named ∙ (ap (λ (c : ChannelLeft). c.channel) same.1 ∙ p.named) in
+    let place : p.at ≡ q.at = same.0 in
+    let rest : q.rest ≡ p.rest = parts.1 in
+    record { channel_is = id; piece_is = parts.0; left_is = q.others ∙ (rw (id, ← place, rest) (sym p.others)) }
+
+pub one_merge : (after : ℕ → ℕ) (tick : ℕ) (channels : List ChannelLeft) (out others : List Merged) → AreNamedApart channels
+    → Merges after tick channels out → Merges after tick channels others → others ≡ out
+one_merge after tick channels [] [] apart m n = refl
+one_merge after tick channels [] (OfTime t ∷ n) apart p q = absurd (nothing_next channels q.1.at q.1.of p q.1.is_next)
+one_merge after tick channels [] (OfPiece c x ∷ n) apart p q = absurd (nothing_next channels q.1.at q.1.of p q.1.is_next)
+one_merge after tick channels (OfTime t ∷ m) [] apart p q = absurd (nothing_next channels p.1.at p.1.of q p.1.is_next)
+one_merge after tick channels (OfPiece c x ∷ m) [] apart p q = absurd (nothing_next channels p.1.at p.1.of q p.1.is_next)
+one_merge after tick channels (OfTime t ∷ m) (OfTime u ∷ n) apart p q =
+    let rest = one_merge after (after tick) channels m n apart p.2 q.2 in
+    let same : u ≡ t = q.0 ∙ sym p.0 in
+    cc
+one_merge after tick channels (OfTime t ∷ m) (OfPiece c x ∷ n) apart p q = absurd (not_both tick channels c x q.0 apart p.1 q.1)
+one_merge after tick channels (OfPiece c x ∷ m) (OfTime t ∷ n) apart p q = absurd (not_both tick channels c x p.0 apart q.1 p.1)
+one_merge after tick channels (OfPiece c x ∷ m) (OfPiece d y ∷ n) apart p q =
+    let s = p.1 in
+    let step = one_step tick channels c d x y p.0 q.0 apart p.1 q.1 in
+    let still : AreNamedApart p.0 = subst AreNamedApart (sym s.others) (apart_with channels s.at c s.of s.rest apart s.is_next.there s.named) in
+    let rest = one_merge after tick p.0 m n still p.2 (subst (λ (new : List ChannelLeft). Merges after tick new n) step.left_is q.2) in
+    let ids : d ≡ c = step.channel_is in
+    let pieces : y ≡ x = step.piece_is in
+    cc
+
+-- ---- times
+
+pub times_follow : (after : ℕ → ℕ) (tick : ℕ) (channels : List ChannelLeft) (out : List Merged) → Merges after tick channels out
+    → FollowEachOther after tick (times_in out)
+times_follow after tick channels [] m = tt
+times_follow after tick channels (OfTime t ∷ out) m = (m.0, times_follow after (after tick) channels out m.2)
+times_follow after tick channels (OfPiece c p ∷ out) m = times_follow after tick m.0 out m.2

@@ -1,0 +1,63 @@
+//! Laws of pieces and of their order, with nothing to run.
+
+ghost use Rattle.std.specs.Prelude.{ℕ, ◌≡◌, ◌≤◌, List, Some, map, slice_get};
+ghost use Rattle.std.specs.List.{AllByRecursion, flat_map};
+ghost use Rattle.ch11_packet.specs.FramesRead.{ReadFrameData};
+ghost use Rattle.ch11_merge.specs.Pieces.{AreCut};
+ghost use Rattle.ch11_merge.specs.Short.{IsShortPiece};
+ghost use Rattle.ch11_merge.specs.Parts.{frames_of_piece, frames_pieces};
+ghost use Rattle.ch11_merge.specs.Merging.{ChannelLeft, Merged, Merges};
+ghost use Rattle.ch11_merge.specs.Kept.{AreNamedApart, FollowEachOther, TimesStandAhead, held_in};
+ghost use Rattle.ch11_merge.specs.Kept.{held_of, times_in};
+
+/// Law: all frames can be cut into pieces.
+pub fn frames_have_pieces()
+    ensures { (frames : List ReadFrameData)
+        → (pieces : List (List ReadFrameData)) × AreCut frames pieces }
+{}
+
+/// Law: frames can be cut into pieces in one way only.
+pub fn frames_are_cut_in_one_way()
+    ensures { (frames : List ReadFrameData) (pieces others : List (List ReadFrameData))
+        → AreCut frames pieces → AreCut frames others → others ≡ pieces }
+{}
+
+/// Law: the frames of a piece never fall, lie within 100 ms of the first, and fit a packet.
+pub fn pieces_are_short()
+    ensures { (frames : List ReadFrameData) (pieces : List (List ReadFrameData))
+        → AreCut frames pieces → AllByRecursion IsShortPiece pieces }
+{}
+
+/// Law: the pieces that a source of frames gives are those into which they are cut.
+pub fn pieces_of_frames_are_the_cut()
+    ensures { (frames : List ReadFrameData)
+        → AreCut frames (map frames_of_piece (frames_pieces frames)) }
+{}
+
+/// Law: a merge holds of each channel what its pieces held, in order and once each: frames and records.
+pub fn a_merge_keeps_each_channel()
+    ensures { (after : ℕ → ℕ) (tick : ℕ) (channels : List ChannelLeft) (out : List Merged)
+        → AreNamedApart channels → Merges after tick channels out
+        → (at : ℕ) (c : ChannelLeft) → slice_get channels at ≡ Some c
+        → held_of c.channel out ≡ flat_map held_in c.pieces }
+{}
+
+/// Law: channels have one merge.
+pub fn there_is_one_merge()
+    ensures { (after : ℕ → ℕ) (tick : ℕ) (channels : List ChannelLeft) (out others : List Merged)
+        → AreNamedApart channels → Merges after tick channels out
+        → Merges after tick channels others → others ≡ out }
+{}
+
+/// Law: the time packets of a merge follow each other.
+pub fn times_follow_each_other()
+    ensures { (after : ℕ → ℕ) (tick : ℕ) (channels : List ChannelLeft) (out : List Merged)
+        → Merges after tick channels out → FollowEachOther after tick (times_in out) }
+{}
+
+/// Law: where the ticks of time packets never fall, each time packet whose tick is at most the counter of a
+/// frame or of a record stands ahead of that.
+pub fn time_packets_stand_ahead()
+    ensures { (after : ℕ → ℕ) (tick : ℕ) (channels : List ChannelLeft) (out : List Merged)
+        → ((time : ℕ) → time ≤ after time) → Merges after tick channels out → TimesStandAhead out }
+{}

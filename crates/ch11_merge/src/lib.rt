@@ -1,0 +1,21 @@
+//! The order of a Chapter 11 file (IRIG 106-17 Chapter 11): the pieces of channels, cut where a packet would
+//! be too long, in time or in bytes, and merged by their counters, with time packets ahead of them.
+#![tactic(auto)]
+
+mod frames;
+mod laws;
+mod merge;
+mod piece;
+mod placed;
+mod source;
+
+pub use frames::FramesSource;
+pub use laws::{
+    a_merge_keeps_each_channel, frames_are_cut_in_one_way, frames_have_pieces, pieces_are_short,
+    pieces_of_frames_are_the_cut, there_is_one_merge, time_packets_stand_ahead,
+    times_follow_each_other,
+};
+pub use merge::{MergeEnd, PlacedSink, TimeTicks, merge_into};
+pub use piece::{PIECE_TICKS, PieceSoFar};
+pub use placed::{MergedChannel, Placed, next_placed};
+pub use source::{Head, PieceFault, PieceSource};

@@ -1,0 +1,333 @@
+//! Tests of pieces and of their order. Where they are cut and which comes next is worked by hand.
+
+ghost use Rattle.std.specs.Prelude.{IfOk};
+ghost use Rattle.ch11_merge.specs.Placing.{TakesNext};
+
+use ch11_merge::*;
+use ch11_packet::ReadFrame;
+use std::alloc::{AllocError, Global};
+use std::test::Fail;
+
+/// A frame with this counter and these bytes, of which there are at most 16,383.
+fn frame(counter: u32, bytes: &[u8]) -> Option<ReadFrame<'_>> {
+    if bytes.len() > 16_383 {
+        return None;
+    }
+    Some(ReadFrame {
+        counter: u64::from(counter),
+        crc_error: false,
+        frame_error: false,
+        net: 0,
+        speed: 3,
+        content: 0,
+        bytes,
+    })
+}
+
+/// Frames with these counters and these bytes.
+fn frames<'a>(
+    alloc: Global,
+    counters: &[u32],
+    bytes: &'a [u8],
+) -> Result<Vec<ReadFrame<'a>>, Fail> {
+    let mut frames = Vec::new(alloc);
+    for &counter in counters {
+        frames.push(frame(counter, bytes).ok_or("a frame in range")?)?;
+    }
+    Ok(frames)
+}
+
+/// The numbers of frames of the pieces that a source gives, of which each is taken up to a tick: that many
+/// times the first tick, then the second.
+fn lens(alloc: Global, frames: &[ReadFrame<'_>], ticks: &[u64]) -> Result<Vec<usize>, Fail> {
+    let mut source = FramesSource::new(frames);
+    let mut lens = Vec::new(alloc);
+    for &tick in ticks {
+        if let Head::At(counter) = source.head()
+            && counter < tick
+        {
+            lens.push(source.take(tick)?.len())?;
+        }
+    }
+    Ok(lens)
+}
+
+/// The greatest tick, which no counter reaches.
+const NEVER: u64 = u64::MAX;
+
+/// Counters of frames, the ticks up to which pieces are taken, and the numbers of their frames.
+const CUTS: [(&[u32], &[u64], &[usize]); 10] = [
+    (&[], &[NEVER], &[]),
+    (&[7], &[NEVER, NEVER], &[1]),
+    (&[7, 7, 8], &[NEVER, NEVER], &[3]),
+    // 100 ms behind the first frame
+    (&[5, 1_000_004], &[NEVER, NEVER], &[2]),
+    (&[5, 1_000_005], &[NEVER, NEVER, NEVER], &[1, 1]),
+    (
+        &[5, 600_000, 1_000_005, 1_600_000],
+        &[NEVER, NEVER, NEVER],
+        &[2, 2],
+    ),
+    // a step back
+    (&[9, 10, 9, 9, 12], &[NEVER, NEVER, NEVER], &[2, 3]),
+    // a time packet at 10: the frames from it on stay, and their piece ends where it did
+    (&[5, 9, 10, 11], &[10, NEVER, NEVER], &[2, 2]),
+    (
+        &[5, 900_000, 1_000_004, 1_000_005],
+        &[10, NEVER, NEVER, NEVER],
+        &[1, 2, 1],
+    ),
+    (
+        &[5, 900_000, 1_000_005, 1_900_000],
+        &[900_000, NEVER, NEVER],
+        &[1, 1, 2],
+    ),
+];
+
+#[test]
+fn frames_are_cut_at_100_ms_at_a_step_back_and_at_time_packets(
+    rt: HostRuntime,
+) -> Result<(), Fail> {
+    for &(counters, ticks, wanted) in &CUTS {
+        let frames = frames(rt.alloc(), counters, &[])?;
+        let found = lens(rt.alloc(), frames.as_slice(), ticks)?;
+        assert!(rt; found.as_slice() == wanted);
+    }
+    Ok(())
+}
+
+#[test]
+fn frames_are_cut_where_the_packet_would_be_over_524288_bytes(rt: HostRuntime) -> Result<(), Fail> {
+    // a packet has 32 bytes beside its frames, and a frame 12 beside its own: 32 frames of 16,370 bytes leave
+    // room for one of 20
+    let bytes = vec![in rt.alloc(); 0u8; 16_370]?;
+    for &(last, wanted) in &LAST_FRAMES {
+        let short = vec![in rt.alloc(); 0u8; last]?;
+        let found = lens_behind(rt.alloc(), bytes.as_slice(), short.as_slice())?;
+        assert!(rt; found.as_slice() == wanted);
+    }
+    Ok(())
+}
+
+/// The numbers of frames of the pieces of 32 frames of the same bytes and a last one.
+fn lens_behind<'a>(alloc: Global, bytes: &'a [u8], last: &'a [u8]) -> Result<Vec<usize>, Fail> {
+    let mut all = frames(alloc, &[1; 32], bytes)?;
+    all.push(frame(1, last).ok_or("a frame in range")?)?;
+    lens(alloc, all.as_slice(), &[NEVER, NEVER, NEVER])
+}
+
+/// Lengths of a frame behind 32 of 16,370 bytes, and the numbers of frames of the pieces.
+const LAST_FRAMES: [(usize, &[usize]); 3] = [(19, &[33]), (20, &[33]), (21, &[32, 1])];
+
+/// Time packets of the ticks 100 and 200, and no more.
+struct TwoTicks;
+
+impl TimeTicks for TwoTicks {
+    ghost use Rattle.std.specs.Prelude.{◌^◌, if◌then◌else◌, nat_lt};
+
+    ghost after = { λ _ tick.
+        if nat_lt tick 100 then 100 else if nat_lt tick 200 then 200 else 2 ^ 48 };
+
+    fn after(&self, tick: u64) -> u64 {
+        if tick < 100 {
+            return 100;
+        }
+        if tick < 200 { 200 } else { 1 << 48 }
+    }
+}
+
+/// What has a place: the channel, 0 of a time packet; the tick or the counter, 999 where there is none; the
+/// number of frames.
+type Row = (u16, u64, usize);
+
+/// Takes the records that have a place, as rows.
+#[derive(Drop)]
+struct RecordRows(Vec<Row>);
+
+/// A source of the records of one channel, among those of others: channels, each with a counter, if it has
+/// one.
+#[derive(Drop)]
+struct Records<'a> {
+    channel: u16,
+    head: Head,
+    left: &'a [(u16, Option<u64>)],
+}
+
+impl<'a> Records<'a> {
+    fn new(channel: u16, records: &'a [(u16, Option<u64>)]) -> Records<'a> {
+        for at in 0..records.len() {
+            let (of, counter) = records[at];
+            if of == channel {
+                let head = match counter {
+                    Some(counter) => Head::At(counter),
+                    None => Head::Uncounted,
+                };
+                let left = &records[at + 1..];
+                return Records {
+                    channel,
+                    head,
+                    left,
+                };
+            }
+        }
+        Records {
+            channel,
+            head: Head::End,
+            left: &[],
+        }
+    }
+}
+
+impl<'a> PieceSource for Records<'a> {
+    ghost use Rattle.std.specs.Prelude.{None, [], Some};
+    ghost use Rattle.ch11_merge.specs.Merging.FilePiece.{OfRecord};
+
+    type Piece = Head;
+
+    ghost data_of = { λ _. OfRecord None [] };
+
+    ghost left = { λ _. None };
+
+    ghost stands = { λ s. s.head };
+
+    fn head(&self) -> Head {
+        self.head
+    }
+
+    fn take(&mut self, _tick: u64) -> Result<Head, PieceFault> {
+        let head = self.head;
+        *self = Records::new(self.channel, self.left);
+        Ok(head)
+    }
+
+    ghost stands_first = { λ _. tt };
+}
+
+impl PlacedSink for RecordRows {
+    type Piece = Head;
+
+    type Fault = AllocError;
+
+    ghost took = { λ _ _. Unit {0} };
+
+    fn put(&mut self, placed: Placed<Head>) -> Result<(), AllocError>
+        ensures { IfOk result (λ _. TakesNext (λ _. Unit {0}) (λ _. Unit {0}) placed) }
+    {
+        let row = match placed {
+            Placed::Time { tick } => (0, tick, 0),
+            Placed::Piece { channel, piece } => match piece {
+                Head::At(counter) => (channel, counter, 0),
+                _ => (channel, 999, 0),
+            },
+        };
+        Ok(self.0.push(row)?)
+    }
+}
+
+/// The records of channels, and what has a place where time packets stand at 100 and 200.
+const MERGES: [(&[(u16, Option<u64>)], &[Row]); 7] = [
+    (&[], &[]),
+    (&[(3, Some(5)), (3, Some(7))], &[(3, 5, 0), (3, 7, 0)]),
+    // ties go by the channel, wherever it stands
+    (
+        &[
+            (9, Some(5)),
+            (9, Some(6)),
+            (2, Some(5)),
+            (2, Some(6)),
+            (4, Some(5)),
+        ],
+        &[(2, 5, 0), (4, 5, 0), (9, 5, 0), (2, 6, 0), (9, 6, 0)],
+    ),
+    // an end that was offered nothing comes behind all that have a counter, by its channel
+    (
+        &[(1, None), (3, Some(80)), (3, None), (2, None)],
+        &[(3, 80, 0), (1, 999, 0), (2, 999, 0), (3, 999, 0)],
+    ),
+    // time packets stand ahead of the first counter that reaches them, and none behind the last
+    (
+        &[(1, Some(99)), (1, Some(100)), (2, Some(250))],
+        &[
+            (1, 99, 0),
+            (0, 100, 0),
+            (1, 100, 0),
+            (0, 200, 0),
+            (2, 250, 0),
+        ],
+    ),
+    // a step back stays in its channel, and no time packet comes twice
+    (
+        &[
+            (1, Some(150)),
+            (1, Some(40)),
+            (1, Some(160)),
+            (2, Some(155)),
+        ],
+        &[
+            (0, 100, 0),
+            (1, 150, 0),
+            (1, 40, 0),
+            (2, 155, 0),
+            (1, 160, 0),
+        ],
+    ),
+    // what stands behind a piece without a counter waits for it
+    (
+        &[(1, None), (1, Some(5)), (2, Some(7))],
+        &[(2, 7, 0), (1, 999, 0), (1, 5, 0)],
+    ),
+];
+
+#[test]
+fn records_are_merged_by_counter_and_then_by_channel(rt: HostRuntime) -> Result<(), Fail> {
+    for &(records, wanted) in &MERGES {
+        let mut sources = Vec::new(rt.alloc());
+        for channel in [9, 3, 1, 2, 4] {
+            let source = Records::new(channel, records);
+            sources.push(MergedChannel { channel, source })?;
+        }
+        let mut rows = RecordRows(Vec::new(rt.alloc()));
+        let merged = merge_into(sources.as_mut_slice(), &TwoTicks, 100, &mut rows);
+        assert!(rt; merged.is_ok());
+        assert!(rt; rows.0.as_slice() == wanted);
+    }
+    Ok(())
+}
+
+#[test]
+fn frames_are_merged_and_cut_by_time_packets(rt: HostRuntime) -> Result<(), Fail> {
+    let one = frames(rt.alloc(), &[90, 95, 105, 110], &[])?;
+    let two = frames(rt.alloc(), &[93, 99, 100, 205, 206], &[])?;
+    let mut sources = Vec::new(rt.alloc());
+    for (channel, frames) in [(7, one.as_slice()), (5, two.as_slice())] {
+        let source = FramesSource::new(frames);
+        sources.push(MergedChannel { channel, source })?;
+    }
+    let mut tick = 100;
+    let mut rows = Vec::new(rt.alloc());
+    for _ in 0..8 {
+        match next_placed(sources.as_mut_slice(), tick)? {
+            Some(Placed::Time { tick: time }) => {
+                rows.push((0, time, 0))?;
+                tick = TwoTicks.after(time);
+            }
+            Some(Placed::Piece { channel, piece }) => {
+                if let Some(frame) = piece.first() {
+                    rows.push((channel, frame.counter, piece.len()))?;
+                }
+            }
+            None => {}
+        }
+    }
+    let wanted = [
+        (7, 90, 2),
+        (5, 93, 2),
+        (0, 100, 0),
+        (5, 100, 1),
+        (7, 105, 2),
+        (0, 200, 0),
+        (5, 205, 2),
+    ];
+    assert!(rt; rows.as_slice() == wanted.as_slice());
+    Ok(())
+}
