@@ -7,7 +7,7 @@ Over the work that each crate's out/ keeps, so on a fresh checkout it proves all
 A crate's edits are tried where dev/build/edits_seen.txt doesn't have the sum of all that they depend on: each must be
 refused by the prover, and then the sum is written there, to be committed; a run that is interrupted writes those that
 were refused by then. Edits come after proofs and tests, those of crates whose own files changed first. They begin
-while they are likely to end by minute 45, or 80 on fewer than four processors; those that are left are named, aren't
+while they are likely to end by minute 30, or 75 on fewer than four processors; those that are left are named, aren't
 written as seen, and come first in the next run. --edits tries all. The crates that promise nothing are left out. Then
 dev/trials/long/check_memory.py refuses memory and threads to the program that was built, which the trials run at last.
 The last line is `N passed, N failed, N skipped`, of all that was proved, run and tried.
@@ -25,7 +25,7 @@ from seen import in_turn, seen, sums_of, write_left, write_seen
 from steps import Step, all_steps, counts_of, edit_steps, keep_costs
 
 # How many processors are many, and the minute by which edits are to end.
-MANY, EDITS_UNTIL, EDITS_UNTIL_ON_FEW = 4, 45, 80
+MANY, EDITS_UNTIL, EDITS_UNTIL_ON_FEW = 4, 30, 75
 
 
 def keep_seen(steps: list[Step]) -> None:
