@@ -2,19 +2,22 @@
 
 from __future__ import annotations
 
+import subprocess
 from collections.abc import Callable, Sequence
 from pathlib import Path
 
 import pytest
+from bpfrec_host.live import expressions
 from bpfrec_host.live.arguments import read
+from bpfrec_host.live.children import Manner, start
 from bpfrec_host.live.control.changes import Changes, Held
 from bpfrec_host.live.control.made_filters import MadeFilter, make
 from bpfrec_host.live.control.words import Word, word_of
 from bpfrec_host.live.end_of_run import EndOfRun
-from bpfrec_host.live.expressions import arguments_for, is_in_words
+from bpfrec_host.live.expressions import arguments_for, fault_of, is_in_words
 from bpfrec_host.live.folder import Folder, made_settings, read_settings
 from bpfrec_host.live.names import Refusal
-from support import judge
+from support import judge, wait_for
 
 WANTED: dict[str, str] = {}
 KEEPS = "1,6 0 0 1,"
@@ -118,7 +121,7 @@ def test_lines_wait_with_what_the_recorder_gets_of_them(folder: Folder, keeps: b
     assert made
     judge("an expression is made first", asked == ["udp port 5004"] and not held.is_ready() and held.fault() is None)
     made.listing.write_text(KEEPS)
-    made.end("tcpdump", 0)
+    made.end(["tcpdump"], 0)
     line, change = held.asked()
     judge("then its listing is handed on", line == f"set 1 {made.listing}".encode() and held.is_ready())
     changes.answered(change, True)
@@ -218,3 +221,18 @@ def tcpdump(work: Path) -> Path:
     refuses = 'if [ "$5" = "bad one" ]; then echo "tcpdump: syntax error" >&2; exit 1; fi'
     program_at(work / "bin/tcpdump", f'{refuses}\necho "made of $5"')
     return work / "bin"
+
+
+def test_an_expression_that_takes_too_long_is_given_up(work: Path, monkeypatch: pytest.MonkeyPatch) -> None:
+    """As live starts its programs, with signals blocked."""
+    folder = work / "slow"
+    folder.mkdir()
+    program_at(folder / "tcpdump", "exec sleep 50")
+    monkeypatch.setenv("PATH", f"{folder}:/usr/bin:/bin")
+    monkeypatch.setattr(expressions, "PATIENCE", 1)
+    arguments = arguments_for("host far.away", "bpfrec") or []
+    child = start(arguments, (subprocess.DEVNULL, None, None), Manner())
+    wait_for("it ends", lambda: child.status() is not None, 20)
+    fault = fault_of(arguments, child.status() or 0, b"")
+    judge("by its program and its status", fault == "tcpdump ended with status 137", fault)
+    child.close()

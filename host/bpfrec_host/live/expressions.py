@@ -42,7 +42,15 @@ def arguments_for(text: str, bpfrec: str) -> Optional[list[str]]:
     tcpdump = shutil.which("tcpdump")
     if tcpdump is None:
         return None
-    return ["env", "LC_ALL=C", "timeout", str(PATIENCE), tcpdump, "-y", "EN10MB", "-ddd", "--", text]
+    # What live starts has the signal of `timeout` blocked, but for this one.
+    return ["env", "LC_ALL=C", "timeout", "-s", "KILL", str(PATIENCE), tcpdump, "-y", "EN10MB", "-ddd", "--", text]
+
+
+def fault_of(arguments: list[str], status: int, errors: bytes) -> str:
+    """Why a program made no listing: the last line that it printed, or how it ended."""
+    told = errors.decode(errors="replace").strip().splitlines()
+    program_name = "bpfrec asm" if arguments[1:2] == ["asm"] else "tcpdump"
+    return told[-1] if told else f"{program_name} ended with status {status}"
 
 
 def listing_in_words(place: str, text: str) -> str:
@@ -52,8 +60,7 @@ def listing_in_words(place: str, text: str) -> str:
         raise Refusal(3, f"live: {NO_TCPDUMP}")
     done = subprocess.run(arguments, stdin=subprocess.DEVNULL, capture_output=True, check=False)
     if done.returncode != 0:
-        told = done.stderr.decode(errors="replace").strip().splitlines()
-        raise Refusal(2, f"live: {place}: {told[-1] if told else f'{arguments[0]}: status {done.returncode}'}")
+        raise Refusal(2, f"live: {place}: {fault_of(arguments, done.returncode, done.stderr)}")
     return done.stdout.decode()
 
 

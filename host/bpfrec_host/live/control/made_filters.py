@@ -2,10 +2,11 @@
 
 from __future__ import annotations
 
+from functools import partial
 from pathlib import Path
 from typing import Callable, Optional, Sequence
 
-from bpfrec_host.live.expressions import NO_TCPDUMP, arguments_for
+from bpfrec_host.live.expressions import NO_TCPDUMP, arguments_for, fault_of
 
 # Starts a program, whose output and errors go to two files, and calls with its status.
 Start = Callable[[Sequence[str], Path, Path, Callable[[int], None]], None]
@@ -20,12 +21,12 @@ class MadeFilter:
         self.has_ended = False
         self.fault: Optional[str] = None
 
-    def end(self, program: str, status: int) -> None:
+    def end(self, arguments: list[str], status: int) -> None:
         """The program has ended that makes it."""
         self.has_ended = True
         if status != 0:
-            told = self.errors.read_text(errors="replace").strip().splitlines() if self.errors.exists() else []
-            self.fault = told[-1] if told else f"{program}: status {status}"
+            errors = self.errors.read_bytes() if self.errors.exists() else b""
+            self.fault = fault_of(arguments, status, errors)
             self.listing.unlink(missing_ok=True)
         self.errors.unlink(missing_ok=True)
 
@@ -41,9 +42,8 @@ def make(text: str, listing: Path, bpfrec: str, start: Start) -> MadeFilter:
     if arguments is None:
         made.refuse(NO_TCPDUMP)
         return made
-    program = arguments[0]
     try:
-        start(arguments, made.listing, made.errors, lambda status: made.end(program, status))
+        start(arguments, made.listing, made.errors, partial(made.end, arguments))
     except OSError as error:
         made.refuse(f"{error.strerror}")
     return made
