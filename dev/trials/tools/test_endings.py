@@ -184,10 +184,10 @@ def test_a_tool_with_little_memory_works_or_says_so(work: Path, least: int, tool
     """In each of some sizes of memory a tool does what it does in a larger one, or says that there is none."""
     words = [LIVE, work / "live.ch11", "no_interface"] if tool == "live" else words_of(work, tool)
     name = "convert" if tool in OF_CONVERT else tool
-    done = outcome(*words)
+    done = outcome(*words, errors="replace")
     wanted, refused = (done.returncode, done.stderr), 0
     for most in range(least + 2, least + 16, 2):
-        found = under(most, *words)
+        found = under(most, *words, errors="replace")
         if any(it in found.stderr for it in FAULTS_OF_PYTHON):
             continue
         told = (found.returncode, found.stderr)

@@ -6,7 +6,6 @@ import argparse
 import os
 import signal
 import stat
-import sys
 import time
 from typing import Optional
 
@@ -112,7 +111,7 @@ def run(arguments: list[str]) -> int:
     """Follows a recording: the status."""
     given = parser().parse_args(arguments)
     try:
-        if sys.stdout.isatty():
+        if os.isatty(1):
             raise Refused("standard output is a terminal, which shows no capture")
         path = first_of(given.recording)
         if not stat.S_ISREG(os.stat(path).st_mode):
@@ -125,7 +124,7 @@ def run(arguments: list[str]) -> int:
     # Its reader may leave whenever it likes, as Wireshark does.
     signal.signal(signal.SIGPIPE, signal.SIG_DFL)
     try:
-        with open(sys.stdout.fileno(), "wb", BUFFER_LEN, closefd=False) as out:
+        with open(1, "wb", BUFFER_LEN, closefd=False) as out:
             is_damaged = follow(path, given.now, View(out, given.channel or []))
     except OSError as error:
         error.filename = error.filename or STREAM
