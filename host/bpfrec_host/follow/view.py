@@ -39,10 +39,10 @@ class Interface:
         self.waiting: list[Program] = []
 
     def is_new(self, program: Program) -> bool:
-        """Whether a program is another filter than the one before. A recording that follows begins with that, as its
-        version 0."""
+        """Whether a program is another filter than the one before: a recording that follows begins with that, and
+        --flush installs it once more."""
         last = self.waiting[-1] if self.waiting else self.said
-        return last is None or last.insns != program.insns or program.version > 0 and last != program
+        return last is None or last.insns != program.insns
 
 
 class View:
