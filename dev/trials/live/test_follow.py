@@ -263,7 +263,8 @@ def test_a_recording_of_pipes_without_facts_is_followed_to_its_end(work: Path) -
         judge("it goes on", follower.process.poll() is None)
         feed.write(feed_of((number, 0, frame) for number, frame in enumerate(frames[60:], 60)))
     judge_quietly("the recorder ends", recorder.wait(SECONDS) == 0)
-    judge("it ends with it", follower.ended(10) == 0)
+    told = (follower.ended(10), (work / "follow.errors").read_text())
+    judge("it ends with it, and counts the frames", told == (0, "frames 100 skipped 0\n"), told)
     judge("with all frames", follower.frames("channel 1") == frames and follower.shown[7].moment == 700)
 
 

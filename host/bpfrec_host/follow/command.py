@@ -28,6 +28,8 @@ Comments have the filter of each channel, and at the first frame after a change 
 in their order; those of channels stand as the packets were written.
 """
 MORE = """\
+At the end it prints `frames <n> skipped <m>` on standard error: m frames have another content, or fewer than 18 bytes,
+and no capture can have them.
 A packet is written when it is full or when live closes it by --flush, so frames come that late. The recording is only
 read: a reader that is slow or leaves changes nothing of it.
 
@@ -125,8 +127,10 @@ def run(arguments: list[str]) -> int:
     signal.signal(signal.SIGPIPE, signal.SIG_DFL)
     try:
         with open(1, "wb", BUFFER_LEN, closefd=False) as out:
-            is_damaged = follow(path, given.now, View(out, given.channel or []))
+            view = View(out, given.channel or [])
+            is_damaged = follow(path, given.now, view)
     except OSError as error:
         error.filename = error.filename or STREAM
         raise
+    printing.err(f"frames {view.frames} skipped {view.skipped}")
     return 1 if is_damaged else 0
