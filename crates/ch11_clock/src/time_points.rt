@@ -41,6 +41,7 @@ impl<'a> TimePoints<'a> {
     pub fn next(&mut self) -> Option<TimePoint>
         ensures some { IfSome result (λ point.
             IsNextPoint self.old self.new point.moment point.tick) }
+        ensures fits { IfSome result (λ point. point.tick < 2 ^ 48) }
         ensures none { IfNone result (HasNoPoint self.old) }
         ensures same { IfNone result (self.new ≡ self.old) }
     {

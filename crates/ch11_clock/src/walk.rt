@@ -62,6 +62,7 @@ pub(crate) fn next_point<'a>(
     ensures some { IfSome result (λ found. IsNextPoint (points_left rules.now start)
         (points_left found.1.now found.2) found.0.moment found.0.tick) }
     ensures walk { IfSome result (λ found. IsWalk found.1.now found.2) }
+    ensures fits { IfSome result (λ found. found.0.tick < 2 ^ 48) }
     ensures none { IfNone result (HasNoPoint (points_left rules.now start)) }
 {
     let mut left = rules;

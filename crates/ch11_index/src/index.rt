@@ -58,7 +58,7 @@ impl Model for Index {
 }
 
 impl Index {
-    ghost use Rattle.std.specs.Prelude.{◌+◌, ◌<◌, ◌≤◌, ◌^◌, ◌↔◌, ◌++◌, None, Some, IfOk, IfSome, OnOk, IsTrue};
+    ghost use Rattle.std.specs.Prelude.{◌+◌, ◌<◌, ◌≤◌, ◌^◌, ◌↔◌, ◌++◌, None, Some, IfOk, IfSome, OnOk, IsTrue, length};
     ghost use Rattle.ch11_index.specs.declared.index.IndexPacket.TheVariants.{Node, Root};
     ghost use Rattle.ch11_index.specs.IndexBytes.{node_bytes, root_bytes};
     ghost use Rattle.ch11_index.specs.FileIndex.{empty_index, due, due_at_end, after_packet, after_node};
@@ -149,15 +149,18 @@ impl Index {
 
     /// Adds the body of the node that would go out now to what stands in a buffer.
     pub fn add_node(&self, body: &mut Vec<u8>) -> Result<(), AllocError>
-        ensures { OnOk result (body.new.items ≡ body.old.items ++ node_bytes self.now.packets) }
+        ensures body { OnOk result (body.new.items
+            ≡ body.old.items ++ node_bytes self.now.packets) }
+        ensures few { length self.now.packets ≤ MOST_NAMED }
     {
         add_node(self.packets.as_slice(), body)
     }
 
     /// Adds the body of the root that would go out now to what stands in a buffer.
     pub fn add_root(&self, body: &mut Vec<u8>) -> Result<(), AllocError>
-        ensures { OnOk result (body.new.items
+        ensures body { OnOk result (body.new.items
             ≡ body.old.items ++ root_bytes self.now.nodes (last_entry self.now)) }
+        ensures few { length self.now.nodes ≤ MOST_NAMED }
     {
         let last = match self.root {
             Some(before) => before,

@@ -1,11 +1,11 @@
 -- What sources of pieces say, and what of them has the next place in a file.
-use Rattle.std.specs.Prelude.{ℕ, ◌≡◌, ◌≢◌, false, List, [], ◌∷◌, ◌++◌, map, All, Option, None, Some, slice_get}
+use Rattle.std.specs.Prelude.{ℕ, ◌≡◌, ◌≢◌, ◌⊎◌, false, List, [], ◌∷◌, ◌++◌, map, All, Option, None, Some, slice_get}
 use Rattle.ch11_merge.specs.declared.source.Head.{Head}
 use Rattle.ch11_merge.specs.declared.source.Head.TheVariants.{End}
 use Rattle.ch11_merge.specs.declared.placed.MergedChannel.{MergedChannel}
 use Rattle.ch11_merge.specs.declared.placed.Placed.{Placed}
 use Rattle.ch11_merge.specs.declared.placed.Placed.TheVariants.{Time, Piece}
-use Rattle.ch11_merge.specs.Merging.{FilePiece, ChannelLeft, is_ahead, TimeIsNext, PieceIsNext, NothingLeft, Merged}
+use Rattle.ch11_merge.specs.Merging.{FilePiece, ChannelLeft, head_of, is_ahead, IsNextAt, TimeIsNext, PieceIsNext, NothingLeft, Merged}
 use Rattle.ch11_merge.specs.Merging.Merged.{OfTime, OfPiece}
 
 -- what a channel's source says: the channel's ID, and the pieces that are left, if it says them
@@ -47,6 +47,12 @@ abbrev pub Answers : {P : Type 0} → (P → FilePiece) → (tick : ℕ) → (ol
     → Option (Placed P) → (new : List ChannelLeft) → Type 0
 Answers data_of tick old (Some placed) new = Places tick old (placed_data data_of placed) new
 Answers data_of tick old None new = NothingLeft old × (new ≡ old)
+
+-- where the next piece stands: at the end where nothing is left
+abbrev pub IsNextHead : List ChannelLeft → Head → Type 0
+IsNextHead old head =
+    (NothingLeft old × (head ≡ End))
+    ⊎ ((at : ℕ) × (of : ChannelLeft) × IsNextAt old at of × (head ≡ head_of of.pieces))
 
 -- the tick of the next time packet behind this
 abbrev pub tick_behind : (after : ℕ → ℕ) → (tick : ℕ) → Merged → ℕ

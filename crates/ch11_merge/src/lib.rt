@@ -17,5 +17,5 @@ pub use laws::{
 };
 pub use merge::{MergeEnd, PlacedSink, TimeTicks, merge_into};
 pub use piece::{PIECE_TICKS, PieceSoFar};
-pub use placed::{MergedChannel, Placed, next_placed};
+pub use placed::{MergedChannel, Placed, next_head, next_placed};
 pub use source::{Head, PieceFault, PieceSource};

@@ -3,7 +3,7 @@
 ghost use Rattle.std.specs.Prelude.{◌≡◌, ◌<◌, List, IfOk, IfNone, IfSome, All, length};
 ghost use Rattle.ch11_merge.specs.declared.source.Head.TheVariants.{End};
 ghost use Rattle.ch11_merge.specs.Merging.{ChannelLeft, is_ahead, is_due};
-ghost use Rattle.ch11_merge.specs.Placing.{Answers, IsLeastIn, SayLeft};
+ghost use Rattle.ch11_merge.specs.Placing.{Answers, IsLeastIn, IsNextHead, SayLeft};
 
 use crate::source::{Head, PieceFault, PieceSource};
 
@@ -47,6 +47,17 @@ pub fn next_placed<S: PieceSource>(
         channel: first.channel,
         piece,
     }))
+}
+
+/// Where the next piece of these channels stands: `End` where each source is at its end.
+pub fn next_head<S: PieceSource>(channels: &[MergedChannel<S>]) -> Head
+    ensures { (old : List ChannelLeft) → SayLeft S.left channels.now old
+        → IsNextHead old result }
+{
+    match least_of(channels) {
+        Some(at) => channels[at].source.head(),
+        None => Head::End,
+    }
 }
 
 /// The index of the channel that has the next piece: `None` if none has one.

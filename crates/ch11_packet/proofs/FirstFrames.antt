@@ -6,7 +6,7 @@ use Rattle.std.proofs.Props.{props}
 use Rattle.std.proofs.Math.Logic.{∥∥₁_elim}
 use Rattle.std.specs.Int.{w16, w32, to_le_bytes, bytes_low_first}
 use Rattle.std.proofs.lemmas.Nat.{from_le_bytes-to_le_bytes_4}
-use Rattle.std.proofs.lemmas.List.{length-append, take_at, drop_at, drop-drop, drop_all}
+use Rattle.std.proofs.lemmas.List.{append_assoc, length-append, take_at, drop_at, drop-drop, drop_all}
 use Rattle.ch11_packet.specs.declared.frames.word.TheConstants.{FRAME_HEADER_LEN}
 use Rattle.eth_frame.specs.Bytes.{u32_at}
 use Rattle.ch11_packet.specs.Frames.{frame_len}
@@ -243,6 +243,14 @@ takes_first left frame bytes more are first = record {
   whole = ∥∥₁_elim are (hlevel props) (λ are. (takes left frame bytes more are first).whole);
   others = ∥∥₁_elim are (hlevel props) (λ are. (takes left frame bytes more are first).others);
 }
+
+-- what follows the first frame is the end of the bytes
+pub rest_of : (frame : ReadFrameData) (bytes more : List ℕ) → FrameStandsFirst frame bytes more → more ≡ drop (length bytes - length more) bytes
+rest_of frame bytes more first =
+    let front = first.spelling ++ first.filler in
+    let whole : bytes ≡ front ++ more = first.whole ∙ sym (append_assoc first.spelling first.filler more) in
+    let len : length front ≡ length bytes - length more = omega (arith, ap length whole, length-append front more) in
+    sym (ap (drop (length bytes - length more)) whole ∙ drop_at front more (length bytes - length more) len)
 
 pub length-first_reads : (count : ℕ) (bytes : List ℕ) → length (first_reads count bytes) ≡ count
 unfolding first_reads

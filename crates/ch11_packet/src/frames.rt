@@ -11,7 +11,7 @@ mod word;
 pub use blank::Blank;
 pub use body::DataBody;
 pub use builder::DataBuilder;
-pub use decode::{BodyFault, Frames, decode_frames, held_frames};
+pub use decode::{BodyFault, Frames, decode_frames, first_frame, held_frames};
 pub use frame::ReadFrame;
 pub use walk::FrameWalk;
 pub use word::MAX_SPEED;

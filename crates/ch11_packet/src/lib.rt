@@ -16,7 +16,7 @@ mod sum;
 pub use class::{ClassFault, What, classify};
 pub use frames::{
     Blank, BodyFault, DataBody, DataBuilder, FrameWalk, Frames, MAX_SPEED, ReadFrame,
-    decode_frames, held_frames,
+    decode_frames, first_frame, held_frames,
 };
 pub use header::{
     COMPUTER_GENERATED_DATA, ETHERNET_DATA, HEADER_LEN, Header, HeaderFault,

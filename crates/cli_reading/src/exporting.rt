@@ -3,9 +3,11 @@
 ghost use Rattle.std.specs.Prelude.{◌^◌, ◌<◌, length, IfSome, OnOk};
 ghost use Rattle.rec_export.specs.Exported.{IsExported};
 
-use crate::output_file::{PIECE, buffered_output};
 use crate::reading::{open, reader_over};
-use cli_streams::{CommandEnding, Inputs, LockFile, STREAM, refuse_output_into_input};
+use cli_streams::{
+    CommandEnding, Inputs, LockFile, OUTPUT_PIECE, STREAM, buffered_output,
+    refuse_output_into_input,
+};
 use rec_export::{ExportEnd, export_recording};
 use std::alloc::Global;
 use std::io::{BufWriter, Read, Write};
@@ -56,7 +58,7 @@ where
 {
     let alloc = rt.alloc();
     if out == STREAM {
-        let mut output = BufWriter::with_capacity(alloc, PIECE, output).map_err(
+        let mut output = BufWriter::with_capacity(alloc, OUTPUT_PIECE, output).map_err(
             |_| CommandEnding::Memory,
         )?;
         return export(alloc, file, input, origin, out, &mut output);

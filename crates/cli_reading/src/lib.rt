@@ -5,7 +5,6 @@
 mod auditing;
 mod exporting;
 mod extraction;
-mod output_file;
 mod packet_list;
 mod reading;
 mod upgrading;

@@ -5,11 +5,12 @@ ghost use Rattle.std.specs.Io.Buffered.{writer_buffer, writer_contents};
 ghost use Rattle.rec_reader.specs.Readers.{HasRead};
 ghost use Rattle.cli_reading.specs.Written.{IsWritten, TakesWritten};
 
-use crate::output_file::{buffered_output, write_held};
 use crate::reading::{
     Counts, begin_again, counts_of, is_read_twice, next_packet, open, packet_again, reader_over,
 };
-use cli_streams::{CommandEnding, Inputs, LockFile, STREAM, refuse_output_into_input};
+use cli_streams::{
+    CommandEnding, Inputs, LockFile, STREAM, buffered_output, refuse_output_into_input, write_held,
+};
 use rec_reader::{Packet, Reader};
 use std::alloc::Global;
 use std::io::{BufWriter, Read, Write};

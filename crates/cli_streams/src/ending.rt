@@ -11,7 +11,8 @@ use bpf_dis::DisFault;
 use bpf_insn::ListingFault;
 use bpf_verify::Refused;
 use rec_reader::{AuditFault, ReadEnd, ReadFaultKind};
-use rec_words::SettingsFault;
+use rec_whole::WholeRefusal;
+use rec_words::{SettingsFault, SetupFault};
 use std::alloc::{AllocError, AllocFailed, Global};
 use std::io;
 use std::io::{ErrorKind, Write};
@@ -59,6 +60,11 @@ pub enum CommandEnding<'a> {
     Audit(AuditFault),
     #[error("{0}\n")]
     Settings(#[from] SettingsFault),
+    #[error("{0}\n")]
+    Setup(#[from] SetupFault),
+    /// A recording can't be a whole file.
+    #[error("{0}\n")]
+    Whole(#[from] WholeRefusal),
     /// A line of a script is refused; its number.
     #[error("script line {0}\n")]
     Script(u64),
@@ -116,13 +122,16 @@ impl<'a> CommandEnding<'a> {
         }
     }
 
-    /// Prints the text and gives the exit status. A refusal of the verifier or of the audit is an
-    /// answer and goes to `output` as one write; all else goes to `errors`, where a failed write is
-    /// passed over.
+    /// Prints the text and gives the exit status. A refusal of the verifier, of the audit or of a whole
+    /// file is an answer and goes to `output` as one write; all else goes to `errors`, where a failed
+    /// write is passed over.
     pub fn report<O: Write, E: Write>(self, alloc: Global, output: &mut O, errors: &mut E) -> u8
         ensures nonzero { 0 < result }
     {
-        if !matches!(self, CommandEnding::Refused(_) | CommandEnding::Audit(_)) {
+        if !matches!(
+            self,
+            CommandEnding::Refused(_) | CommandEnding::Audit(_) | CommandEnding::Whole(_)
+        ) {
             return self.print_fault(alloc, errors);
         }
         let mut line = Vec::new(alloc);
@@ -151,9 +160,10 @@ impl<'a> CommandEnding<'a> {
         ensures nonzero { 0 < result }
     {
         match self {
-            CommandEnding::Settings(SettingsFault::Memory) => MEMORY,
-            CommandEnding::Words(_) | CommandEnding::WordsUnread(_) | CommandEnding::Settings(_) =>
-                WORDS,
+            CommandEnding::Settings(SettingsFault::Memory)
+            | CommandEnding::Setup(SetupFault::Memory) => MEMORY,
+            CommandEnding::Words(_) | CommandEnding::WordsUnread(_) => WORDS,
+            CommandEnding::Settings(_) | CommandEnding::Setup(_) => WORDS,
             CommandEnding::File(_) | CommandEnding::NamedFile(_) => FILE,
             CommandEnding::Listing(ListingFault::Memory) | CommandEnding::View(ViewFault::Memory) =>
                 MEMORY,
@@ -166,7 +176,7 @@ impl<'a> CommandEnding<'a> {
             CommandEnding::Listing(_) | CommandEnding::Refused(_) | CommandEnding::View(_) =>
                 REFUSED,
             CommandEnding::Recording(_) | CommandEnding::Told => REFUSED,
-            CommandEnding::Audit(_) | CommandEnding::Script(_) => REFUSED,
+            CommandEnding::Audit(_) | CommandEnding::Script(_) | CommandEnding::Whole(_) => REFUSED,
         }
     }
 }

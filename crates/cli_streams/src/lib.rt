@@ -10,6 +10,7 @@ mod input;
 mod inputs;
 mod listed;
 mod output;
+mod output_file;
 mod recording_fault;
 mod view;
 
@@ -21,5 +22,6 @@ pub use input::{MAX_LISTING, MAX_TEXT, bounded_text, text_in, whole_text};
 pub use inputs::{Inputs, refuse_output_into, refuse_output_into_input};
 pub use listed::{ListedFault, listed_program};
 pub use output::{finish, print_line, print_text};
+pub use output_file::{OUTPUT_PIECE, OutputFile, buffered_output, write_held};
 pub use recording_fault::RecordingFault;
 pub use view::{ViewFault, view_of};

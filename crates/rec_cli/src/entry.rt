@@ -3,6 +3,7 @@
 ghost use Rattle.std.specs.Prelude.{◌≡◌, ◌<◌, IfSome, length};
 ghost use Rattle.cli_filters.specs.Lines.{AnswersLines};
 
+use cli_chapter11::write_chapter11;
 use cli_filters::{answer_lines, assemble_file, disassemble_file, run_file, verify_file};
 use cli_reading::{
     audit_recording, export_frames, extract_frames, list_packets, upgrade_recording,
@@ -10,6 +11,7 @@ use cli_reading::{
 use cli_record::record_channels;
 use cli_simulate::simulate_script;
 use cli_streams::{ANSWERED, CommandEnding, LockFile, print_line, print_text};
+use rec_pieces::PlacedRead;
 use rec_words::{VERSION, Words, WordsFault, words_of};
 use std::alloc::Global;
 use std::io;
@@ -30,7 +32,7 @@ pub fn program<
     E: Write + Send + Drop,
 >(rt: &R, words: &[String], input: I, output: &mut O, errors: E) -> u8
 where
-    R::File: Send + LockFile,
+    R::File: Send + LockFile + PlacedRead,
     R::Dir: Send,
     ensures lines { length words.now ≡ 0 → result ≡ 0 → IfSome (I.remaining input) (λ bytes.
         AnswersLines bytes (O.contents output.old) (O.contents output.new)) }
@@ -63,7 +65,7 @@ fn obey<
     errors: &Mutex<E>,
 ) -> Result<(), CommandEnding<'a>>
 where
-    R::File: Send + LockFile,
+    R::File: Send + LockFile + PlacedRead,
     R::Dir: Send,
 {
     match words_of(rt.alloc(), words) {
@@ -85,7 +87,7 @@ fn answer<'a, R: AllocGlobal + Files, I: Read, O: Write>(
     output: &mut O,
 ) -> Result<(), CommandEnding<'a>>
 where
-    R::File: LockFile,
+    R::File: LockFile + PlacedRead,
 {
     match command {
         Words::Asm { file } => assemble_file(rt, file, input, output),
@@ -103,6 +105,11 @@ where
         Words::Export { file, out, origin } => {
             export_frames(rt, file, out, origin, input, output)
         }
+        Words::Chapter11 {
+            recording,
+            setup,
+            out,
+        } => write_chapter11(rt, recording, setup, out, output),
         Words::Simulate { file } => simulate_script(rt, file, input, output),
         Words::Version => print_version(rt.alloc(), output),
         Words::Record { .. } | Words::NoCommand => Err(CommandEnding::Words(String::new(

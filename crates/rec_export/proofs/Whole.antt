@@ -1,7 +1,8 @@
 -- The export of a recording, packet by packet.
 use Rattle.std.proofs.Common.{◌≡◌, ℕ, List, [], ◌∷◌, ◌++◌, Option, refl, sym, ap, subst, ◌∙◌}
 use Rattle.std.specs.Prelude.{Result, Ok, Err, IfErr, IsErrAnd}
-use Rattle.std.specs.Io.KnownBytes.{Appends}
+use Rattle.std.specs.Io.KnownBytes.{Appends, Keeps}
+use Rattle.std.proofs.KnownBytes.{Appends-kept}
 use Rattle.std.proofs.lemmas.List.{append_assoc, append-nil}
 use Rattle.std.proofs.lemmas.List.Concat.{flat_map-cons}
 use Rattle.pcapng_blocks.specs.Blocks.{block_bytes, blocks_bytes}
@@ -53,6 +54,16 @@ begun origin recording reader state old new begins is took =
       taken = subst (Appends old new) (sym (append-nil (block_bytes OfSection)) ∙ sym (flat_map-cons block_bytes OfSection [])) took;
       state_is = is;
     }
+
+-- what was exported was flushed
+pub kept : (origin : Option ℕ) (recording : List ℕ) (reader : ReaderState) (state : ExportState) (old held new : Option (List ℕ))
+    → HasExported origin recording reader state old held → Keeps held new → HasExported origin recording reader state old new
+kept origin recording reader state old held new had keeps = record {
+  packets = had.packets;
+  given = had.given;
+  taken = Appends-kept old held new _ had.taken keeps;
+  state_is = had.state_is;
+}
 
 -- a further packet was exported
 pub goes_on : (origin : Option ℕ) (recording : List ℕ) (reader next : ReaderState) (state after : ExportState) (old held new : Option (List ℕ))

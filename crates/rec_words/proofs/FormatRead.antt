@@ -193,7 +193,7 @@ heads x xs d = λ k e within. d 0 (suc k) e (omega arith) (omega (arith, within)
 tails : (x : ℕ) (xs : List ℕ) → AreDistinctIds (x ∷ xs) → AreDistinctIds xs
 tails x xs d = λ i j e before within. d (suc i) (suc j) e (omega (arith, before)) (omega (arith, within))
 
-distinct_push : (xs : List ℕ) (id : ℕ) → AreDistinctIds xs → All (λ x. x ≢ id) xs → AreDistinctIds (xs ++ id ∷ [])
+pub distinct_push : (xs : List ℕ) (id : ℕ) → AreDistinctIds xs → All (λ x. x ≢ id) xs → AreDistinctIds (xs ++ id ∷ [])
 distinct_push [] id d all = λ i j e before within. absurd (omega (arith, before, within))
 distinct_push (x ∷ xs) id d all =
     AllPairs-cons (λ (a b : ℕ). a ≢ b) x (xs ++ id ∷ []) (All-push (λ y. x ≢ y) xs id (heads x xs d) (All-head (λ y. y ≢ id) x xs all))

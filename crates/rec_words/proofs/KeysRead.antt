@@ -31,12 +31,12 @@ then_ok r a next out is rest = ap (λ x. x >>= next) is ∙ rest
 
 -- ---- names
 
-among : (known : List (List ℕ)) (name : List ℕ) → is_among known name ≡ true → IsOneOfNames known name
+pub among : (known : List (List ℕ)) (name : List ℕ) → is_among known name ≡ true → IsOneOfNames known name
 among known name e =
     let any = Any-from_list_any (λ one. bytes_eq one name) known e in
     (any.0, any.1, any.2, any.3, (bytes_eq-Decides any.1 name).0 any.4)
 
-is_one : (known : List (List ℕ)) (name : List ℕ) → IsOneOfNames known name → is_among known name ≡ true
+pub is_one : (known : List (List ℕ)) (name : List ℕ) → IsOneOfNames known name → is_among known name ≡ true
 is_one known name any = list_any-from_Any (λ one. bytes_eq one name) known (any.0, any.1, any.2, any.3, (bytes_eq-Decides any.1 name).1 any.4)
 
 not_one : (known : List (List ℕ)) (name : List ℕ) → is_among known name ≡ false → ¬ IsOneOfNames known name

@@ -1,9 +1,10 @@
 -- Loops over keys, values and channels; a fault through the steps that follow it.
-use Rattle.std.proofs.Common.{ℕ, ◌≡◌, ◌<◌, ◌≤◌, ◌+◌, Bool, true, true≢false, suc, rules, ◌||◌, ◌==◌, List, [], ◌∷◌, ◌++◌, map}
+use Rattle.std.proofs.Common.{ℕ, ◌≡◌, ◌<◌, ◌≤◌, ◌+◌, Bool, true, true≢false, suc, rules, ◌==◌, List, [], ◌∷◌, ◌++◌, map}
 use Rattle.std.proofs.Common.{take, drop, length, get_or, refl, sym, ap, ◌∙◌, codes, Option, None, Some, option_map}
 use Rattle.std.proofs.Common.{option_and_then, IsSome, if◌then◌else◌, Result, Ok, Err, String, Global, string_bytes}
 use Rattle.std.proofs.lemmas.List.{append_assoc, append-nil, drop_all, drop_more, take_more, map-append}
 use Rattle.std.proofs.lemmas.Option.{none-some, cond_some}
+use Rattle.std.specs.Prelude.{unwrap_or}
 use Rattle.std.specs.List.{list_any}
 use Rattle.std.specs.Map.{keys_of as map_keys}
 use Rattle.toml.specs.Data.{Data, string, integer, float, boolean, datetime, array, table as table_data, Items, Members, as_array, as_table, get_member}
@@ -11,12 +12,14 @@ use Rattle.toml.specs.View.{view, members_view, items_view}
 use Rattle.toml.specs.declared.value.Value.{Value}
 use Rattle.toml.proofs.Views.{items_view-drop}
 use Rattle.rec_channel.specs.declared.limits.TheConstants.{MAX_CHANNELS}
-use Rattle.rec_words.specs.declared.settings.fault.SettingsFault.{SettingsFault}
-use Rattle.rec_words.specs.declared.settings.fault.SettingsFault.TheVariants.{Syntax, Unknown, Missing, Value as BadValue, Channels, SameChannel, Memory}
+use Rattle.rec_words.specs.declared.keys.fault.KeyFault.{KeyFault}
+use Rattle.rec_words.specs.declared.keys.fault.KeyFault.TheVariants.{Unknown as KeyUnknown, Missing as KeyMissing, Value as KeyValue, Memory as KeyMemory}
 use Rattle.rec_words.specs.declared.settings.ChannelSettings.{ChannelSettings}
-use Rattle.rec_words.specs.Settings.{Fault, syntax, unknown, missing, value, channels, same_channel, ChannelData, ◌>>=◌, keys_of}
-use Rattle.rec_words.specs.Settings.{tables_in, channel_tables, enough, channel_in, channels_in, repeated, distinct}
-use Rattle.rec_words.specs.SettingsViews.{Reports, channel_data}
+use Rattle.rec_words.specs.Settings.{Fault, unknown, missing, value, channels, same_channel, ChannelData, ◌>>=◌, keys_of}
+use Rattle.rec_words.specs.SetupFile.{tables_of as list_tables}
+use Rattle.rec_words.specs.Settings.{tables_of as channel_list, tables_in, channel_tables, enough, channel_in, channels_in, repeated, distinct}
+use Rattle.rec_words.specs.KeyViews.{KeyReports}
+use Rattle.rec_words.specs.SettingsViews.{channel_data}
 
 -- the keys of a map's entries, as members
 pub keys_of_entries : (es : List (String Global × Value)) → keys_of (members_view es) ≡ map string_bytes (map_keys es)
@@ -29,15 +32,12 @@ any_of_map p f [] = refl
 any_of_map p f (x ∷ xs) = rw (any_of_map p f xs)
 
 -- a fault of one reading is that of another, which goes on from it
-pub reports_like : {A B : Type 0} (r : Result A Fault) (s : Result B Fault) → ((f : Fault) → r ≡ Err f → s ≡ Err f) → (fault : SettingsFault) → Reports r fault
-    → Reports s fault
-reports_like r s same Syntax e = same syntax e
-reports_like r s same (Unknown key) e = same (unknown (string_bytes key)) e
-reports_like r s same (Missing key) e = same (missing key.now) e
-reports_like r s same (BadValue key) e = same (value key.now) e
-reports_like r s same Channels e = same channels e
-reports_like r s same (SameChannel id) e = same (same_channel id) e
-reports_like r s same Memory e = tt
+pub reports_like : {A B : Type 0} (r : Result A Fault) (s : Result B Fault) → ((f : Fault) → r ≡ Err f → s ≡ Err f) → (fault : KeyFault)
+    → KeyReports r fault → KeyReports s fault
+reports_like r s same (KeyUnknown key) e = same (unknown (string_bytes key)) e
+reports_like r s same (KeyMissing key) e = same (missing key.now) e
+reports_like r s same (KeyValue key) e = same (value key.now) e
+reports_like r s same KeyMemory e = tt
 
 -- the IDs of channels
 abbrev pub ids : List ChannelSettings → List ℕ
@@ -142,9 +142,31 @@ tables_length (v ∷ values) tables h =
     ap length here.4 ∙ ap suc (tables_length values here.1 here.3)
 
 -- the tables of a document that has a list of tables
-pub channel_tables_of : (ms : Members) (d : Data) (items : Items) (tables : List Members) → Some d ≡ get_member (codes "channel") ms
-    → Some items ≡ as_array d → tables_in items ≡ Some tables → channel_tables ms ≡ enough tables
-channel_tables_of ms d items tables there listed all = rw (sym there, array_of d items (sym listed), all)
+list_of_tables : (found : Option (List Members)) (tables : List Members)
+    → unwrap_or (option_map (λ ts. Ok ts) found) (Err (value (codes "channel"))) ≡ Ok tables
+    → unwrap_or (option_map enough found) (Err (value (codes "channel"))) ≡ enough tables
+list_of_tables None tables e = absurd (err_ok e)
+  where
+    err_ok : {f : Fault} → Err f ≡ Ok tables → ⊥
+    err_ok e = cc
+list_of_tables (Some found) tables e = ap (λ r. enough (given r)) e
+  where
+    given : Result (List Members) Fault → List Members
+    given (Ok ts) = ts
+    given (Err f) = []
+
+of_tables : (d : Data) (tables : List Members) → list_tables (codes "channel") d ≡ Ok tables → channel_list d ≡ enough tables
+of_tables (array items) tables e = list_of_tables (tables_in items) tables e
+of_tables (string t) tables e = cc
+of_tables (integer n) tables e = cc
+of_tables (float f) tables e = cc
+of_tables (boolean b) tables e = cc
+of_tables (datetime t) tables e = cc
+of_tables (table_data ms) tables e = cc
+
+pub channel_tables_of : (ms : Members) (d : Data) (tables : List Members) → Some d ≡ get_member (codes "channel") ms
+    → list_tables (codes "channel") d ≡ Ok tables → channel_tables ms ≡ enough tables
+channel_tables_of ms d tables there listed = ap (λ found. unwrap_or (option_map channel_list found) (Err channels)) (sym there) ∙ of_tables d tables listed
 
 pub some_tables : (found : Option (List Members)) → IsSome found → (tables : List Members) × (found ≡ Some tables)
 some_tables (Some tables) h = (tables, refl)

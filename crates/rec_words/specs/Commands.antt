@@ -6,7 +6,8 @@ use Rattle.clap.specs.Words.{App, Row, Rule, Text, first_of, new_app, new_rule, 
 use Rattle.clap.specs.declared.builder.ArgAction.TheVariants.{Set}
 use Rattle.rec_words.specs.declared.words.Words.{Words}
 use Rattle.rec_words.specs.declared.words.Words.TheVariants.{NoCommand, Asm, Dis, Verify, Run, List as ListOf, Audit}
-use Rattle.rec_words.specs.declared.words.Words.TheVariants.{Extract, Upgrade, Export, Record, Simulate, Version}
+use Rattle.rec_words.specs.declared.words.Words.TheVariants.{Extract, Upgrade, Export, Chapter11, Record}
+use Rattle.rec_words.specs.declared.words.Words.TheVariants.{Simulate, Version}
 
 -- a word by its name, and whether it must be given
 abbrev pub operand_rule : Text × Bool → Rule
@@ -45,6 +46,10 @@ commands =
     ∷ (
       codes "export",
       given (codes "FILE") ∷ given (codes "OUT") ∷ optional (codes "ORIGIN") ∷ [],
+    )
+    ∷ (
+      codes "chapter11",
+      given (codes "RECORDING") ∷ given (codes "SETUP") ∷ given (codes "OUT") ∷ [],
     )
     ∷ (codes "record", given (codes "SETTINGS") ∷ given (codes "OUT") ∷ [])
     ∷ (codes "simulate", given (codes "FILE") ∷ [])
@@ -86,7 +91,7 @@ AsksFor met NoCommand =
     × (met ≢ Some (codes "verify", rows)) × (met ≢ Some (codes "run", rows))
     × (met ≢ Some (codes "list", rows)) × (met ≢ Some (codes "audit", rows))
     × (met ≢ Some (codes "extract", rows)) × (met ≢ Some (codes "upgrade", rows))
-    × (met ≢ Some (codes "export", rows))
+    × (met ≢ Some (codes "export", rows)) × (met ≢ Some (codes "chapter11", rows))
     × (met ≢ Some (codes "record", rows)) × (met ≢ Some (codes "simulate", rows))
     × (met ≢ Some (codes "version", rows))
 AsksFor met (Asm file) =
@@ -115,6 +120,10 @@ AsksFor met (Export file out origin) =
     (rows : List Row) × (met ≡ Some (codes "export", rows))
     × (file.now ≡ word_for (codes "FILE") rows) × (out.now ≡ word_for (codes "OUT") rows)
     × (texts_of origin ≡ first_of (codes "ORIGIN") rows)
+AsksFor met (Chapter11 recording setup out) =
+    (rows : List Row) × (met ≡ Some (codes "chapter11", rows))
+    × (recording.now ≡ word_for (codes "RECORDING") rows)
+    × (setup.now ≡ word_for (codes "SETUP") rows) × (out.now ≡ word_for (codes "OUT") rows)
 AsksFor met (Record settings out) =
     (rows : List Row) × (met ≡ Some (codes "record", rows))
     × (settings.now ≡ word_for (codes "SETTINGS") rows) × (out.now ≡ word_for (codes "OUT") rows)

@@ -3,4 +3,9 @@ pub mod CommandTexts
 pub mod WordsFaults
 pub mod Settings
 pub mod Format
+pub mod KeyViews
 pub mod SettingsViews
+pub mod ReservedNames
+pub mod SetupFile
+pub mod SetupFormat
+pub mod SetupViews

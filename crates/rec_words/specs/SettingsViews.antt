@@ -4,6 +4,8 @@ use Rattle.rec_words.specs.declared.settings.Settings.{Settings}
 use Rattle.rec_words.specs.declared.settings.ChannelSettings.{ChannelSettings}
 use Rattle.rec_words.specs.declared.settings.fault.SettingsFault.{SettingsFault}
 use Rattle.rec_words.specs.declared.settings.fault.SettingsFault.TheVariants.{Syntax, Unknown, Missing, Value, Channels, SameChannel, Memory}
+use Rattle.rec_words.specs.declared.keys.fault.KeyFault.{KeyFault}
+use Rattle.rec_words.specs.declared.keys.fault.KeyFault.TheVariants.{Unknown as KeyUnknown, Missing as KeyMissing, Value as KeyValue, Memory as KeyMemory}
 use Rattle.rec_words.specs.Settings.{Fault, syntax, unknown, missing, value, channels, same_channel, ChannelData, SettingsData}
 
 abbrev pub channel_data : ChannelSettings → ChannelData
@@ -35,3 +37,10 @@ Reports said (Value key) = said ≡ Err (value key.now)
 Reports said Channels = said ≡ Err channels
 Reports said (SameChannel id) = said ≡ Err (same_channel id)
 Reports said Memory = Unit {0}
+
+-- the fault of a table's keys, as one of settings
+abbrev pub settings_fault : KeyFault → SettingsFault
+settings_fault (KeyUnknown key) = Unknown key
+settings_fault (KeyMissing key) = Missing key
+settings_fault (KeyValue key) = Value key
+settings_fault KeyMemory = Memory

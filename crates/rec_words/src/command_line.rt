@@ -164,6 +164,29 @@ const COMMANDS: &[CommandTexts] = &[
         ],
     },
     CommandTexts {
+        name: "chapter11",
+        usage: "bpfrec chapter11",
+        about: "Writes a whole Chapter 11 file of a recording",
+        help: HelpText::Chapter11,
+        words: &[
+            WordTexts {
+                name: "RECORDING",
+                help: "A recording: packets, one after the other; a regular file",
+                is_required: true,
+            },
+            WordTexts {
+                name: "SETUP",
+                help: "The times of counters and the names of channels",
+                is_required: true,
+            },
+            WordTexts {
+                name: "OUT",
+                help: "The Chapter 11 file that is written",
+                is_required: true,
+            },
+        ],
+    },
+    CommandTexts {
         name: "record",
         usage: "bpfrec record",
         about: "Records channels through their filters",

@@ -1,6 +1,12 @@
-//! Laws of settings, which run nothing.
+//! Laws of settings and of a file's setup, which run nothing.
 
-ghost use Rattle.std.specs.Prelude.{ℕ, ◌≡◌, ◌↔◌, List, Ok, Err};
+ghost use Rattle.std.specs.Prelude.{ℕ, ◌≡◌, ◌↔◌, List, Ok, Err, true};
+ghost use Rattle.ch11_setup.specs.declared.setup.Setup.{Setup};
+ghost use Rattle.ch11_setup.specs.Setups.{IsSetup};
+ghost use Rattle.std.specs.List.{AllByRecursion};
+ghost use Rattle.rec_words.specs.SetupFile.{FileData, setup_file, CanBeAdded};
+ghost use Rattle.rec_words.specs.SetupFormat.{IsFileOf};
+ghost use Rattle.rec_words.specs.ReservedNames.{is_reserved, IsReserved, own_attributes, AreReserved};
 ghost use Rattle.rec_words.specs.Format.{AreSettingsOf, IsFaultOfText};
 ghost use Rattle.rec_words.specs.Settings.{Fault, SettingsData, settings};
 
@@ -13,4 +19,25 @@ pub fn settings_are_those_of_the_format()
         → (settings text ≡ Ok found) ↔ AreSettingsOf text found }
     ensures fault { (text : List ℕ) (fault : Fault)
         → settings text ≡ Err fault → IsFaultOfText text fault }
+{}
+
+/// Law: a name is found to be reserved exactly where it is one of those that a setup record writes
+/// once, or for some number of a channel; and each name that a setup record writes is.
+pub fn a_setup_record_writes_reserved_names()
+    ensures is { (name : List ℕ) → (is_reserved name ≡ true) ↔ IsReserved name }
+    ensures written { (setup : Setup) → IsSetup setup → AreReserved (own_attributes setup) }
+{}
+
+/// Law: what a file's setup adds are attributes, so that a reader of the setup record finds them,
+/// and none has a name that a setup record writes.
+pub fn added_attributes_are_attributes()
+    ensures { (text : List ℕ) (file : FileData) → setup_file text ≡ Ok file
+        → AllByRecursion CanBeAdded file.attributes }
+{}
+
+/// Law: where a text says something of a file, it is a document in which each key means something;
+/// what is said is what its keys are set to, or their defaults, each table says what it may, and no
+/// two channels have one ID.
+pub fn a_setup_is_what_its_text_says()
+    ensures { (text : List ℕ) (file : FileData) → setup_file text ≡ Ok file → IsFileOf text file }
 {}

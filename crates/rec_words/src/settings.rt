@@ -5,7 +5,6 @@ ghost use Rattle.rec_channel.specs.declared.limits.TheConstants.{MAX_RING};
 ghost use Rattle.ch11_packet.specs.declared.frames.word.TheConstants.{MAX_SPEED};
 
 mod fault;
-mod keys;
 mod reading;
 
 use ch11_packet::Limit;

@@ -58,6 +58,12 @@ pub enum Words<'a> {
         out: &'a str,
         origin: Option<&'a str>,
     },
+    /// `chapter11 RECORDING SETUP OUT`
+    Chapter11 {
+        recording: &'a str,
+        setup: &'a str,
+        out: &'a str,
+    },
     /// `record SETTINGS OUT`
     Record {
         settings: &'a str,
@@ -149,6 +155,16 @@ fn command_in<'a>(matches: &ArgMatches<'a>) -> Words<'a>
         let out = word_for(inner, "OUT");
         let origin = optional_word_for(inner, "ORIGIN");
         return Words::Export { file, out, origin };
+    }
+    if name == "chapter11" {
+        let recording = word_for(inner, "RECORDING");
+        let setup = word_for(inner, "SETUP");
+        let out = word_for(inner, "OUT");
+        return Words::Chapter11 {
+            recording,
+            setup,
+            out,
+        };
     }
     if name == "record" {
         let settings = word_for(inner, "SETTINGS");

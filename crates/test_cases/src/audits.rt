@@ -1,7 +1,7 @@
 //! Recordings that are judged: parts of `two_versions.ch11`, whole or with a byte changed.
 
 use crate::run::{Input, NOTHING, show_run};
-use rec_cli::LockFile;
+use rec_cli::{LockFile, PlacedRead};
 use std::rt::Files;
 use std::sync::Wait;
 use std::thread::Threads;
@@ -68,7 +68,7 @@ pub(crate) fn show_audits<R: AllocGlobal + Files + Print + Threads + Wait + Sync
     rt: &R,
 ) -> io::Result<()>
 where
-    R::File: Send + LockFile,
+    R::File: Send + LockFile + PlacedRead,
     R::Dir: Send,
 {
     let recording = fs::read(rt, "recordings/two_versions.ch11")?;
@@ -88,7 +88,7 @@ fn show_audit<R: AllocGlobal + Files + Print + Threads + Wait + Sync>(
     part: &Part,
 ) -> io::Result<()>
 where
-    R::File: Send + LockFile,
+    R::File: Send + LockFile + PlacedRead,
     R::Dir: Send,
 {
     let mut bytes = Vec::new(rt.alloc());

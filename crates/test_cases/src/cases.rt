@@ -107,7 +107,7 @@ pub(crate) static RECORDINGS: [&[&str]; 23] = [
 ];
 
 /// Files that can't be read, words that are no command, and the version.
-pub(crate) static REFUSED: [&[&str]; 41] = [
+pub(crate) static REFUSED: [&[&str]; 43] = [
     // files that can't be read, or are no text
     &["verify", "nowhere"],
     &["verify", "."],
@@ -139,6 +139,8 @@ pub(crate) static REFUSED: [&[&str]; 41] = [
     &["upgrade", "recordings/two_versions.ch11"],
     &["upgrade"],
     &["export", "recordings/two_versions.ch11", "out", "0", "0"],
+    &["chapter11", "recordings/frames.ch11", "setups/right.toml"],
+    &["chapter11"],
     &["simulate"],
     &["simulate", "nowhere"],
     &["simulate", "not_utf8"],
@@ -169,7 +171,7 @@ pub(crate) static CHECKED: [&[&str]; 9] = [
 ];
 
 /// Words that ask for help.
-pub(crate) static HELP: [&[&str]; 15] = [
+pub(crate) static HELP: [&[&str]; 16] = [
     &["--help"],
     &["-h"],
     &["help"],
@@ -183,6 +185,7 @@ pub(crate) static HELP: [&[&str]; 15] = [
     &["help", "extract"],
     &["upgrade", "--help"],
     &["export", "--help"],
+    &["chapter11", "--help"],
     &["simulate", "--help"],
     &["version", "--help"],
 ];

@@ -15,13 +15,14 @@ mod scripts;
 mod texts;
 mod upgrades;
 mod values;
+mod wholes;
 
 use audits::show_audits;
 use cases::{CHECKED, HELP, PROGRAMS, RECORDINGS, REFUSED};
 use exports::{EXPORTS, ExportCase};
 use extracts::{EXTRACTS, ExtractCase};
 use limits::show_limits;
-use rec_cli::LockFile;
+use rec_cli::{LockFile, PlacedRead};
 use records::show_records;
 use run::{Input, NOTHING, run_program, show_closed, show_run, title};
 use scripts::show_scripts;
@@ -32,6 +33,7 @@ use std::{fs, io};
 use texts::{FILTERS, TEXTS, TextCase};
 use upgrades::{UPGRADES, UpgradeCase};
 use values::show_values;
+use wholes::{WHOLES, WholeCase};
 
 /// The number of packets of a long recording, of 52 bytes each.
 const LONG: u64 = 40_000;
@@ -44,6 +46,7 @@ fn main(rt: HostRuntime) -> io::Result<()> {
     show_extracts(&rt)?;
     show_exports(&rt)?;
     show_upgrades(&rt)?;
+    show_wholes(&rt)?;
     show_long_list(&rt)?;
     show_texts(&rt)?;
     show_filters(&rt)?;
@@ -60,7 +63,7 @@ fn main(rt: HostRuntime) -> io::Result<()> {
 /// Each table has a function of its own, since its check takes time and memory for each row.
 fn show_programs<R: AllocGlobal + Files + Print + Threads + Wait + Sync>(rt: &R) -> io::Result<()>
 where
-    R::File: Send + LockFile,
+    R::File: Send + LockFile + PlacedRead,
     R::Dir: Send,
 {
     for words in PROGRAMS {
@@ -71,7 +74,7 @@ where
 
 fn show_recordings<R: AllocGlobal + Files + Print + Threads + Wait + Sync>(rt: &R) -> io::Result<()>
 where
-    R::File: Send + LockFile,
+    R::File: Send + LockFile + PlacedRead,
     R::Dir: Send,
 {
     for words in RECORDINGS {
@@ -82,7 +85,7 @@ where
 
 fn show_refused<R: AllocGlobal + Files + Print + Threads + Wait + Sync>(rt: &R) -> io::Result<()>
 where
-    R::File: Send + LockFile,
+    R::File: Send + LockFile + PlacedRead,
     R::Dir: Send,
 {
     for words in REFUSED {
@@ -93,7 +96,7 @@ where
 
 fn show_checked<R: AllocGlobal + Files + Print + Threads + Wait + Sync>(rt: &R) -> io::Result<()>
 where
-    R::File: Send + LockFile,
+    R::File: Send + LockFile + PlacedRead,
     R::Dir: Send,
 {
     for words in CHECKED {
@@ -104,7 +107,7 @@ where
 
 fn show_extracts<R: AllocGlobal + Files + Print + Threads + Wait + Sync>(rt: &R) -> io::Result<()>
 where
-    R::File: Send + LockFile,
+    R::File: Send + LockFile + PlacedRead,
     R::Dir: Send,
 {
     for case in &EXTRACTS {
@@ -115,7 +118,7 @@ where
 
 fn show_exports<R: AllocGlobal + Files + Print + Threads + Wait + Sync>(rt: &R) -> io::Result<()>
 where
-    R::File: Send + LockFile,
+    R::File: Send + LockFile + PlacedRead,
     R::Dir: Send,
 {
     for case in &EXPORTS {
@@ -126,7 +129,7 @@ where
 
 fn show_upgrades<R: AllocGlobal + Files + Print + Threads + Wait + Sync>(rt: &R) -> io::Result<()>
 where
-    R::File: Send + LockFile,
+    R::File: Send + LockFile + PlacedRead,
     R::Dir: Send,
 {
     for case in &UPGRADES {
@@ -135,9 +138,20 @@ where
     Ok(())
 }
 
+fn show_wholes<R: AllocGlobal + Files + Print + Threads + Wait + Sync>(rt: &R) -> io::Result<()>
+where
+    R::File: Send + LockFile + PlacedRead,
+    R::Dir: Send,
+{
+    for case in &WHOLES {
+        show_whole(rt, case)?;
+    }
+    Ok(())
+}
+
 fn show_texts<R: AllocGlobal + Files + Print + Threads + Wait + Sync>(rt: &R) -> io::Result<()>
 where
-    R::File: Send + LockFile,
+    R::File: Send + LockFile + PlacedRead,
     R::Dir: Send,
 {
     for text in &TEXTS {
@@ -148,7 +162,7 @@ where
 
 fn show_filters<R: AllocGlobal + Files + Print + Threads + Wait + Sync>(rt: &R) -> io::Result<()>
 where
-    R::File: Send + LockFile,
+    R::File: Send + LockFile + PlacedRead,
     R::Dir: Send,
 {
     for filter in &FILTERS {
@@ -159,7 +173,7 @@ where
 
 fn show_helps<R: AllocGlobal + Files + Print + Threads + Wait + Sync>(rt: &R) -> io::Result<()>
 where
-    R::File: Send + LockFile,
+    R::File: Send + LockFile + PlacedRead,
     R::Dir: Send,
 {
     for words in HELP {
@@ -174,7 +188,7 @@ fn show_text<R: AllocGlobal + Files + Print + Threads + Wait + Sync>(
     text: &TextCase,
 ) -> io::Result<()>
 where
-    R::File: Send + LockFile,
+    R::File: Send + LockFile + PlacedRead,
     R::Dir: Send,
 {
     let listing = show_run(rt, &["asm", text.file], NOTHING)?;
@@ -190,7 +204,7 @@ where
 /// read, and so is its list: how many packets are listed as they must be, and all other lines.
 fn show_long_list<R: AllocGlobal + Files + Print + Threads + Wait + Sync>(rt: &R) -> io::Result<()>
 where
-    R::File: Send + LockFile,
+    R::File: Send + LockFile + PlacedRead,
     R::Dir: Send,
 {
     let recording = fs::read(rt, "recordings/two_versions.ch11")?;
@@ -225,7 +239,7 @@ fn show_extract<R: AllocGlobal + Files + Print + Threads + Wait + Sync>(
     case: &ExtractCase,
 ) -> io::Result<()>
 where
-    R::File: Send + LockFile,
+    R::File: Send + LockFile + PlacedRead,
     R::Dir: Send,
 {
     show_run(
@@ -243,7 +257,7 @@ fn show_export<R: AllocGlobal + Files + Print + Threads + Wait + Sync>(
     case: &ExportCase,
 ) -> io::Result<()>
 where
-    R::File: Send + LockFile,
+    R::File: Send + LockFile + PlacedRead,
     R::Dir: Send,
 {
     match case.origin {
@@ -261,13 +275,31 @@ fn show_upgrade<R: AllocGlobal + Files + Print + Threads + Wait + Sync>(
     case: &UpgradeCase,
 ) -> io::Result<()>
 where
-    R::File: Send + LockFile,
+    R::File: Send + LockFile + PlacedRead,
     R::Dir: Send,
 {
     show_run(rt, &["upgrade", case.recording, case.out], NOTHING)?;
     if show_file(rt, "file", case.out)? {
         show_run(rt, &["audit", case.out], NOTHING)?;
     }
+    Ok(())
+}
+
+/// A recording's whole file: what is printed, and then the bytes of the file, if it was created.
+fn show_whole<R: AllocGlobal + Files + Print + Threads + Wait + Sync>(
+    rt: &R,
+    case: &WholeCase,
+) -> io::Result<()>
+where
+    R::File: Send + LockFile + PlacedRead,
+    R::Dir: Send,
+{
+    show_run(
+        rt,
+        &["chapter11", case.recording, case.setup, case.out],
+        NOTHING,
+    )?;
+    show_file(rt, "file", case.out)?;
     Ok(())
 }
 
@@ -291,14 +323,30 @@ fn show_help<R: AllocGlobal + Files + Print + Threads + Wait + Sync>(
     words: &[&str],
 ) -> io::Result<()>
 where
-    R::File: Send + LockFile,
+    R::File: Send + LockFile + PlacedRead,
     R::Dir: Send,
 {
     let run = run_program(rt, words, NOTHING)?;
     title(rt, words)?;
     for name in [
-        "asm", "dis", "verify", "run", "audit", "extract", "upgrade", "export", "simulate", "FILE",
-        "HEX", "CHANNEL", "OUT", "ORIGIN", "Usage",
+        "asm",
+        "dis",
+        "verify",
+        "run",
+        "audit",
+        "extract",
+        "upgrade",
+        "export",
+        "chapter11",
+        "simulate",
+        "FILE",
+        "HEX",
+        "CHANNEL",
+        "RECORDING",
+        "SETUP",
+        "OUT",
+        "ORIGIN",
+        "Usage",
     ] {
         if run.output().contains(name) {
             println!(rt; "names {name}")?;
@@ -310,7 +358,7 @@ where
 /// Each command that reads a file, by `-` from standard input.
 fn show_piped<R: AllocGlobal + Files + Print + Threads + Wait + Sync>(rt: &R) -> io::Result<()>
 where
-    R::File: Send + LockFile,
+    R::File: Send + LockFile + PlacedRead,
     R::Dir: Send,
 {
     for (file, words) in [
@@ -359,7 +407,7 @@ fn show_closed_output<R: AllocGlobal + Files + Print + Threads + Wait + Sync>(
     rt: &R,
 ) -> io::Result<()>
 where
-    R::File: Send + LockFile,
+    R::File: Send + LockFile + PlacedRead,
     R::Dir: Send,
 {
     for words in [

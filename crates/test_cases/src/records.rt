@@ -1,7 +1,7 @@
 //! Recordings.
 
 use crate::run::{Input, NOTHING, run_program, show_closed, show_run, title};
-use rec_cli::LockFile;
+use rec_cli::{LockFile, PlacedRead};
 use std::io::Write;
 use std::rt::Files;
 use std::sync::Wait;
@@ -67,7 +67,7 @@ pub(crate) fn show_records<R: AllocGlobal + Files + Print + Threads + Wait + Syn
     rt: &R,
 ) -> io::Result<()>
 where
-    R::File: Send + LockFile,
+    R::File: Send + LockFile + PlacedRead,
     R::Dir: Send,
 {
     for [settings, out, lines] in &RECORDS {
@@ -104,7 +104,7 @@ pub(crate) fn show_record<R: AllocGlobal + Files + Print + Threads + Wait + Sync
     lines: &str,
 ) -> io::Result<()>
 where
-    R::File: Send + LockFile,
+    R::File: Send + LockFile + PlacedRead,
     R::Dir: Send,
 {
     show_run(
@@ -125,7 +125,7 @@ where
 /// An output that another open has locked: how many bytes it keeps.
 fn show_locked<R: AllocGlobal + Files + Print + Threads + Wait + Sync>(rt: &R) -> io::Result<()>
 where
-    R::File: Send + LockFile,
+    R::File: Send + LockFile + PlacedRead,
     R::Dir: Send,
 {
     let mut held = fs::create(rt, "locked.ch11")?;
@@ -152,7 +152,7 @@ fn show_long_input<R: AllocGlobal + Files + Print + Threads + Wait + Sync>(
     count: usize,
 ) -> io::Result<()>
 where
-    R::File: Send + LockFile,
+    R::File: Send + LockFile + PlacedRead,
     R::Dir: Send,
 {
     let words = ["record", "records/none.toml", "long.ch11"];
@@ -179,7 +179,7 @@ fn show_long_listing<R: AllocGlobal + Files + Print + Threads + Wait + Sync>(
     len: usize,
 ) -> io::Result<()>
 where
-    R::File: Send + LockFile,
+    R::File: Send + LockFile + PlacedRead,
     R::Dir: Send,
 {
     let mut listing = Vec::new(rt.alloc());
@@ -199,7 +199,7 @@ fn show_full_versions<R: AllocGlobal + Files + Print + Threads + Wait + Sync>(
     rt: &R,
 ) -> io::Result<()>
 where
-    R::File: Send + LockFile,
+    R::File: Send + LockFile + PlacedRead,
     R::Dir: Send,
 {
     let words = ["record", "records/none.toml", "full.ch11"];

@@ -1,7 +1,7 @@
 //! A run of the program. Its input and its output are of one type each: a caller of the program is
 //! proved anew for each pair of types.
 
-use rec_cli::LockFile;
+use rec_cli::{LockFile, PlacedRead};
 use std::alloc::AllocError;
 use std::io;
 use std::io::{ErrorKind, Read, Write};
@@ -88,7 +88,7 @@ pub(crate) fn run_program<R: AllocGlobal + Files + Threads + Wait + Sync>(
     input: Input<'_>,
 ) -> io::Result<Run>
 where
-    R::File: Send + LockFile,
+    R::File: Send + LockFile + PlacedRead,
     R::Dir: Send,
 {
     run_into(rt, words, input, Output::Kept(Vec::new(rt.alloc())))
@@ -101,7 +101,7 @@ pub(crate) fn show_run<R: AllocGlobal + Files + Print + Threads + Wait + Sync>(
     input: Input<'_>,
 ) -> io::Result<Run>
 where
-    R::File: Send + LockFile,
+    R::File: Send + LockFile + PlacedRead,
     R::Dir: Send,
 {
     let run = run_program(rt, words, input)?;
@@ -120,7 +120,7 @@ pub(crate) fn show_closed<R: AllocGlobal + Files + Print + Threads + Wait + Sync
     words: &[&str],
 ) -> io::Result<()>
 where
-    R::File: Send + LockFile,
+    R::File: Send + LockFile + PlacedRead,
     R::Dir: Send,
 {
     let run = run_into(rt, words, NOTHING, Output::Closed)?;
@@ -145,7 +145,7 @@ fn run_into<R: AllocGlobal + Files + Threads + Wait + Sync>(
     output: Output,
 ) -> io::Result<Run>
 where
-    R::File: Send + LockFile,
+    R::File: Send + LockFile + PlacedRead,
     R::Dir: Send,
 {
     let owned = words_of(rt, words)?;

@@ -1,7 +1,7 @@
 //! Scripts of `simulate`.
 
 use crate::run::{Input, NOTHING, run_program, show_closed, show_run, title};
-use rec_cli::LockFile;
+use rec_cli::{LockFile, PlacedRead};
 use std::io;
 use std::rt::Files;
 use std::sync::Wait;
@@ -85,7 +85,7 @@ pub(crate) fn show_scripts<R: AllocGlobal + Files + Print + Threads + Wait + Syn
     rt: &R,
 ) -> io::Result<()>
 where
-    R::File: Send + LockFile,
+    R::File: Send + LockFile + PlacedRead,
     R::Dir: Send,
 {
     for name in ["scripts/changed_filter.script", "scripts/full_ring.script"] {
@@ -111,7 +111,7 @@ pub(crate) fn show_script<R: AllocGlobal + Files + Print + Threads + Wait + Sync
     script: &str,
 ) -> io::Result<()>
 where
-    R::File: Send + LockFile,
+    R::File: Send + LockFile + PlacedRead,
     R::Dir: Send,
 {
     println!(rt; "# {told:?}")?;
@@ -125,7 +125,7 @@ fn show_channels<R: AllocGlobal + Files + Print + Threads + Wait + Sync>(
     count: u64,
 ) -> io::Result<()>
 where
-    R::File: Send + LockFile,
+    R::File: Send + LockFile + PlacedRead,
     R::Dir: Send,
 {
     let mut script = String::from_str(rt.alloc(), "recorder 16424 1 8\n")?;
@@ -143,7 +143,7 @@ fn show_long_script<R: AllocGlobal + Files + Print + Threads + Wait + Sync>(
     rt: &R,
 ) -> io::Result<()>
 where
-    R::File: Send + LockFile,
+    R::File: Send + LockFile + PlacedRead,
     R::Dir: Send,
 {
     let mut script = String::from_str(rt.alloc(), "recorder 16424 4 8\n")?;
@@ -174,7 +174,7 @@ pub(crate) fn show_counts<R: AllocGlobal + Files + Print + Threads + Wait + Sync
     kinds: &[&str],
 ) -> io::Result<()>
 where
-    R::File: Send + LockFile,
+    R::File: Send + LockFile + PlacedRead,
     R::Dir: Send,
 {
     let words = ["simulate", "-"];

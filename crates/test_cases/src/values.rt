@@ -3,7 +3,7 @@
 use crate::records::show_record;
 use crate::run::{Input, NOTHING, run_program, show_run, title};
 use crate::scripts::{show_counts, show_script};
-use rec_cli::LockFile;
+use rec_cli::{LockFile, PlacedRead};
 use std::alloc::AllocError;
 use std::rt::Files;
 use std::sync::Wait;
@@ -66,7 +66,7 @@ pub(crate) fn show_values<R: AllocGlobal + Files + Print + Threads + Wait + Sync
     rt: &R,
 ) -> io::Result<()>
 where
-    R::File: Send + LockFile,
+    R::File: Send + LockFile + PlacedRead,
     R::Dir: Send,
 {
     for extreme in &EXTREMES {
@@ -84,7 +84,7 @@ fn show_short<R: AllocGlobal + Files + Print + Threads + Wait + Sync>(
     extreme: &Extreme,
 ) -> io::Result<()>
 where
-    R::File: Send + LockFile,
+    R::File: Send + LockFile + PlacedRead,
     R::Dir: Send,
 {
     let feed = fs::read(rt, "records/two.feed")?;
@@ -108,7 +108,7 @@ fn show_filled<R: AllocGlobal + Files + Print + Threads + Wait + Sync>(
     extreme: &Extreme,
 ) -> io::Result<()>
 where
-    R::File: Send + LockFile,
+    R::File: Send + LockFile + PlacedRead,
     R::Dir: Send,
 {
     let feed = feed_of(rt, extreme.frames)?;
@@ -131,7 +131,7 @@ where
 /// lines answer it, of each kind.
 fn show_full_ring<R: AllocGlobal + Files + Print + Threads + Wait + Sync>(rt: &R) -> io::Result<()>
 where
-    R::File: Send + LockFile,
+    R::File: Send + LockFile + PlacedRead,
     R::Dir: Send,
 {
     let script = full_ring_script(rt)?;

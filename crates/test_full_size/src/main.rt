@@ -1,7 +1,8 @@
 //! One recording at full size, made once and read in every way: 64 channels at both limits, of which
 //! one has 1,024 versions that are all met, one over 100,000 frames, one as many frames in a packet as
 //! there can be, one the longest, and one none. And a small one through the longest ring of the greatest
-//! packets. What is read is compared with what was fed.
+//! packets. What is read is compared with what was fed. Last, the index of a whole file that has more nodes
+//! than a root names.
 #![tactic(auto)]
 
 mod changes;
@@ -12,6 +13,7 @@ mod filters;
 mod indexing;
 mod jobs;
 mod making;
+mod naming;
 mod reading;
 mod steps;
 mod streaming;
@@ -19,6 +21,7 @@ mod telling;
 
 use channel::Channels;
 use making::{Made, recorded};
+use naming::name_all;
 use reading::{find_in, read_in_every_way};
 use rec_channel::{MAX_CHANNELS, MAX_RING};
 use telling::{count_told, tell};
@@ -39,7 +42,15 @@ fn main(rt: HostRuntime) -> Result<(), &'static str> {
     let made = recorded(&rt, rt, ALL, RING);
     let is_so = compare(rt, made.as_ref());
     let made = recorded(&rt, rt, LONGEST, MAX_RING);
-    if is_so && compare_wide(rt, made.as_ref()) {
+    let is_so = is_so && compare_wide(rt, made.as_ref());
+    if is_so
+        && tell(
+            rt,
+            "named all packets of a file of ",
+            name_all(rt.alloc()),
+            " bytes\n",
+        )
+    {
         Ok(())
     } else {
         Err("the next line has no number: what is told or read there is not what was fed")

@@ -1,6 +1,6 @@
 //! Runs without words, and what is printed of them.
 
-use rec_cli::{LockFile, program};
+use rec_cli::{LockFile, PlacedRead, program};
 use std::io;
 use std::io::{ErrorKind, Read, Write};
 use std::process::Abort;
@@ -23,7 +23,7 @@ fn run<
     E: Write + Send + Drop,
 >(rt: &R, input: I, output: &mut O, errors: E) -> u8
 where
-    R::File: Send + LockFile,
+    R::File: Send + LockFile + PlacedRead,
     R::Dir: Send,
 {
     program(rt, &[], input, output, errors)
@@ -38,7 +38,7 @@ fn check<R: AllocGlobal + Files + Threads + Wait + Sync + Abort>(
     errors: &str,
 )
 where
-    R::File: Send + LockFile,
+    R::File: Send + LockFile + PlacedRead,
     R::Dir: Send,
 {
     let mut out = Vec::new(rt.alloc());

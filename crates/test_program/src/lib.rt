@@ -12,3 +12,5 @@ mod printed;
 mod retried;
 #[cfg(test)]
 mod settings;
+#[cfg(test)]
+mod setup_file;

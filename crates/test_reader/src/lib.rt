@@ -1,5 +1,5 @@
 //! The tests of what reads recordings, by its public calls: whole or as a stream, the index, the
-//! audit.
+//! audit, the export, the whole Chapter 11 file.
 #![tactic(auto)]
 
 #[cfg(test)]
@@ -7,7 +7,13 @@ mod audit;
 #[cfg(test)]
 mod checksums;
 #[cfg(test)]
+mod export;
+#[cfg(test)]
+mod file;
+#[cfg(test)]
 mod index;
+#[cfg(test)]
+mod pieces;
 #[cfg(test)]
 mod reader;
 #[cfg(test)]

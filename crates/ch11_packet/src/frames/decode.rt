@@ -1,7 +1,7 @@
 //! A body of Ethernet data that is read.
-ghost use Rattle.std.specs.Prelude.{ℕ, ◌≡◌, ◌↔◌, ◌++◌, List, IfSome, IfNone, IfOk, IsOkAnd, Err};
+ghost use Rattle.std.specs.Prelude.{ℕ, ◌≡◌, ◌↔◌, ◌-◌, ◌<◌, ◌∷◌, ◌++◌, List, [], length, drop, IfSome, IfNone, IfOk, IsOkAnd, Err};
 ghost use Rattle.ch11_packet.specs.declared.frames.decode.BodyFault.{BodyFault};
-ghost use Rattle.ch11_packet.specs.FramesRead.{ReadFrameData, FrameStandsFirst, IsFiller, IsCutFrame, SpellsBody, IsBodyOf, HasBodyFault};
+ghost use Rattle.ch11_packet.specs.FramesRead.{ReadFrameData, FrameStandsFirst, IsFiller, IsCutFrame, SpellsBody, IsBodyOf, HasBodyFault, AreFrames, first_reads};
 ghost use Rattle.ch11_packet.specs.Views.{read_frame_data};
 
 use crate::frames::frame::ReadFrame;
@@ -85,7 +85,7 @@ impl<'a> Frames<'a> {
         ensures none { IfNone result ((self.old ≡ []) × (self.new ≡ [])) }
         ensures first { IfSome result (λ frame. self.old ≡ read_frame_data frame ∷ self.new) }
     {
-        let (frame, after) = split_frame(self.bytes)?;
+        let (frame, after) = first_frame(self.count, self.bytes)?;
         let count = self.count - 1;
         *self = Frames {
             count,
@@ -139,6 +139,23 @@ pub fn held_frames(count: u16, body: &[u8]) -> Frames<'_>
         count,
         bytes: &body[BODY_WORD_LEN..],
     }
+}
+
+/// The first frame of bytes that are known to hold `count` of them, and the bytes of the others: `None`
+/// where there is none. So the frames of a body can be gone over in several turns, while it stays where
+/// it is.
+pub fn first_frame(count: u16, bytes: &[u8]) -> Option<(ReadFrame<'_>, &[u8])>
+    requires { ∥ AreFrames count bytes.now ∥₁ }
+    ensures none { IfNone result (first_reads count bytes.now ≡ []) }
+    ensures some { IfSome result (λ split. 0 < count) }
+    ensures first { IfSome result (λ split. first_reads count bytes.now
+        ≡ read_frame_data split.0 ∷ first_reads (count - 1) split.1.now) }
+    ensures others { IfSome result (λ split. ∥ AreFrames (count - 1) split.1.now ∥₁) }
+    ensures rest { IfSome result (λ split.
+        split.1.now ≡ drop (length bytes.now - length split.1.now) bytes.now) }
+{
+    let (frame, after) = split_frame(bytes)?;
+    Some((frame, after))
 }
 
 /// The frame at the front of these bytes, and what comes after it and its filler: `None` if it

@@ -20,6 +20,8 @@ pub(crate) enum HelpText {
     Upgrade,
     /// [`EXPORT`]
     Export,
+    /// [`CHAPTER11`]
+    Chapter11,
     /// [`RECORD`]
     Record,
     /// [`SIMULATE`]
@@ -40,6 +42,7 @@ pub(crate) fn text_of(help: &HelpText) -> &'static str {
         HelpText::Extract => EXTRACT,
         HelpText::Upgrade => UPGRADE,
         HelpText::Export => EXPORT,
+        HelpText::Chapter11 => CHAPTER11,
         HelpText::Record => RECORD,
         HelpText::Simulate => SIMULATE,
         HelpText::Version => PRINT_VERSION,
@@ -241,6 +244,43 @@ Exit status: 0 written; 1 not read to its end; 2 arguments; 3 a file; 4 no memor
 Examples:
   bpfrec export flight.ch11 flight.pcapng
   bpfrec export flight.ch11 - | wireshark -k -i -";
+
+const CHAPTER11: &str = "\
+Writes a whole Chapter 11 file of a recording, by the standard as we know it: a setup record (TMATS),
+a time packet each second, the frames of all channels in packets of at most 100 ms, filters and ends by
+their counters, and an index. RECORDING is a regular file, which is read twice. SETUP is a TOML
+document, which host/bin/chapter11 makes of the facts beside a recording:
+  origin = \"1764590400.25\"         seconds from 1970-01-01 UTC to counter 0, or, in its place,
+  origins = [{ counter = 0, origin = \"1764590400.25\" }]
+                                   1 to 65536 of them, each from its counter on
+  host = \"bpfrec\"                  the name of the recorder
+  program = \"bpfrec\"               the name of the test
+  external = false                 whether an outside source held the clock
+  attributes = [\"G\\\\SC:U\"]        further lines of the setup record, NAME:VALUE
+  [[channel]]                      any number of them, each with an id of its own
+  id = 1                           1 to 65535
+  name = \"channel\"                 its name
+  net = 0                          its network identifier, 0 to 255
+Only the origin and each id must be set; the values above are the others' defaults. Prints on standard
+output
+  times <n> packets <n> records <n> index <n> bytes <n>
+with the numbers of time packets, of packets of frames, of filters and ends, and of index packets; or why
+there can be no such file, with the place of the packet in RECORDING:
+  refused 1 Other <at>             it is no frames of a channel from 1 on, filter or end
+  refused 2 Disorder <at>          its counter is over a second below one before it
+  refused 3 Gap <at>               its counter is over seven days above all before it
+  refused 4 Origin 0               no time packet has a place
+  refused 5 Year 0                 a time outside of the years 1 to 3999
+  refused 7 Full 0                 no channel ID is left for the time
+An OUT that exists is overwritten, unless it is RECORDING or SETUP. Of a recording that is refused, or
+that can't be read to its end, which is reported as by list, OUT is not created. A fault of SETUP is
+reported on standard error:
+  setup <number> <Name> [<key>]    Syntax, Unknown, Missing or Value
+
+Exit status: 0 written; 1 refused, or not read to its end; 2 arguments, or SETUP; 3 a file; 4 no memory.
+
+Example:
+  bpfrec chapter11 flight.ch11 flight.toml flight.ch10";
 
 const PRINT_VERSION: &str = "\
 Prints on standard output what --version prints too:

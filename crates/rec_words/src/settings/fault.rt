@@ -1,6 +1,6 @@
 //! Why settings are refused.
 
-use std::alloc::{AllocError, AllocFailed};
+use crate::keys::KeyFault;
 use thiserror::Error;
 
 /// Why a text has no settings: the first fault, in the order of the keys in [`Settings`](super::Settings).
@@ -29,24 +29,18 @@ pub enum SettingsFault {
     Memory,
 }
 
-impl From<AllocError> for SettingsFault {
+impl From<KeyFault> for SettingsFault {
     ghost use Rattle.std.specs.Prelude.{◌≡◌};
-    ghost use Rattle.rec_words.specs.declared.settings.fault.SettingsFault.TheVariants.{Memory};
+    ghost use Rattle.rec_words.specs.SettingsViews.{settings_fault};
 
-    ghost from_gives = { λ _ fault. fault ≡ Memory };
+    ghost from_gives = { λ of_key fault. fault ≡ settings_fault of_key };
 
-    fn from(_error: AllocError) -> SettingsFault {
-        SettingsFault::Memory
-    }
-}
-
-impl<T: Drop> From<AllocFailed<T>> for SettingsFault {
-    ghost use Rattle.std.specs.Prelude.{◌≡◌};
-    ghost use Rattle.rec_words.specs.declared.settings.fault.SettingsFault.TheVariants.{Memory};
-
-    ghost from_gives = { λ _ fault. fault ≡ Memory };
-
-    fn from(_error: AllocFailed<T>) -> SettingsFault {
-        SettingsFault::Memory
+    fn from(fault: KeyFault) -> SettingsFault {
+        match fault {
+            KeyFault::Unknown { key } => SettingsFault::Unknown { key },
+            KeyFault::Missing { key } => SettingsFault::Missing { key },
+            KeyFault::Value { key } => SettingsFault::Value { key },
+            KeyFault::Memory => SettingsFault::Memory,
+        }
     }
 }

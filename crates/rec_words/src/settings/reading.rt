@@ -1,16 +1,17 @@
 //! Reads the settings of a recording from a TOML document.
 
-ghost use Rattle.std.specs.Prelude.{◌≡◌, ◌↔◌, ◌==◌, [], List, Ok, Some, MatchResult, IsTrue, IsSome, map, codes};
+ghost use Rattle.std.specs.Prelude.{◌≡◌, ◌==◌, [], List, Ok, Some, MatchResult, map, codes};
 ghost use Rattle.std.specs.List.{list_any};
 ghost use Rattle.toml.specs.Data.{Members};
 ghost use Rattle.toml.specs.View.{table_view, items_view};
 ghost use Rattle.ch11_packet.specs.declared.limit.TheConstants.{MIN_LIMIT, MAX_LIMIT};
 ghost use Rattle.rec_words.specs.Settings.{settings, settings_in, channel_in, channels_in, channel_tables, tables_in, number_or, repeated};
 ghost use Rattle.rec_words.specs.SettingsViews.{settings_data, channel_data, Reports};
+ghost use Rattle.rec_words.specs.KeyViews.{KeyReports};
 
 use super::fault::SettingsFault;
-use super::keys::{number_at, number_or, only, text_at, value_at};
 use super::{ChannelSettings, Settings};
+use crate::keys::{KeyFault, number_at, number_or, only, tables_of, text_at, value_at};
 use ch11_packet::{Limit, MAX_LIMIT, MAX_SPEED, MIN_LIMIT};
 use rec_channel::{MAX_CHANNELS, MAX_RING};
 use std::alloc::Global;
@@ -45,7 +46,7 @@ fn settings_in(alloc: Global, table: &Table) -> Result<Settings, SettingsFault>
     let limit = limit_in(table)?;
     let ring = number_or(table, "ring", 1, MAX_RING as u64, 64)? as usize;
     let version = number_or(table, "version", 0, u64::from(u8::MAX), 8)? as u8;
-    let channels = channels_in(alloc, tables_of(table)?)?;
+    let channels = channels_in(alloc, channel_tables(table)?)?;
     if let Some(id) = repeated(channels.as_slice()) {
         return Err(SettingsFault::SameChannel { id });
     }
@@ -58,19 +59,19 @@ fn settings_in(alloc: Global, table: &Table) -> Result<Settings, SettingsFault>
 }
 
 /// The limit of packets, which counts no data checksum.
-fn limit_in(table: &Table) -> Result<Limit, SettingsFault>
+fn limit_in(table: &Table) -> Result<Limit, KeyFault>
     ensures { MatchResult result
         (λ limit. number_or 65536 MIN_LIMIT MAX_LIMIT (codes "limit") (table_view table.now)
         ≡ Ok limit)
-        (Reports (number_or 65536 MIN_LIMIT MAX_LIMIT (codes "limit") (table_view table.now))) }
+        (KeyReports (number_or 65536 MIN_LIMIT MAX_LIMIT (codes "limit") (table_view table.now))) }
 {
     let least = u64::from(MIN_LIMIT);
     let bytes = number_or(table, "limit", least, u64::from(MAX_LIMIT), 65_536)?;
-    Limit::new(bytes as u32).ok_or(SettingsFault::Value { key: "limit" })
+    Limit::new(bytes as u32).ok_or(KeyFault::Value { key: "limit" })
 }
 
 /// The channels, 1 to [`MAX_CHANNELS`] values, each of which is a table.
-fn tables_of(table: &Table) -> Result<&[Value], SettingsFault>
+fn channel_tables(table: &Table) -> Result<&[Value], SettingsFault>
     ensures { MatchResult result
         (λ values. (tables : List Members) × (tables_in (items_view values.now) ≡ Some tables)
         × (channel_tables (table_view table.now) ≡ Ok tables))
@@ -79,34 +80,19 @@ fn tables_of(table: &Table) -> Result<&[Value], SettingsFault>
     let Some(value) = value_at(table, "channel") else {
         return Err(SettingsFault::Channels);
     };
-    let values = match value.as_array() {
-        Some(values) if are_tables(values.as_slice()) => values.as_slice(),
-        _ => return Err(SettingsFault::Value { key: "channel" }),
-    };
+    let values = tables_of(value, "channel")?;
     if values.is_empty() || values.len() > MAX_CHANNELS {
         return Err(SettingsFault::Channels);
     }
     Ok(values)
 }
 
-/// Whether all values are tables.
-fn are_tables(values: &[Value]) -> bool
-    ensures { IsTrue result ↔ IsSome (tables_in (items_view values.now)) }
-{
-    'values: for value in values {
-        if !value.is_table() {
-            return false;
-        }
-    }
-    true
-}
-
 /// The settings of the channels, in order.
-fn channels_in(alloc: Global, values: &[Value]) -> Result<Vec<ChannelSettings>, SettingsFault>
+fn channels_in(alloc: Global, values: &[Value]) -> Result<Vec<ChannelSettings>, KeyFault>
     ensures { (tables : List Members) → tables_in (items_view values.now) ≡ Some tables
         → MatchResult result
         (λ found. channels_in tables ≡ Ok (map channel_data found.items))
-        (Reports (channels_in tables)) }
+        (KeyReports (channels_in tables)) }
 {
     let mut channels = Vec::new(alloc);
     'values: for value in values {
@@ -118,10 +104,10 @@ fn channels_in(alloc: Global, values: &[Value]) -> Result<Vec<ChannelSettings>, 
 }
 
 /// The settings of a channel.
-fn channel_in(alloc: Global, table: &Table) -> Result<ChannelSettings, SettingsFault>
+fn channel_in(alloc: Global, table: &Table) -> Result<ChannelSettings, KeyFault>
     ensures { MatchResult result
         (λ found. channel_in (table_view table.now) ≡ Ok (channel_data found))
-        (Reports (channel_in (table_view table.now))) }
+        (KeyReports (channel_in (table_view table.now))) }
 {
     only(
         alloc,

@@ -79,7 +79,15 @@ returns-then-eq-9 c =
 pub returns-then-eq-10 : goal.returns-then-eq-10
 returns-then-eq-10 c =
     let rows = rows_of (found_of c.in-Some.inner.now) in
-    let named : c.in-Some.name.now ≡ codes "record" = (bytes_eq-Decides c.in-Some.name.now (codes "record")).0 (sym c.eq-10.ensures ∙ c.if-eq-10.true) in
+    let named : c.in-Some.name.now ≡ codes "chapter11" = (bytes_eq-Decides c.in-Some.name.now (codes "chapter11")).0 (sym c.eq-10.ensures ∙ c.if-eq-10.true) in
     let met : subcommand_rows_of c.args.matches.now ≡ Some (c.in-Some.name.now, rows) =
     pair_is _ _ c.in-Some.name.now rows c.in-Some.ensures.name c.in-Some.ensures.rows in
-    (rows, rw named at met, c.word_for-settings.ensures, c.word_for-out-then-eq-10.ensures)
+    (rows, rw named at met, c.word_for-recording-then-eq-10.ensures, c.word_for-setup.ensures, c.word_for-out-then-eq-10.ensures)
+
+pub returns-then-eq-11 : goal.returns-then-eq-11
+returns-then-eq-11 c =
+    let rows = rows_of (found_of c.in-Some.inner.now) in
+    let named : c.in-Some.name.now ≡ codes "record" = (bytes_eq-Decides c.in-Some.name.now (codes "record")).0 (sym c.eq-11.ensures ∙ c.if-eq-11.true) in
+    let met : subcommand_rows_of c.args.matches.now ≡ Some (c.in-Some.name.now, rows) =
+    pair_is _ _ c.in-Some.name.now rows c.in-Some.ensures.name c.in-Some.ensures.rows in
+    (rows, rw named at met, c.word_for-settings.ensures, c.word_for-out-then-eq-11.ensures)

@@ -4,7 +4,7 @@ use Rattle.rec_words.proofs.settings.reading.settings_in.Goals as goal
 
 pub returns-in-Some : goal.returns-in-Some
 returns-in-Some c =
-    let tables = c.in_ok-tables_of.ensures in
+    let tables = c.in_ok-channel_tables.ensures in
     let same = rw c.as_slice.ensures.value at (sym c.in-Some.ensures) in
     rw (
       c.in_ok-only.ensures,
@@ -18,7 +18,7 @@ returns-in-Some c =
 
 pub returns : goal.returns
 returns c =
-    let tables = c.in_ok-tables_of.ensures in
+    let tables = c.in_ok-channel_tables.ensures in
     rw (
       c.in_ok-only.ensures,
       c.in_ok-limit.ensures,

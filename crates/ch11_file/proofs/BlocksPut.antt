@@ -1,0 +1,221 @@
+-- Packets that hold something go out: those that the index names, nodes, and roots.
+use Rattle.std.proofs.Common.{ℕ, ◌+◌, ◌≡◌, ◌<◌, List, length, take, Option, None, refl, sym, subst, ap, ◌∙◌}
+use Rattle.std.specs.Prelude.{◌^◌, ◌%◌, slice_index, slice_set}
+use Rattle.std.specs.Io.KnownBytes.{Appends}
+use Rattle.ch11_packet.specs.Header.{IsHeader}
+use Rattle.ch11_packet.specs.PacketLen.{written_len}
+use Rattle.ch11_packet.specs.Profiles.Profile.{WithSum}
+use Rattle.ch11_index.specs.declared.index.IndexPacket.TheVariants.{Node, Root}
+use Rattle.ch11_index.specs.FileIndex.{IndexState, after_packet, after_node, after_root, last_entry, due}
+use Rattle.ch11_index.specs.IndexBytes.{node_bytes, root_bytes}
+use Rattle.ch11_file.specs.declared.kind.BlockKind.{BlockKind}
+use Rattle.ch11_file.specs.declared.kind.BlockKind.TheVariants.{Index}
+use Rattle.ch11_file.specs.declared.setup.FileSetup.{FileSetup}
+use Rattle.ch11_file.specs.FileBlocks.{FileBlock, BlockContent, block_of, block_header, block_packet, block_len, block_body, kind_of, named_of}
+use Rattle.ch11_file.specs.FileBlocks.BlockContent.{SetupBlock, TimeBlock, PieceBlock, NodeBlock, RootBlock}
+use Rattle.ch11_file.specs.WholeFile.{FileFacts, FileState, MergeState, BlockGoesNext, ContentGoesNext, IndexIsDue, block_channel, file_state}
+use Rattle.ch11_file.specs.FileEnds.{HoldsFront}
+use Rattle.ch11_file.specs.Sending.{SentState, HasSent, IsContent, WritesWhole, WritesPart, HasValidHeader, bytes_with, named_with, sent_state, counts_behind}
+use Rattle.ch11_file.proofs.GoingOut.{sent_more, part_more}
+
+-- ---- a packet and what its code says of it
+
+-- the packet that holds this, with the next number of its channel
+abbrev pub block_sent : SentState → FileSetup → BlockContent → (counter : ℕ) → FileBlock
+block_sent sent setup content counter =
+    block_of (block_channel setup content) (slice_index sent.numbers (block_channel setup content)) counter content
+
+record IsOfBlock (sent : SentState) (setup : FileSetup) (content : BlockContent) (kind : BlockKind) (channel counter : ℕ) (body : List ℕ) : Type 0 where
+  pub header : IsHeader (block_header (block_sent sent setup content counter))
+  pub bytes : bytes_with sent kind channel counter body ≡ block_packet (block_sent sent setup content counter)
+  pub len : written_len WithSum (length body) ≡ block_len (block_sent sent setup content counter)
+  pub fits : block_channel setup content < 2 ^ 16
+
+of_block : (sent : SentState) (setup : FileSetup) (content : BlockContent) (counter : ℕ)
+    → HasValidHeader sent (kind_of content) (block_channel setup content) counter (block_body content)
+    → IsOfBlock sent setup content (kind_of content) (block_channel setup content) counter (block_body content)
+unfolding block_header block_packet block_len
+of_block sent setup content counter header = record { header = header; bytes = refl; len = refl; fits = header.channel }
+
+is_of_block : (sent : SentState) (setup : FileSetup) (content : BlockContent) (kind : BlockKind) (channel counter : ℕ) (body : List ℕ)
+    → IsContent setup content kind channel body → HasValidHeader sent kind channel counter body → IsOfBlock sent setup content kind channel counter body
+is_of_block sent setup content kind channel counter body is header =
+    let h1 = subst (λ (k : BlockKind). HasValidHeader sent k channel counter body) is.kind_is header in
+    let h2 = subst (λ (n : ℕ). HasValidHeader sent (kind_of content) n counter body) is.channel_is h1 in
+    let h3 = subst (λ (l : List ℕ). HasValidHeader sent (kind_of content) (block_channel setup content) counter l) is.body_is h2 in
+    let o1 = of_block sent setup content counter h3 in
+    let o2 = subst (λ (l : List ℕ). IsOfBlock sent setup content (kind_of content) (block_channel setup content) counter l) (sym is.body_is) o1 in
+    let o3 = subst (λ (n : ℕ). IsOfBlock sent setup content (kind_of content) n counter body) (sym is.channel_is) o2 in
+    subst (λ (k : BlockKind). IsOfBlock sent setup content k channel counter body) (sym is.kind_is) o3
+
+-- ---- it goes out whole
+
+record IsNoted (mid new : SentState) (kind : BlockKind) (len place : ℕ) : Type 0 where
+  pub numbers : new.numbers ≡ mid.numbers
+  pub counts : new.counts ≡ counts_behind mid.counts kind len
+  pub place_is : new.index.place ≡ place + len
+
+whole_out : (facts : FileFacts) (before held now : Option (List ℕ)) (old mid new : SentState) (merge next : MergeState) (kind : BlockKind)
+    (channel counter : ℕ) (body : List ℕ) (len : ℕ) (content : BlockContent) → HasSent facts before held old merge
+    → IsContent facts.setup content kind channel body → WritesWhole old kind channel counter body held now len mid
+    → IsNoted mid new kind len old.index.place
+    → BlockGoesNext facts (file_state old.index merge) content (block_sent old facts.setup content counter) (file_state new.index next)
+    → HasSent facts before now new next
+whole_out facts before held now old mid new merge next kind channel counter body len content sent is wrote noted goes =
+    let b = block_sent old facts.setup content counter in
+    let of = is_of_block old facts.setup content kind channel counter body is wrote.header in
+    let len_is : len ≡ block_len b = wrote.len_is ∙ of.len in
+    let same : channel ≡ block_channel facts.setup content = is.channel_is in
+    let numbers_are : mid.numbers ≡ slice_set old.numbers channel ((slice_index old.numbers channel + 1) % 256) =
+    ap (λ (s : SentState). s.numbers) wrote.new_is in
+    let counts_are : mid.counts ≡ old.counts = ap (λ (s : SentState). s.counts) wrote.new_is in
+    sent_more facts before held now old new merge next b sent
+    (record { channel = refl; header = of.header; goes = goes })
+    (record {
+      sequence = refl;
+      fits = of.fits;
+      numbers = noted.numbers ∙ numbers_are ∙ ap (λ c. slice_set old.numbers c ((slice_index old.numbers c + 1) % 256)) same;
+      place = noted.place_is ∙ ap (λ n. old.index.place + n) len_is;
+      counts = noted.counts ∙ ap (λ c. counts_behind c kind len) counts_are ∙ ap (λ k. counts_behind old.counts k len) is.kind_is
+          ∙ ap (λ n. counts_behind old.counts (kind_of content) n) len_is;
+    })
+    (subst (Appends held now) of.bytes wrote.grows)
+
+part_out : (facts : FileFacts) (before held now : Option (List ℕ)) (old : SentState) (new : FileState) (merge : MergeState) (kind : BlockKind)
+    (channel counter : ℕ) (body : List ℕ) (content : BlockContent) → HasSent facts before held old merge
+    → IsContent facts.setup content kind channel body → WritesPart old kind channel counter body held now
+    → BlockGoesNext facts (file_state old.index merge) content (block_sent old facts.setup content counter) new
+    → HoldsFront facts before now
+part_out facts before held now old new merge kind channel counter body content sent is wrote goes =
+    let b = block_sent old facts.setup content counter in
+    let of = is_of_block old facts.setup content kind channel counter body is wrote.header in
+    part_more facts before held now old new merge b wrote.len sent (record { channel = refl; header = of.header; goes = goes }) refl of.fits
+    (subst (λ l. Appends held now (take wrote.len l)) of.bytes wrote.grows)
+
+-- ---- a packet that the index names
+
+named_goes : (facts : FileFacts) (old new : FileState) (content : BlockContent) (channel sequence counter : ℕ) → due old.index ≡ None
+    → ContentGoesNext facts old.index.greatest old.merge content counter new.merge
+    → new.index ≡ after_packet old.index (named_of (block_of channel sequence counter content))
+    → BlockGoesNext facts old content (block_of channel sequence counter content) new
+named_goes facts old new (SetupBlock text) channel sequence counter none goes is = record { none_due = none; goes = goes; index_is = is }
+named_goes facts old new (TimeBlock is_external time) channel sequence counter none goes is = record { none_due = none; goes = goes; index_is = is }
+named_goes facts old new (PieceBlock c piece) channel sequence counter none goes is = record { none_due = none; goes = goes; index_is = is }
+named_goes facts old new (NodeBlock entries) channel sequence counter none goes is = absurd goes
+named_goes facts old new (RootBlock nodes last) channel sequence counter none goes is = absurd goes
+
+pub put_whole : (facts : FileFacts) (before held now : Option (List ℕ)) (old mid new : SentState) (merge next : MergeState) (kind : BlockKind)
+    (channel counter : ℕ) (body : List ℕ) (len : ℕ) (content : BlockContent) → HasSent facts before held old merge
+    → IsContent facts.setup content kind channel body → due old.index ≡ None
+    → ContentGoesNext facts old.index.greatest merge content counter next → WritesWhole old kind channel counter body held now len mid
+    → new ≡ sent_state mid.numbers (after_packet mid.index (named_with kind channel counter len)) (counts_behind mid.counts kind len)
+    → HasSent facts before now new next
+put_whole facts before held now old mid new merge next kind channel counter body len content sent is none goes wrote noted =
+    let b = block_sent old facts.setup content counter in
+    let of = is_of_block old facts.setup content kind channel counter body is wrote.header in
+    let index_was : mid.index ≡ old.index = ap (λ (s : SentState). s.index) wrote.new_is in
+    let index_is : new.index ≡ after_packet old.index (named_with kind channel counter len) =
+    ap (λ (s : SentState). s.index) noted ∙ ap (λ i. after_packet i (named_with kind channel counter len)) index_was in
+    let packet_is : named_with kind channel counter len ≡ named_of b =
+    ap (λ k. named_with k channel counter len) is.kind_is ∙ ap (λ n. named_with (kind_of content) n counter len) is.channel_is
+    ∙ ap (λ n. named_with (kind_of content) (block_channel facts.setup content) counter n) (wrote.len_is ∙ of.len) in
+    whole_out facts before held now old mid new merge next kind channel counter body len content sent is wrote
+    (record {
+      numbers = ap (λ (s : SentState). s.numbers) noted;
+      counts = ap (λ (s : SentState). s.counts) noted;
+      place_is = ap (λ (i : IndexState). i.place) index_is;
+    })
+    (named_goes facts (file_state old.index merge) (file_state new.index next) content (block_channel facts.setup content)
+    (slice_index old.numbers (block_channel facts.setup content)) counter none goes (index_is ∙ ap (after_packet old.index) packet_is))
+
+pub put_part : (facts : FileFacts) (before held now : Option (List ℕ)) (old : SentState) (merge next : MergeState) (kind : BlockKind)
+    (channel counter : ℕ) (body : List ℕ) (content : BlockContent) → HasSent facts before held old merge
+    → IsContent facts.setup content kind channel body → due old.index ≡ None
+    → ContentGoesNext facts old.index.greatest merge content counter next → WritesPart old kind channel counter body held now
+    → HoldsFront facts before now
+put_part facts before held now old merge next kind channel counter body content sent is none goes wrote =
+    let b = block_sent old facts.setup content counter in
+    part_out facts before held now old (file_state (after_packet old.index (named_of b)) next) merge kind channel counter body content sent is wrote
+    (named_goes facts (file_state old.index merge) (file_state (after_packet old.index (named_of b)) next) content (block_channel facts.setup content)
+    (slice_index old.numbers (block_channel facts.setup content)) counter none goes refl)
+
+-- ---- packets of the index
+
+node_content : (setup : FileSetup) (s : SentState) (kind : BlockKind) (channel : ℕ) (body : List ℕ) → kind ≡ Index → channel ≡ 0
+    → body ≡ node_bytes s.index.packets → IsContent setup (NodeBlock s.index.packets) kind channel body
+node_content setup s kind channel body k c b = record { kind_is = k; channel_is = c; body_is = b }
+
+pub node_whole : (facts : FileFacts) (before held now : Option (List ℕ)) (old mid new : SentState) (merge : MergeState) (kind : BlockKind)
+    (channel counter : ℕ) (body : List ℕ) (len : ℕ) → HasSent facts before held old merge → IndexIsDue Node old.index merge
+    → kind ≡ Index → channel ≡ 0 → counter ≡ old.index.greatest → body ≡ node_bytes old.index.packets
+    → WritesWhole old kind channel counter body held now len mid
+    → new ≡ sent_state mid.numbers (after_node mid.index len) (counts_behind mid.counts Index len)
+    → HasSent facts before now new merge
+node_whole facts before held now old mid new merge kind channel counter body len sent due_is k c g b wrote noted =
+    let content = NodeBlock old.index.packets in
+    let is = node_content facts.setup old kind channel body k c b in
+    let of = is_of_block old facts.setup content kind channel counter body is wrote.header in
+    let index_was : mid.index ≡ old.index = ap (λ (s : SentState). s.index) wrote.new_is in
+    let index_is : new.index ≡ after_node old.index len = ap (λ (s : SentState). s.index) noted ∙ ap (λ i. after_node i len) index_was in
+    whole_out facts before held now old mid new merge merge kind channel counter body len content sent is wrote
+    (record {
+      numbers = ap (λ (s : SentState). s.numbers) noted;
+      counts = ap (λ (s : SentState). s.counts) noted ∙ ap (λ k2. counts_behind mid.counts k2 len) (sym k);
+      place_is = ap (λ (i : IndexState). i.place) index_is;
+    })
+    (record {
+      is_due = due_is;
+      entries_are = refl;
+      counter_is = g;
+      new_is = ap (λ i. file_state i merge) (index_is ∙ ap (after_node old.index) (wrote.len_is ∙ of.len));
+    })
+
+pub node_part : (facts : FileFacts) (before held now : Option (List ℕ)) (old : SentState) (merge : MergeState) (kind : BlockKind)
+    (channel counter : ℕ) (body : List ℕ) → HasSent facts before held old merge → IndexIsDue Node old.index merge
+    → kind ≡ Index → channel ≡ 0 → counter ≡ old.index.greatest → body ≡ node_bytes old.index.packets
+    → WritesPart old kind channel counter body held now → HoldsFront facts before now
+node_part facts before held now old merge kind channel counter body sent due_is k c g b wrote =
+    let content = NodeBlock old.index.packets in
+    part_out facts before held now old (file_state (after_node old.index (block_len (block_sent old facts.setup content counter))) merge) merge kind channel
+    counter body content sent (node_content facts.setup old kind channel body k c b) wrote
+    (record { is_due = due_is; entries_are = refl; counter_is = g; new_is = refl })
+
+root_content : (setup : FileSetup) (s : SentState) (kind : BlockKind) (channel : ℕ) (body : List ℕ) → kind ≡ Index → channel ≡ 0
+    → body ≡ root_bytes s.index.nodes (last_entry s.index) → IsContent setup (RootBlock s.index.nodes (last_entry s.index)) kind channel body
+root_content setup s kind channel body k c b = record { kind_is = k; channel_is = c; body_is = b }
+
+pub root_whole : (facts : FileFacts) (before held now : Option (List ℕ)) (old mid new : SentState) (merge : MergeState) (kind : BlockKind)
+    (channel counter : ℕ) (body : List ℕ) (len : ℕ) → HasSent facts before held old merge → IndexIsDue Root old.index merge
+    → kind ≡ Index → channel ≡ 0 → counter ≡ old.index.greatest → body ≡ root_bytes old.index.nodes (last_entry old.index)
+    → WritesWhole old kind channel counter body held now len mid
+    → new ≡ sent_state mid.numbers (after_root mid.index len) (counts_behind mid.counts Index len)
+    → HasSent facts before now new merge
+root_whole facts before held now old mid new merge kind channel counter body len sent due_is k c g b wrote noted =
+    let content = RootBlock old.index.nodes (last_entry old.index) in
+    let is = root_content facts.setup old kind channel body k c b in
+    let of = is_of_block old facts.setup content kind channel counter body is wrote.header in
+    let index_was : mid.index ≡ old.index = ap (λ (s : SentState). s.index) wrote.new_is in
+    let index_is : new.index ≡ after_root old.index len = ap (λ (s : SentState). s.index) noted ∙ ap (λ i. after_root i len) index_was in
+    whole_out facts before held now old mid new merge merge kind channel counter body len content sent is wrote
+    (record {
+      numbers = ap (λ (s : SentState). s.numbers) noted;
+      counts = ap (λ (s : SentState). s.counts) noted ∙ ap (λ k2. counts_behind mid.counts k2 len) (sym k);
+      place_is = ap (λ (i : IndexState). i.place) index_is;
+    })
+    (record {
+      is_due = due_is;
+      nodes_are = refl;
+      last_is = refl;
+      counter_is = g;
+      new_is = ap (λ i. file_state i merge) (index_is ∙ ap (after_root old.index) (wrote.len_is ∙ of.len));
+    })
+
+pub root_part : (facts : FileFacts) (before held now : Option (List ℕ)) (old : SentState) (merge : MergeState) (kind : BlockKind)
+    (channel counter : ℕ) (body : List ℕ) → HasSent facts before held old merge → IndexIsDue Root old.index merge
+    → kind ≡ Index → channel ≡ 0 → counter ≡ old.index.greatest → body ≡ root_bytes old.index.nodes (last_entry old.index)
+    → WritesPart old kind channel counter body held now → HoldsFront facts before now
+root_part facts before held now old merge kind channel counter body sent due_is k c g b wrote =
+    let content = RootBlock old.index.nodes (last_entry old.index) in
+    part_out facts before held now old (file_state (after_root old.index (block_len (block_sent old facts.setup content counter))) merge) merge kind channel
+    counter body content sent (root_content facts.setup old kind channel body k c b) wrote
+    (record { is_due = due_is; nodes_are = refl; last_is = refl; counter_is = g; new_is = refl })

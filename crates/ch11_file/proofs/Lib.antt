@@ -1,0 +1,10 @@
+pub mod CopiesRead
+pub mod OpenPieces
+pub mod GoingOut
+pub mod BlocksPut
+pub mod IndexLengths
+pub mod NextBlocks
+pub mod FileFronts
+pub mod FileMerges
+pub mod FileForms
+pub mod FileOrders

@@ -1,0 +1,9 @@
+pub mod CopiedFrames
+pub mod HeldPieces
+pub mod OwnedPieces
+pub mod FileBlocks
+pub mod FileTimes
+pub mod WholeFile
+pub mod FileEnds
+pub mod Sending
+pub mod FilesRead

@@ -1,0 +1,146 @@
+//! Laws of a whole file, with nothing to run.
+
+ghost use Rattle.std.specs.Prelude.{ℕ, ◌≡◌, ◌<◌, ◌≤◌, ◌^◌, true, List, [], ◌∷◌, ◌++◌, None, Some, codes, decimal, length, map, slice_get, All};
+ghost use Rattle.std.specs.List.{AllByRecursion, flat_map};
+ghost use Rattle.ch11_packet.specs.Frames.{data_len};
+ghost use Rattle.ch11_packet.specs.FramesRead.{ReadFrameData, IsReadFrame, SpellsBody};
+ghost use Rattle.ch11_merge.specs.declared.piece.PieceSoFar.{PieceSoFar};
+ghost use Rattle.ch11_merge.specs.Pieces.{goes_on, with_frames};
+ghost use Rattle.ch11_merge.specs.Short.{FitPacket};
+ghost use Rattle.ch11_merge.specs.Merging.{ChannelLeft};
+ghost use Rattle.ch11_merge.specs.Kept.{AreNamedApart, TimesStandAhead, held_in, held_of};
+ghost use Rattle.ch11_index.specs.FileIndex.{IsIndexed, empty_index};
+ghost use Rattle.ch11_index.specs.IndexRead.{AreChained, AreWithin, EndsWithRoot};
+ghost use Rattle.ch11_index.specs.IndexRead.{named_in, nodes_from, packets_from, rooted_in};
+ghost use Rattle.ch11_file.specs.CopiedFrames.{frames_body};
+ghost use Rattle.ch11_file.specs.FileBlocks.{FileBlock, block_len, block_packet, item_of, merged_in};
+ghost use Rattle.ch11_file.specs.WholeFile.{FileFacts, IsWholeFile, setup_at, setup_text};
+ghost use Rattle.ch11_file.specs.FilesRead.{BeginAtZero, BeginsWithSetup, IsValidPacket, NeverFarBehind, RiseByOne};
+ghost use Rattle.ch11_file.specs.FilesRead.{TellsClock, TimeStandsSecond};
+ghost use Rattle.ch11_file.specs.declared.setup.FileSetup.{FileSetup};
+ghost use Rattle.ch11_clock.specs.declared.civil.CivilTime.{CivilTime};
+ghost use Rattle.ch11_setup.specs.Attributes.{HoldsAttributes};
+ghost use Rattle.ch11_setup.specs.Setups.{IsSetup, given_attributes, setup_attributes};
+ghost use Rattle.ch11_setup.specs.Sources.{HasNoneOf, channel_numbers, channel_types, source_channels, source_types};
+ghost use Rattle.ch11_clock.specs.Clock.{IsClock};
+
+use crate::limits::{MAX_SETUP_LEN, MAX_TICKS_AHEAD, MAX_TICKS_BACK};
+use ch11_clock::time_points_have_the_clocks_time;
+use ch11_index::an_index_names_all;
+use ch11_setup::{a_setup_record_is_read_back, a_setup_record_names_the_channels};
+
+/// Law: a body of frames that are copied is read as these frames.
+pub fn copied_frames_are_read_back()
+    ensures { (frames : List ReadFrameData) → All IsReadFrame frames → length frames < 2 ^ 16
+        → SpellsBody frames (frames_body frames) }
+{}
+
+/// Law: a single frame fits its packet, and so does a further one that goes on with a piece, behind the
+/// frames that were pushed of it.
+pub fn a_frame_that_goes_on_fits()
+    ensures first { (frame : ReadFrameData) → IsReadFrame frame → FitPacket (frame ∷ []) }
+    ensures further { (ahead : PieceSoFar) (frames : List ReadFrameData) (frame : ReadFrameData)
+        → data_len [] ≤ ahead.len → goes_on (with_frames ahead frames) frame ≡ true
+        → FitPacket (frames ++ frame ∷ []) }
+{}
+
+/// Law: the nodes of a whole file name each packet that isn't of the index, in order and once each, with its
+/// counter, channel, data type and first byte, and its roots name each node so; its last packet is a root; each
+/// root leads to the one before, and the first to itself; none names more than the limit; and the length by
+/// which a packet's place is counted is that of its bytes.
+pub fn a_whole_file_is_indexed()
+    ensures indexed { (facts : FileFacts) (blocks : List FileBlock) → IsWholeFile facts blocks
+        → IsIndexed (empty_index facts.most) (map item_of blocks) }
+    ensures packets { (facts : FileFacts) (blocks : List FileBlock) → IsWholeFile facts blocks
+        → named_in (map item_of blocks) ≡ packets_from 0 (map item_of blocks) }
+    ensures nodes { (facts : FileFacts) (blocks : List FileBlock) → IsWholeFile facts blocks
+        → rooted_in (map item_of blocks) ≡ nodes_from 0 0 (map item_of blocks) }
+    ensures ends { (facts : FileFacts) (blocks : List FileBlock) → IsWholeFile facts blocks
+        → EndsWithRoot (map item_of blocks) }
+    ensures chain { (facts : FileFacts) (blocks : List FileBlock) → IsWholeFile facts blocks
+        → AreChained None 0 0 (map item_of blocks) }
+    ensures within { (facts : FileFacts) (blocks : List FileBlock) → 0 < facts.most
+        → IsWholeFile facts blocks → AreWithin facts.most (map item_of blocks) }
+    ensures places { (b : FileBlock) → length (block_packet b) ≡ block_len b }
+{
+    an_index_names_all();
+}
+
+/// Law: a whole file holds of each channel what its pieces held, in order and once each: frames and records.
+pub fn a_whole_file_keeps_each_channel()
+    ensures { (facts : FileFacts) (blocks : List FileBlock) → IsWholeFile facts blocks
+        → AreNamedApart facts.channels → (at : ℕ) (c : ChannelLeft)
+        → slice_get facts.channels at ≡ Some c
+        → held_of c.channel (merged_in blocks) ≡ flat_map held_in c.pieces }
+{}
+
+/// Law: each time packet of a whole file whose counter is at most that of a frame or of a record stands ahead of
+/// that.
+pub fn times_of_a_whole_file_stand_ahead()
+    ensures { (facts : FileFacts) (blocks : List FileBlock) → IsWholeFile facts blocks
+        → TimesStandAhead (merged_in blocks) }
+{}
+
+/// Law: each packet of a whole file has a valid header with its length, and a right data checksum, and the
+/// sequence numbers of a channel begin at 0 and rise by one, modulo 256.
+pub fn a_whole_file_is_well_formed()
+    ensures packets { (facts : FileFacts) (blocks : List FileBlock) → IsWholeFile facts blocks
+        → AllByRecursion IsValidPacket blocks }
+    ensures first { (facts : FileFacts) (blocks : List FileBlock) → IsWholeFile facts blocks
+        → BeginAtZero blocks }
+    ensures further { (facts : FileFacts) (blocks : List FileBlock) → IsWholeFile facts blocks
+        → RiseByOne blocks }
+{}
+
+/// Law: no header of a whole file lies over a second behind one ahead of it.
+pub fn headers_never_lie_far_behind()
+    ensures { (facts : FileFacts) (blocks : List FileBlock) → IsWholeFile facts blocks
+        → NeverFarBehind 0 blocks }
+{}
+
+/// Law: the clock gives the counter of each time packet of a whole file a time that isn't ahead of what the
+/// packet tells, and less than 100 ns behind it.
+pub fn times_of_a_whole_file_are_the_clocks()
+    ensures { (facts : FileFacts) (blocks : List FileBlock) → IsClock facts.rules
+        → IsWholeFile facts blocks → AllByRecursion
+        (λ (b : FileBlock). TellsClock facts.rules b.content b.counter) blocks }
+{
+    time_points_have_the_clocks_time();
+}
+
+/// Law: the setup record of a whole file stands first, with the counter of the first time packet, and says its
+/// date. Where index packets name two packets or more, the first time packet stands behind it.
+pub fn a_whole_file_begins_with_its_setup()
+    ensures setup { (facts : FileFacts) (blocks : List FileBlock) → 0 < facts.most
+        → IsWholeFile facts blocks → BeginsWithSetup facts blocks }
+    ensures time { (facts : FileFacts) (blocks : List FileBlock) → 1 < facts.most
+        → IsWholeFile facts blocks → TimeStandsSecond blocks }
+{}
+
+/// Law: a reader that ends a name at its first colon, and a value at its first semicolon, finds the attributes
+/// of the setup record in its text; and its data sources are the time channel and the channels, each with its
+/// type, where a user adds none.
+#[tactic(auto, unfolding(crate::specs::WholeFile::setup_text))]
+pub fn the_setup_of_a_whole_file_is_read_back()
+    ensures found { (setup : FileSetup) (time : CivilTime) → IsSetup (setup_at setup time)
+        → HoldsAttributes (setup_text setup time) (setup_attributes (setup_at setup time)) }
+    ensures channels { (setup : FileSetup) (time : CivilTime)
+        → HasNoneOf (codes "R-1\\TK1-") (given_attributes setup.attributes.now)
+        → source_channels (setup_attributes (setup_at setup time))
+        ≡ decimal setup.time_channel ∷ channel_numbers setup.channels.now }
+    ensures types { (setup : FileSetup) (time : CivilTime)
+        → HasNoneOf (codes "R-1\\CDT-") (given_attributes setup.attributes.now)
+        → source_types (setup_attributes (setup_at setup time))
+        ≡ codes "TIMEIN" ∷ channel_types setup.channels.now }
+{
+    a_setup_record_is_read_back();
+    a_setup_record_names_the_channels();
+}
+
+/// Law: a header may lie a second behind one ahead of it, in ticks of 100 ns, and a piece a week ahead of all of
+/// them; the packet of a setup record has at most 128 MiB.
+pub fn the_limits_of_a_file()
+    ensures back { MAX_TICKS_BACK ≡ 10_000_000 }
+    ensures ahead { MAX_TICKS_AHEAD ≡ 6_048_000_000_000 }
+    ensures setup { MAX_SETUP_LEN ≡ 134_217_728 }
+{}

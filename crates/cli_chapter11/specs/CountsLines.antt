@@ -1,0 +1,11 @@
+-- What `chapter11` prints.
+use Rattle.std.specs.Prelude.{ℕ, codes, List, [], ◌∷◌, ◌++◌}
+use Rattle.std.specs.Fmt.{decimal}
+use Rattle.ch11_file.specs.declared.counts.FileCounts.{FileCounts}
+
+-- how many time packets, packets of frames, records and packets of the index a file has, and its bytes
+abbrev pub counts_line : FileCounts → List ℕ
+counts_line counts =
+    codes "times " ++ (decimal counts.times ++ (codes " packets " ++ (decimal counts.packets
+    ++ (codes " records " ++ (decimal counts.records ++ (codes " index " ++ (decimal counts.index
+    ++ (codes " bytes " ++ (decimal counts.bytes ++ (10 ∷ []))))))))))

@@ -1,0 +1,72 @@
+//! The command.
+
+ghost use Rattle.std.specs.Prelude.{OnOk};
+ghost use Rattle.std.specs.Io.KnownBytes.{Appends};
+ghost use Rattle.cli_chapter11.specs.CountsLines.{counts_line};
+
+use crate::files::{listing_of, open_recording, setup_in};
+use crate::writing::{WholeFile, write_twice};
+use ch11_clock::Clock;
+use ch11_file::FileCounts;
+use cli_streams::{CommandEnding, Inputs, LockFile, print_line};
+use rec_pieces::PlacedRead;
+use std::alloc::Global;
+use std::io::Write;
+use std::rt::Files;
+
+/// `chapter11 RECORDING SETUP OUT`: writes the whole Chapter 11 file of a recording into OUT, forces it to
+/// its disk, and prints how many packets of each kind it has. It is written once into nothing, to see that
+/// it can be, and then into OUT, which isn't created before. An OUT that is one of the inputs is refused
+/// before they are read.
+pub fn write_chapter11<'a, R: AllocGlobal + Files, O: Write>(
+    rt: &R,
+    recording: &'a str,
+    setup: &'a str,
+    out: &'a str,
+    output: &mut O,
+) -> Result<(), CommandEnding<'a>>
+where
+    R::File: LockFile + PlacedRead,
+{
+    let alloc = rt.alloc();
+    let file = open_recording(rt, recording)?;
+    let mut inputs = Inputs::new(alloc);
+    inputs.add_streams(rt)?;
+    inputs.add(&file)?;
+    let settings = setup_in(rt, &mut inputs, setup, out)?;
+    let listing = listing_of(alloc, recording, &file)?;
+    let clock = Clock::new(alloc, settings.origins.as_slice())?;
+    let whole = WholeFile {
+        recording,
+        file: &file,
+        listing: &listing,
+        settings: &settings,
+        clock: &clock,
+    };
+    let counts = write_twice(rt, &inputs, &whole, out)?;
+    print_counts(alloc, output, counts)
+}
+
+/// Prints how many packets of each kind a file has, and how many bytes.
+fn print_counts<O: Write>(
+    alloc: Global,
+    output: &mut O,
+    counts: FileCounts,
+) -> Result<(), CommandEnding<'static>>
+    ensures { OnOk result (Appends (O.contents output.old) (O.contents output.new)
+        (counts_line counts)) }
+{
+    let FileCounts {
+        times,
+        packets,
+        records,
+        index,
+        bytes,
+    } = counts;
+    let mut line = Vec::new(alloc);
+    let built = writeln!(
+        &mut line,
+        "times {times} packets {packets} records {records} index {index} bytes {bytes}"
+    );
+    print_line(output, &mut line, built)
+}

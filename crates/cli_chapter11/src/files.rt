@@ -1,0 +1,70 @@
+//! What the command reads.
+
+use cli_streams::{CommandEnding, Inputs, STREAM, bounded_text, refuse_output_into};
+use rec_pieces::{FileAt, ListingEnd, PieceListing, PlacedRead, list_recording};
+use rec_reader::Reader;
+use rec_words::{FileSettings, setup_of};
+use std::alloc::Global;
+use std::fs::{self, OpenFile};
+use std::io::BufReader;
+use std::rt::Files;
+
+/// How many bytes of a recording are read at once.
+const PIECE: usize = 65_536;
+
+/// How many bytes SETUP may have.
+const MAX_SETUP: u64 = 16_777_216;
+
+/// A recording's file, which is a regular one, since it is read twice. It is refused if standard output is
+/// that file too.
+pub(crate) fn open_recording<'a, R: AllocGlobal + Files>(
+    rt: &R,
+    recording: &'a str,
+) -> Result<R::File, CommandEnding<'a>> {
+    if recording == STREAM {
+        return Err(CommandEnding::Words(format!(in rt.alloc();
+            "error: invalid value '-' for '<RECORDING>': a recording is read twice, so it is a regular file\n\n\
+            For more information, try '--help'.\n"
+        )?));
+    }
+    let file = fs::open(rt, recording).map_err(|error| CommandEnding::of_io(recording, &error))?;
+    match file.metadata() {
+        Ok(found) if found.is_file() => {}
+        Ok(_) | Err(_) => return Err(CommandEnding::File(recording)),
+    }
+    refuse_output_into(rt, &file)?;
+    Ok(file)
+}
+
+/// What SETUP says. An OUT that is one of the inputs, SETUP too, is refused before it is read.
+pub(crate) fn setup_in<'a, R: AllocGlobal + Files>(
+    rt: &R,
+    inputs: &mut Inputs,
+    setup: &'a str,
+    out: &'a str,
+) -> Result<FileSettings, CommandEnding<'a>> {
+    let opened = fs::open(rt, setup);
+    if let Ok(file) = &opened {
+        inputs.add(file)?;
+    }
+    inputs.refuse_input(rt, out)?;
+    let read = opened.and_then(|mut file| bounded_text(rt.alloc(), MAX_SETUP, &mut file));
+    let text = read.map_err(|error| CommandEnding::of_io(setup, &error))?;
+    Ok(setup_of(rt.alloc(), text.as_str())?)
+}
+
+/// The packets of a recording that is read to its end, by channels.
+pub(crate) fn listing_of<'a, F: PlacedRead>(
+    alloc: Global,
+    recording: &'a str,
+    file: &F,
+) -> Result<PieceListing, CommandEnding<'a>> {
+    let input = BufReader::with_capacity(alloc, PIECE, FileAt::new(file, 0)).map_err(
+        |_| CommandEnding::Memory,
+    )?;
+    match list_recording(alloc, &mut Reader::new(alloc, input)) {
+        Ok(listing) => Ok(listing),
+        Err(ListingEnd::Reading(end)) => Err(CommandEnding::of_reading(recording, end)),
+        Err(ListingEnd::Memory) => Err(CommandEnding::Memory),
+    }
+}

@@ -1,0 +1,46 @@
+-- A piece that is taken of a channel: what is in hand, and what is still to come.
+use Rattle.std.proofs.Common.{ℕ, ◌≡◌, ◌≢◌, ◌≤◌, List, [], ◌∷◌, ◌++◌, length, Option, None, Some}
+use Rattle.std.proofs.Common.{sym, ◌∙◌, ap, subst, append_assoc}
+use Rattle.std.specs.Prelude.{IfSome}
+use Rattle.std.specs.List.{flat_map}
+use Rattle.std.proofs.lemmas.List.{drop_all}
+use Rattle.ch11_merge.specs.declared.source.Head.TheVariants.{End}
+use Rattle.ch11_merge.specs.Merging.{FilePiece, head_of, TakesPart, part_from}
+use Rattle.rec_pieces.specs.declared.entry.PieceEntry.{PieceEntry}
+use Rattle.rec_pieces.specs.declared.hand.InHand.{InHand}
+use Rattle.rec_pieces.specs.Entries.{pieces_at}
+use Rattle.rec_pieces.specs.Sources.{hand_pieces, pieces_held, pieces_to_come, source_state, stands_by}
+
+-- what comes behind the pieces stays
+takes_ahead : (tick : ℕ) (old : List FilePiece) (piece : FilePiece) (new rest : List FilePiece) → TakesPart tick old piece new
+    → TakesPart tick (old ++ rest) piece (new ++ rest)
+takes_ahead tick [] piece new rest taken = absurd taken
+takes_ahead tick (p ∷ ps) piece new rest taken =
+    (taken.0, ap (λ l. l ++ rest) taken.1 ∙ append_assoc (part_from tick p) ps rest)
+
+-- the last piece in hand was taken
+pub last_taken : (held : Option (List ℕ)) (come more : List ℕ → List FilePiece) (hand : List FilePiece) (tick : ℕ) (old : List FilePiece)
+    (piece : FilePiece) (new : List FilePiece) → IfSome held (λ bytes. come bytes ≡ hand ++ more bytes) → TakesPart tick old piece new → new ≡ []
+    → IfSome held (λ bytes. TakesPart tick (old ++ come bytes) piece (hand ++ more bytes))
+last_taken None come more hand tick old piece new comes taken none = tt
+last_taken (Some bytes) come more hand tick old piece new comes taken none =
+    subst (λ l. TakesPart tick (old ++ come bytes) piece l) (ap (λ l. l ++ come bytes) none ∙ comes) (takes_ahead tick old piece new (come bytes) taken)
+
+-- ---- a source
+
+nothing_to_come : (entries : List PieceEntry) (next : ℕ) (bytes : List ℕ) → length entries ≤ next → pieces_to_come entries next bytes ≡ []
+nothing_to_come entries next bytes all = ap (flat_map (pieces_at bytes)) (drop_all next entries all)
+
+ends_there : (held : Option (List ℕ)) (entries : List PieceEntry) (next : ℕ) (hand : Option InHand)
+    → (pieces_held hand ≡ [] → length entries ≤ next) → pieces_held hand ≡ []
+    → stands_by (source_state held entries next hand).left (source_state held entries next hand).head ≡ End
+ends_there None entries next hand fetched none = ap head_of none
+ends_there (Some bytes) entries next hand fetched none =
+    ap head_of (ap (λ l. l ++ pieces_to_come entries next bytes) none ∙ nothing_to_come entries next bytes (fetched none))
+
+-- a source that isn't at its end has a piece in hand
+pub some_in_source : (held : Option (List ℕ)) (entries : List PieceEntry) (next : ℕ) (slot : Option InHand) (hand : InHand) → Some hand ≡ slot
+    → (pieces_held slot ≡ [] → length entries ≤ next)
+    → stands_by (source_state held entries next slot).left (source_state held entries next slot).head ≢ End → hand_pieces hand ≢ []
+some_in_source held entries next slot hand is fetched some none =
+    some (ends_there held entries next slot fetched (ap pieces_held (sym is) ∙ none))

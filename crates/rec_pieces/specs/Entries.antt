@@ -1,0 +1,64 @@
+-- The pieces of a packet, by the packet and by its place in the recording's bytes.
+use Rattle.std.specs.Prelude.{ℕ, ◌==◌, if◌then◌else◌, List, [], ◌∷◌, drop, Option, None, Some}
+use Rattle.std.specs.List.{flat_map}
+use Rattle.ch11_packet.specs.declared.header.TheConstants.{HEADER_LEN}
+use Rattle.ch11_packet.specs.declared.class.What.{What}
+use Rattle.ch11_packet.specs.declared.class.What.TheVariants.{Frames as HoldsFrames, Program, End, Other}
+use Rattle.ch11_packet.specs.Header.{HeaderData, header_at}
+use Rattle.ch11_packet.specs.Classes.{data_in, said_frames}
+use Rattle.ch11_merge.specs.Merging.{FilePiece}
+use Rattle.ch11_merge.specs.Merging.FilePiece.{OfRecord}
+use Rattle.ch11_merge.specs.Parts.{frames_pieces}
+use Rattle.rec_reader.specs.Packets.{PacketData}
+use Rattle.rec_pieces.specs.declared.entry.PieceKind.{PieceKind}
+use Rattle.rec_pieces.specs.declared.entry.PieceKind.TheVariants.{Frames, Record, Uncounted}
+use Rattle.rec_pieces.specs.declared.entry.PieceEntry.{PieceEntry}
+
+-- the pieces of data of this kind, in a packet with this counter
+abbrev pub pieces_of : PieceKind → (counter : ℕ) → List ℕ → List FilePiece
+pieces_of Frames counter bytes = frames_pieces (said_frames bytes)
+pieces_of Record counter bytes = OfRecord (Some counter) bytes ∷ []
+pieces_of Uncounted counter bytes = OfRecord None bytes ∷ []
+
+-- ---- by the packet
+
+-- the channel that a packet of this channel names which holds this, and what it is in a whole file: nothing
+-- if it is of any other kind, also frames of channel 0
+abbrev pub named_by : (channel : ℕ) → What → Option (ℕ × PieceKind)
+named_by channel (HoldsFrames count) = if channel == 0 then None else Some (channel, Frames)
+named_by channel (Program named version first count) = Some (named, Record)
+named_by channel (End named offered kept) =
+    Some (named, if offered == 0 then Uncounted else Record)
+named_by channel Other = None
+
+abbrev pub packet_names : PacketData → Option (ℕ × PieceKind)
+packet_names packet = named_by packet.header.channel packet.what
+
+-- the pieces that a packet has of a channel
+abbrev pub pieces_named : (channel : ℕ) → Option (ℕ × PieceKind) → (counter : ℕ) → List ℕ → List FilePiece
+pieces_named channel None counter bytes = []
+pieces_named channel (Some (named, kind)) counter bytes =
+    if named == channel then pieces_of kind counter bytes else []
+
+abbrev pub pieces_of_packet : (channel : ℕ) → PacketData → List FilePiece
+pieces_of_packet channel packet =
+    pieces_named channel (packet_names packet) packet.header.counter
+    (data_in packet.header packet.body)
+
+-- the pieces of a channel, in the order of the recording
+abbrev pub pieces_of_channel : (channel : ℕ) → List PacketData → List FilePiece
+pieces_of_channel channel packets = flat_map (pieces_of_packet channel) packets
+
+-- ---- by its place
+
+-- the header and the data of the packet at this place of these bytes
+abbrev pub header_from : List ℕ → (at : ℕ) → HeaderData
+header_from bytes at = header_at (drop at bytes)
+
+abbrev pub data_from : List ℕ → (at : ℕ) → List ℕ
+data_from bytes at = data_in (header_from bytes at) (drop HEADER_LEN (drop at bytes))
+
+-- the pieces of the packet that an entry names in these bytes
+abbrev pub pieces_at : List ℕ → PieceEntry → List FilePiece
+pieces_at bytes entry =
+    pieces_of entry.kind (header_from bytes entry.at).counter (data_from bytes entry.at)

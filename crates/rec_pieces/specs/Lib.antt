@@ -1,0 +1,10 @@
+pub mod Placed
+pub mod BodiesSoFar
+pub mod Parts
+pub mod Entries
+pub mod Hands
+pub mod Sources
+pub mod Listings
+pub mod PieceListings
+pub mod ListingEnds
+pub mod AllSources

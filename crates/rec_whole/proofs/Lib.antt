@@ -1,0 +1,4 @@
+pub mod WholeFiles
+pub mod FreeChannels
+pub mod ChannelsApart
+pub mod FramesHeld

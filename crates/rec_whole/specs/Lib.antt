@@ -1,0 +1,4 @@
+pub mod Ends
+pub mod NamedChannels
+pub mod WholeRecordings
+pub mod WholeFrames

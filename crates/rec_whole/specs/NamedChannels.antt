@@ -1,0 +1,41 @@
+-- Channels with their names, and which channel IDs are free.
+use Rattle.std.specs.Prelude.{ℕ, ◌≡◌, ◌≤◌, ◌<◌, ◌^◌, ◌==◌, Bool, true, false, if◌then◌else◌, List, [], ◌∷◌, map, codes}
+use Rattle.ch11_setup.specs.declared.setup.SetupChannel.{SetupChannel}
+
+-- ---- names
+
+-- what a setup record says of a channel
+pub record ChannelName : Type 0 where
+  pub id : ℕ
+  pub name : List ℕ
+  pub net : ℕ
+
+abbrev pub named_as : (id : ℕ) → List ℕ → (net : ℕ) → ChannelName
+named_as id name net = record { id = id; name = name; net = net }
+
+-- what it says with this name
+abbrev pub name_said : SetupChannel → ChannelName
+name_said channel = named_as channel.id channel.name.now channel.net
+
+-- the first of these names that has this ID; `channel`, of the network 0, where none has it
+abbrev pub name_of : List SetupChannel → (id : ℕ) → ChannelName
+name_of [] id = named_as id (codes "channel") 0
+name_of (channel ∷ channels) id =
+    if channel.id == id then name_said channel else name_of channels id
+
+-- the channels of these IDs, in order, each with its name
+abbrev pub AreNamed : (names : List SetupChannel) → (ids : List ℕ) → List SetupChannel → Type 0
+AreNamed names ids channels = map name_said channels ≡ map (name_of names) ids
+
+-- ---- free channel IDs
+
+-- the least channel ID from 1 on that isn't taken
+pub record IsLeastFree (is_taken : ℕ → Bool) (id : ℕ) : Type 0 where
+  pub from_one : 1 ≤ id
+  pub is_id : id < 2 ^ 16
+  pub free : is_taken id ≡ false
+  pub least : (other : ℕ) → 1 ≤ other → other < id → is_taken other ≡ true
+
+-- all channel IDs from 1 on are taken
+abbrev pub AreAllTaken : (ℕ → Bool) → Type 0
+AreAllTaken is_taken = (id : ℕ) → 1 ≤ id → id < 2 ^ 16 → is_taken id ≡ true

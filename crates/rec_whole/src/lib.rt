@@ -1,0 +1,13 @@
+//! A whole Chapter 11 file (IRIG 106-17 Chapter 11) of a recording.
+#![tactic(auto)]
+
+mod channels;
+mod laws;
+mod names;
+mod refusal;
+mod whole;
+
+pub use laws::a_whole_file_keeps_the_frames;
+pub use names::FileNames;
+pub use refusal::{WholeEnd, WholeRefusal};
+pub use whole::write_whole_file;

@@ -1,0 +1,122 @@
+//! A whole file of a recording, into an output.
+
+ghost use Rattle.std.specs.Prelude.{ℕ, ◌≡◌, ◌<◌, ◌≤◌, ◌^◌, List, None, Some, MatchResult, length};
+ghost use Rattle.std.specs.Option.{unwrap_or};
+ghost use Rattle.rec_reader.specs.Packets.{PacketData};
+ghost use Rattle.rec_reader.specs.Reading.{Reads};
+ghost use Rattle.rec_pieces.specs.PieceListings.{ListsPackets};
+ghost use Rattle.ch11_index.specs.declared.index.TheConstants.{MOST_NAMED};
+ghost use Rattle.ch11_file.specs.FileEnds.{HoldsFile};
+ghost use Rattle.rec_whole.specs.WholeRecordings.{EndsEarly, SaysNames, WholeFails, WritesRecording, facts_with};
+
+use crate::channels::{setup_channels, time_channel};
+use crate::names::FileNames;
+use crate::refusal::{WholeEnd, WholeRefusal};
+use ch11_clock::Clock;
+use ch11_file::{FileCounts, FileSetup, write_file};
+use ch11_setup::SetupChannel;
+use rec_pieces::{PieceListing, PlacedRead, channel_sources};
+use std::alloc::Global;
+use std::io::Write;
+
+/// How many counters a header or a frame can have.
+const COUNTERS: u64 = 0x1_0000_0000_0000;
+
+/// Writes the whole file of a recording that was listed, with an index of at most `most` entries a packet.
+///
+/// # Errors
+///
+/// [`WholeEnd`]. Of a recording that is refused nothing, or the packets ahead of the fault, went out.
+pub fn write_whole_file<F: PlacedRead, W: Write>(
+    alloc: Global,
+    file: &F,
+    listing: &PieceListing,
+    names: &FileNames<'_>,
+    clock: &Clock,
+    most: u16,
+    out: &mut W,
+) -> Result<FileCounts, WholeEnd>
+    requires some { 0 < most }
+    requires few { most ≤ MOST_NAMED }
+    ensures { (recording : List ℕ) (packets : List PacketData) → F.held file.now ≡ Some recording
+        → Reads recording packets None → ListsPackets packets listing.now
+        → MatchResult result
+        (WritesRecording packets names.now clock.now most (W.contents out.old) (W.contents out.new))
+        (WholeFails packets names.now clock.now most (W.contents out.old) (W.contents out.new)) }
+{
+    if let Some(at) = listing.other() {
+        return Err(WholeEnd::Refused(WholeRefusal::Other { at }));
+    }
+    let Some(time_channel) = time_channel(listing) else {
+        return Err(WholeEnd::Refused(WholeRefusal::Full));
+    };
+    let channels = setup_channels(alloc, listing, names.channels)?;
+    let setup = file_setup(names, time_channel, channels.as_slice());
+    write_with_setup(alloc, file, listing, &setup, clock, most, out)
+}
+
+/// What the setup record of a whole file says.
+fn file_setup<'a>(
+    names: &FileNames<'a>,
+    time_channel: u16,
+    channels: &'a [SetupChannel<'a>],
+) -> FileSetup<'a>
+    ensures names { SaysNames names.now result }
+    ensures time_channel { result.time_channel ≡ time_channel }
+    ensures channels { result.channels.now ≡ channels.now }
+{
+    FileSetup {
+        host: names.host,
+        program: names.program,
+        is_external: names.is_external,
+        time_channel,
+        channels,
+        attributes: names.attributes,
+    }
+}
+
+/// The least counter of a recording: 0 where its packets have none.
+fn least_counter(listing: &PieceListing) -> u64
+    ensures { result ≡ unwrap_or listing.now.least 0 }
+{
+    listing.least().unwrap_or(0)
+}
+
+/// Writes the whole file with this setup record.
+fn write_with_setup<F: PlacedRead, W: Write>(
+    alloc: Global,
+    file: &F,
+    listing: &PieceListing,
+    setup: &FileSetup<'_>,
+    clock: &Clock,
+    most: u16,
+    out: &mut W,
+) -> Result<FileCounts, WholeEnd>
+    requires some { 0 < most }
+    requires few { most ≤ MOST_NAMED }
+    requires number { length setup.now.channels.now < 2 ^ 16 }
+    ensures { (recording : List ℕ) (packets : List PacketData) → F.held file.now ≡ Some recording
+        → Reads recording packets None → ListsPackets packets listing.now
+        → MatchResult result
+        (HoldsFile (facts_with packets clock.now most setup.now) (W.contents out.old) (W.contents out.new))
+        (EndsEarly (facts_with packets clock.now most setup.now) (W.contents out.old) (W.contents out.new)) }
+{
+    let least = least_counter(listing);
+    // No packet that is read has such a counter.
+    if least >= COUNTERS {
+        return Err(WholeEnd::Recording);
+    }
+    let mut sources = channel_sources(alloc, file, listing)?;
+    match write_file(
+        alloc,
+        sources.as_mut_slice(),
+        setup,
+        clock,
+        least,
+        most,
+        out,
+    ) {
+        Ok(counts) => Ok(counts),
+        Err(end) => Err(WholeEnd::from(end)),
+    }
+}

@@ -1,0 +1,14 @@
+use Rattle.std.proofs.Common.{◌≡◌, refl}
+use Rattle.ch11_setup.specs.Attributes.{attribute_of}
+use Rattle.rec_words.specs.declared.setup_file.AddedAttribute.{AddedAttribute}
+use Rattle.rec_words.specs.SetupViews.{attribute_data}
+use Rattle.rec_words.proofs.SetupRead.{said_more}
+use Rattle.rec_words.proofs.setup_file.attributes.attributes_of.Goals as goal
+
+pub values-preserved : goal.values-preserved
+values-preserved c =
+    let one : AddedAttribute = record { name = c.in_ok-from_str.field-0; value = c.in_ok-from_str-2.field-0 } in
+    let attribute = attribute_of c.in-Some.name.now c.in-Some.value.now in
+    let is : attribute_data one ≡ attribute = rw (c.in_ok-from_str.ensures.ok, c.in_ok-from_str-2.ensures.ok) refl in
+    said_more c.args.values.now c.values.value-index c.value-item.result c.values.attributes.items c.push.new.self.items one attribute
+    c.values-test.true c.value-item.is c.in_ok-push.ensures.items is c.in-Some.ensures c.values.invariant

@@ -1,0 +1,229 @@
+-- What the setup of a Chapter 11 file is: by the table of a TOML document, or the first fault in it.
+use Rattle.std.specs.Prelude.{ℕ, ℤ, Bool, false, ◌&&◌, ◌==◌, nat_le, if◌then◌else◌, List, [], ◌∷◌, ◌++◌, length}
+use Rattle.std.specs.Prelude.{Option, None, Some, option_map, option_and_then, unwrap_or, Result, Ok, Err, codes, not, nat_lt}
+use Rattle.std.specs.List.{list_any, list_all}
+use Rattle.toml.specs.Data.{Data, string, boolean, array, Items, no_items, item, Members, as_str, get_member}
+use Rattle.toml.specs.Parse.{parse_document}
+use Rattle.ch11_clock.specs.OriginText.{origin_said}
+use Rattle.ch11_setup.specs.Attributes.{AttributeData, attribute_of, cut_at, IsAttribute}
+use Rattle.rec_words.specs.Settings.{Fault, syntax, missing, value, ◌>>=◌, only, number_in, text_in, required, number_or}
+use Rattle.rec_words.specs.Settings.{tables_in, most_of_8_bits, most_of_16_bits}
+use Rattle.rec_words.specs.ReservedNames.{is_reserved, IsReserved}
+
+-- an origin that was noted: the counter from which on it holds, and the time of counter 0 in
+-- nanoseconds since 1970
+pub record OriginData : Type 0 where
+  pub counter : ℕ
+  pub nanos : ℤ
+
+-- what is said of a channel
+pub record ChannelSetupData : Type 0 where
+  pub id : ℕ
+  pub name : List ℕ
+  pub net : ℕ
+
+-- what is said of a file
+pub record FileData : Type 0 where
+  pub origins : List OriginData
+  pub host : List ℕ
+  pub program : List ℕ
+  pub is_external : Bool
+  pub attributes : List AttributeData
+  pub channels : List ChannelSetupData
+
+-- the keys of the document, those of an origin, and those of a channel
+abbrev pub file_keys : List (List ℕ)
+file_keys =
+    codes "origin" ∷ codes "origins" ∷ codes "host" ∷ codes "program" ∷ codes "external"
+    ∷ codes "attributes" ∷ codes "channel" ∷ []
+
+abbrev pub origin_keys : List (List ℕ)
+origin_keys = codes "counter" ∷ codes "origin" ∷ []
+
+abbrev pub setup_channel_keys : List (List ℕ)
+setup_channel_keys = codes "id" ∷ codes "name" ∷ codes "net" ∷ []
+
+-- the greatest number of 48 bits, and the greatest number of origins
+abbrev pub most_of_48_bits : ℕ
+most_of_48_bits = 281474976710655
+
+abbrev pub most_origins : ℕ
+most_origins = 65536
+
+-- ---- keys
+
+-- the text of a key, or its default
+abbrev pub text_or : (default key : List ℕ) → Members → Result (List ℕ) Fault
+text_or default key members =
+    unwrap_or (option_map (text_in key) (get_member key members)) (Ok default)
+
+-- true or false
+abbrev pub truth_in : (key : List ℕ) → Data → Result Bool Fault
+truth_in key (boolean truth) = Ok truth
+truth_in key _ = Err (value key)
+
+-- the truth of a key, or its default
+abbrev pub truth_or : (default : Bool) (key : List ℕ) → Members → Result Bool Fault
+truth_or default key members =
+    unwrap_or (option_map (truth_in key) (get_member key members)) (Ok default)
+
+-- a time, in nanoseconds since 1970, in the text of an origin
+abbrev pub time_in : (key : List ℕ) → Data → Result ℤ Fault
+time_in key (string text) =
+    unwrap_or (option_map (λ nanos. Ok nanos) (origin_said text)) (Err (value key))
+time_in key _ = Err (value key)
+
+-- a list of tables
+abbrev pub tables_of : (key : List ℕ) → Data → Result (List Members) Fault
+tables_of key (array items) =
+    unwrap_or (option_map (λ tables. Ok tables) (tables_in items)) (Err (value key))
+tables_of key _ = Err (value key)
+
+-- what is read of each, in order, or the first fault; what is read of one may depend on what was
+-- read of those before it
+abbrev pub each_after :
+    {A B : Type 0} → (List B → A → Result B Fault) → (before : List B) → List A → Result (List B) Fault
+each_after read before [] = Ok before
+each_after read before (one ∷ rest) =
+    read before one >>= (λ found. each_after read (before ++ found ∷ []) rest)
+
+-- ---- origins
+
+-- the origin in a table
+abbrev pub origin_in : Members → Result OriginData Fault
+origin_in members = do
+  _ ← only origin_keys members
+  counter ← required (number_in 0 most_of_48_bits (codes "counter")) (codes "counter") members
+  nanos ← required (time_in (codes "origin")) (codes "origin") members
+  Ok (record { counter = counter; nanos = nanos })
+
+-- from one table to as many as there may be origins
+abbrev pub enough_origins : List Members → Result (List Members) Fault
+enough_origins tables =
+    if nat_le 1 (length tables) && nat_le (length tables) most_origins then Ok tables
+    else Err (value (codes "origins"))
+
+-- the origins in a list of tables
+abbrev pub noted_origins : Data → Result (List OriginData) Fault
+noted_origins found = do
+  tables ← tables_of (codes "origins") found
+  tables ← enough_origins tables
+  each_after (λ _ members. origin_in members) [] tables
+
+-- the one origin that holds from counter 0 on
+abbrev pub single_origin : Data → Result (List OriginData) Fault
+single_origin found = do
+  nanos ← time_in (codes "origin") found
+  Ok (record { counter = 0; nanos = nanos } ∷ [])
+
+-- the origins, by what `origin` and `origins` have: one of the two must be set, and not both
+abbrev pub origins_by : (origin origins : Option Data) → Result (List OriginData) Fault
+origins_by None None = Err (missing (codes "origin"))
+origins_by None (Some many) = noted_origins many
+origins_by (Some one) None = single_origin one
+origins_by (Some one) (Some many) = do
+  _ ← single_origin one
+  Err (value (codes "origins"))
+
+abbrev pub origins_in : Members → Result (List OriginData) Fault
+origins_in members =
+    origins_by (get_member (codes "origin") members) (get_member (codes "origins") members)
+
+-- ---- attributes
+
+-- a byte that an attribute may have: a printable character of ASCII, but no semicolon
+abbrev pub is_attribute_byte : ℕ → Bool
+is_attribute_byte byte = nat_le 32 byte && nat_le byte 126 && not (byte == 59)
+
+-- an attribute by its name and its value: there is a name, and a setup record doesn't write it
+abbrev pub attribute_with : (parts : List ℕ × List ℕ) → Option AttributeData
+attribute_with parts =
+    if nat_lt 0 (length parts.0) && not (is_reserved parts.0) then
+    Some (attribute_of parts.0 parts.1)
+    else None
+
+-- the attribute that a text says: its name, a colon and its value
+abbrev pub attribute_said : List ℕ → Option AttributeData
+attribute_said text =
+    if list_all is_attribute_byte text then option_and_then attribute_with (cut_at 58 text) else None
+
+-- the attributes of items, each of which is the text of one
+abbrev pub attributes_said : Items → Option (List AttributeData)
+attributes_said no_items = Some []
+attributes_said (item found rest) =
+    option_and_then
+    (λ attribute. option_map (λ attributes. attribute ∷ attributes) (attributes_said rest))
+    (option_and_then attribute_said (as_str found))
+
+-- all of them, where each is one
+abbrev pub all_attributes : Option (List AttributeData) → Result (List AttributeData) Fault
+all_attributes (Some attributes) = Ok attributes
+all_attributes None = Err (value (codes "attributes"))
+
+-- a list of attributes
+abbrev pub attributes_of : Data → Result (List AttributeData) Fault
+attributes_of (array items) = all_attributes (attributes_said items)
+attributes_of _ = Err (value (codes "attributes"))
+
+-- the attributes, of which there may be none
+abbrev pub attributes_in : Members → Result (List AttributeData) Fault
+attributes_in members =
+    unwrap_or (option_map attributes_of (get_member (codes "attributes") members)) (Ok [])
+
+-- it is an attribute, and none that a setup record writes
+abbrev pub CanBeAdded : AttributeData → Type 0
+CanBeAdded attribute = IsAttribute attribute × ¬ IsReserved attribute.name
+
+-- ---- channels
+
+-- an ID that no channel before it has
+abbrev pub new_id : (before : List ChannelSetupData) → ℕ → Result ℕ Fault
+new_id before id =
+    if list_any (λ channel. channel.id == id) before then Err (value (codes "id")) else Ok id
+
+-- the channel in a table, behind these
+abbrev pub setup_channel_in :
+    (before : List ChannelSetupData) → Members → Result ChannelSetupData Fault
+setup_channel_in before members = do
+  _ ← only setup_channel_keys members
+  id ← required (number_in 1 most_of_16_bits (codes "id")) (codes "id") members
+  id ← new_id before id
+  name ← text_or (codes "channel") (codes "name") members
+  net ← number_or 0 0 most_of_8_bits (codes "net") members
+  Ok (record { id = id; name = name; net = net })
+
+-- the channels in a list of tables
+abbrev pub setup_channels_of : Data → Result (List ChannelSetupData) Fault
+setup_channels_of found = do
+  tables ← tables_of (codes "channel") found
+  each_after setup_channel_in [] tables
+
+-- the channels, of which there may be none
+abbrev pub setup_channels_in : Members → Result (List ChannelSetupData) Fault
+setup_channels_in members =
+    unwrap_or (option_map setup_channels_of (get_member (codes "channel") members)) (Ok [])
+
+-- ---- the document
+
+-- what is said in a table
+abbrev pub file_in : Members → Result FileData Fault
+file_in members = do
+  _ ← only file_keys members
+  origins ← origins_in members
+  host ← text_or (codes "bpfrec") (codes "host") members
+  program ← text_or (codes "bpfrec") (codes "program") members
+  is_external ← truth_or false (codes "external") members
+  attributes ← attributes_in members
+  channels ← setup_channels_in members
+  Ok (record {
+    origins = origins;
+    host = host;
+    program = program;
+    is_external = is_external;
+    attributes = attributes;
+    channels = channels;
+  })
+
+-- what a text says of a file, or the text's first fault
+abbrev pub setup_file : List ℕ → Result FileData Fault
+setup_file text = unwrap_or (option_map file_in (parse_document text)) (Err syntax)

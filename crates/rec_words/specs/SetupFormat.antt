@@ -1,0 +1,104 @@
+-- The setup of a Chapter 11 file in its own words: what a text that has no fault says of a file.
+use Rattle.std.specs.Prelude.{ℕ, ℤ, pos, Bool, false, ◌≡◌, ◌≤◌, ◌⊎◌, List, [], ◌∷◌, ◌++◌, length, map, None, Some, codes}
+use Rattle.std.specs.List.{AllZip}
+use Rattle.toml.specs.Data.{string, integer, boolean, array, Items, Members, get_member}
+use Rattle.toml.specs.Parse.{parse_document}
+use Rattle.toml.specs.View.{items_of}
+use Rattle.ch11_clock.specs.OriginText.{SaysOrigin}
+use Rattle.ch11_setup.specs.Attributes.{AttributeData}
+use Rattle.rec_words.specs.Settings.{tables_in, most_of_8_bits, most_of_16_bits}
+use Rattle.rec_words.specs.Format.{HasOnly, IsNumber, AreDistinctIds}
+use Rattle.rec_words.specs.SetupFile.{OriginData, ChannelSetupData, FileData, file_keys, origin_keys, setup_channel_keys}
+use Rattle.rec_words.specs.SetupFile.{most_of_48_bits, most_origins, CanBeAdded}
+
+-- ---- keys
+
+-- the text that a key is set to; if it isn't set, the default
+abbrev pub IsText : Members → (name default text : List ℕ) → Type 0
+IsText members name default text =
+    (get_member name members ≡ Some (string text))
+    ⊎ ((get_member name members ≡ None) × (text ≡ default))
+
+-- whether a key is set to true; if it isn't set, the default
+abbrev pub IsTruth : Members → (name : List ℕ) → (default truth : Bool) → Type 0
+IsTruth members name default truth =
+    (get_member name members ≡ Some (boolean truth))
+    ⊎ ((get_member name members ≡ None) × (truth ≡ default))
+
+-- the key is set to a list of these tables
+abbrev pub IsSetToTables : Members → (name : List ℕ) → List Members → Type 0
+IsSetToTables members name tables =
+    (items : Items) × (get_member name members ≡ Some (array items)) × (tables_in items ≡ Some tables)
+
+-- ---- what they say
+
+-- `origin` is set to a text that says this time
+abbrev pub SaysTime : Members → (nanos : ℤ) → Type 0
+SaysTime members nanos =
+    (written : List ℕ) × (get_member (codes "origin") members ≡ Some (string written))
+    × SaysOrigin written nanos
+
+-- this origin was noted in its table
+pub record IsNotedOrigin (members : Members) (origin : OriginData) : Type 0 where
+  pub only : HasOnly origin_keys members
+  pub counter_is : get_member (codes "counter") members ≡ Some (integer (pos origin.counter))
+  pub counter_fits : origin.counter ≤ most_of_48_bits
+  pub time_is : SaysTime members origin.nanos
+
+-- one origin, from counter 0 on; or those that were noted, in order
+abbrev pub AreOrigins : Members → List OriginData → Type 0
+AreOrigins members origins =
+    ((nanos : ℤ) × SaysTime members nanos × (get_member (codes "origins") members ≡ None)
+    × (origins ≡ record { counter = 0; nanos = nanos } ∷ []))
+    ⊎ ((tables : List Members) × (get_member (codes "origin") members ≡ None)
+    × IsSetToTables members (codes "origins") tables
+    × (1 ≤ length tables) × (length tables ≤ most_origins) × AllZip IsNotedOrigin tables origins)
+
+-- the text is the attribute's name, a colon and its value
+abbrev pub SaysAttribute : List ℕ → AttributeData → Type 0
+SaysAttribute text attribute =
+    (text ≡ attribute.name ++ 58 ∷ attribute.value) × CanBeAdded attribute
+
+-- the attributes of a list of texts, in order; or none
+abbrev pub AreAdded : Members → List AttributeData → Type 0
+AreAdded members attributes =
+    ((get_member (codes "attributes") members ≡ None) × (attributes ≡ []))
+    ⊎ ((texts : List (List ℕ))
+    × (get_member (codes "attributes") members ≡ Some (array (items_of (map string texts))))
+    × AllZip SaysAttribute texts attributes)
+
+-- this is said of a channel in its table
+pub record IsFileChannel (members : Members) (channel : ChannelSetupData) : Type 0 where
+  pub only : HasOnly setup_channel_keys members
+  pub id_is : get_member (codes "id") members ≡ Some (integer (pos channel.id))
+  pub named : 1 ≤ channel.id
+  pub id_fits : channel.id ≤ most_of_16_bits
+  pub name_is : IsText members (codes "name") (codes "channel") channel.name
+  pub net_is : IsNumber members (codes "net") 0 most_of_8_bits 0 channel.net
+
+-- the channels of a list of tables, in order; or none
+abbrev pub AreFileChannels : Members → List ChannelSetupData → Type 0
+AreFileChannels members channels =
+    ((get_member (codes "channel") members ≡ None) × (channels ≡ []))
+    ⊎ ((tables : List Members) × IsSetToTables members (codes "channel") tables
+    × AllZip IsFileChannel tables channels)
+
+-- the IDs of channels
+abbrev pub setup_ids : List ChannelSetupData → List ℕ
+setup_ids channels = map (λ channel. channel.id) channels
+
+-- this is said of a file in a document's table
+pub record IsFile (members : Members) (file : FileData) : Type 0 where
+  pub only : HasOnly file_keys members
+  pub origins_are : AreOrigins members file.origins
+  pub host_is : IsText members (codes "host") (codes "bpfrec") file.host
+  pub program_is : IsText members (codes "program") (codes "bpfrec") file.program
+  pub external_is : IsTruth members (codes "external") false file.is_external
+  pub attributes_are : AreAdded members file.attributes
+  pub channels_are : AreFileChannels members file.channels
+  pub distinct : AreDistinctIds (setup_ids file.channels)
+
+-- the text is a document that says this of a file
+abbrev pub IsFileOf : List ℕ → FileData → Type 0
+IsFileOf text file =
+    (members : Members) × (parse_document text ≡ Some members) × IsFile members file

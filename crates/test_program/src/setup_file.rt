@@ -1,0 +1,309 @@
+//! Setups of Chapter 11 files, and the first fault of a text that is none.
+
+use rec_words::{FileSettings, setup_of};
+use std::alloc::Global;
+use std::process::Abort;
+use std::test::Fail;
+use test_samples::assert_same;
+
+/// The setup in a text, or the text's first fault, on a line.
+fn printed(alloc: Global, text: &str) -> Result<String, Fail> {
+    match setup_of(alloc, text) {
+        Ok(setup) => Ok(shown(alloc, &setup)?),
+        Err(fault) => Ok(format!(in alloc; "{fault}")?),
+    }
+}
+
+/// The origins, what is said of the whole file, its attributes, and its channels.
+fn shown(alloc: Global, setup: &FileSettings) -> Result<String, Fail> {
+    let mut line = String::new(alloc);
+    for origin in &setup.origins {
+        let part = format!(in alloc; "{} {} / ", origin.counter, origin.nanos)?;
+        line.push_str(part.as_str())?;
+    }
+    let part = format!(in alloc; "{} {} {}", setup.host, setup.program, setup.is_external)?;
+    line.push_str(part.as_str())?;
+    for attribute in &setup.attributes {
+        let part = format!(in alloc; " / {}={}", attribute.name, attribute.value)?;
+        line.push_str(part.as_str())?;
+    }
+    for channel in &setup.channels {
+        let part = format!(in alloc; " / {} {} {}", channel.id, channel.name, channel.net)?;
+        line.push_str(part.as_str())?;
+    }
+    Ok(line)
+}
+
+fn check<R: AllocGlobal + Abort>(rt: &R, text: &str, line: &str) -> Result<(), Fail> {
+    let printed = printed(rt.alloc(), text)?;
+    assert_same!(*rt; printed.as_str(), line, "{text}");
+    Ok(())
+}
+
+/// Whole texts and what they are.
+const TEXTS: [(&str, &str); 24] = [
+    ("origin = \"0\"", "0 0 / bpfrec bpfrec false"),
+    (
+        "origin = \"1764590400.250000123\"",
+        "0 1764590400250000123 / bpfrec bpfrec false",
+    ),
+    (
+        "origin = \"-0.5\"\r\nhost = \"h\"\r\nprogram = \"\"\r\nexternal = true\r\n",
+        "0 -500000000 / h  true",
+    ),
+    (
+        "channel = [{net = 255, name = \"a b\", id = 7}]\norigin = \"1\"",
+        "0 1000000000 / bpfrec bpfrec false / 7 a b 255",
+    ),
+    (
+        "origins = [{counter = 5, origin = \"2\"}, {origin = \"-1\", counter = 0}]",
+        "5 2000000000 / 0 -1000000000 / bpfrec bpfrec false",
+    ),
+    (
+        "origin = \"0\"\nattributes = []\nchannel = []",
+        "0 0 / bpfrec bpfrec false",
+    ),
+    ("", "setup 3 Missing origin"),
+    ("origin = ", "setup 1 Syntax"),
+    ("origin = \"0\"\norigin = \"0\"", "setup 1 Syntax"),
+    ("zone = 1\narea = 2", "setup 2 Unknown area"),
+    ("origin = 0\nzone = 1", "setup 2 Unknown zone"),
+    ("host = 1", "setup 3 Missing origin"),
+    ("origin = \"0\"\norigins = 1", "setup 4 Value origins"),
+    ("origin = \"\"\norigins = 1", "setup 4 Value origin"),
+    (
+        "origin = \"0\"\norigins = [{counter = 0, origin = \"0\"}]",
+        "setup 4 Value origins",
+    ),
+    ("origin = \"a\"\nhost = 1", "setup 4 Value origin"),
+    ("origins = []\nhost = 1", "setup 4 Value origins"),
+    (
+        "origin = \"0\"\nprogram = 1\nhost = 1",
+        "setup 4 Value host",
+    ),
+    (
+        "origin = \"0\"\nprogram = 1\nexternal = 1",
+        "setup 4 Value program",
+    ),
+    (
+        "origin = \"0\"\nattributes = 1\nexternal = \"true\"",
+        "setup 4 Value external",
+    ),
+    (
+        "origin = \"0\"\nchannel = 1\nattributes = \"A:1\"",
+        "setup 4 Value attributes",
+    ),
+    ("origin = \"0\"\nchannel = 1", "setup 4 Value channel"),
+    ("origin = \"0\"\nchannel = [1]", "setup 4 Value channel"),
+    ("origin = \"0\"\n[channel]\nid = 1", "setup 4 Value channel"),
+];
+
+#[test]
+fn what_is_not_set_has_its_default_and_the_first_fault_is_reported(
+    rt: HostRuntime,
+) -> Result<(), Fail> {
+    for &(text, line) in &TEXTS {
+        check(&rt, text, line)?;
+    }
+    Ok(())
+}
+
+/// Values of `origin`, and the nanoseconds that they are.
+const ORIGINS: [(&str, &str); 13] = [
+    (
+        "\"999999999999.999999999\"",
+        "0 999999999999999999999 / bpfrec bpfrec false",
+    ),
+    (
+        "\"-999999999999.999999999\"",
+        "0 -999999999999999999999 / bpfrec bpfrec false",
+    ),
+    ("\"00.1\"", "0 100000000 / bpfrec bpfrec false"),
+    ("\"-0\"", "0 0 / bpfrec bpfrec false"),
+    ("\"1000000000000\"", "setup 4 Value origin"),
+    ("\"0.1234567890\"", "setup 4 Value origin"),
+    ("\"1.\"", "setup 4 Value origin"),
+    ("\".1\"", "setup 4 Value origin"),
+    ("\"+1\"", "setup 4 Value origin"),
+    ("\" 1\"", "setup 4 Value origin"),
+    ("\"-\"", "setup 4 Value origin"),
+    ("1.5", "setup 4 Value origin"),
+    ("[\"0\"]", "setup 4 Value origin"),
+];
+
+#[test]
+fn an_origin_has_12_digits_and_9_behind_the_point_at_most(rt: HostRuntime) -> Result<(), Fail> {
+    for &(value, line) in &ORIGINS {
+        let text = format!(in rt.alloc(); "origin = {value}")?;
+        check(&rt, text.as_str(), line)?;
+    }
+    Ok(())
+}
+
+/// Tables of `origins` behind a first one, and what is read.
+const NOTED: [(&str, &str); 12] = [
+    (
+        "{counter = 281474976710655, origin = \"3\"}",
+        "0 0 / 281474976710655 3000000000 / bpfrec bpfrec false",
+    ),
+    (
+        "{counter = 281474976710656, origin = \"3\"}",
+        "setup 4 Value counter",
+    ),
+    ("{counter = -1, origin = \"3\"}", "setup 4 Value counter"),
+    ("{counter = \"1\", origin = \"3\"}", "setup 4 Value counter"),
+    ("{origin = \"3\"}", "setup 3 Missing counter"),
+    ("{counter = 1}", "setup 3 Missing origin"),
+    ("{counter = -1, origin = 3}", "setup 4 Value counter"),
+    ("{counter = 1, origin = 3}", "setup 4 Value origin"),
+    (
+        "{counter = -1, zone = 1, scale = 1}",
+        "setup 2 Unknown scale",
+    ),
+    ("1", "setup 4 Value origins"),
+    ("{scale = 1}, 1", "setup 4 Value origins"),
+    ("{counter = 1}, {scale = 1}", "setup 3 Missing origin"),
+];
+
+#[test]
+fn an_origin_that_was_noted_has_a_counter_of_48_bits(rt: HostRuntime) -> Result<(), Fail> {
+    for &(tables, line) in &NOTED {
+        let text = format!(in rt.alloc(); "origins = [{{counter = 0, origin = \"0\"}}, {tables}]")?;
+        check(&rt, text.as_str(), line)?;
+    }
+    Ok(())
+}
+
+/// As many tables of `origins`.
+fn origins(alloc: Global, number: usize, table: &str) -> Result<String, Fail> {
+    let mut text = String::from_str(alloc, "origins = [\n")?;
+    for _ in 0..number {
+        text.push_str(table)?;
+        text.push_str(",\n")?;
+    }
+    text.push_str("]\n")?;
+    Ok(text)
+}
+
+/// The number of tables is judged ahead of what they have.
+#[test]
+fn a_file_has_65536_origins_at_most(rt: HostRuntime) -> Result<(), Fail> {
+    let text = origins(rt.alloc(), 65_536, "{}")?;
+    let first = printed(rt.alloc(), text.as_str())?;
+    assert_same!(rt; first.as_str(), "setup 3 Missing counter");
+    let text = origins(rt.alloc(), 65_537, "{}")?;
+    let first = printed(rt.alloc(), text.as_str())?;
+    assert_same!(rt; first.as_str(), "setup 4 Value origins");
+    Ok(())
+}
+
+#[test]
+fn thousands_of_origins_are_read(rt: HostRuntime) -> Result<(), Fail> {
+    let text = origins(rt.alloc(), 5_000, "{counter = 1, origin = \"2\"}")?;
+    let setup = setup_of(rt.alloc(), text.as_str())?;
+    assert_same!(rt; setup.origins.len(), 5_000);
+    Ok(())
+}
+
+/// Tables of `channel`, and what is read.
+const CHANNELS: [(&str, &str); 19] = [
+    ("{id = 1}", " / 1 channel 0"),
+    ("{id = 65535, name = \"é;:\", net = 0}", " / 65535 é;: 0"),
+    ("{id = 2, name = \"\"}, {id = 1}", " / 2  0 / 1 channel 0"),
+    ("{id = 0}", "setup 4 Value id"),
+    ("{id = 65536}", "setup 4 Value id"),
+    ("{id = -1}", "setup 4 Value id"),
+    ("{id = \"1\"}", "setup 4 Value id"),
+    ("{id = 1, net = 256}", "setup 4 Value net"),
+    ("{id = 1, net = -1}", "setup 4 Value net"),
+    ("{id = 1, name = 1, net = 256}", "setup 4 Value name"),
+    ("{name = 1}", "setup 3 Missing id"),
+    ("{port = 1, feed = 1, name = 1}", "setup 2 Unknown feed"),
+    ("{id = 1}, {id = 1}", "setup 4 Value id"),
+    ("{id = 1}, {id = 2}, {id = 1}", "setup 4 Value id"),
+    ("{id = 1}, {id = 1, net = 256}", "setup 4 Value id"),
+    ("{id = 1}, {id = 1, port = 1}", "setup 2 Unknown port"),
+    ("{id = 1}, {id = 1}, {port = 1}", "setup 4 Value id"),
+    ("{id = 1, net = 256}, {id = 1}", "setup 4 Value net"),
+    ("{port = 1}, 1", "setup 4 Value channel"),
+];
+
+#[test]
+fn a_channel_has_an_id_of_its_own(rt: HostRuntime) -> Result<(), Fail> {
+    for &(tables, line) in &CHANNELS {
+        check_behind_origin(&rt, "channel", tables, line)?;
+    }
+    Ok(())
+}
+
+/// Reads an origin and a list, and compares what is read of the list.
+fn check_behind_origin<R: AllocGlobal + Abort>(
+    rt: &R,
+    key: &str,
+    items: &str,
+    line: &str,
+) -> Result<(), Fail> {
+    let text = format!(in rt.alloc(); "origin = \"0\"\n{key} = [{items}]")?;
+    let front = if line.starts_with(" /") {
+        "0 0 / bpfrec bpfrec false"
+    } else {
+        ""
+    };
+    let line = format!(in rt.alloc(); "{front}{line}")?;
+    check(rt, text.as_str(), line.as_str())
+}
+
+/// Texts of `attributes`, and what is read.
+const ATTRIBUTES: [(&str, &str); 37] = [
+    ("'G\\SC:U'", " / G\\SC=U"),
+    ("'V-1\\ID:'", " / V-1\\ID="),
+    ("'A:b:c', ' :~ '", " / A=b:c /  =~ "),
+    ("'A:1', 'B:2', 'A:3'", " / A=1 / B=2 / A=3"),
+    ("'A'", "setup 4 Value attributes"),
+    ("':A'", "setup 4 Value attributes"),
+    ("''", "setup 4 Value attributes"),
+    ("'A:1;'", "setup 4 Value attributes"),
+    ("'A;B:1'", "setup 4 Value attributes"),
+    ("'A:é'", "setup 4 Value attributes"),
+    ("\"A:\\t\"", "setup 4 Value attributes"),
+    ("\"A:\\n\"", "setup 4 Value attributes"),
+    ("\"A:\\u007f\"", "setup 4 Value attributes"),
+    ("'A:1', 2", "setup 4 Value attributes"),
+    ("'A:1', ['B:2']", "setup 4 Value attributes"),
+    ("'G\\PN:x'", "setup 4 Value attributes"),
+    ("'G\\DSI\\N:2'", "setup 4 Value attributes"),
+    ("'G\\DSI-1:x'", "setup 4 Value attributes"),
+    ("'R-1\\COM:x'", "setup 4 Value attributes"),
+    ("'R-1\\N:3'", "setup 4 Value attributes"),
+    ("'R-1\\IDX\\ICV:2'", "setup 4 Value attributes"),
+    ("'R-1\\TK1-1:9'", "setup 4 Value attributes"),
+    ("'R-1\\TK1-2:9'", "setup 4 Value attributes"),
+    ("'R-1\\TK1-65536:9'", "setup 4 Value attributes"),
+    (
+        "'R-1\\CDT-99999999999999999999:9'",
+        "setup 4 Value attributes",
+    ),
+    ("'R-1\\TSRC-1:E'", "setup 4 Value attributes"),
+    ("'R-1\\ENBR-2-1:9'", "setup 4 Value attributes"),
+    ("'R-1\\ENAM-10-1:'", "setup 4 Value attributes"),
+    ("'R-1\\TK1-01:9'", " / R-1\\TK1-01=9"),
+    ("'R-1\\TK1-0:9'", " / R-1\\TK1-0=9"),
+    ("'R-1\\TK1-:9'", " / R-1\\TK1-=9"),
+    ("'R-1\\TK1-1 :9'", " / R-1\\TK1-1 =9"),
+    ("'R-1\\TK2-1:9'", " / R-1\\TK2-1=9"),
+    ("'R-2\\TK1-1:9'", " / R-2\\TK1-1=9"),
+    ("'R-1\\ENBR-2:9'", " / R-1\\ENBR-2=9"),
+    ("'R-1\\ENBR-2-2:9'", " / R-1\\ENBR-2-2=9"),
+    (
+        "'r-1\\tk1-1:9', 'G\\PN\\X:1'",
+        " / r-1\\tk1-1=9 / G\\PN\\X=1",
+    ),
+];
+
+#[test]
+fn an_attribute_is_one_that_a_setup_record_does_not_write(rt: HostRuntime) -> Result<(), Fail> {
+    for &(texts, line) in &ATTRIBUTES {
+        check_behind_origin(&rt, "attributes", texts, line)?;
+    }
+    Ok(())
+}
