@@ -109,7 +109,8 @@ def missing_in_facts(values: Values) -> Iterator[str]:
     """What the schema of the facts doesn't say."""
     file = FORMATS / "facts.schema.json"
     most = [2 ** values[it] - 1 for it in ("COUNTER_BITS", "COUNT_BITS")] + [values["MAX_TAI_OFFSET"]]
-    for said in (f'{{0,{values["MAX_HOST_LEN"]}}}', *(f'"maximum": {it}' for it in most)):
+    marks = (f'"maxItems": {values["MAX_NOTED_MARKS"]}', f'"maxLength": {values["MAX_MARK_LEN"]}')
+    for said in (f'{{0,{values["MAX_HOST_LEN"]}}}', *(f'"maximum": {it}' for it in most), *marks):
         if said not in file.read_text():
             yield f"{file.relative_to(ROOT)} doesn't say: {said}"
 

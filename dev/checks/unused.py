@@ -39,12 +39,14 @@ CALL = re.compile(r"^ *pub (?:const )?fn (\w+)")
 # Libraries that are there for tests and pages alone.
 FOR_TESTS = {"test_samples", "test_callers"}
 # Libraries that stand ahead of the commands that will call them.
-AHEAD = {"ch11_clock", "ch11_setup", "ch11_index", "ch11_merge"}
+AHEAD: set[str] = set()
 # Public calls that the program makes no use of, and what they are there for.
 OFFERED = {
     "run_world": "the core, driven by a list of events: the theorem is stated of it",
     "frame_at": "a single frame of a body, for a reader that wants no others",
+    "merge_into": "the order of a whole file, into any sink, for a writer of another form",
     "into_before": "the packets before a fault, for a reader of a recording that is held whole",
+    "setup_of": "what is said of a Chapter 11 file, for the command that will write one",
 }
 
 

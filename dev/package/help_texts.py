@@ -90,6 +90,8 @@ def kinds_of(words: str) -> list[str]:
 # Which files a word of a command takes, by what its help says of it: the first that fits.
 KINDS = [
     ("recording", "ch11"),
+    ("chapter 11 file", "ch10"),
+    ("times of counters", "toml"),
     ("feed that", "feed"),
     ("pcapng file", "pcapng"),
     ("seconds", None),

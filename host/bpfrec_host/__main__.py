@@ -23,6 +23,9 @@ TOOLS = {
     "convert": Tool("bpfrec_host.convert.command", "makes feeds from captures and back, and shows their frames"),
     "info": Tool("bpfrec_host.info.command", "tells what is in a recording, as a text, as JSON or as a page"),
     "pcapng": Tool("bpfrec_host.pcapng.command", "makes one capture of recordings, of a slice of time or of channels"),
+    "chapter11": Tool(
+        "bpfrec_host.chapter11.command", "makes a whole Chapter 11 file of a recording, with setup, time and index"
+    ),
     "follow": Tool("bpfrec_host.follow.command", "gives the frames of a recording that goes on, as pcapng"),
     "salvage": Tool("bpfrec_host.salvage", "copies what is left of a damaged recording"),
     "preflight": Tool("bpfrec_host.preflight.command", "names all that is wrong with settings before a recording"),

@@ -4,6 +4,7 @@ memory."""
 from __future__ import annotations
 
 import random
+import re
 import resource
 import subprocess
 from pathlib import Path
@@ -11,6 +12,8 @@ from pathlib import Path
 import pytest
 from frames import FRAMES, HEADER_LENGTH, header_of, packet_of, sum_of
 from support import ROOT, judge, judge_quietly
+from whole_file import TIME
+from whole_file_parts import bytes_of, parts_of, place_of, sample, without
 
 WANTED: dict[str, str] = {}
 CHECK_SUMS = ROOT / "host/bin/check_sums"
@@ -79,3 +82,54 @@ def test_a_packet_of_more_bytes_than_there_is_room_for_is_summed(work: Path) -> 
     recording = claiming(HEADER_LENGTH + len(block) * count + 4) + block * count + added.to_bytes(4, "little")
     done = checked(work, recording)
     judge("it is right", (done.returncode, done.stdout) == (0, "packets 1 data checksums 1 without 0 wrong 0\n"), done)
+
+
+# ---- whole Chapter 11 files
+
+
+def test_a_whole_file_is_known_by_its_setup_record(work: Path) -> None:
+    """And all of it is checked, also from standard input."""
+    done = checked(work, sample())
+    line = "packets 23 data checksums 23 without 0 wrong 0\n"
+    judge("it is right", (done.returncode, done.stdout) == (0, line), done)
+    done = subprocess.run([CHECK_SUMS, "-"], input=sample(), capture_output=True, timeout=60)
+    judge("as standard input", (done.returncode, done.stdout.decode()) == (0, line), done)
+    done = checked(work, bytes_of(without(TIME, 4)(parts_of(sample()))))
+    missing = "2384 a time packet is missing ahead of it\n"
+    judge("a time packet is missing", done.returncode == 1 and missing in done.stdout, done)
+    judge("the last line", done.stdout.endswith("packets 22 data checksums 22 without 0 wrong 5\n"), done)
+
+
+def test_sums_of_a_whole_file_are_named_as_those_of_a_recording(work: Path) -> None:
+    whole, at = bytearray(sample()), place_of(parts_of(sample()), FRAMES, 1)
+    whole[at + 100] ^= 1
+    done = checked(work, whole)
+    judge(
+        "a data checksum",
+        re.fullmatch(
+            rf"{at} data checksum [0-9a-f]{{8}}, the words add up to [0-9a-f]{{8}}\npackets 23 .* wrong 1\n",
+            done.stdout,
+        )
+        and done.returncode == 1,
+        done,
+    )
+    whole[at + 8] ^= 1
+    done = checked(work, whole)
+    line = rf"{at} header checksum [0-9a-f]{{4}}, the words add up to [0-9a-f]{{4}}\n"
+    judge("a header checksum", done.returncode == 1 and re.match(line, done.stdout), done)
+
+
+def test_a_setup_record_that_is_not_there_takes_no_memory(work: Path) -> None:
+    """One of the longest that may be, of which the file has few bytes."""
+    head = header_of(0, (134_217_728, 134_217_700), 0, 0x01, 0, True)
+    done = checked(work, head + b"few.")
+    judge("it is cut", done.returncode == 1 and done.stdout.startswith("0 cut\n"), done)
+
+
+def test_without_a_setup_record_it_is_a_recording(work: Path) -> None:
+    """A file whose first packet is another is judged by its sums alone."""
+    for other in (packet_of(1, b"data", 0, 0x01, 0, True), packet_of(0, b"data", 0, 0x00, 0, True)):
+        done = checked(work, other)
+        line = "packets 1 data checksums 1 without 0 wrong 0\n"
+        judge_quietly("a recording", (done.returncode, done.stdout) == (0, line), done)
+    judge("others are recordings", True)

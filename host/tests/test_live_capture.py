@@ -173,14 +173,16 @@ def test_counts_come_from_their_pipe_and_nothing_else_does() -> None:
     assert capture.end(0) == []
 
 
-def test_the_capture_gets_the_descriptor_of_its_counts_and_is_quiet_where_its_lines_come_here() -> None:
+def test_the_capture_gets_the_descriptor_of_its_counts_and_is_quiet_beside_a_table() -> None:
     capture, _ = captured("--buffer", "4")
     assert "--counts" not in capture.arguments() and "--quiet" not in capture.arguments()
     capture.read_counts(lambda *_: None)
     assert capture.counts
     told = capture.arguments()
     assert told[:5] == ["bin/capture", "--buffer", "4", "--counts", str(capture.counts.writer)]
-    capture.read_lines(lambda _: None)
+    capture.read_lines(lambda _: None, has_table=False)
+    assert "--quiet" not in capture.arguments()
+    capture.read_lines(lambda _: None, has_table=True)
     assert "--quiet" in capture.arguments()
 
 

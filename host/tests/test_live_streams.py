@@ -7,7 +7,7 @@ import os
 import signal
 import sys
 import time
-from collections.abc import Callable, Iterator
+from collections.abc import Callable
 from pathlib import Path
 from typing import cast
 
@@ -82,17 +82,6 @@ def test_what_has_no_room_waits_and_a_broken_stream_fails() -> None:
         "a stream that is only read isn't reopened to be written",
         standard_streams.another(os.open("/dev/null", 0), os.O_WRONLY) is None,
     )
-
-
-@pytest.fixture
-def signals() -> Iterator[Signals]:
-    """Those of live, while it lasts."""
-    numbers = (signal.SIGINT, signal.SIGTERM, signal.SIGHUP, signal.SIGCHLD, signal.SIGTTIN, signal.SIGTTOU)
-    before = {it: signal.getsignal(it) for it in numbers}
-    yield Signals()
-    signal.set_wakeup_fd(-1)
-    for number, handler in before.items():
-        signal.signal(number, handler)
 
 
 def test_each_signal_that_ends_live_comes_to_the_loop(signals: Signals) -> None:

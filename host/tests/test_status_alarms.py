@@ -6,9 +6,11 @@ from collections.abc import Iterable
 from typing import Any
 
 import pytest
+from bpfrec_host.formats.clock_state import ClockState
 from scripted import (
     Audits,
     ChannelView,
+    ClockView,
     Counts,
     DiskView,
     EndedView,
@@ -136,6 +138,24 @@ CASES = {
         "sync_fault",
         "alarm",
     ),
+    "the clock is off by more than is allowed": (
+        VIEW._replace(clock=ClockView(ClockState(True, 0.001), 0.001)),
+        VIEW._replace(clock=ClockView(ClockState(True, 0.001001), 0.001)),
+        "clock",
+        "alarm",
+    ),
+    "the clock is not synchronised": (
+        VIEW._replace(clock=ClockView(ClockState(False, 16.0))),
+        VIEW._replace(clock=ClockView(ClockState(False, 0.0), 16.0)),
+        "clock",
+        "alarm",
+    ),
+    "nobody knows the clock": (
+        VIEW._replace(clock=ClockView(ClockState(), 1.0), state="ended"),
+        VIEW._replace(clock=ClockView(ClockState(), 1.0)),
+        "clock",
+        "alarm",
+    ),
     "the disk is full soon": (
         VIEW._replace(disk=DiskView(10**9, 600.0)),
         VIEW._replace(disk=DiskView(10**9, 599.9)),
@@ -180,6 +200,12 @@ CASES = {
     ),
     "nothing is recorded": (
         VIEW._replace(state="waiting", recording=None),
+        VIEW._replace(state="waiting", recording=None, recordings=NO[1:]),
+        "waiting",
+        "alarm",
+    ),
+    "nothing is recorded, and the run goes on": (
+        VIEW._replace(state="waiting", recording=None, recordings=NO[1:], is_ending=True),
         VIEW._replace(state="waiting", recording=None, recordings=NO[1:]),
         "waiting",
         "alarm",

@@ -9,6 +9,7 @@ from pathlib import Path
 from typing import NamedTuple
 
 import pytest
+from bpfrec_host.formats.clock_state import ClockState
 from schemas import FORMATS, faults, schema_of
 from scripted import BEGIN, Alarm, Counts, Flight, Setup, Status, View, Wire, alarms, as_json, metrics, wires_of
 from support import judge, judge_quietly, outcome, present
@@ -46,6 +47,8 @@ def flights(place: Path) -> dict[str, Flight]:
         made[name].begin()
     made["losing"].wires[1].dropped, made["losing"].wires[2].end = 5, 30
     made["losing"].wires[1].waited = 300
+    made["going"].status.clock_seen(ClockState(True, 0.000125, "chrony (192.0.2.1)"), 0.001)
+    made["losing"].status.clock_seen(ClockState(False, 16.0), 0.001)
     for name in ("going", "losing", "without", "ended", "many"):
         made[name].pass_seconds(70, syncs=name != "losing")
     made["losing"].append(b"damage" * 20)
@@ -206,6 +209,9 @@ def test_metrics_have_the_numbers_of_their_run(flights: dict) -> None:
         ("bpfrec_recording_bytes", None, None): present(view.recording).bytes,
         ("bpfrec_alarms", None, "keeps_nothing"): 1,
         ("bpfrec_alarms", None, "disk"): 0,
+        ("bpfrec_alarms", None, "clock"): 1,
+        ("bpfrec_clock_synchronised", None, None): 0,
+        ("bpfrec_clock_max_error_seconds", None, None): 16,
         ("bpfrec_channel_offered_frames_total", "1", None): 36_000,
         ("bpfrec_channel_kept_frames_total", "2", None): 15_000,
         ("bpfrec_channel_dropped_frames_total", "1", None): 360,
@@ -216,6 +222,20 @@ def test_metrics_have_the_numbers_of_their_run(flights: dict) -> None:
     judge("they have the run's numbers", found == wanted, found)
 
 
+def test_the_error_of_a_clock_is_there_to_the_microsecond(flights: dict) -> None:
+    view, told = told_of(flights["going"])
+    samples = {it.name: it.value for it in read_metrics(metrics.text_of(view, told))}
+    found = (samples["bpfrec_clock_synchronised"], samples["bpfrec_clock_max_error_seconds"])
+    judge("as a metric", found == (1, 0.000125), found)
+    wanted = {
+        "is_synchronised": True,
+        "maximum_error": 0.000125,
+        "source": "chrony (192.0.2.1)",
+        "required": 0.001,
+    }
+    judge("and in the object", object_of(view, told)["clock"] == wanted, object_of(view, told)["clock"])
+
+
 def test_what_is_not_known_has_no_sample(flights: dict) -> None:
     samples = read_metrics(metrics.text_of(*told_of(flights["without"])))
     names = {it.name for it in samples}
@@ -223,6 +243,7 @@ def test_what_is_not_known_has_no_sample(flights: dict) -> None:
         "of a feed nobody counts",
         "bpfrec_channel_offered_frames_total" not in names and "bpfrec_channel_kept_frames_total" in names,
     )
+    judge("of a clock of which nobody says anything", not any(it.startswith("bpfrec_clock") for it in names), names)
 
 
 def test_the_page_has_each_metric_and_each_alarm(flights: dict) -> None:

@@ -1,5 +1,4 @@
-"""Tries what the status knows of a run: a minute by a script, filters, recordings that follow one another, what it
-keeps.
+"""Tries what the status knows of a run: a minute by a script, recordings that follow one another, what it keeps.
 
 Its moments are the script's, so nothing waits here.
 """
@@ -12,7 +11,6 @@ import tracemalloc
 from pathlib import Path
 
 import pytest
-from bpfrec_host.live.status.view import ChannelView
 from frames import end_packet
 from scripted import (
     BEGIN,
@@ -22,22 +20,14 @@ from scripted import (
     Flight,
     Setup,
     Status,
-    View,
     Wire,
+    channel_of,
     frames,
     program,
+    view_of,
     wires_of,
 )
 from support import judge, judge_quietly, present
-
-
-def view_of(flight: Flight) -> View:
-    return flight.status.model.view(flight.now())
-
-
-def channel_of(flight: Flight, channel: int) -> ChannelView:
-    return next(it for it in view_of(flight).channels if it.channel == channel)
-
 
 # ---- a minute
 
@@ -203,55 +193,6 @@ def test_a_channel_without_an_interface_has_no_offered_frames(work: Path) -> Non
     found = channel_of(flight, 1)
     judge("what it was offered isn't known", found.counts is None and found.unkept is None and found.frame_age is None)
     judge("what it kept is", found.kept_frames == 2_000)
-
-
-# ---- filters
-
-
-def versions_of(flight: Flight) -> tuple[int, int]:
-    found = channel_of(flight, 1)
-    return found.version, found.same_since
-
-
-def test_a_new_filter_is_told_at_once_and_where_it_is_met(work: Path) -> None:
-    flight = Flight(work, {1: Wire("eth0")})
-    flight.begin()
-    flight.pass_second()
-    judge("the first version is 0", versions_of(flight) == (0, 0))
-    flight.status.filter_changed(1, 1)
-    judge("one that was installed is told at once", versions_of(flight) == (1, 1))
-    flight.append(program(1, 1, 7))
-    flight.pass_second()
-    judge("and stays where it is met", versions_of(flight) == (1, 1))
-    for version in (2, 3):
-        flight.append(program(1, version, 7))
-    flight.pass_second()
-    judge("equal programs that follow one another are one", versions_of(flight) == (3, 1))
-    flight.status.filter_changed(1, 4, True)
-    judge("also where it is told before", versions_of(flight) == (4, 1))
-    flight.append(program(1, 4, 7) + program(1, 5, 8))
-    flight.pass_second()
-    judge("another program is another", versions_of(flight) == (5, 5))
-    judge(
-        "the history has the version of each second",
-        [it.version for it in channel_of(flight, 1).history] == [0, 1, 1, 5],
-    )
-    before = flight.path
-    flight.begin("next.ch11")
-    with open(before, "ab") as file:
-        file.write(program(1, 6, 9))
-    flight.pass_second()
-    judge("a recording that follows begins anew, whatever the old one still tells", versions_of(flight) == (0, 0))
-
-
-def test_of_several_new_filters_the_last_is_told(work: Path) -> None:
-    flight = Flight(work, {1: Wire("eth0")})
-    flight.begin()
-    flight.status.filter_changed(1, 1)
-    flight.status.filter_changed(1, 2)
-    flight.append(program(1, 1, 7))
-    flight.pass_second()
-    judge("the last that was installed is told", versions_of(flight) == (2, 2))
 
 
 # ---- recordings that follow one another

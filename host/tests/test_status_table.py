@@ -15,6 +15,7 @@ from pathlib import Path
 from typing import Any
 
 import pytest
+from bpfrec_host.formats.clock_state import ClockState
 from scripted import Flight, Terminal, View, Wire, alarms, table, wires_of
 from support import judge, judge_quietly
 
@@ -151,28 +152,47 @@ def test_the_table_shows_the_run_the_disk_and_each_channel(work: Path) -> None:
         found[3].startswith("channel 22 (eth1): the filter keeps nothing, or too little"),
         found[3],
     )
-    judge("a title", found[4].split() == ["channel", "came/s", "kept/s", "lost", "filter", "last", "state"], found[4])
+    titles = ["channel", "came/s", "kept/s", "lost", "changes", "last", "state,", "filter"]
+    judge("a title", found[4].split() == titles, found[4])
     judge(
         "a channel that is well",
-        found[5].split() == ["1", "eth0", "400", "200", "0", "0", "0", "s", "█" * 20],
+        found[5].split() == ["1", "eth0", "400", "200", "0", "0", "0", "s", "all", "█" * 20],
         found[5],
     )
     judge(
         "and one that isn't",
-        found[6].split() == ["22", "eth1", "500", "0", "0", "0", "0", "s", "KEEPS", "NOTHING", "█" * 20],
+        found[6].split() == ["22", "eth1", "500", "0", "0", "0", "0", "s", "KEEPS", "NOTHING", "all", "█" * 15],
         found[6],
     )
     judge("in red", lines[6].startswith("\x1b[97;41m") and lines[6].endswith("\x1b[0m") and "\x1b" not in lines[5])
+    narrow = plain(table.lines_of(*told_of(flight), 100, 30))
+    judge("its bar has the room that there is", narrow[5].endswith("all".ljust(25) + "█" * 9), narrow[5])
     narrow = plain(table.lines_of(*told_of(flight), 79, 30))
-    judge(
-        "its bar has the room that there is",
-        narrow[5].endswith("s  " + "█" * (79 - found[4].index("state"))),
-        narrow[5],
-    )
+    judge("a narrow table has the filter alone", narrow[5].endswith("0 s  all") and "█" not in narrow[5], narrow[5])
+    judge("or what is wrong, whole", narrow[6].endswith("0 s  KEEPS NOTHING"), narrow[6])
+    judge_report(flight, len(found))
     flight.end_recording()
     flight.status.ended(flight.now())
     found = plain(table.lines_of(*told_of(flight), 120, 30))
     judge("at the end", found[0] == "ENDED" and len(found) == 4, found)
+
+
+def judge_report(flight: Flight, count: int) -> None:
+    """What a line asks for has all of the table."""
+    flight.status.filter_changed(22, 1, "udp port 5004 and not net 192.0.2.0/24")
+    asked = flight.status.report(flight.now())
+    judge("the whole filter", asked[-1].endswith("KEEPS NOTHING udp port 5004 and not net 192.0.2.0/24"), asked)
+    judge("in all lines, without colours", len(asked) == count and "\x1b" not in "".join(asked), asked)
+
+
+def test_a_clock_that_is_not_synchronised_stands_beside_the_recording(work: Path) -> None:
+    flight = flown(work, {1: Wire("eth0")})
+    for state, is_told in ((ClockState(), False), (ClockState(True, 0.1), False), (ClockState(False, 0.1), True)):
+        flight.status.clock_seen(state, None)
+        line = plain(table.lines_of(*told_of(flight), 120, 30))[1]
+        judge(
+            f"{state}: {line}", line.endswith("  clock not synchronised") == is_told and line.startswith("flight.ch11")
+        )
 
 
 def test_a_pipe_that_waits_is_a_warning_beside_the_graph(work: Path) -> None:
@@ -180,10 +200,11 @@ def test_a_pipe_that_waits_is_a_warning_beside_the_graph(work: Path) -> None:
     lines = table.lines_of(*told_of(flight), 120, 30)
     found = plain(lines)
     judge("a warning and an alarm", found[0] == "RECORDING, 1 ALARM, 1 warning", found)
-    judge("each with its graph", [it.endswith("PIPE WAITS " + "█" * 20) for it in found[6:8]] == [True] * 2, found)
+    ends = "PIPE WAITS " + "all".ljust(25) + "█" * 18
+    judge("each with its filter and its graph", [it.endswith(ends) for it in found[6:8]] == [True] * 2, found)
     judge("in yellow and red", [it[:8] for it in lines[6:8]] == ["\x1b[30;43m", "\x1b[97;41m"], lines)
-    narrow = plain(table.lines_of(*told_of(flight), 79, 30))[6]
-    judge("in the room that there is", 0 < narrow.count("█") < 20 and len(narrow) == 79, narrow)
+    narrow = plain(table.lines_of(*told_of(flight), 109, 30))[6]
+    judge("in the room that there is", 0 < narrow.count("█") < 20 and len(narrow) == 109, narrow)
 
 
 @pytest.fixture(scope="module")

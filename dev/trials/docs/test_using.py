@@ -10,15 +10,18 @@ left out.
 
 import contextlib
 import itertools
+import os
 import re
 import subprocess
 import threading
 import time
 from collections.abc import Callable, Iterator
+from pathlib import Path
 from typing import NamedTuple
 
 import pytest
 import support
+from clock import Synchronisation
 from frames import records
 from namespace import make_quiet, run_batch, set_link, socket_into, turn_offloads_off
 from support import ROOT, judge_quietly
@@ -104,7 +107,8 @@ class Shell(NamedTuple):
     left_out: dict[str, str]
 
 
-def run_all(wanted: dict[int, Command]) -> dict[int, str]:
+def run_all(wanted: dict[int, Command], kernel: dict[str, str]) -> dict[int, str]:
+    """What each printed, one after the other, beside a kernel whose clock is synchronised."""
     script = "".join(f"{it.words}\necho '{MARK}'\n" for it in wanted.values())
     done = subprocess.run(
         ["bash"],
@@ -114,6 +118,7 @@ def run_all(wanted: dict[int, Command]) -> dict[int, str]:
         timeout=PATIENCE,
         stdout=subprocess.PIPE,
         stderr=subprocess.STDOUT,
+        env={**os.environ, **kernel},
     )
     parts = done.stdout.split(MARK + "\n")
     judge_quietly("each command is run", len(parts) == len(wanted) + 1, done.stdout[-2000:])
@@ -132,7 +137,7 @@ def interfaces(entering: Callable) -> Iterator[None]:
 
 
 @pytest.fixture(scope="module")
-def shell(entering: Callable) -> Shell:
+def shell(entering: Callable, place: Path) -> Shell:
     """All commands that can be run here, in a namespace where one can be made."""
     lacking = {kind: support.missing(wanted) for kind, wanted in WANTED_BY.items()}
     left_out = {kind: f"it needs {', '.join(it)}" for kind, it in lacking.items() if it}
@@ -141,7 +146,8 @@ def shell(entering: Callable) -> Shell:
             stack.enter_context(interfaces(entering) if "live" not in left_out else contextlib.nullcontext())
         except pytest.skip.Exception as why:
             left_out["live"] = str(why)
-        ran = run_all({at: it for at, it in enumerate(COMMANDS) if it.kind not in left_out})
+        chosen = {at: it for at, it in enumerate(COMMANDS) if it.kind not in left_out}
+        ran = run_all(chosen, Synchronisation(place).adds)
     return Shell(ran, left_out)
 
 

@@ -1,6 +1,8 @@
-"""A wall clock that is set for chosen programs alone, by dev/trials/lib/set_clock.c."""
+"""A wall clock that is set for chosen programs alone, by dev/trials/lib/set_clock.c, and a kernel that says of it what a
+trial chooses, by set_synchronisation.c."""
 
 import functools
+import os
 import re
 import struct
 import tempfile
@@ -57,6 +59,22 @@ class Clock:
         self.write()
 
 
+class Synchronisation:
+    """Whether the clock is synchronised, and by how many microseconds it is off at most, for those programs alone that
+    run with `adds`."""
+
+    def __init__(self, work: Path, is_synchronised: bool = True, maximum_error: int = 500) -> None:
+        self.path = work / "synchronisation"
+        self.path.write_bytes(bytes(16))
+        self.set(is_synchronised, maximum_error)
+        self.adds = {"LD_PRELOAD": str(preloaded("set_synchronisation")), "SET_SYNCHRONISATION": str(self.path)}
+
+    def set(self, is_synchronised: bool, maximum_error: int = 500) -> None:
+        """Changes what the kernel says, for those that run too."""
+        with open(self.path, "r+b", buffering=0) as file:
+            file.write(struct.pack("<qq", is_synchronised, maximum_error))
+
+
 @functools.cache
 def library_folder() -> tempfile.TemporaryDirectory:
     """A folder that is removed when this process ends."""
@@ -64,9 +82,9 @@ def library_folder() -> tempfile.TemporaryDirectory:
 
 
 @functools.cache
-def preloaded() -> Path:
-    """The library of dev/trials/lib/set_clock.c."""
-    return shared_library(LIBRARY / "set_clock.c", Path(library_folder().name) / "set_clock.so")
+def preloaded(name: str = "set_clock") -> Path:
+    """The library of a C file in dev/trials/lib/."""
+    return shared_library(LIBRARY / f"{name}.c", Path(library_folder().name) / f"{name}.so")
 
 
 def capture_with(work: Path, adds: dict) -> Path:
@@ -76,6 +94,36 @@ def capture_with(work: Path, adds: dict) -> Path:
     path.write_text(f'#!/bin/sh\nexec env {given} {CAPTURE} "$@"\n')
     path.chmod(0o755)
     return path
+
+
+# ---- chrony and PTP that are played
+
+# What each prints, by its manual.
+TRACKING = (
+    "C0000201,192.0.2.1,2,1764590399.123456789,-0.000012345,0.000001000,0.000020000,-5.100,0.001,0.020,"
+    "0.000350000,0.000120000,64.5,Normal"
+)
+STATUS = """sending: GET TIME_STATUS_NP
+\t90e2ba.fffe.20c7f8-0 seq 0 RESPONSE MANAGEMENT TIME_STATUS_NP
+\t\tmaster_offset              -27
+\t\tingress_time               1764590399000000000
+\t\tcumulativeScaledRateOffset +0.000000000
+\t\tscaledLastGmPhaseChange    0
+\t\tgmTimeBaseIndicator        0
+\t\tlastGmPhaseChange          0x0000'0000000000000000.0000
+\t\tgmPresent                  true
+\t\tgmIdentity                 001122.fffe.334455
+"""
+
+
+def played(work: Path, **answers: str) -> dict[str, str]:
+    """Programs of these names that print so, ahead of all others."""
+    place = work / "played"
+    place.mkdir()
+    for name, answer in answers.items():
+        (place / name).write_text(f"#!/bin/sh\ncat << 'END'\n{answer}\nEND\n")
+        (place / name).chmod(0o755)
+    return {"PATH": f"{place}:{os.environ['PATH']}"}
 
 
 # ---- frames under a clock that is set

@@ -13,6 +13,7 @@ from typing import Any
 
 from bpfrec_host.live import status
 from bpfrec_host.live.events import Counted, event_in
+from bpfrec_host.live.ports import Marked
 from bpfrec_host.live.status import (
     Counts,
     Setup,
@@ -33,6 +34,7 @@ from bpfrec_host.live.status.view import (
     HISTORY_SECONDS,
     Audits,
     ChannelView,
+    ClockView,
     DiskView,
     EndedView,
     RecordingView,
@@ -48,10 +50,12 @@ __all__ = [
     "Alarm",
     "Audits",
     "ChannelView",
+    "ClockView",
     "Counts",
     "DiskView",
     "EndedView",
     "Growth",
+    "Marked",
     "HISTORY_SECONDS",
     "Kept",
     "PAGE",
@@ -90,6 +94,7 @@ class Wire:
     begin: int = 0
     end: int = 1 << 30
     drops_at: tuple[int, ...] = ()
+    filter: str = "all"
 
 
 def program(channel: int, version: int, returned: int = 1) -> bytes:
@@ -119,7 +124,7 @@ class Flight:
         return BEGIN + self.second
 
     def setups(self) -> list[status.Setup]:
-        return [status.Setup(channel, it.interface) for channel, it in self.wires.items()]
+        return [status.Setup(channel, it.interface, it.filter) for channel, it in self.wires.items()]
 
     def begin(self, name: str = "flight.ch11") -> None:
         """A recording begins, with the program of each channel."""
@@ -135,18 +140,37 @@ class Flight:
     def pass_second(self, syncs: bool = True) -> None:
         """A second of traffic, of the capture's counts, of packets that are full, and of the status."""
         self.second += 1
+        self.come()
+        self.count()
+        if syncs:
+            self.status.synced(self.now() - 0.1)
+        self.status.tick(self.now())
+
+    def pause(self, seconds: int) -> None:
+        """The capture stands still for so long. Then it counts at once, and all that has waited comes a second later."""
+        for _ in range(seconds):
+            self.second += 1
+            self.status.tick(self.now())
+        self.count()
+        for _ in range(seconds):
+            self.come()
+        self.pass_second()
+
+    def come(self) -> None:
+        """What comes in a second."""
         for channel, wire in self.wires.items():
             if wire.begin < self.second <= wire.end:
                 self.send(channel, wire)
+
+    def count(self) -> None:
+        """The capture's counts of a second."""
+        for wire in self.wires.values():
             if wire.interface:
                 numbers = dict(zip(Counts._fields, self.counts[wire.interface]))
                 line = {"counts": wire.interface, "counter": 10**7 * self.second, **numbers, "feed": 0}
                 counted = event_in(json.dumps(line))
                 assert isinstance(counted, Counted)
                 self.status.capture_counted(counted.interface, counted.counts, self.now() - 0.3)
-        if syncs:
-            self.status.synced(self.now() - 0.1)
-        self.status.tick(self.now())
 
     def send(self, channel: int, wire: Wire) -> None:
         dropped = wire.dropped if not wire.drops_at or self.second in wire.drops_at else 0
@@ -168,6 +192,16 @@ class Flight:
         size = self.path.stat().st_size
         report = ["channel 1 versions 1 offered 0 kept 0 SourceEnd", f"wrote 1 {size}"]
         self.status.recording_ended(self.number, exit_status, self.now(), report, list(audit))
+
+
+def view_of(flight: Flight) -> View:
+    """What the status knows of a flight by now."""
+    return flight.status.model.view(flight.now())
+
+
+def channel_of(flight: Flight, channel: int) -> ChannelView:
+    """What it knows of a channel."""
+    return next(it for it in view_of(flight).channels if it.channel == channel)
 
 
 def wires_of(count: int) -> dict[int, Wire]:

@@ -8,6 +8,7 @@ import sys
 import tempfile
 from collections.abc import Callable, Iterator
 from pathlib import Path
+from typing import TYPE_CHECKING
 
 import pytest
 
@@ -15,6 +16,9 @@ sys.dont_write_bytecode = True
 import namespace as namespaces
 import recorder
 import support
+
+if TYPE_CHECKING:
+    from bpfrec_host.live.loop import Signals
 
 ENDED_BY = 128
 # The folders whose trials take longest.
@@ -97,6 +101,39 @@ def flight(work: Path) -> Iterator[object]:
         yield made
 
 
+@pytest.fixture(scope="module")
+def browser(place: Path) -> Iterator[object]:
+    """A Browser of dev/trials/lib/browser.py, whose pictures have a folder."""
+    from browser import Browser
+    from status_pages import PICTURES
+
+    PICTURES.mkdir(parents=True, exist_ok=True)
+    made = Browser(place / "profile")
+    yield made
+    made.close()
+
+
+@pytest.fixture
+def flown(work: Path) -> Iterator[Callable[..., object]]:
+    """Makes runs that are served, with so many seconds behind them; the served age is that of a run that goes on."""
+    from scripted import Flight, Wire, status
+
+    made: list[Flight] = []
+
+    def fly(wires: dict[int, Wire], seconds: int = 75) -> Flight:
+        (work / str(len(made))).mkdir()
+        flight = Flight(work / str(len(made)), wires, endpoint=status.endpoint_in("0"))
+        support.present(flight.status.server).answers.clock = lambda: flight.now() + 0.2
+        flight.begin()
+        flight.pass_seconds(seconds)
+        made.append(flight)
+        return flight
+
+    yield fly
+    for page in made:
+        page.status.close()
+
+
 @contextlib.contextmanager
 def entered() -> Iterator[None]:
     """A network namespace while it lasts; what needs it is left out where none can be made."""
@@ -124,3 +161,16 @@ def namespace() -> Iterator[None]:
 def entering() -> Callable[[], contextlib.AbstractContextManager[None]]:
     """For what a file's trials share: a namespace without interfaces, while it lasts."""
     return entered
+
+
+@pytest.fixture
+def signals() -> Iterator["Signals"]:
+    """Those of live, while it lasts."""
+    from bpfrec_host.live.loop import Signals
+
+    numbers = (signal.SIGINT, signal.SIGTERM, signal.SIGHUP, signal.SIGCHLD, signal.SIGTTIN, signal.SIGTTOU)
+    before = {it: signal.getsignal(it) for it in numbers}
+    yield Signals()
+    signal.set_wakeup_fd(-1)
+    for number, handler in before.items():
+        signal.signal(number, handler)

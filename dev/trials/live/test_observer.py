@@ -58,10 +58,10 @@ def test_an_observer_is_told_each_event_once_and_in_order(work: Path, quiet: lis
     begun = of(told, "recording_begun")
     judge(
         "the recording's begin, once and first of it",
-        len(begun) == 1 and begun[0][:3] == [1, f"{work}/seen.ch11", [[1, "rx0", 0], [2, "rx1", 0]]],
+        len(begun) == 1 and begun[0][:3] == [1, f"{work}/seen.ch11", [[1, "rx0", "all"], [2, "rx1", "none"]]],
         begun,
     )
-    judge("the filter that was changed", of(told, "filter_changed") == [[2, 1, False]])
+    judge("the filter that was changed", of(told, "filter_changed") == [[2, 1, "all"]])
     judge("each second is told", 2 <= len(of(told, "tick")) <= 6)
     synced = [it[0] for it in of(told, "synced")]
     judge("so is each time when OUT went to its disk", len(synced) >= 2 and synced == sorted(synced), synced)
@@ -73,6 +73,8 @@ def test_an_observer_is_told_each_event_once_and_in_order(work: Path, quiet: lis
         [it[:2] for it in ended] == [[1, 0]] and ended[0][3] + ended[0][4] == lines,
         ended,
     )
+    judge("the clock each second", 2 <= len(of(told, "clock_seen")) <= 7)
+    judge("that it ends, once", of(told, "ending") == [[]])
     judge("and at last all has ended", told[-1][0] == "ended")
 
 

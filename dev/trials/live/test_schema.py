@@ -10,43 +10,18 @@ from pathlib import Path
 
 import pytest
 from bpfrec_host.formats import facts as facts_reader
+from clock import STATUS, TRACKING, played
 from namespace import send_together
 from recordings import begin, facts_of, has_facts, processes_of, settings_of
 from schemas import FORMATS, faults, schema_of
 from support import judge, judge_quietly, present, wait_for
 
 WANTED = {"bin/bpfrec": "make build", "bin/capture": "make build", "ip": "iproute2"}
-# What each prints, by its manual.
-TRACKING = (
-    "C0000201,192.0.2.1,2,1764590399.123456789,-0.000012345,0.000001000,0.000020000,-5.100,0.001,0.020,"
-    "0.000350000,0.000120000,64.5,Normal"
-)
-STATUS = """sending: GET TIME_STATUS_NP
-\t90e2ba.fffe.20c7f8-0 seq 0 RESPONSE MANAGEMENT TIME_STATUS_NP
-\t\tmaster_offset              -27
-\t\tingress_time               1764590399000000000
-\t\tcumulativeScaledRateOffset +0.000000000
-\t\tscaledLastGmPhaseChange    0
-\t\tgmTimeBaseIndicator        0
-\t\tlastGmPhaseChange          0x0000'0000000000000000.0000
-\t\tgmPresent                  true
-\t\tgmIdentity                 001122.fffe.334455
-"""
 
 
 def judge_schema(what: str, facts: dict) -> None:
     found = faults(facts, schema_of("facts"))
     judge(f"{what}: the facts are as the schema says", found == [], found)
-
-
-def played(work: Path, **answers: str) -> dict[str, str]:
-    """Programs of these names that print so, ahead of all others."""
-    place = work / "played"
-    place.mkdir()
-    for name, answer in answers.items():
-        (place / name).write_text(f"#!/bin/sh\ncat << 'END'\n{answer}\nEND\n")
-        (place / name).chmod(0o755)
-    return {"PATH": f"{place}:{os.environ['PATH']}"}
 
 
 @pytest.mark.timed

@@ -123,3 +123,4 @@ def test_the_unit_is_tight_by_the_measure_of_systemd() -> None:
     judge(
         "no shell stands before host/bin/live", "ExecStart=/opt/bpfrec/host/bin/live " in text and "sh -c" not in text
     )
+    judge("it may ask for the state of the clock", "adjtimex" in text and "ProtectClock=yes" not in text)

@@ -2,8 +2,8 @@
 
 from __future__ import annotations
 
+import calendar
 import contextlib
-import json
 import os
 import pty
 import re
@@ -16,24 +16,17 @@ import urllib.request
 from pathlib import Path
 
 import pytest
-from recordings import Traffic, begin, is_approved, nothing_left, settings_of, write_settings
-from support import LIVE, judge, judge_quietly, outcome, present, run, wait_for
+from recordings import Traffic, begin, is_approved, nothing_left, process_of, settings_of, write_settings
+from served import address_in, asked, status_of
+from support import CAPTURE, LIVE, judge, judge_quietly, outcome, run, wait_for
 
 WANTED = {"bin/bpfrec": "make build", "bin/capture": "make build", "ip": "iproute2"}
 pytestmark = [pytest.mark.timed, pytest.mark.usefixtures("namespace")]
 
 
-def asked(address: str, name: str = "status.json") -> bytes:
-    with urllib.request.urlopen(f"{address}{name}", timeout=5) as answer:
-        return answer.read()
-
-
-def status_of(address: str) -> dict:
-    return json.loads(asked(address))
-
-
-def address_in(told: str) -> str:
-    return present(re.search(r"status: (http://[0-9.:]+/)", told))[1]
+def is_near(moment: str) -> bool:
+    """Whether a moment in UTC is now, to some seconds."""
+    return abs(calendar.timegm(time.strptime(moment[:19], "%Y-%m-%dT%H:%M:%S")) - time.time()) < 5
 
 
 def test_the_status_tells_what_was_sent(work: Path) -> None:
@@ -57,6 +50,13 @@ def test_the_status_tells_what_was_sent(work: Path) -> None:
     (work / "other").write_text("1,6 0 0 7,")
     live.type_in(f"set 2 {work}/other")
     wait_for("a filter that is changed is told", lambda: status_of(address)["channels"][1]["version"] == 1, 5)
+    told = [(it["filter"], it["changes"]) for it in status_of(address)["channels"]]
+    judge("by its file, and how often", told == [("all", 0), ("other", 1)], told)
+    judge("the metrics too", b'interface="rx1",filter="other"} 1\n' in asked(address, "metrics"))
+    live.type_in("mark gear up")
+    wait_for("a mark is told", lambda: [it["text"] for it in status_of(address)["marks"]] == ["gear up"], 5)
+    found = status_of(address)
+    judge("the host and its UTC", found["host"] == socket.gethostname() and is_near(found["utc"]), found["utc"])
     traffic.end()
     live.interrupt()
     judge("it ends well", live.ended()[0] == 0 and is_approved(work / "a.ch11"), live.told())
@@ -98,6 +98,25 @@ def test_the_status_tells_of_recordings_that_follow(work: Path) -> None:
     traffic.end()
     live.interrupt()
     judge("it ends well", live.ended()[0] == 0, live.told())
+
+
+def test_behind_a_pause_of_the_capture_no_second_has_its_sum(work: Path) -> None:
+    """The capture is stopped for six seconds, while frames wait in the kernel."""
+    live = begin(work, work / "p.ch11", "--status", "0", "--quiet")
+    address, traffic = address_in(live.told()), Traffic(pause=0.005)
+    capture = process_of(work / "p.ch11", CAPTURE)
+    time.sleep(5)
+    os.kill(capture, signal.SIGSTOP)
+    time.sleep(6)
+    os.kill(capture, signal.SIGCONT)
+    time.sleep(4)
+    history = status_of(address)["channels"][0]["history"]["offered_frames"]
+    sent = traffic.end()
+    live.interrupt()
+    judge_quietly("it ends well", live.ended()[0] == 0, live.told())
+    usual = sorted(it for it in history if it)[len(history) // 2]
+    judge("each bar is about as high", len(history) >= 14 and max(it or 0 for it in history) < 1.6 * usual, history)
+    judge("and none of those of the pause is missing", all(it for it in history[3:]), (sent, history))
 
 
 def test_a_wrong_address_is_refused_before_recording(work: Path) -> None:

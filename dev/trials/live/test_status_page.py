@@ -8,57 +8,18 @@ from __future__ import annotations
 import html.parser
 import json
 import re
-from collections.abc import Callable, Iterator
-from pathlib import Path
+from collections.abc import Callable
 
 import pytest
+from bpfrec_host.formats.clock_state import ClockState
 from browser import Browser, Page
-from scripted import PAGE, Flight, Wire, status, wires_of
-from support import ROOT, judge, judge_quietly, present
+from scripted import PAGE, Wire, wires_of
+from status_pages import CHANNELS, DESKTOP, PHONE, PICTURES, TOO_WIDE, WALL, WORD, opened
+from support import judge, judge_quietly
 
 WANTED = {"chromium": "chromium"}
-PICTURES = ROOT / "bin/trials/status"
-DESKTOP, WALL, PHONE = (1366, 768), (1920, 1080), (390, 844)
 LONG_NAME = "enp130s0f1np1-alternative-name-of-an-interface-of-the-left-wing.100"
-WORD = "document.getElementById('word').textContent"
-CHANNELS = "document.querySelectorAll('.channel').length"
-# Pixels by which anything is wider than the page.
-TOO_WIDE = "document.documentElement.scrollWidth - window.innerWidth"
 STATES = "[...document.querySelectorAll('.channel')].map(it => [it.className, it.querySelector('.state').textContent])"
-
-
-@pytest.fixture(scope="module")
-def browser(place: Path) -> Iterator[Browser]:
-    PICTURES.mkdir(parents=True, exist_ok=True)
-    made = Browser(place / "profile")
-    yield made
-    made.close()
-
-
-@pytest.fixture
-def flown(work: Path) -> Iterator[Callable[..., Flight]]:
-    """Makes runs that are served, with so many seconds behind them; the served age is that of a run that goes on."""
-    made: list[Flight] = []
-
-    def fly(wires: dict[int, Wire], seconds: int = 75) -> Flight:
-        (work / str(len(made))).mkdir()
-        flight = Flight(work / str(len(made)), wires, endpoint=status.endpoint_in("0"))
-        present(flight.status.server).answers.clock = lambda: flight.now() + 0.2
-        flight.begin()
-        flight.pass_seconds(seconds)
-        made.append(flight)
-        return flight
-
-    yield fly
-    for page in made:
-        page.status.close()
-
-
-def opened(browser: Browser, flight: Flight, size: tuple[int, int], is_dark: bool = False) -> Page:
-    page = Page(browser, *size, is_dark)
-    page.open(present(flight.status.address()))
-    judge_quietly("the page shows channels", page.wait(f"{CHANNELS} > 0"), page.complaints())
-    return page
 
 
 def losing() -> dict[int, Wire]:
@@ -232,6 +193,22 @@ def test_the_page_goes_on_with_the_run(browser: Browser, flown: Callable) -> Non
     flight.end_recording()
     flight.status.ended(flight.now())
     judge("the end is told", page.wait(f"{WORD}.endsWith('ENDED')", 3), page.ask(WORD))
+
+
+def test_the_clock_has_its_tile(browser: Browser, flown: Callable) -> None:
+    flight = flown({1: Wire("eth0")}, 10)
+    page = opened(browser, flight, PHONE)
+    tile = "['clock', 'source'].map(it => document.getElementById(it).textContent).join('|')"
+    for state, wanted in {
+        ClockState(True, 0.000125, "chrony (192.0.2.1)"): "synchronised|chrony (192.0.2.1), off by at most 0.000125 s",
+        ClockState(True, 0.0005): "synchronised|off by at most 0.000500 s",
+        ClockState(False, 16.0): "NOT SYNCHRONISED|",
+        ClockState(): "-|",
+    }.items():
+        flight.status.clock_seen(state, 0.001)
+        flight.pass_second()
+        judge(wanted, page.wait(f"{tile} === {wanted!r}", 4), page.ask(tile))
+        judge_quietly("it isn't wider than a phone", page.ask(TOO_WIDE) <= 0)
 
 
 def test_a_lost_connection_never_looks_live(browser: Browser, flown: Callable) -> None:

@@ -63,6 +63,7 @@ def samples() -> list[Sample]:
         runs += [([command, str(recording)], b"") for command in ("list", "audit")]
         runs += [(["extract", str(recording), channel, FEED], b"") for channel in ("1", "7", "x")]
         runs += [(["upgrade", str(recording), FEED], b""), (["export", str(recording), FEED, "1"], b"")]
+        runs.append((["chapter11", str(recording), str(DATA / "setups/names.toml"), FEED], b""))
     runs += [(["simulate", str(script)], b"") for script in sorted(DATA.glob("scripts/*.script"))]
     for settings in sorted(DATA.glob("records/*.toml")):
         if settings.name == "endings.toml":
@@ -102,12 +103,12 @@ def is_recorded(words: list[str], got: Outcome, whole: Outcome) -> bool:
 
 
 def is_begun(words: list[str], got: Outcome, whole: Outcome) -> bool:
-    """Whether a script, a list, an audit, an extraction, an export or an upgrade ended for want of memory after a part
-    of it."""
+    """Whether a script, a list, an audit, an extraction, an export, an upgrade or a whole file ended for want of memory
+    after a part of it."""
     status, output, errors, feed = got
     begun = whole[1].startswith(output) and (words[:1] == ["export"] or not output or output.endswith(b"\n"))
     written = feed is None or (whole[3] is not None and whole[3].startswith(feed))
-    partly = (["simulate"], ["list"], ["audit"], ["extract"], ["upgrade"], ["export"])
+    partly = (["simulate"], ["list"], ["audit"], ["extract"], ["upgrade"], ["export"], ["chapter11"])
     return words[:1] in partly and status == 4 and errors == b"memory\n" and begun and written
 
 

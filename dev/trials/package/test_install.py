@@ -88,6 +88,8 @@ def judge_tools(folder: Path, programs: Path) -> None:
     (folder / "one.ch11.json").write_text(FACTS)
     converted = by("convert", "to-pcap", "--force", "--facts", "one.ch11.json", "one.feed", "one.pcap")
     judge("convert finds what reads facts", converted == (0, "frames 60\n"), converted)
+    setup = by("chapter11", "--print-setup", "one.ch11")
+    judge("so does chapter11", setup[0] == 0 and 'host = "fc1"\n' in setup[1], setup)
     told = by("info", "one.ch11")[1]
     judge("info too", "  first time                 2025-12-01T12:00:00.2500000Z\n" in told, told)
     (folder / "one.ch11.json").write_text("")

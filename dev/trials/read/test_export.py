@@ -6,6 +6,8 @@ import os
 import random
 import re
 import resource
+import select
+import subprocess
 from pathlib import Path
 
 import pytest
@@ -13,10 +15,10 @@ from captures import fields_of
 from damage import damaged
 from exports import Shown, wanted_of
 from frames import FRAMES, HEAD, body_of, packet_of, program_packet, with_check_sequence
-from reading import SAMPLES, SEED, recording_of_three
+from reading import SAMPLES, SEED, packets_of, recording_of_three
 from recorder import RECORDINGS, extracted
 from rows import AS_ROOT, drawn_recording, flight_of, seconds_of
-from support import BPFREC, CONVERT, judge, judge_quietly, outcome, run
+from support import BPFREC, CONVERT, judge, judge_quietly, outcome, present, run
 
 WANTED = {"bin/bpfrec": "make build", "tshark": "tshark", "capinfos": "wireshark-common", "tcpdump": "tcpdump"}
 FIELDS = [
@@ -163,6 +165,23 @@ def test_an_export_goes_through_standard_streams(work: Path, three: Path) -> Non
         judge(f"{words[1:]}", (done.returncode, done.stdout, done.stderr) == (0, wanted, b""))
     seen = outcome("sh", "-c", f"{BPFREC} export {three} - | tshark -n -r - -T fields -e frame.number")
     judge("tshark reads it from a pipe", len(seen.stdout.split()) == len(wanted_of(three.read_bytes()).frames), seen)
+
+
+def test_each_packet_is_shown_before_the_next_is_read(three: Path) -> None:
+    """Through pipes the blocks of the packets so far come before there is a further packet."""
+    ends = [it.at + len(it.bytes) for it in packets_of(three.read_bytes())][:40]
+    with subprocess.Popen([BPFREC, "export", "-", "-"], stdin=subprocess.PIPE, stdout=subprocess.PIPE) as export:
+        given, shown, start = present(export.stdin), present(export.stdout), 0
+        seen = b""
+        for end in ends:
+            given.write(three.read_bytes()[start:end])
+            given.flush()
+            wanted, start = wanted_of(three.read_bytes()[:end]).bytes, end
+            while len(seen) < len(wanted) and select.select([shown], [], [], 10)[0]:
+                seen += os.read(shown.fileno(), len(wanted) - len(seen))
+            judge_quietly(f"the blocks of the first {end} bytes", seen == wanted)
+        given.close()
+        judge(f"{len(ends)} packets, each at once", export.wait(10) == 0 and shown.read() == b"")
 
 
 def test_programs_that_read_captures_take_an_export(work: Path, three: Path) -> None:

@@ -14,6 +14,7 @@ from bpfrec_host.info.facts_file import facts_beside
 from bpfrec_host.program import Audit
 from expected_facts import (
     BEFORE_1970,
+    ODD_VALUES,
     TAI_37,
     THREE_ORIGINS,
     UNKNOWN_SCALE,
@@ -132,10 +133,43 @@ def test_json_has_the_facts_too(three: Path) -> None:
         "host": "fc1\n\ud800<b>",
         "origin_count": 3,
         "origins": [{**object_of(*it), "set_by": it[2], "scale": "UTC", "tai_offset": None} for it in THREE_ORIGINS],
+        "clock": {},
         "losses": {"dropped": 1_120, "missed": 0, "skipped": 3},
+        "marks": [],
     }
     times = [found["channels"]["1"][it] for it in ("first_time", "last_time")]
     judge("the same in JSON", found["facts"] == wanted and times == ["2025-12-01T11:00:00.2500033Z"] * 2, found)
+
+
+def test_the_clock_at_the_beginning_and_the_end_is_there(work: Path, three: Path) -> None:
+    """As a text, in JSON and on the page; of odd values nothing is said."""
+    recording, facts = work / "c.ch11", facts_of_run(THREE_ORIGINS)
+    recording.write_bytes(three.read_bytes())
+    kernel = {"is_synchronised": True, "maximum_error": "0.000500"}
+    begin = {"kernel": kernel, "chrony": {"reference": "192.0.2.1", "state": "Normal"}, "ptp": None}
+    facts["synchronisation"] = {"begin": begin, "end": {"kernel": {**kernel, "is_synchronised": False}}}
+    Path(f"{recording}.json").write_text(json.dumps(facts))
+    rows = {
+        "clock at the beginning": "synchronised by chrony (192.0.2.1), off by at most 0.000500 s",
+        "clock at the end": "not synchronised",
+    }
+    told = run(INFO, recording)
+    judge("as a text", all(f"{name:<26} {value}\n" in told for name, value in rows.items()), told)
+    wanted = {
+        "begin": {"is_synchronised": True, "maximum_error": 0.0005, "source": "chrony (192.0.2.1)"},
+        "end": {"is_synchronised": False, "maximum_error": 0.0005, "source": None},
+    }
+    judge("in JSON", json_of(recording)["facts"]["clock"] == wanted, json_of(recording)["facts"])
+    page = work / "c.html"
+    run(INFO, "--html", page, recording)
+    judge("on the page", all(it in page.read_text() for it in rows.values()))
+    for value in ODD_VALUES:
+        for odd in (value, {"begin": value}, {"begin": {"kernel": value, "chrony": value, "ptp": value}}):
+            facts["synchronisation"] = odd
+            Path(f"{recording}.json").write_text(json.dumps(facts))
+            known = present(facts_beside(str(recording))).clocks().get("begin")
+            judge_quietly(f"{odd}: {known}", known is None or known.is_synchronised is None and known.source is None)
+    judge("odd values say nothing", True)
 
 
 def test_the_page_says_that_times_are_utc(three: Path) -> None:

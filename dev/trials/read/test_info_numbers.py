@@ -55,6 +55,7 @@ def expected_channel(channel: Channel) -> dict[str, Any]:
     known, gaps = channel.counters(), channel.gaps()
     most, seconds = greatest_rate(known)
     return {
+        "name": None,
         "frames": len(known),
         "bytes": sum(length for _, _, length in channel.frames),
         "offered": channel.end[0] if channel.end else None,
@@ -87,6 +88,7 @@ def expected_object(made: DrawnRecording, audit: str) -> dict[str, Any]:
         missing[str(channel)] += count
     return {
         "facts": None,
+        "whole_file": None,
         "bytes": len(made.data),
         "packets": {kind: made.kinds[kind] for kind in ("frames", "program", "end", "other")},
         "missing_sequence_numbers": dict(missing),

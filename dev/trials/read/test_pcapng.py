@@ -301,7 +301,7 @@ def test_what_cannot_be_made_is_refused(work: Path, three: Path) -> None:
             1,
             "no facts beside it, so times are seconds since counter 0, as 12.5",
         ),
-        (["--from", "noon", out, plain], 2, "noon is no time, as 12.5 or 2025-12-01T12:00:00.25Z"),
+        (["--from", "noon", out, plain], 2, "noon is no time, as 12.5, 23:36:10 or 2025-12-01T12:00:00.25Z"),
         (["--channel", "7", out, plain], 1, f"pcapng: {plain}: no channel 7"),
         (["--channel", "70000", out, plain], 2, "70000 is no channel ID"),
         ([out, work / "fifo"], 1, f"pcapng: {work}/fifo: it is no regular file, of which parts could be read"),

@@ -206,7 +206,7 @@ def test_an_interface_that_is_not_known_is_refused(work: Path, has_facts: bool) 
 
 def test_a_time_of_day_is_refused_with_what_a_time_is(work: Path) -> None:
     done = outcome(PCAPNG, "--from", "23:36", work / "out.pcapng", work / "one.ch11")
-    told = "23:36 is no time, as 12.5 or 2025-12-01T12:00:00.25Z: seconds since counter 0, or UTC with its date"
+    told = "23:36 is no time, as 12.5, 23:36:10 or 2025-12-01T12:00:00.25Z: seconds since counter 0, or UTC with or without its date"
     judge("refused", done.returncode == 2 and told in done.stderr, done)
 
 

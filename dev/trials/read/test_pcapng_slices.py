@@ -44,8 +44,13 @@ def utc(moment: int) -> str:
     return f"{run('date', '-u', '-d', f'@{seconds}', '+%Y-%m-%dT%H:%M:%S').strip()}.{rest:09}Z"
 
 
+def of_day(moment: int) -> str:
+    return utc(moment)[11:-1]
+
+
 def test_a_slice_has_the_frames_of_its_times_and_channels(work: Path, three: Path) -> None:
-    """A slice has the frames whose times are in it, by seconds since counter 0 and by UTC, of some channels or all."""
+    """A slice has the frames whose times are in it, by seconds since counter 0 and by UTC, with its date and by the
+    recording's day, of some channels or all."""
     draw, feeds = random.Random(SEED), feeds_of(work, three)
     origins = [("1764590400.250000000", 0, None), ("1764586800.250000123", 40_000_000, "-3600.0")]
     origins[1] = (*origins[1][:2], "-3599.999999877")
@@ -55,14 +60,14 @@ def test_a_slice_has_the_frames_of_its_times_and_channels(work: Path, three: Pat
     for turn in range(SLICES):
         chosen = sorted(draw.sample([1, 2, 3], draw.randint(1, 3)))
         picked = [draw.choice(feeds[draw.choice(chosen)]).counter for _ in range(2)]
-        is_utc = turn % 2 == 0
+        text = (utc, in_seconds, of_day)[turn % 3]
+        is_utc = text is not in_seconds
 
         def moment_of(counter: int, is_utc: bool = is_utc) -> int:
             return moments_by(origins, [counter])[0] if is_utc else counter * 100
 
         begin, end = sorted(map(moment_of, picked))
         end += draw.choice([0, 1])
-        text = utc if is_utc else in_seconds
         words = [word for it in chosen for word in ("--channel", it)]
         seen = seen_in(made(work, "--from", text(begin), "--to", text(end), *words, recording))
         wanted = [
@@ -108,6 +113,32 @@ def test_a_scale_that_nobody_knows_is_said_and_no_utc_is_taken(work: Path) -> No
     judge("UTC is refused", (done.returncode, done.stderr) == (1, line + why), done)
     seen = seen_in(made(work, "--from", "0.0000021", recording))
     judge("seconds are not", [it.moment for it in seen] == [noon + 3_000])
+
+
+def test_a_slice_by_times_of_day_goes_over_midnight_and_over_recordings(work: Path) -> None:
+    """23:59:59 and 00:00:01 are those around the first midnight of two recordings that follow one another."""
+    origins = [("1764633598.000000000", 0, None)]  # 23:59:58
+    one = frames_at(work / "one.ch11", [5_000_000, 15_000_000, 25_000_000], origins)
+    two = frames_at(work / "two.ch11", [35_000_000, 45_000_000], origins)
+    for recording, begun in ((one, "2025-12-01T23:59:58Z"), (two, "2025-12-02T00:00:01Z")):
+        facts = json.loads(Path(f"{recording}.json").read_text())
+        Path(f"{recording}.json").write_text(json.dumps({**facts, "begun": begun}))
+    table: dict[tuple, list[int]] = {
+        ("--from", "23:59:59", "--to", "00:00:02"): [15_000_000, 25_000_000, 35_000_000],
+        ("--from", "23:59:59.5"): [15_000_000, 25_000_000, 35_000_000, 45_000_000],
+        ("--from", "23:59:59.500000001"): [25_000_000, 35_000_000, 45_000_000],
+        ("--to", "00:00:01"): [5_000_000, 15_000_000, 25_000_000],
+        ("--from", "23:59:57"): [],
+        ("--from", "3.6", "--to", "00:00:03"): [45_000_000],
+    }
+    for words, wanted in table.items():
+        run(PCAPNG, "--force", *words, work / "both.pcapng", two, one)
+        seen = [it.moment for it in seen_in(work / "both.pcapng")]
+        judge_quietly(f"{words}: {seen}", seen == moments_by(origins, wanted))
+    Path(f"{two}.json").unlink()
+    done = outcome(PCAPNG, "--force", "--from", "23:59:59", work / "refused.pcapng", two)
+    why = f"pcapng: {two}: no facts beside it, so times are seconds since counter 0, as 12.5\n"
+    judge("without facts it is refused by its name", (done.returncode, done.stderr) == (1, why), done)
 
 
 def test_a_slice_at_a_shared_counter_has_the_frames_of_both_packets(work: Path) -> None:

@@ -18,7 +18,7 @@ WANTED = {"bin/bpfrec": "make build", "cc": "gcc"}
 SAMPLE = RECORDINGS / "two_versions.ch11"
 FRAMES = 100
 # Those that lock OUT, and those that do not.
-LOCKING = ("record", "extract", "upgrade", "extract_of_input", "upgrade_of_input")
+LOCKING = ("record", "extract", "upgrade", "extract_of_input", "upgrade_of_input", "chapter11")
 TOOLS = ("salvage", "pcapng", "from-pcap", "to-pcap", "make")
 # How a file is opened that is written and not emptied, and how it is locked: alone, and without waiting.
 TO_WRITE, AT_ONCE = 1, 6
@@ -51,12 +51,14 @@ def commands(work: Path) -> dict[str, Command]:
     """Each command and tool that writes a file."""
     feed = make_feed(work / "own.feed", FRAMES)
     run(CONVERT, "to-pcap", feed, work / "own.pcap")
+    (work / "setup.toml").write_text('origin = "1764590400"\n')
     return {
         "record": Command([BPFREC, "record", write_settings(work, ["own.feed"], ["all"]), OUT]),
         "extract": Command([BPFREC, "extract", SAMPLE, "1", OUT]),
         "upgrade": Command([BPFREC, "upgrade", SAMPLE, OUT]),
         "extract_of_input": Command([BPFREC, "extract", "-", "1", OUT], SAMPLE),
         "upgrade_of_input": Command([BPFREC, "upgrade", "-", OUT], SAMPLE),
+        "chapter11": Command([BPFREC, "chapter11", SAMPLE, work / "setup.toml", OUT]),
         "salvage": Command([SALVAGE, "--force", SAMPLE, OUT]),
         "pcapng": Command([PCAPNG, "--force", OUT, SAMPLE]),
         "from-pcap": Command([CONVERT, "from-pcap", "--force", work / "own.pcap", OUT]),
@@ -136,6 +138,8 @@ def test_tools_force_out_to_its_disk_before_the_report(work: Path, seen_calls: P
     ("upgrade", "sample"),
     ("extract_of_input", "sample"),
     ("upgrade_of_input", "sample"),
+    ("chapter11", "sample"),
+    ("chapter11", "setup.toml"),
 ])  # fmt: skip
 def test_an_out_that_becomes_an_input_is_refused_and_kept(work: Path, seen_calls: Path, name: str, source: str) -> None:
     """An OUT that becomes an input between two looks at its name is refused, and keeps its bytes."""

@@ -33,10 +33,11 @@ from support import (
 )
 
 WANTED = {"bin/bpfrec": "make build"}
-CHECK_CH10, FOLLOW = ROOT / "host/bin/check_ch10", ROOT / "host/bin/follow"
+CHAPTER11, CHECK_CH10, FOLLOW = (ROOT / "host/bin" / name for name in ("chapter11", "check_ch10", "follow"))
 FULL, CLOSED = "No space left on device", "Bad file descriptor"
 # Those that print, and those that wait for a pipe; all but convert end at a fault of a file with status 3.
 PRINTING = (
+    "chapter11",
     "check_sums",
     "check_ch10",
     "info",
@@ -64,6 +65,7 @@ def words_of(work: Path, tool: str, given: Path | None = None) -> list:
     run(CONVERT, "to-pcap", "--force", feed, work / "own.pcap")
     recording, out = given or SAMPLES[1], work / "out"
     words: dict[str, list[object]] = {
+        "chapter11": [CHAPTER11, "--print-setup", "--origin", "0", recording],
         "check_sums": [CHECK_SUMS, recording],
         "check_ch10": [CHECK_CH10, recording],
         "info": [INFO, recording],
@@ -178,7 +180,7 @@ def least() -> int:
 
 
 @pytest.mark.parametrize(
-    "tool", ["check_sums", "follow", "info", "pcapng", "salvage", "from-pcap", "preflight", "live"]
+    "tool", ["chapter11", "check_sums", "follow", "info", "pcapng", "salvage", "from-pcap", "preflight", "live"]
 )
 def test_a_tool_with_little_memory_works_or_says_so(work: Path, least: int, tool: str) -> None:
     """In each of some sizes of memory a tool does what it does in a larger one, or says that there is none."""

@@ -113,6 +113,15 @@ def test_what_may_be_lost_is_noted(folder: Path) -> None:
     judge_lines("notes", done.stdout.splitlines(), wanted)
 
 
+def test_reserved_speeds_are_noted(folder: Path) -> None:
+    """Those above 4, to which Chapter 11 gives no meaning."""
+    reserved = "s.toml:5: channel 1: note: speed {} is reserved in Chapter 11, so a ground station may not take it"
+    for speed in (0, 4, 5, 15):
+        (folder / "s.toml").write_text(GOOD + f"speed = {speed}\n")
+        lines = preflight(folder, "s.toml").stdout.splitlines()
+        judge(f"speed {speed}", (reserved.format(speed) in lines) == (speed > 4), lines)
+
+
 def available() -> int:
     """How many bytes of memory the kernel says are available."""
     found = re.search(r"^MemAvailable:\s*(\d+) kB$", Path("/proc/meminfo").read_text(), re.MULTILINE)

@@ -9,6 +9,7 @@ from typing import Callable, Optional
 
 from bpfrec_host import printing
 from bpfrec_host.formats.limits import NANOSECONDS_A_SECOND, NANOSECONDS_A_TICK
+from bpfrec_host.formats.time_of_day import time_of_day
 from bpfrec_host.streams import STREAM, Input, Refused, Unreadable, identity
 
 MOMENT = re.compile(
@@ -23,6 +24,9 @@ def moment_of(word: str) -> int:
     if word == "now":
         now = time.time_ns()
         return now - now % NANOSECONDS_A_TICK
+    if time_of_day(word) is not None:
+        why = "has no date, and no facts give one here"
+        raise argparse.ArgumentTypeError(f"{word} {why}: it takes that too, as 2025-12-01T{word}Z")
     found = MOMENT.match(word)
     if not found or bool(found[2]) != bool(found[4]):
         raise argparse.ArgumentTypeError(f"{word} is no time")

@@ -24,8 +24,9 @@ the recordings of a run that follow one another, until the run ends:
 
 RECORDING is a recording, or the name of a run whose recordings are numbered; then it begins with the newest. Each
 channel is an interface with the name that the facts beside the recording have for it, and times are those of the facts.
-Comments have the filter of each channel, and at the first frame after a change the new one. Frames of a channel stand
-in their order; those of channels stand as the packets were written.
+Comments have the filter of each channel, and at the first frame after a change the new one. A mark is a comment of the
+next frame that is shown; one that no frame follows is a comment of a section at the end, and a line on standard error.
+Frames of a channel stand in their order; those of channels stand as the packets were written.
 """
 MORE = """\
 At the end it prints `frames <n> skipped <m>` on standard error: m frames have another content, or fewer than 18 bytes,
@@ -70,7 +71,8 @@ def follow(path: str, begins_now: bool, view: View) -> bool:
     while next_path:
         recording = Recording(next_path, view, tell_fault)
         try:
-            recording.hidden_to = recording.size() if begins_now else 0
+            if begins_now:
+                recording.hide()
             next_path, begins_now = follow_one(recording), False
         finally:
             recording.close()
@@ -89,6 +91,7 @@ def follow_one(recording: Recording) -> Optional[str]:
 
 def show_more(recording: Recording) -> None:
     """Shows what has come, or waits a little."""
+    recording.view.look_back()
     if recording.read_on():
         recording.view.out.flush()
     else:
@@ -129,8 +132,11 @@ def run(arguments: list[str]) -> int:
         with open(1, "wb", BUFFER_LEN, closefd=False) as out:
             view = View(out, given.channel or [])
             is_damaged = follow(path, given.now, view)
+            left = view.end()
     except OSError as error:
         error.filename = error.filename or STREAM
         raise
+    for mark in left:
+        tell_fault(f"no frame follows {mark}")
     printing.err(f"frames {view.frames} skipped {view.skipped}")
     return 1 if is_damaged else 0

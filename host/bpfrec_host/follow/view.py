@@ -21,6 +21,7 @@ from bpfrec_host.formats.limits import (
     MIN_FRAME_LEN,
     NANOSECONDS_A_TICK,
 )
+from bpfrec_host.formats.marks import Mark
 from bpfrec_host.live.names import facts_path
 from bpfrec_host.pcapng.index import body_of
 from bpfrec_host.pcapng.merging import program_text
@@ -53,7 +54,12 @@ class View:
         self.interfaces: dict[int, Interface] = {}
         self.texts = Texts()
         self.frames = self.skipped = 0
+        # Texts of marks that wait for the next frame, and recordings before whose facts may still get some.
+        self.marks: list[str] = []
+        self.ending: list[Recording] = []
         out.write(pcapng_blocks.section(PROGRAM, []))
+        # Its reader begins with that, however long the first frame takes.
+        out.flush()
 
     def shows(self, channel: int) -> bool:
         """Whether a channel was asked for."""
@@ -78,14 +84,29 @@ class View:
         return found
 
     def frame(self, interface: Interface, moment: int, marks: int, frame: bytes) -> None:
-        """A frame, with a comment where the filter has changed since the one before."""
+        """A frame, with a comment where a mark waits or the filter has changed since the one before."""
         options = b""
-        if marks or interface.waiting:
+        if marks or interface.waiting or self.marks:
             said, interface.waiting = interface.waiting, []
             interface.said = said[-1] if said else interface.said
-            options = pcapng_blocks.packet_options(marks, program_text(said, self.texts) if said else None)
+            texts, self.marks = [*self.marks, *([program_text(said, self.texts)] if said else [])], []
+            options = pcapng_blocks.packet_options(marks, "\n".join(texts) if texts else None)
         self.out.write(pcapng_blocks.packet(interface.number, moment, frame, options))
         self.frames += 1
+
+    def look_back(self) -> None:
+        """Takes marks of recordings before, whose last facts come once they are audited."""
+        for recording in self.ending:
+            recording.look_at_facts()
+            recording.show_marks(MAX_COUNTER)
+        self.ending = [it for it in self.ending if it.known and not it.known.has_ended]
+
+    def end(self) -> list[str]:
+        """The run has ended: marks that no frame follows, which are the comments of a section of their own too."""
+        self.look_back()
+        if self.marks:
+            self.out.write(pcapng_blocks.section(PROGRAM, self.marks))
+        return self.marks
 
 
 class Recording:
@@ -103,6 +124,8 @@ class Recording:
         self.hidden_to = 0
         self.has_shown_frames = False
         self.is_damaged = False
+        # How many of its marks were shown, or were there already where they are left out.
+        self.marks_shown = 0
 
     def close(self) -> None:
         """Closes the file."""
@@ -135,6 +158,25 @@ class Recording:
             self.follower.end()
             while self.read_on():
                 pass
+        self.view.ending.append(self)
+        self.view.look_back()
+
+    def hide(self) -> None:
+        """Leaves out the frames and marks that are there already."""
+        self.hidden_to = self.size()
+        self.look_at_facts()
+        self.marks_shown = len(self.marks())
+
+    def marks(self) -> list[Mark]:
+        """Its marks so far."""
+        return self.known.facts.marks if self.known else []
+
+    def show_marks(self, counter: int) -> None:
+        """Has the marks shown that came before a frame or with it."""
+        marks = self.marks()
+        while self.known and self.marks_shown < len(marks) and marks[self.marks_shown].counter <= counter:
+            self.view.marks.append(self.known.facts.mark_text(marks[self.marks_shown]))
+            self.marks_shown += 1
 
     def look_at_facts(self) -> None:
         """Reads the facts where they are new."""
@@ -175,6 +217,7 @@ class Recording:
             self.report_scale()
             interface = self.view.interface(header.channel, self.name(header.channel))
             for counter, marks, frame in self.frames_in(packet[HEADER_LEN : HEADER_LEN + header.data_len]):
+                self.show_marks(counter)
                 self.view.frame(interface, self.moment_of(counter), marks, frame)
 
     def frames_in(self, data: bytes) -> Iterator[tuple[int, int, bytes]]:

@@ -21,8 +21,10 @@ from bpfrec_host.formats.limits import (
     NANOSECONDS_A_SECOND,
     NANOSECONDS_A_TICK,
 )
+from bpfrec_host.formats.marks import Mark, marks_in
 
 SECONDS = re.compile(r"(-?)([0-9]{1,12})\.([0-9]{9})")
+BEGUN = re.compile(r"([0-9]{4}-[0-9]{2}-[0-9]{2}T[0-9]{2}:[0-9]{2}:[0-9]{2})Z")
 # Of origins: the years 1 to 9998, so that each counter's time has a year of four digits.
 FIRST_MOMENT, END_MOMENT = (it * NANOSECONDS_A_SECOND for it in (-62_135_596_800, 253_370_764_800))
 EPOCH = datetime(1970, 1, 1)
@@ -54,7 +56,7 @@ class Origin(NamedTuple):
 
 
 class Facts:
-    """What the facts say of times and losses."""
+    """What the facts say of times, losses and marks."""
 
     def __init__(self, told: Any) -> None:
         if not isinstance(told, dict) or not is_number(told.get("facts"), 1, 1):
@@ -63,9 +65,15 @@ class Facts:
         if not isinstance(host, str) or len(host) > MAX_HOST_LEN:
             raise NoFacts(f"host is no text of at most {MAX_HOST_LEN} characters")
         self.host = host
+        # The recorder and its version. Nothing stands on it, so of another form it is left out.
+        self.program = text_in(told.get("program"))
         self.origins = origins_in(told.get("origins"))
         self.losses = losses_in(told.get("losses"))
         self.interfaces = interfaces_in(told.get("interfaces"))
+        self.marks = marks_in(told.get("marks"))
+        self.begun = begun_in(told.get("begun"))
+        # What is said of the clock at the beginning and at the end, which `clock_state` judges.
+        self.synchronisation: Any = told.get("synchronisation")
         self.holding = holding(self.origins)
         self.counters = [it.counter for it in self.holding]
 
@@ -79,6 +87,26 @@ class Facts:
         origin's scale; None where there is no origin."""
         origin = self.origin_at(counter)
         return None if origin is None else origin.moment + counter * NANOSECONDS_A_TICK
+
+    def time_of(self, counter: int) -> Optional[str]:
+        """The time of a counter, as people read it; None where it isn't known."""
+        origin, moment = self.origin_at(counter), self.moment_of(counter)
+        return None if origin is None or moment is None else in_scale(tick_of(moment), origin.scale)
+
+    def mark_text(self, mark: Mark) -> str:
+        """A mark with its time, as a comment of a capture."""
+        return f"mark {self.time_of(mark.counter) or 'time unknown'}: {mark.text}"
+
+    def beginning(self) -> Optional[int]:
+        """The moment at which the recording began, in nanoseconds since 1970, by the clock as it was set last; None
+        where the facts don't say it."""
+        if self.begun is None:
+            return None
+        ends = [*self.counters[1:], MAX_COUNTER + 1]
+        counters = [(self.begun - it.moment) // NANOSECONDS_A_TICK for it in self.holding]
+        # The first origin by which that was before the next held.
+        counter = next((it for it, end in zip(counters, ends) if it < end), counters[-1])
+        return self.holding[-1].moment + counter * NANOSECONDS_A_TICK
 
     def are_all_utc(self) -> bool:
         """Whether all moments are UTC, since the scale of each origin that holds is known."""
@@ -151,6 +179,11 @@ def holding(origins: list[Origin]) -> list[Origin]:
     return found
 
 
+def text_in(told: Any) -> str:
+    """A short text; an empty one where a value is something else."""
+    return told if isinstance(told, str) and len(told) <= MAX_HOST_LEN else ""
+
+
 def interfaces_in(told: Any) -> dict[int, str]:
     """The names of interfaces by their channels. Nothing stands on them, so what has another form is left out."""
     found: dict[int, str] = {}
@@ -159,6 +192,17 @@ def interfaces_in(told: Any) -> dict[int, str]:
         if isinstance(name, str) and is_number(channel, 1, MAX_CHANNEL_ID):
             found[int(channel or 0)] = name
     return found
+
+
+def begun_in(told: Any) -> Optional[int]:
+    """The moment at which a recording began, in nanoseconds since 1970. Few ask for it, so of another form it is
+    left out."""
+    found = BEGUN.fullmatch(told) if isinstance(told, str) else None
+    try:
+        moment = datetime.fromisoformat(found[1]) if found else None
+    except ValueError:
+        return None
+    return None if moment is None else (moment - EPOCH) // timedelta(seconds=1) * NANOSECONDS_A_SECOND
 
 
 def losses_in(told: Any) -> dict[str, int]:
@@ -223,3 +267,13 @@ def utc_of(moment: int) -> str:
 def tick_of(moment: int) -> str:
     """A moment as UTC, to the tick of 100 ns, rounded down."""
     return utc_of(moment)[:-3] + "Z"
+
+
+def in_scale(time: str, scale: Optional[str]) -> str:
+    """A time, which ends in Z where it is UTC; where nobody knows its scale it says so."""
+    return time if scale else f"{time.rstrip('Z')} (scale unknown)"
+
+
+def on_a_line(given: str) -> str:
+    """A text that another wrote, with a question mark for what isn't to be seen on a line."""
+    return "".join(it if it.isprintable() else "?" for it in given)

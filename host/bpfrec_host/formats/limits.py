@@ -95,6 +95,8 @@ NANOSECONDS_A_SECOND = 1_000_000_000
 NANOSECONDS_A_TICK = 100
 TICKS_A_SECOND = NANOSECONDS_A_SECOND // NANOSECONDS_A_TICK
 MIN_CHANNELS, MAX_CHANNEL_ID, MAX_BYTE = 1, 65_535, 255
+# The greatest Ethernet speed that has a meaning in IRIG 106-17 Chapter 11; the others are reserved.
+MAX_KNOWN_SPEED = 4
 
 
 class Range(NamedTuple):
@@ -126,5 +128,7 @@ CHANNEL_KEYS = {
 MAX_FACTS_MIB, MAX_HOST_LEN, COUNT_BITS = 64, 255, 63
 MAX_FACTS_LEN = MAX_FACTS_MIB << 20
 MAX_COUNT = (1 << COUNT_BITS) - 1
+# Marks of a recording, and the characters of each.
+MAX_NOTED_MARKS, MAX_MARK_LEN = 1_024, 255
 # What Linux takes (MAX_TAI_OFFSET of its timekeeping), in seconds.
 MAX_TAI_OFFSET = 100_000

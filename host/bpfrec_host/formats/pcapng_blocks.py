@@ -55,6 +55,18 @@ def comments(texts: Iterable[str]) -> bytes:
     return b"".join(text_option(OPTION_COMMENT, it) for it in texts)
 
 
+def packed(lines: Iterable[str]) -> list[str]:
+    """Lines as few texts, none of which is longer than an option: some programs show the first comment alone."""
+    found: list[str] = []
+    for line in lines:
+        both = f"{found[-1]}\n{line}" if found else line
+        if found and len(both.encode(errors="replace")) <= MAX_OPTION_LEN:
+            found[-1] = both
+        else:
+            found.append(line)
+    return found
+
+
 def block(kind: int, body: bytes) -> bytes:
     """A block, of a body whose length is a multiple of 4."""
     length = BLOCK_HEAD_LEN + len(body) + BLOCK_TAIL_LEN

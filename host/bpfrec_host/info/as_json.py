@@ -5,16 +5,19 @@ from __future__ import annotations
 from typing import Any, Optional
 
 from bpfrec_host.formats.facts import TAI, Origin
-from bpfrec_host.info.contents import KINDS, MOST_PLACES, Channel, Recording
+from bpfrec_host.formats.marks import Mark
+from bpfrec_host.info.contents import MOST_PLACES, Channel, Recording
 from bpfrec_host.info.facts_file import FactsFile, utc_at
+from bpfrec_host.info.names import utc_time
 
 
 def object_of(recording: Recording, audit: Optional[str], beside: Optional[FactsFile] = None) -> dict[str, Any]:
     """All that is known of a recording; `audit` is what the audit answered."""
     return {
         "facts": beside and beside_object(beside),
+        "whole_file": recording.whole and recording.whole.as_object(),
         "bytes": recording.bytes,
-        "packets": {kind: recording.kinds[kind] for kind in KINDS.values()},
+        "packets": {kind: recording.kinds[kind] for kind in recording.packet_kinds()},
         "missing_sequence_numbers": dict(sorted(recording.missing.items())),
         "gap_count": recording.gap_count,
         "gaps": [
@@ -36,7 +39,9 @@ def beside_object(beside: FactsFile) -> dict[str, Any]:
         "host": beside.known.host,
         "origin_count": len(origins),
         "origins": [origin_object(it) for it in origins[:MOST_PLACES]],
+        "clock": {moment: state._asdict() for moment, state in beside.clocks().items()},
         "losses": beside.known.losses,
+        "marks": [mark_object(it, beside) for it in beside.known.marks],
     }
 
 
@@ -51,18 +56,24 @@ def origin_object(origin: Origin) -> dict[str, Any]:
     }
 
 
+def mark_object(mark: Mark, beside: FactsFile) -> dict[str, Any]:
+    """A mark of the facts, with its time by them."""
+    return {"counter": mark.counter, "time": utc_at(mark.counter, beside), "text": mark.text}
+
+
 def channel_object(channel: Channel, beside: Optional[FactsFile]) -> dict[str, Any]:
     """What is known of a channel."""
     first, last, least, greatest = channel.counters() or (None, None, None, None)
     return {
+        "name": channel.name or None,
         "frames": channel.frames,
         "bytes": channel.bytes,
         "offered": channel.offered(),
         "dropped_by_filter": channel.dropped(),
         "first_counter": first,
         "last_counter": last,
-        "first_time": utc_at(first, beside),
-        "last_time": utc_at(last, beside),
+        "first_time": utc_time(first, channel.first_time, beside),
+        "last_time": utc_time(last, channel.last_time, beside),
         "least_counter": least,
         "greatest_counter": greatest,
         "time": channel.span(),

@@ -29,11 +29,16 @@ frames, counters that step back, and frames with error flags. The end record has
 filter. For the whole: packets by kind, gaps in sequence numbers, places that can't be read, wrong checksums among them,
 and what `bpfrec audit` answers. Packets behind a damaged place are counted too (salvage copies them).
 
-If the facts of the recording are beside it, as RECORDING.json, it prints from them the host, each origin (the moment
-of counter 0) with the counter from which on it is right, and the frames that were lost. For each channel it prints
-the times of its first and last frame. These times are UTC: if an adapter's clock ran atomic time (TAI), they are less
-by the seconds that it is ahead. Where nobody knows how the clock ran, `scale unknown` stands behind its times. The time
-between two frames is that of their counters.
+If the facts of the recording are beside it, as RECORDING.json, it prints from them the host, and each origin (the
+moment of counter 0) with the counter from which on it is right. It prints the marks, the frames that were lost, and
+whether the host's clock was synchronised at the beginning and at the end, and for each channel the times of its first
+and last frame. These times are UTC: if an adapter's clock ran atomic time (TAI), they are less by the seconds that it
+is ahead. Where nobody knows how the clock ran, `scale unknown` stands behind its times. The time between two frames is
+that of their counters.
+
+RECORDING may be a whole Chapter 11 file too. By its setup record it prints the host, the program, whose clock it was
+and the names of channels. By its time packets it prints the times of the first and last of these, and those of each
+channel's first and last frame in UTC, which then aren't by facts. Time packets and index packets are counted.
 """
 MORE = f"""\
 In JSON lengths of time are ticks of 100 ns, and what isn't known is null, as all that comes from facts if there are

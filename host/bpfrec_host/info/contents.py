@@ -13,6 +13,8 @@ from typing import NamedTuple, Optional, Union
 
 from bpfrec_host.formats import ch11
 from bpfrec_host.formats.limits import MAX_VERSIONS, TICKS_A_SECOND
+from bpfrec_host.formats.whole_file import begins_whole_file
+from bpfrec_host.info import whole_file
 from bpfrec_host.progress import Progress, size_of
 
 # How many damaged places, gaps in sequence numbers and origins are told one by one; and how many gaps in time.
@@ -109,7 +111,7 @@ class Channel:
     # Of a damaged recording there may be 65,535.
     __slots__ = (
         *("frames", "bytes", "marked", "steps_back", "first", "last", "least", "greatest", "rates", "times", "gaps"),
-        *("versions", "version_count", "hidden_versions", "end", "end_counter"),
+        *("versions", "version_count", "hidden_versions", "end", "end_counter", "name", "first_time", "last_time"),
     )
 
     def __init__(self) -> None:
@@ -122,6 +124,10 @@ class Channel:
         self.version_count = self.hidden_versions = 0
         self.end: Optional[ch11.End] = None
         self.end_counter = 0
+        # By a whole file: the channel's name, and the times of its first and last frame, in ticks since 1970.
+        self.name = ""
+        self.first_time: Optional[int] = None
+        self.last_time: Optional[int] = None
 
     def take(self, frames: ch11.Frames) -> None:
         """Takes the frames of a packet."""
@@ -209,6 +215,8 @@ class Recording:
         self.before: list[Optional[tuple[int, int]]] = []
         self.last_frames: Optional[tuple[int, int]] = None
         self.damage_count, self.damaged_bytes = 0, 0
+        # What it says itself of names and times, where it begins as a whole file.
+        self.whole: Optional[whole_file.WholeFile] = None
 
     def take(self, piece: Union[ch11.Packet, ch11.Damage]) -> None:
         """Takes a packet, or what stands in the place of packets."""
@@ -217,16 +225,40 @@ class Recording:
             return
         header, what = piece.header, piece.what
         self.bytes += len(piece.bytes)
-        self.kinds[KINDS[type(what)]] += 1
+        if not piece.at and begins_whole_file(piece.bytes):
+            self.whole = whole_file.WholeFile()
+        self.kinds[self.whole.take(piece) if self.whole and what is None else KINDS[type(what)]] += 1
         self.follow(piece)
         if isinstance(what, ch11.Frames):
-            self.channels[header.channel].take(what)
+            self.take_frames(header.channel, what)
             self.last_frames = header.channel, header.counter
         elif isinstance(what, ch11.Program):
-            self.channels[what.channel].take_version(what, header.counter)
+            self.channel(what.channel).take_version(what, header.counter)
         elif isinstance(what, ch11.End):
-            channel = self.channels[what.channel]
+            channel = self.channel(what.channel)
             channel.end, channel.end_counter = what, header.counter
+
+    def channel(self, number: int) -> Channel:
+        """The channel of this ID, with its name where the file has it."""
+        found = self.channels[number]
+        if self.whole:
+            found.name = self.whole.name_of(number)
+        return found
+
+    def take_frames(self, number: int, frames: ch11.Frames) -> None:
+        """Takes a packet of frames, whose times are by the last time packet ahead."""
+        channel = self.channel(number)
+        is_first = channel.first is None
+        channel.take(frames)
+        if self.whole and frames.counters:
+            channel.last_time = self.whole.time_of(frames.counters[-1])
+            if is_first:
+                channel.first_time = self.whole.time_of(frames.counters[0])
+
+    def packet_kinds(self) -> list[str]:
+        """The kinds of packets that it may have."""
+        *known, other = KINDS.values()
+        return [*known, *(whole_file.KINDS.values() if self.whole else ()), other]
 
     def follow(self, packet: ch11.Packet) -> None:
         """Compares a packet's sequence number with that of the packet before it."""

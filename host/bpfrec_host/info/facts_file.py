@@ -9,6 +9,10 @@ from typing import NamedTuple, Optional
 from bpfrec_host import printing
 from bpfrec_host.arguments import short_name
 from bpfrec_host.formats import facts
+from bpfrec_host.formats.clock_state import ClockState, state_in
+
+# The moments of which the facts say how right the clock was, with their names for people.
+MOMENTS = {"begin": "beginning", "end": "end"}
 
 
 class FactsFile(NamedTuple):
@@ -16,6 +20,12 @@ class FactsFile(NamedTuple):
 
     path: str
     known: facts.Facts
+
+    def clocks(self) -> dict[str, ClockState]:
+        """How right the clock was, at the moments of which the facts say it."""
+        told = self.known.synchronisation
+        found = told if isinstance(told, dict) else {}
+        return {moment: state_in(found[moment]) for moment in MOMENTS if isinstance(found.get(moment), dict)}
 
 
 def facts_beside(recording: str) -> Optional[FactsFile]:
@@ -35,17 +45,7 @@ def facts_beside(recording: str) -> Optional[FactsFile]:
 
 def interface_of(channel: int, beside: Optional[FactsFile]) -> str:
     """The interface that was a channel, by the facts; nothing where it isn't known."""
-    return "" if beside is None else on_a_line(beside.known.interfaces.get(channel, ""))
-
-
-def on_a_line(given: str) -> str:
-    """A text that another wrote, with a question mark for what isn't to be seen on a line."""
-    return "".join(it if it.isprintable() else "?" for it in given)
-
-
-def in_scale(time: str, scale: Optional[str]) -> str:
-    """A time, which ends in Z where it is UTC; where nobody knows its scale it says so."""
-    return time if scale else f"{time.rstrip('Z')} (scale unknown)"
+    return "" if beside is None else facts.on_a_line(beside.known.interfaces.get(channel, ""))
 
 
 def utc_at(counter: Optional[int], beside: Optional[FactsFile]) -> Optional[str]:
@@ -56,7 +56,4 @@ def utc_at(counter: Optional[int], beside: Optional[FactsFile]) -> Optional[str]
 
 def time_of(counter: Optional[int], beside: Optional[FactsFile]) -> Optional[str]:
     """The time of a counter, by the facts, as people read it; None where it isn't known."""
-    if beside is None or counter is None:
-        return None
-    origin, moment = beside.known.origin_at(counter), beside.known.moment_of(counter)
-    return None if origin is None or moment is None else in_scale(facts.tick_of(moment), origin.scale)
+    return None if beside is None or counter is None else beside.known.time_of(counter)

@@ -7,7 +7,8 @@ from typing import Iterator, Optional
 from bpfrec_host.formats import ch11
 from bpfrec_host.formats.limits import TICKS_A_SECOND
 from bpfrec_host.info.contents import Channel, Recording
-from bpfrec_host.info.facts_file import FactsFile, interface_of, time_of
+from bpfrec_host.info.facts_file import FactsFile, time_of
+from bpfrec_host.info.names import name_of
 
 HEADS = ("channel", "frames", "offered", "frames/s", "first s", "last s", "remarks")
 # What stands ahead of the remarks where facts have it.
@@ -59,7 +60,7 @@ def damage_line(damage: ch11.Damage, before: Optional[tuple[int, int]], beside: 
 
 def overview(recording: Recording, beside: Optional[FactsFile]) -> Iterator[str]:
     """The table of all channels, and the first damaged places, line by line."""
-    names = {it: interface_of(it, beside) for it in recording.channels}
+    names = {it: name_of(it, channel, beside) for it, channel in recording.channels.items()}
     # No column where there is no name.
     width = max([len(INTERFACE), *map(len, names.values())]) + 2 if any(names.values()) else 0
     heads = " ".join(f"{it:>{each}}" for it, each in zip(HEADS, WIDTHS))

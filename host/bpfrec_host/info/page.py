@@ -7,8 +7,10 @@ from typing import Collection, Iterable, Iterator, Optional
 
 from bpfrec_host import program
 from bpfrec_host.filter_texts import Texts
+from bpfrec_host.formats.facts import on_a_line
 from bpfrec_host.info.contents import Channel, Recording
-from bpfrec_host.info.facts_file import FactsFile, interface_of, on_a_line
+from bpfrec_host.info.facts_file import FactsFile
+from bpfrec_host.info.names import name_of
 from bpfrec_host.info.text import Row, number, rows_of, rows_of_whole, seconds
 from bpfrec_host.info.timeline import Axis, escaped, last_of, timeline
 
@@ -30,7 +32,7 @@ th { color: var(--soft); width: 40%; } td { font-variant-numeric: tabular-nums; 
   font-variant-numeric: tabular-nums; }
 svg { width: 100%; height: 7.5rem; display: block; }
 .bar { fill: var(--bar); } .axis { stroke: var(--line); } .gap { stroke: var(--bad); stroke-width: 5; }
-.end { stroke: var(--ink); stroke-dasharray: 4 3; } line { vector-effect: non-scaling-stroke; }
+.end { stroke: var(--ink); stroke-dasharray: 4 3; } .mark { stroke: var(--ink); stroke-width: 2; } line { vector-effect: non-scaling-stroke; }
 .strip { position: relative; height: 1.5rem; margin: .2rem 0; overflow: hidden; font-size: .85rem; }
 .strip span { position: absolute; top: 0; bottom: 0; overflow: hidden; padding-left: .2rem; min-width: 2px; }
 .even { background: var(--even); } .odd { background: var(--odd); }
@@ -45,8 +47,8 @@ pre { background: var(--box); padding: .6rem; margin: 0; overflow-x: auto; font-
   h2, h3 { break-after: avoid; } }
 """
 LEGEND = (
-    "Bars are kept frames a second, red lines times of over a second without one, the dashed line is the end; below "
-    "them the versions of the filter."
+    "Bars are kept frames a second, red lines times of over a second without one, full lines marks, the dashed line is "
+    "the end; below them the versions of the filter."
 )
 
 
@@ -77,10 +79,11 @@ def filters(channel: Channel, axis: Axis, texts: Texts) -> Iterator[str]:
 
 def section(channel_id: int, channel: Channel, axis: Axis, texts: Texts, beside: Optional[FactsFile]) -> str:
     """What the page has of a channel."""
-    bad, interface = [] if channel.end else ["end record"], interface_of(channel_id, beside)
-    title = f"Channel {channel_id}{f': {interface}' if interface else ''}"
+    bad, called = [] if channel.end else ["end record"], name_of(channel_id, channel, beside)
+    title = f"Channel {channel_id}{f': {called}' if called else ''}"
+    marks = beside.known.marks if beside else ()
     return (
-        f"<section><h2>{escaped(title)}</h2>{timeline(channel, axis)}{table(rows_of(channel, beside), bad)}"
+        f"<section><h2>{escaped(title)}</h2>{timeline(channel, axis, marks)}{table(rows_of(channel, beside), bad)}"
         f"{''.join(filters(channel, axis, texts))}</section>"
     )
 
@@ -110,6 +113,7 @@ def page_parts(
     whole = table(rows_of_whole(recording, audit, beside), bad_rows(recording, audit, beside))
     span = f"Counters {number(axis.first)} to {number(axis.last)}, {seconds(axis.last - axis.first)}, in each timeline."
     times = f" {times_text(beside)}" if beside else ""
+    times += " Times of channels are UTC, by the time packets of the file." if recording.whole else ""
     yield (
         "<!DOCTYPE html>\n<html lang=en><meta charset=utf-8>"
         '<meta name=viewport content="width=device-width, initial-scale=1">'

@@ -6,8 +6,10 @@ from typing import Iterator, Optional, Union
 
 from bpfrec_host.formats import ch11, facts
 from bpfrec_host.formats.limits import TICKS_A_SECOND
-from bpfrec_host.info.contents import KINDS, MOST_PLACES, Channel, Missing, Recording
-from bpfrec_host.info.facts_file import FactsFile, in_scale, interface_of, on_a_line, time_of
+from bpfrec_host.formats.marks import Mark
+from bpfrec_host.info.contents import MOST_PLACES, Channel, Missing, Recording
+from bpfrec_host.info.facts_file import MOMENTS, FactsFile, time_of
+from bpfrec_host.info.names import name_of, said_time
 from bpfrec_host.info.overview import overview
 from bpfrec_host.program import Audit
 
@@ -36,8 +38,13 @@ def origin_text(origin: facts.Origin) -> str:
         *([f"the clock was set by {origin.set_by} s"] if origin.set_by else []),
         *([f"the clock ran TAI, {origin.tai_offset} s ahead"] if origin.scale == facts.TAI else []),
     ]
-    moment = in_scale(facts.utc_of(origin.moment), origin.scale)
+    moment = facts.in_scale(facts.utc_of(origin.moment), origin.scale)
     return f"{moment} from counter {number(origin.counter)} on{': ' if remarks else ''}{', '.join(remarks)}"
+
+
+def mark_text(mark: Mark, beside: FactsFile) -> str:
+    """The time of a mark, its counter, and its text."""
+    return f"{time_of(mark.counter, beside) or 'time unknown'} counter {number(mark.counter)}: {facts.on_a_line(mark.text)}"
 
 
 def rows_of(channel: Channel, beside: Optional[FactsFile]) -> list[Row]:
@@ -62,12 +69,12 @@ def rows_of(channel: Channel, beside: Optional[FactsFile]) -> list[Row]:
 
 
 def counter_rows(channel: Channel, beside: Optional[FactsFile]) -> Iterator[Row]:
-    """The first and the last counter of a channel, with their times where there are facts."""
+    """The first and the last counter of a channel, with their times where a whole file or facts have them."""
     first, last, least, greatest = channel.counters() or (None, None, None, None)
-    for name, counter in (("first", first), ("last", last)):
+    for name, counter, ticks in (("first", first, channel.first_time), ("last", last, channel.last_time)):
         yield f"{name} counter", number(counter)
-        if beside:
-            yield f"{name} time", time_of(counter, beside) or "unknown"
+        if beside or ticks is not None:
+            yield f"{name} time", said_time(counter, ticks, beside) or "unknown"
     if channel.steps_back:
         yield "least, greatest counter", f"{number(least)}, {number(greatest)}"
 
@@ -76,12 +83,18 @@ def beside_rows(beside: FactsFile) -> Iterator[Row]:
     """What the facts beside a recording say."""
     origins = beside.known.origins
     lost = [f"{number(count)} {name}" for name, count in beside.known.losses.items() if count]
-    yield "facts", on_a_line(beside.path)
-    yield "host", on_a_line(beside.known.host)
+    yield "facts", facts.on_a_line(beside.path)
+    yield "host", facts.on_a_line(beside.known.host)
     for origin in origins[:MOST_PLACES]:
         yield "origin", origin_text(origin)
     if len(origins) > MOST_PLACES:
         yield "origin", f"and {number(len(origins) - MOST_PLACES)} more"
+    for moment, state in beside.clocks().items():
+        yield f"clock at the {MOMENTS[moment]}", state.text()
+    for mark in beside.known.marks[:MOST_PLACES]:
+        yield "mark", mark_text(mark, beside)
+    if len(beside.known.marks) > MOST_PLACES:
+        yield "mark", f"and {number(len(beside.known.marks) - MOST_PLACES)} more"
     yield "frames lost", ", ".join(lost) or "none"
 
 
@@ -105,10 +118,11 @@ def rows_of_whole(recording: Recording, audit: Audit, beside: Optional[FactsFile
     """What is known of a recording on the whole."""
     return [
         ("bytes", number(recording.bytes)),
-        *((f"packets: {kind}", number(recording.kinds[kind])) for kind in KINDS.values()),
+        *((f"packets: {kind}", number(recording.kinds[kind])) for kind in recording.packet_kinds()),
         ("missing sequence numbers", listed([place_of(it) for it in recording.gaps], recording.gap_count)),
         ("damaged places", listed([damage_of(it) for it in recording.damages], recording.damage_count)),
         ("audit", str(audit)),
+        *(recording.whole.rows() if recording.whole else []),
         *(beside_rows(beside) if beside else []),
     ]
 
@@ -119,8 +133,8 @@ def channel_lines(channel_id: int, channel: Channel, beside: Optional[FactsFile]
         (f"version {it.name()}", f"from frame {number(it.first)}, counter {number(it.counter)}")
         for it in channel.versions
     ]
-    interface = interface_of(channel_id, beside)
-    yield f"\nchannel {channel_id}{f': {interface}' if interface else ''}\n"
+    called = name_of(channel_id, channel, beside)
+    yield f"\nchannel {channel_id}{f': {called}' if called else ''}\n"
     for name, value in rows_of(channel, beside) + versions:
         yield f"  {name:<26} {value}\n"
 

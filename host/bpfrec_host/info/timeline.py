@@ -6,6 +6,7 @@ import html
 from typing import Iterable, Iterator, Mapping
 
 from bpfrec_host.formats.limits import TICKS_A_SECOND
+from bpfrec_host.formats.marks import Mark
 from bpfrec_host.info.contents import FINEST, Channel
 from bpfrec_host.info.text import number, seconds
 
@@ -68,6 +69,17 @@ def bars(counts: Mapping[int, int], axis: Axis) -> Iterator[str]:
         )
 
 
+def mark_lines(marks: Iterable[Mark], axis: Axis) -> Iterator[str]:
+    """Where marks stand that the timeline reaches."""
+    for mark in marks:
+        if axis.begin <= mark.counter <= axis.begin + axis.span:
+            at = min(axis.at(mark.counter), WIDTH - 1)
+            yield (
+                f'<line class=mark x1="{at:.2f}" y1="0" x2="{at:.2f}" y2="{HEIGHT}"><title>{escaped(mark.text)}</title>'
+                "</line>"
+            )
+
+
 def lines(channel: Channel, axis: Axis) -> Iterator[str]:
     """The axis, the gaps of over a second, and the end."""
     yield f'<line class=axis x1="0" y1="{HEIGHT}" x2="{WIDTH}" y2="{HEIGHT}"/>'
@@ -97,7 +109,7 @@ def strip(channel: Channel, axis: Axis) -> Iterator[str]:
         )
 
 
-def timeline(channel: Channel, axis: Axis) -> str:
+def timeline(channel: Channel, axis: Axis, marks: Iterable[Mark] = ()) -> str:
     """The drawing with what stands around it."""
     counts = channel.times.wider(axis.ticks)
     most, times = max(counts.values(), default=0), axis.ticks / TICKS_A_SECOND
@@ -106,6 +118,6 @@ def timeline(channel: Channel, axis: Axis) -> str:
     return (
         f"<div class=ends><span>{escaped(highest)}</span></div>"
         f'<svg viewBox="0 0 {WIDTH} {HEIGHT}" preserveAspectRatio=none role=img aria-label="kept frames a second">'
-        f'{"".join([*bars(counts, axis), *lines(channel, axis)])}</svg>{ends}'
+        f'{"".join([*bars(counts, axis), *lines(channel, axis), *mark_lines(marks, axis)])}</svg>{ends}'
         f'<div class=strip aria-label="versions of the filter">{"".join(strip(channel, axis))}</div>'
     )

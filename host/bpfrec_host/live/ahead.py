@@ -4,13 +4,17 @@ from __future__ import annotations
 
 import os
 import resource
+import shutil
 
 from bpfrec_host.formats.settings import Settings
 from bpfrec_host.live.arguments import Arguments
+from bpfrec_host.live.clock_watch import by_the_kernel
 from bpfrec_host.live.names import Refusal
 
 # How many descriptors live has open at most: while it records, while recordings follow one another, and for browsers.
 RECORDING, ROTATING, SERVING = 32, 48, 40
+# And for the program that is run for alarms.
+ALARMING = 8
 # How many the capture and the recorder have open, and how many more for each channel.
 CAPTURING, FOR_A_CHANNEL = 24, 4
 # The standard streams, and what signals are read from.
@@ -21,6 +25,7 @@ def refuse_few_descriptors(given: Arguments, channels: int) -> None:
     """Takes as many descriptors as are allowed where the usual number is too small, and refuses where that is too."""
     soft, hard = resource.getrlimit(resource.RLIMIT_NOFILE)
     own = (ROTATING if given.is_rotating() else RECORDING) + (SERVING if given.status is not None else 0)
+    own += ALARMING if given.on_alarm else 0
     needed = max(own, CAPTURING + FOR_A_CHANNEL * channels) + inherited()
     if is_under(soft, needed) and not is_under(hard, needed):
         resource.setrlimit(resource.RLIMIT_NOFILE, (hard, hard))
@@ -57,6 +62,19 @@ def refuse_holder() -> None:
         raise Refusal(3, f"live: TMPDIR is not UTF-8: {os.fsencode(holder)!r}") from None
 
 
+def refuse_clock(given: Arguments) -> None:
+    """Refuses a clock that is worse than one that is asked for."""
+    fault = by_the_kernel().fault(given.clock_error)
+    if fault:
+        raise Refusal(3, f"live: --require-clock: {fault}")
+
+
+def refuse_alarm_command(given: Arguments) -> None:
+    """Refuses a program for alarms that isn't there."""
+    if given.on_alarm and not shutil.which(given.on_alarm[0]):
+        raise Refusal(3, f"live: --on-alarm: {given.on_alarm[0]} is missing, or can't be run")
+
+
 def refuse_together(given: Arguments) -> None:
     """Refuses options that don't go together."""
     is_ring = given.keep is not None or given.keep_free is not None
@@ -64,6 +82,10 @@ def refuse_together(given: Arguments) -> None:
         raise Refusal(2, "live: --keep and --keep-free need --every or --size")
     if is_ring and not given.is_audited:
         raise Refusal(2, "live: --keep and --keep-free remove what was audited, and --no-audit audits nothing")
+    if given.makes_whole_files and not given.is_audited:
+        raise Refusal(2, "live: --chapter11 is made of what was audited, and --no-audit audits nothing")
+    if given.makes_whole_files and not given.routes:
+        raise Refusal(2, "live: --chapter11 needs an interface")
     if given.status_names and given.status is None:
         raise Refusal(2, "live: --status-name needs --status")
     if given.flush is not None and not given.routes:

@@ -4,10 +4,12 @@ from __future__ import annotations
 
 import argparse
 import re
+import shlex
 from typing import Callable, NamedTuple, NoReturn, Optional
 
-from bpfrec_host import printing
 from bpfrec_host.arguments import Parser, full_name
+from bpfrec_host.live import journal
+from bpfrec_host.live.capture_options import add_capture_options
 from bpfrec_host.live.help import ABOUT, MORE
 from bpfrec_host.live.model import are_rotating
 from bpfrec_host.live.operands import Route, operands_of
@@ -15,12 +17,13 @@ from bpfrec_host.live.operands import Route, operands_of
 # The recorder opens OUT anew, to write it.
 OWNERS = 0o600
 MAX_SECONDS, MAX_BYTES = 999_999_999, 10**15 - 1
-# The options that are the capture's own: those with a value, and those without.
-VALUED = ("--origin", "--buffer", "--direction", "--clock", "--check-sequence")
-PLAIN = ("--quiet", "--no-promiscuous")
 # What may stand behind a number: in seconds, and in bytes.
 TIMES = {"": 1, "s": 1, "m": 60, "h": 3_600, "d": 86_400}
 SIZES = {"": 1, "k": 10**3, "M": 10**6, "G": 10**9}
+FRACTIONS = {"": 1.0, "s": 1.0, "ms": 1e-3, "us": 1e-6}
+# Of a clock's error, in seconds: the kernel counts microseconds, and takes a clock that may be off by more than this for
+# one that isn't synchronised.
+LEAST_ERROR, MOST_ERROR = 1e-6, 16.0
 IN_SECONDS, IN_BYTES = ", in seconds, or as 10m", ", in bytes, or as 2G"
 
 
@@ -53,6 +56,12 @@ class Arguments(NamedTuple):
     keep_free: Optional[int]
     # The mode of the files that are created; None is the usual one, less what umask takes away.
     mode: Optional[int]
+    # By how many seconds the clock may be off at most; None where nobody asks for a clock that is right.
+    clock_error: Optional[float]
+    # The program that is run for alarms, with its own arguments.
+    on_alarm: Optional[list[str]]
+    # Whether a whole Chapter 11 file is made of each recording.
+    makes_whole_files: bool
 
     def is_rotating(self) -> bool:
         """Whether recordings follow one another."""
@@ -73,7 +82,7 @@ class LiveParser(Parser):
 
     def error(self, message: str) -> NoReturn:
         """Ends where the arguments are wrong."""
-        printing.err(f"live: {fault_of(message)}")
+        journal.err(f"live: {fault_of(message)}")
         self.exit(2)
 
 
@@ -103,6 +112,26 @@ def number(least: int, most: int, said: str, units: Optional[dict[str, int]] = N
         return value
 
     return read
+
+
+def clock_error(word: str) -> float:
+    """By how many seconds a clock may be off: as 0.01, 10ms or 500us."""
+    found = re.fullmatch(r"([0-9]{1,8}(?:\.[0-9]{1,6})?)(|s|ms|us)", word)
+    value = float(found[1]) * FRACTIONS[found[2]] if found else 0.0
+    if not LEAST_ERROR <= value <= MOST_ERROR:
+        raise argparse.ArgumentTypeError("needs a number from 0.000001 to 16, in seconds, or as 10ms or 500us")
+    return value
+
+
+def command_words(text: str) -> list[str]:
+    """A program and its arguments, taken apart as a shell does it."""
+    try:
+        words = shlex.split(text)
+    except ValueError as why:
+        raise argparse.ArgumentTypeError(f"needs a command: {str(why).lower()}") from None
+    if not words:
+        raise argparse.ArgumentTypeError("needs a command")
+    return words
 
 
 def file_mode(word: str) -> int:
@@ -140,29 +169,18 @@ def parser() -> Parser:
     made.add_argument("--status", metavar="[ADDRESS:]PORT", help="serves a page that shows how the recording goes")
     named = "a name by which browsers ask for it; may be given again"
     made.add_argument("--status-name", metavar="NAME", action="append", default=[], help=named)
+    asked = "needs a synchronised clock that is off by no more than this"
+    made.add_argument("--require-clock", metavar="SECONDS", dest="clock_error", type=clock_error, help=asked)
+    ran = "runs a program when an alarm begins or ends"
+    made.add_argument("--on-alarm", metavar="COMMAND", type=command_words, help=ran)
     made.add_argument("--prefilter", action="store_true", help="has the kernel run the filters too")
+    whole = "makes OUT.ch10, a whole Chapter 11 file, after each recording"
+    made.add_argument("--chapter11", action="store_true", help=whole)
     made.add_argument("--no-audit", action="store_true", help="leaves the audit out")
     made.add_argument("--strict", action="store_true", help="exit status 5 if an interface lost frames")
-    options: list[str] = []
-    for option in VALUED:
-        made.add_argument(option, metavar="VALUE", action=kept(options), help="as for capture")
-    for option in PLAIN:
-        made.add_argument(option, nargs=0, action=kept(options), help="as for capture")
-    made.set_defaults(options=options)
+    add_capture_options(made)
     made.add_argument("operands", nargs="*", help=argparse.SUPPRESS)
     return made
-
-
-def kept(options: list[str]) -> type[argparse.Action]:
-    """An action that keeps an option of the capture's as it was given."""
-
-    class Kept(argparse.Action):
-        """Keeps the option and its value."""
-
-        def __call__(self, _: object, __: object, values: object, option: Optional[str] = None) -> None:
-            options.extend([option or "", *([values] if isinstance(values, str) else [])])
-
-    return Kept
 
 
 def read(arguments: list[str]) -> Arguments:
@@ -189,4 +207,7 @@ def read(arguments: list[str]) -> Arguments:
         keep=given.keep,
         keep_free=given.keep_free,
         mode=given.mode,
+        clock_error=given.clock_error,
+        on_alarm=given.on_alarm,
+        makes_whole_files=given.chapter11,
     )

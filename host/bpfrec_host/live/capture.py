@@ -28,13 +28,14 @@ class Capture:
         self.child: Optional[children.Child] = None
         # What comes here of it: the lines that it prints, and its counts.
         self.lines: Optional[CaptureLines] = None
+        self.has_table = False
         self.counts: Optional[CaptureLines] = None
         # What it has counted last, by interface.
         self.last: dict[str, Counts] = {}
 
-    def read_lines(self, err: Callable[[str], None]) -> None:
-        """Has the lines come here that it prints, without those of each second."""
-        self.lines = CaptureLines(self.loop, err)
+    def read_lines(self, err: Callable[[str], None], has_table: bool) -> None:
+        """Has the lines come here that it prints; where there is a table without those of each second."""
+        self.lines, self.has_table = CaptureLines(self.loop, err), has_table
 
     def read_counts(self, counted: Callable[[str, Counts], None]) -> None:
         """Has its counts come here each second, also where it prints no line of them."""
@@ -50,7 +51,7 @@ class Capture:
     def arguments(self) -> list[str]:
         """Its command line."""
         arguments = [self.program, *self.given.options]
-        arguments += ["--quiet"] if self.lines else []
+        arguments += ["--quiet"] if self.has_table else []
         arguments += ["--counts", str(self.counts.writer)] if self.counts else []
         arguments += self.folder.prefilters() if self.given.is_prefiltered else []
         arguments += self.folder.judges() if self.given.flush is not None else []
@@ -84,7 +85,7 @@ class Capture:
         would have printed them at its end alone."""
         for pipe in self.pipes():
             pipe.end()
-        is_quiet = self.lines is not None or "--quiet" in self.given.options
+        is_quiet = self.has_table or "--quiet" in self.given.options
         return [line_of(*it) for it in self.last.items() if is_quiet and status > KILLED]
 
 

@@ -22,11 +22,12 @@ Stream = Union[int, IO[bytes]]
 
 class Manner(NamedTuple):
     """How a program is started: the descriptors that it keeps, the pipe without whose writers it is killed, which it
-    keeps too, and whether it gets live's capabilities."""
+    keeps too, whether it gets live's capabilities, and whether signals end it, as they do a program of a user's."""
 
     kept: Sequence[int] = ()
     ends_with: Optional[int] = None
     has_capabilities: bool = False
+    takes_signals: bool = False
 
 
 class Child(Holder):
@@ -48,6 +49,12 @@ class Child(Holder):
             self.process.send_signal(number)
 
 
+def kill(child: Optional[Child]) -> None:
+    """Kills a program, where one was started."""
+    if child:
+        child.send(signal.SIGKILL)
+
+
 def status_of(code: int) -> int:
     """The status by an exit code of Python, which is negative where a signal ended a program."""
     return code if code >= 0 else KILLED - code
@@ -66,17 +73,17 @@ def start(
 ) -> Child:
     """Starts a program with these three streams; None is the stream of live."""
     kept = [*manner.kept, *([] if manner.ends_with is None else [manner.ends_with])]
-    before = signal.pthread_sigmask(signal.SIG_SETMASK, HELD)
+    before = signal.pthread_sigmask(signal.SIG_SETMASK, () if manner.takes_signals else HELD)
     try:
         with system.capabilities_of_children(manner.has_capabilities):
-            # SIGXFSZ stays ignored, as Python has it: a limit of the size of files is told as a failed output.
+            # SIGXFSZ stays ignored of ours, as Python has it: a limit of the size of files is told as a failed output.
             process = subprocess.Popen(
                 arguments,
                 stdin=streams[0],
                 stdout=streams[1],
                 stderr=streams[2],
                 pass_fds=kept,
-                restore_signals=False,
+                restore_signals=manner.takes_signals,
                 start_new_session=True,
             )
         if manner.ends_with is not None:

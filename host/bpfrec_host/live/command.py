@@ -6,15 +6,25 @@ import os
 import shutil
 from typing import Optional
 
-from bpfrec_host import printing, program
-from bpfrec_host.live.ahead import refuse_few_descriptors, refuse_holder, refuse_many_channels, refuse_together
+from bpfrec_host import program
+from bpfrec_host.live import journal
+from bpfrec_host.live.ahead import (
+    refuse_alarm_command,
+    refuse_clock,
+    refuse_few_descriptors,
+    refuse_holder,
+    refuse_many_channels,
+    refuse_together,
+)
 from bpfrec_host.live.arguments import Arguments, parser, read
+from bpfrec_host.live.control.changes import may_bring_lines
 from bpfrec_host.live.filters import judge_filters
 from bpfrec_host.live.folder import Folder, judge_settings, made_settings, read_settings
 from bpfrec_host.live.loop import Signals
-from bpfrec_host.live.names import Files, Names, Refusal, is_special, refuse_folder, refuse_long, unreadable
+from bpfrec_host.live.names import Files, Names, Refusal, is_special, refuse_folder, refuse_long, unreadable, whole_path
 from bpfrec_host.live.ports import Observer
-from bpfrec_host.live.run import Programs, Run
+from bpfrec_host.live.programs import Programs
+from bpfrec_host.live.run import Run
 from bpfrec_host.live.status import BadEndpoint, NoServer, Status, Terminal, endpoint_in
 from bpfrec_host.live.status.observer import USUAL_LIMIT
 
@@ -38,16 +48,16 @@ def run(arguments: list[str], observer: Optional[Observer] = None) -> int:
         status = made_status(given, settings.document.get("limit"), terminal)
         folder = Folder(text, settings, given)
     except Refusal as refusal:
-        printing.err(refusal.line)
+        journal.err(refusal.line)
         return refusal.status
     if signals.come():
-        printing.err("live: it was ended before anything was begun")
+        journal.err("live: it was ended before anything was begun")
         return 3
     try:
         recording = Run(given, programs, folder, signals, observer or status, terminal)
     except Refusal as refusal:
         folder.remove_all()
-        printing.err(refusal.line)
+        journal.err(refusal.line)
         return refusal.status
     except BaseException:
         folder.remove_all()
@@ -60,6 +70,7 @@ def run_shown(recording: Run, status: Optional[Status]) -> int:
     if status:
         # The guard was copied by now, and has no thread of the server's.
         status.start()
+        status.alarm_changed = recording.alarm_command.take
         if status.address():
             recording.err(f"status: {status.address()}")
     try:
@@ -74,7 +85,8 @@ def made_status(given: Arguments, limit: object, terminal: Terminal) -> Optional
     """What shows how it goes, where somebody looks; a port that can't be had is refused."""
     try:
         endpoint = endpoint_in(given.status, given.status_names) if given.status is not None else None
-        is_watched = endpoint or terminal.is_shown()
+        is_told = given.on_alarm or journal.is_read_from(2)
+        is_watched = endpoint or terminal.is_shown() or may_bring_lines() or is_told
         longest = limit if isinstance(limit, int) else USUAL_LIMIT
         has_ring = given.keep is not None or given.keep_free is not None
         return Status(endpoint, terminal, given.sync, longest, has_ring) if is_watched else None
@@ -105,8 +117,11 @@ def look_ahead(given: Arguments) -> None:
             raise Refusal(3, f"file {given.out}")
     refuse_together(given)
     refuse_holder()
+    refuse_alarm_command(given)
+    refuse_clock(given)
     if not given.is_rotating():
-        Files(given.mode, given.is_forced).refuse_overwriting(given.out)
+        beside = (whole_path(given.out),) if given.makes_whole_files else ()
+        Files(given.mode, given.is_forced).refuse_overwriting(given.out, *beside)
         if not is_special(given.out):
             refuse_folder(given.out)
             refuse_long(given.out, bool(given.routes))

@@ -33,6 +33,10 @@ class Console:
         """Tells a line on standard error."""
         self.lines.put(line)
 
+    def takes_lines(self) -> bool:
+        """Whether lines of programs have to come through here, since there is a table, or they need their priorities."""
+        return self.terminal.is_shown() or self.lines.is_journal
+
     def out(self, text: str) -> None:
         """Prints a text on standard output, now or as there is room."""
         if self.terminal.is_of(1):

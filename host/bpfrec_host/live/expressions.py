@@ -23,7 +23,18 @@ PATIENCE = 30
 LOOKED_AT = 4_096
 # What is a file's name, and no expression.
 FILE_NAME = re.compile(r"\S*/\S*|\S+\.(?:txt|bpf)")
+# The name of a filter that keeps all frames, and how long a name may be.
+ALL, MOST_NAME = "all", 255
 NO_TCPDUMP = "tcpdump is missing, which makes a filter of an expression: apt-get install tcpdump"
+
+
+def name_of(text: Optional[str]) -> str:
+    """A filter as people know it: an expression as it is, a file by its name, and none as `all`."""
+    if text is None:
+        return ALL
+    is_file = os.path.lexists(text) or FILE_NAME.fullmatch(text)
+    name = os.path.basename(text) if is_file else " ".join(text.split())
+    return name if len(name) <= MOST_NAME else f"{name[:MOST_NAME - 1]}…"
 
 
 def is_in_words(text: str) -> bool:

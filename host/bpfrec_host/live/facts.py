@@ -18,6 +18,7 @@ from bpfrec_host.live.adapters import adapter_of
 from bpfrec_host.live.arguments import Arguments
 from bpfrec_host.live.folder import Folder
 from bpfrec_host.live.names import FOLLOWING, Files, facts_path, remove
+from bpfrec_host.live.noted import marks_of
 from bpfrec_host.live.synchronisation import synchronisation
 from bpfrec_host.streams import force_folder
 
@@ -103,6 +104,7 @@ class Writer:
         """Writes the facts by what was noted; the status is None while the recording goes on. An OSError says that
         they can't be written; then those of before stay."""
         facts = {**self.beginning(about), **noted, **self.ending(about, status)}
+        facts["marks"] = marks_of(self.folder.of(about.number), noted["origins"])
         facts["origin_utc"] = utc_of_origin(noted["origins"])
         if status is not None:
             facts["synchronisation"] = {**facts["synchronisation"], "end": synchronisation()}

@@ -9,7 +9,7 @@ Its files, below `top`:
     given/          the filters that the arguments give channels, and those that SETTINGS give in words
     filters/        of recordings that follow one another, and with --flush: the filter that each channel has by now
     <number>/       a recording: <channel>.pipe, settings.toml, answers, report, audit, audit_errors, each of the last
-                    three `.room` until it is printed into, and what `guard` needs: about.json
+                    three `.room` until it is printed into, and what `guard` needs: about.json and marks
 """
 
 from __future__ import annotations
@@ -27,7 +27,7 @@ from bpfrec_host.formats.settings import NoReader, NoToml, Settings, settings_of
 from bpfrec_host.formats.settings_text import text_of
 from bpfrec_host.live import system
 from bpfrec_host.live.arguments import Arguments
-from bpfrec_host.live.expressions import gives_filter, listing_in_words, listing_of, settings_text, words_in
+from bpfrec_host.live.expressions import gives_filter, listing_in_words, listing_of, name_of, settings_text, words_in
 from bpfrec_host.live.names import Refusal
 from bpfrec_host.live.operands import Route
 
@@ -35,7 +35,7 @@ from bpfrec_host.live.operands import Route
 NAME = re.compile(r"bpfrec\.[0-9a-f]{16}")
 # What programs print into files of a recording's folder, and how much room each of these and the events are sure to
 # have, also where the disk of TMPDIR is full by then.
-PRINTED = ("report", "audit", "audit_errors")
+PRINTED, MARKS = ("report", "audit", "audit_errors"), "marks"
 PRINTED_ROOM, EVENTS_ROOM = 1 << 16, 1 << 20
 # A line of the file `kept`: 20 digits.
 COUNT_LEN = 21
@@ -161,6 +161,7 @@ class Folder:
         os.mkfifo(made / "answers")
         for name in PRINTED:
             write_room(room_of(made, name), PRINTED_ROOM)
+        write_room(made / MARKS, PRINTED_ROOM)
         (made / "settings.toml").write_text(text_of(self.document(made)), encoding="utf-8", errors="surrogateescape")
         return made
 
@@ -244,6 +245,12 @@ class Folder:
             if isinstance(named, int) and path:
                 found.append((named, path))
         return found
+
+    def filter_names(self) -> dict[int, str]:
+        """Each channel's filter at the beginning of the run, as people know it."""
+        given = {it.channel: it.expression for it in self.routes if it.expression}
+        tables = [(it.table.get("id"), it.path("filter")) for it in self.settings.channels]
+        return {named: name_of(given.get(named, path)) for named, path in tables if isinstance(named, int)}
 
     def judged(self) -> set[int]:
         """The channels whose kept frames the capture counts."""

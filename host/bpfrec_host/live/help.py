@@ -10,7 +10,8 @@ INTERFACE=CHANNEL names by its channel ID. With SETTINGS each interface is one o
 feed; a channel without an interface keeps the feed that SETTINGS gives it. INTERFACE=CHANNEL:EXPRESSION gives a channel
 the filter that tcpdump makes of an expression, as eth0=1:'udp port 53', with VLAN tags as they are on the wire.
 Lines on standard input change filters: `set <channel> <filter>`, where the filter is a file that is a listing or a text
-for bpfrec asm, or an expression, as `set 7 udp port 5004`. A line `next` begins the next recording of --every or --size,
+for bpfrec asm, or an expression, as `set 7 udp port 5004`. `mark TEXT` notes an event in the facts of the recording,
+with its counter and its time. `status` prints how the run goes, `next` begins the next recording of --every or --size,
 `stop` ends the run, and `help` prints what there is. --for SECONDS ends it after that time.
 
 An OUT that exists is refused unless --force is given, and no link is followed. OUT and OUT.json have the mode 0640,
@@ -20,10 +21,11 @@ one that has held a frame for that time, or a little less, is closed before the 
 one of the 1,024 filters of a channel that a recording has room for; the last 256 are left to lines.
 
 The facts of a recording of interfaces are in OUT.json beside it: the origin of its relative time counter (RTC, 10 MHz),
-interfaces, settings, filters, what was lost and when, and in the end the report and the audit. `info` and
+interfaces, settings, filters, marks, what was lost and when, and in the end the report and the audit. `info` and
 `convert to-pcap --facts` take times from it.
 
-SECONDS may end with s, m, h or d, and BYTES with k, M or G (powers of 1,000), as 10m, 1h30m and 2G.
+SECONDS may end with s, m, h or d, and BYTES with k, M or G (powers of 1,000), as 10m, 1h30m and 2G. --buffer takes
+mebibytes, or M and G too. --origin takes a time of day too, as 23:36:10: the last such time, in UTC.
 
 With --every SECONDS or --size BYTES it begins a new recording when SECONDS have gone by since the last began, or when
 that has at least BYTES bytes; with both, at the first of them. Each recording is complete and audited on its own. A
@@ -38,12 +40,30 @@ killed recorder ends the run.
 
 With --prefilter the kernel drops what a channel's filter drops, which takes far less time if most frames are dropped.
 These frames are not offered to the recorder, so its report doesn't count them, and lines that would change a filter are
-not read. Frames with a VLAN tag and those of fewer than 60 bytes always go to the recorder, since the kernel sees them
+refused. Frames with a VLAN tag and those of fewer than 60 bytes always go to the recorder, since the kernel sees them
 differently.
+
+Once it records, and at each change, a line says whether the host's clock is synchronised, by how much it is off at most,
+and what chrony and ptp4l hold it by, if they run. --require-clock SECONDS refuses to begin with a clock that is not
+synchronised or may be off by more, as 0.01, 10ms or 500us, and raises an alarm while it is so later. It judges the
+host's clock, also with --clock adapter.
+
+--on-alarm COMMAND runs a program when an alarm begins and when it ends, with four more arguments: `begins` or `ends`,
+the alarm's name, its channel or `-`, and what it says in a sentence. COMMAND is split as a shell would, with quotes,
+and no shell runs it; its streams are /dev/null. Warnings run nothing. One program runs at a time, and 256 alarms wait at
+most. It is ended after 10 s, by TERM and a second later by KILL; at the end of the run all have 10 s together. If it
+fails or can't be started a line says so, and the recording never waits for it.
+
+If systemd reads standard error, each line has its priority ahead: <3> alarms and errors, <4> warnings, <6> all else.
+Alarms and warnings are lines too then.
 
 On a terminal a table shows each second how the recording goes, unless --quiet is given. With --status PORT a page shows
 the same to a browser, on this machine alone; with --status ADDRESS:PORT to anybody who reaches the address and asks by
 it, or by a NAME of --status-name. The port serves the data too: /status.json as JSON and /metrics for Prometheus.
+
+With --chapter11 it makes OUT.ch10 after each recording whose audit says yes: a whole Chapter 11 file with TMATS, time
+packets and an index, by the standard as we know it, as `chapter11` makes it of the facts. A line says what it has, or
+why it couldn't be made, which leaves the recording as it is. --keep and --keep-free remove it with its recording.
 
 With --no-audit nothing is audited. With --strict the exit status is 5 if an interface lost frames; either way the last
 lines say how many.
@@ -57,6 +77,6 @@ It needs bin/bpfrec (make build) and, for interfaces, bin/capture (make build wi
 capture. BPFREC and CAPTURE name other programs.
 
 Status: that of the first `bpfrec record` that failed, else of the first `bpfrec audit`, else 1 if capturing failed,
-else 5 if frames were lost and --strict says so. It is 1 if OUT couldn't be forced to its disk, 2 of wrong arguments, 3
+else that of the first `chapter11`, else 5 if frames were lost and --strict says so. It is 1 if OUT couldn't be forced to its disk, 2 of wrong arguments, 3
 if nothing was begun.
 """

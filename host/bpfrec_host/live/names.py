@@ -38,6 +38,11 @@ def facts_path(out: str) -> str:
     return f"{out}.json"
 
 
+def whole_path(out: str) -> str:
+    """The whole Chapter 11 file of a recording."""
+    return f"{out}.ch10"
+
+
 def remove(path: str) -> None:
     """Removes a file that may be there."""
     try:
@@ -79,11 +84,12 @@ class Files(NamedTuple):
         except FileNotFoundError:
             return None
 
-    def refuse_overwriting(self, out: str) -> None:
-        """Refuses an OUT that is there, which is another flight's, and so are the facts beside it."""
+    def refuse_overwriting(self, out: str, *beside: str) -> None:
+        """Refuses an OUT that is there, which is another flight's, and so are the facts and what else is made beside
+        it."""
         if is_special(out):
             return
-        for path in (out, facts_path(out)):
+        for path in (out, facts_path(out), *beside):
             if os.path.lexists(path) and (not self.is_forced or os.path.islink(path)):
                 raise Refusal(3, f"live: {path} is there: {advice(path, self.is_forced)}")
         if os.path.isdir(out):
@@ -133,11 +139,11 @@ class Names:
         self.number = 0
 
     def next(self) -> tuple[int, str]:
-        """The next number whose name nothing has, nor the facts of a recording, and that name."""
+        """The next number whose name nothing has, nor what is made beside a recording, and that name."""
         while True:
             self.number += 1
             out = f"{self.stem}_{self.number:05}{self.ending}"
-            if not os.path.lexists(out) and not os.path.lexists(facts_path(out)):
+            if not any(os.path.lexists(it) for it in (out, facts_path(out), whole_path(out))):
                 return self.number, out
 
     def give_back(self, number: int) -> None:

@@ -3,12 +3,16 @@
 from __future__ import annotations
 
 import time
-from typing import Optional
+from typing import Optional, Sequence
 
+from bpfrec_host.formats.clock_state import ClockState
 from bpfrec_host.live.folder import Folder
-from bpfrec_host.live.ports import Counts, Observer, Setup
+from bpfrec_host.live.noted import Entry
+from bpfrec_host.live.ports import Counts, Marked, Observer, Setup
 from bpfrec_host.live.recorder import Recorder
 
+# What is said of the status where nobody observes the run.
+NOT_KEPT = "live: status: it wasn't kept from the beginning on"
 # How often an observer is told that time goes by, in seconds.
 TICK = 1.0
 
@@ -19,6 +23,9 @@ class Observers:
     def __init__(self, observer: Optional[Observer], folder: Folder) -> None:
         self.observer, self.folder = observer, folder
         self.next_tick = time.monotonic()
+        # Each channel's filter by now, as people know it.
+        self.filters = folder.filter_names()
+        self.is_ending = False
 
     def is_on(self) -> bool:
         """Whether somebody observes."""
@@ -27,8 +34,7 @@ class Observers:
     def begun(self, recorder: Recorder) -> None:
         """A recorder has opened OUT."""
         interfaces = {it.channel: it.interface for it in self.folder.routes}
-        named = [table.table.get("id") for table in self.folder.settings.channels]
-        setups = [Setup(channel, interfaces.get(channel)) for channel in named if isinstance(channel, int)]
+        setups = [Setup(channel, interfaces.get(channel), name) for channel, name in self.filters.items()]
         if self.observer:
             self.observer.recording_begun(recorder.recording.number, recorder.about.out, setups, time.monotonic())
 
@@ -37,10 +43,21 @@ class Observers:
         if self.observer:
             self.observer.capture_counted(interface, counts, time.monotonic())
 
-    def changed(self, channel: int, version: int, is_same: bool) -> None:
-        """A line changed a filter of the recording that goes on, or gave it once more."""
+    def changed(self, channel: int, version: int, name: Optional[str]) -> None:
+        """A line changed a filter of the recording that goes on, or without a name gave it once more."""
+        if name:
+            self.filters[channel] = name
         if self.observer:
-            self.observer.filter_changed(channel, version, is_same)
+            self.observer.filter_changed(channel, version, name)
+
+    def marked(self, recorder: Recorder, mark: Entry) -> None:
+        """A recording has one more mark."""
+        if self.observer:
+            self.observer.marked(Marked(recorder.about.out, **mark), time.monotonic())
+
+    def report(self) -> Sequence[str]:
+        """How the run goes, as lines."""
+        return self.observer.report(time.monotonic()) if self.observer else [NOT_KEPT]
 
     def synced(self, moment: float) -> None:
         """The recording that goes on was forced to its disk."""
@@ -52,11 +69,22 @@ class Observers:
         if self.observer:
             self.observer.sync_failed(recorder.about.out, why)
 
+    def clock_seen(self, state: ClockState, most: Optional[float]) -> None:
+        """How right the clock is."""
+        if self.observer:
+            self.observer.clock_seen(state, most)
+
     def ended(self, recorder: Recorder, status: int) -> None:
         """A recording has ended, and its audit too."""
         report, audit = recorder.text("report").splitlines(), recorder.text("audit").splitlines()
         if self.observer:
             self.observer.recording_ended(recorder.recording.number, status, time.monotonic(), report, audit)
+
+    def ending(self) -> None:
+        """No other recording will begin; it is told once."""
+        if self.observer and not self.is_ending:
+            self.is_ending = True
+            self.observer.ending()
 
     def all_ended(self) -> None:
         """All has ended."""

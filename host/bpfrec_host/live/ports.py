@@ -6,6 +6,7 @@ from collections.abc import Iterable, Sequence
 from enum import Enum
 from typing import Callable, NamedTuple, Optional, Protocol
 
+from bpfrec_host.formats.clock_state import ClockState
 from bpfrec_host.live.model import Recording
 
 
@@ -73,12 +74,12 @@ class Ports(NamedTuple):
 
 
 class Setup(NamedTuple):
-    """A channel of a recording, with the interface that it has and the version of its filter; None where its feed is a
-    file or a pipe."""
+    """A channel of a recording, with the interface that it has, None where its feed is a file or a pipe, and its filter
+    as people know it."""
 
     channel: int
     interface: Optional[str]
-    version: int = 0
+    filter: str = "all"
 
 
 class Counts(NamedTuple):
@@ -93,6 +94,15 @@ class Counts(NamedTuple):
     waited: int
 
 
+class Marked(NamedTuple):
+    """A mark of a recording: the counter of a frame that comes then, the time in UTC, and the text."""
+
+    path: str
+    counter: int
+    time: str
+    text: str
+
+
 class Observer(Protocol):
     """Takes what happens, each time with the moment, in seconds of `time.monotonic()`. It must not wait: the loop calls
     it."""
@@ -103,15 +113,24 @@ class Observer(Protocol):
     def capture_counted(self, interface: str, counts: Counts, now: float) -> None:
         """The capture has counted so much of an interface; each second."""
 
-    def filter_changed(self, channel: int, version: int, is_same: bool = False) -> None:
-        """A line changed a filter of the recording that goes on; `is_same` says that it was given the program that it
-        had, as to close a packet."""
+    def filter_changed(self, channel: int, version: int, name: Optional[str]) -> None:
+        """A line changed a filter of the recording that goes on, to one of this name; None says that it was given the
+        program that it had, as to close a packet."""
+
+    def marked(self, mark: Marked, now: float) -> None:
+        """A recording has one more mark."""
+
+    def report(self, now: float) -> Sequence[str]:
+        """How the run goes, as lines."""
 
     def synced(self, now: float) -> None:
         """The recording that goes on was forced to its disk."""
 
     def sync_failed(self, path: str, why: str) -> None:
         """A recording couldn't be forced to its disk; it is told once of each."""
+
+    def clock_seen(self, state: ClockState, most: Optional[float]) -> None:
+        """How right the clock is, each second, and by how many seconds it may be off, where somebody asks for that."""
 
     def recording_ended(
         self, number: int, status: int, now: float, report: Sequence[str] = (), audit: Sequence[str] = ()
@@ -120,6 +139,9 @@ class Observer(Protocol):
 
     def tick(self, now: float) -> None:
         """A second has gone by."""
+
+    def ending(self) -> None:
+        """No other recording will begin."""
 
     def ended(self, now: float) -> None:
         """All has ended."""

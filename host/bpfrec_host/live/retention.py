@@ -17,11 +17,12 @@ PAUSE = 1.0
 
 
 class Kept(NamedTuple):
-    """A recording that is whole and approved: its name, and which file that was."""
+    """A recording that is whole and approved: its name, which file that was, and what goes with it beside its facts."""
 
     out: str
     device: int
     number: int
+    beside: tuple[str, ...] = ()
 
     def is_there(self) -> bool:
         """Whether the name is still that file's."""
@@ -83,7 +84,7 @@ class Retention:
             return
         self.err(f"live: {oldest.out} was removed: {why}")
         # A long file takes a moment, for which nobody waits.
-        thread = threading.Thread(target=removed, args=(oldest.out,))
+        thread = threading.Thread(target=removed, args=(oldest,))
         thread.start()
         self.threads = [*(it for it in self.threads if it.is_alive()), thread]
 
@@ -93,7 +94,7 @@ class Retention:
             thread.join()
 
 
-def removed(out: str) -> None:
-    """Removes a recording and its facts."""
-    remove(out)
-    remove(facts_path(out))
+def removed(kept: Kept) -> None:
+    """Removes a recording, its facts, and what goes with it."""
+    for path in (kept.out, facts_path(kept.out), *kept.beside):
+        remove(path)

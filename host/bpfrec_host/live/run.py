@@ -3,61 +3,49 @@
 from __future__ import annotations
 
 import signal
-import subprocess
 import time
-from pathlib import Path
-from typing import Callable, NamedTuple, Optional, Protocol, Sequence
+from typing import Callable, Optional
 
 from bpfrec_host.formats.answers import Answer, file_fault, is_output_fault
-from bpfrec_host.formats.limits import MAX_VERSIONS
 from bpfrec_host.live import children, outputs, system
+from bpfrec_host.live.alarm_command import AlarmCommand
 from bpfrec_host.live.arguments import Arguments
+from bpfrec_host.live.audits import Audits
 from bpfrec_host.live.capture import Capture
+from bpfrec_host.live.clock_watch import ClockWatch
 from bpfrec_host.live.console import Console
 from bpfrec_host.live.control.changes import Change, Changes
 from bpfrec_host.live.control.lines import ControlLines, ControlPorts
-from bpfrec_host.live.control.made_filters import MadeFilter, make
+from bpfrec_host.live.control.maker import Maker
 from bpfrec_host.live.control.words import Word
 from bpfrec_host.live.durability import Durability
 from bpfrec_host.live.end_of_run import EndOfRun
-from bpfrec_host.live.engine import FILE_FAULT
+from bpfrec_host.live.engine import LOST
 from bpfrec_host.live.events import Events
 from bpfrec_host.live.facts import Writer
-from bpfrec_host.live.flush import MOST_FILTERS, Flush
+from bpfrec_host.live.flush import Flush
 from bpfrec_host.live.folder import Folder
 from bpfrec_host.live.guard import Guard, open_and_close
 from bpfrec_host.live.loop import Loop, Signals
 from bpfrec_host.live.machine import Machine
+from bpfrec_host.live.marks import Marks
 from bpfrec_host.live.model import KILLED, Plan, Recording
 from bpfrec_host.live.names import Files, is_special
+from bpfrec_host.live.noted import Entry
 from bpfrec_host.live.notify import Notifier
 from bpfrec_host.live.observers import Observers
 from bpfrec_host.live.ports import Deed, Observer, Ports
+from bpfrec_host.live.programs import Programs, Timed
 from bpfrec_host.live.recorder import Recorder
 from bpfrec_host.live.recordings import Recordings
 from bpfrec_host.live.retention import Kept, Retention, approved
 from bpfrec_host.live.status import Terminal
+from bpfrec_host.live.versions import Versions
 from bpfrec_host.live.watches import Watches
+from bpfrec_host.live.whole_files import WholeFiles
 
 # Why a recording isn't on its disk of which the recorder alone was told so.
 UNFORCED = "the recorder's fsync failed"
-
-
-class Programs(NamedTuple):
-    """The programs that live runs, by their paths."""
-
-    bpfrec: str
-    capture: str
-
-
-class Timed(Protocol):
-    """What has something to do at moments of its own."""
-
-    def deadline(self) -> Optional[float]:
-        """When that is next; None where nothing is to come."""
-
-    def tick(self, now: float) -> None:
-        """Does what is due."""
 
 
 class Run:
@@ -78,13 +66,12 @@ class Run:
         self.guard = Guard(self.writer)
         folder.make_all()
         self.loop, self.watches, self.events = Loop(signals, self.end_by_signal), Watches(), Events(folder.events)
-        self.console = Console(self.loop, self.printing_failed, terminal)
+        self.console = Console(self.loop, lambda: self.machine.printing_failed(), terminal)
         self.err = self.console.err
         self.observers = Observers(observer, folder)
         self.capture = Capture(programs.capture, given, folder, self.loop)
-        changes = Changes(folder, given.keeps_filters(), self.make_filter)
-        ports_of_lines = ControlPorts(self.obey, self.err, terminal)
-        self.control = ControlLines(self.loop, given, changes, self.current, ports_of_lines)
+        self.marks = Marks(self.events, given.is_rotating(), self.marked, self.err)
+        self.control = self.made_control(terminal)
         self.flush = Flush(given.flush, folder, self.control.push) if given.flush is not None else None
         self.notifier = Notifier()
         self.retention = Retention(
@@ -93,16 +80,39 @@ class Run:
         self.outputs = outputs.Outputs(self.watches, given.size is not None, self.begin_recording, self.err)
         self.durability = Durability(self.loop, self.writer, self.events, self.synced, self.sync_failed, self.err)
         self.recordings = Recordings(self.writer, self.outputs, self.err)
-        self.timed: list[Timed] = [self.watches, self.outputs, self.observers, self.retention, self.notifier]
-        self.timed += [self.flush] if self.flush else []
+        self.audits = Audits(self.loop, programs.bpfrec, self.guard, self.audited, self.err)
+        self.whole_files = self.made_whole_files()
         self.end_of_run = EndOfRun(given.seconds, self.end)
-        self.timed.append(self.end_of_run)
+        self.alarm_command = AlarmCommand(given.on_alarm, self.loop, self.console)
+        self.clock = ClockWatch(self.loop, given.clock_error, self.err, self.observers.clock_seen)
+        self.timed = self.made_timed()
         self.signals_came = 0
-        plan = Plan(bool(given.routes), given.every, given.size, given.is_audited, given.is_strict)
-        names = (programs.capture, programs.bpfrec)
-        ports = Ports(self.perform, self, self.recordings, self.err)
-        self.machine = Machine(plan, ports, self.recordings.first(), names)
+        self.machine = self.made_machine()
+        self.versions = Versions(self.flush, given.is_rotating(), self.machine.used_up, self.err)
         self.deeds = self.made_deeds()
+
+    def made_control(self, terminal: Terminal) -> ControlLines:
+        """What takes the lines that are typed."""
+        maker = Maker(self.loop, self.programs.bpfrec, self.guard.all)
+        changes = Changes(self.folder, self.given.keeps_filters(), maker.make)
+        ports = ControlPorts(self.obey, self.marks.take, self.err, terminal)
+        return ControlLines(self.loop, self.given, changes, self.current, ports)
+
+    def made_whole_files(self) -> WholeFiles:
+        """What makes a whole file of each recording, before it may be removed."""
+        is_wanted, files = self.given.makes_whole_files, self.writer.files
+        return WholeFiles(is_wanted, files, self.loop, self.guard, self.retention.add, self.err)
+
+    def made_machine(self) -> Machine:
+        """What decides all."""
+        given, names = self.given, (self.programs.capture, self.programs.bpfrec)
+        plan = Plan(bool(given.routes), given.every, given.size, given.is_audited, given.is_strict)
+        return Machine(plan, Ports(self.perform, self, self.recordings, self.err), self.recordings.first(), names)
+
+    def made_timed(self) -> list[Timed]:
+        """What has something to do at moments of its own."""
+        made: list[Timed] = [self.watches, self.outputs, self.observers, self.retention, self.notifier]
+        return [*made, self.end_of_run, self.alarm_command, self.clock, *([self.flush] if self.flush else [])]
 
     def made_deeds(self) -> dict[Deed, Callable[[Recorder], object]]:
         """What is done for each deed of the machine."""
@@ -113,8 +123,8 @@ class Run:
             Deed.SWITCH_CAPTURE: lambda _: self.capture.send(signal.SIGUSR1),
             Deed.HOLD_CAPTURE: lambda _: self.capture.send(signal.SIGUSR2),
             Deed.KILL_CAPTURE: lambda _: self.capture.send(signal.SIGKILL),
-            Deed.KILL_RECORDER: lambda recorder: kill(recorder.child),
-            Deed.KILL_AUDIT: lambda recorder: kill(recorder.auditor),
+            Deed.KILL_RECORDER: lambda recorder: children.kill(recorder.child),
+            Deed.KILL_AUDIT: lambda recorder: children.kill(recorder.auditor),
             Deed.OPEN_PIPES: self.open_pipes,
             Deed.END_LINES: self.end_lines,
             Deed.FORGET_OUT: self.recordings.forget_output,
@@ -134,9 +144,6 @@ class Run:
         if self.watches.descriptor is not None:
             self.loop.on_read(self.watches.descriptor, self.watches.serve)
         self.watches.add(str(self.folder.events), system.MODIFIED, self.look_at_events)
-        if self.given.is_prefiltered:
-            # A line would change what the kernel doesn't know.
-            self.control.input.end()
         self.loop.follow(self.guard, self.end_guard)
         left = self.folder.leftovers()
         if left:
@@ -144,9 +151,10 @@ class Run:
         self.machine.begin(time.monotonic())
         while not self.machine.is_done():
             self.turn()
-        status = self.machine.status(self.report_losses())
+        self.finish_recordings()
+        status = self.status()
         self.finish()
-        return self.machine.recorded or status
+        return status
 
     def turn(self) -> None:
         """Waits for what comes next, and has the machine do what is due."""
@@ -158,24 +166,41 @@ class Run:
         now = time.monotonic()
         if self.machine.is_ending() or self.machine.is_concluding():
             self.notifier.stopping(now, self.machine.is_concluding())
+            self.observers.ending()
         for timed in self.timed:
             timed.tick(now)
         self.machine.tick(now)
         self.console.write_on()
 
-    def finish(self) -> None:
-        """Ends what still runs beside: threads, what wasn't printed, and the guard."""
+    def finish_recordings(self) -> None:
+        """Ends what is still made of recordings: facts, whole files, and what is removed."""
         for recorder in self.recordings.all.values():
             if self.machine.is_refused() and outputs.is_empty(recorder):
                 outputs.discard(recorder)
             recorder.close()
         self.durability.join()
+        came = self.signals_came
+        self.whole_files.finish(self.turn_at_end, lambda: self.signals_came > max(came, 1))
         self.retention.join()
+
+    def finish(self) -> None:
+        """Ends what still runs beside: what wasn't printed, and the guard."""
+        self.marks.finish()
         came = self.signals_came
         self.console.finish(lambda: self.signals_came > max(came, 1))
         self.observers.all_ended()
+        self.alarm_command.finish(lambda: self.signals_came > max(came, 1))
         self.guard.dismiss()
         self.folder.remove_all()
+
+    def turn_at_end(self) -> None:
+        """Waits for what comes next where all is recorded, and tells systemd that it needs more time."""
+        now = time.monotonic()
+        self.notifier.stopping(now, True)
+        deadline = self.notifier.deadline()
+        self.loop.turn(None if deadline is None else max(0.0, deadline - now))
+        self.notifier.tick(time.monotonic())
+        self.console.write_on()
 
     def end_by_signal(self) -> None:
         """A signal came that ends the run."""
@@ -192,21 +217,13 @@ class Run:
         """Does what a line says that is a word alone."""
         if word is Word.STOP:
             self.end()
+        elif word is Word.STATUS:
+            for line in self.observers.report():
+                self.err(line)
         elif self.given.is_rotating():
             self.machine.used_up(self.machine.current)
         else:
             self.err("live: next: recordings follow one another with --every or --size alone")
-
-    def make_filter(self, text: str, listing: Path) -> MadeFilter:
-        """Has the listing of a filter in words made."""
-        return make(text, listing, self.programs.bpfrec, self.start_maker)
-
-    def start_maker(self, arguments: Sequence[str], out: Path, errors: Path, ended: Callable[[int], None]) -> None:
-        """Starts a program that makes a listing; what waits for it goes on when it has ended."""
-        with open(out, "wb") as printed, open(errors, "wb") as told:
-            manner = children.Manner([self.guard.all])
-            child = children.start(arguments, (subprocess.DEVNULL, printed, told), manner)
-        self.loop.follow(child, ended)
 
     def end_guard(self, status: int) -> None:
         """The guard has ended, which it does by itself only once live has."""
@@ -240,9 +257,11 @@ class Run:
         recorder.let_live()
         self.machine.opened(recorder.recording)
         self.end_of_run.begin()
+        self.clock.begin()
         self.observers.begun(recorder)
         self.notifier.ready(recorder.about.out)
         self.durability.begin(recorder)
+        self.marks.begun(recorder)
         if self.flush and recorder.is_created:
             self.flush.begin(recorder, time.monotonic())
 
@@ -274,22 +293,8 @@ class Run:
     def take_change(self, recorder: Recorder, change: Change, answer: Answer) -> None:
         """The recorder has answered a line."""
         if answer.version is not None and recorder.recording is self.machine.current:
-            self.observers.changed(answer.channel, answer.version, change.is_own)
-            self.take_version(recorder, answer.channel, answer.version)
-
-    def take_version(self, recorder: Recorder, channel: int, version: int) -> None:
-        """A channel has this version of its filter, of which a recording has room for a number."""
-        if self.flush:
-            self.flush.installed(channel, version)
-        left = MAX_VERSIONS - 1 - version
-        if left > MAX_VERSIONS - MOST_FILTERS:
-            return
-        if self.given.is_rotating():
-            self.machine.used_up(recorder.recording)
-        elif channel not in recorder.used_up:
-            recorder.used_up.add(channel)
-            flushed = ", and --flush closes no packet of it any more" if self.flush else ""
-            self.err(f"live: channel {channel} has room for {left} more filters in this recording{flushed}")
+            self.observers.changed(answer.channel, answer.version, None if change.is_own else change.name)
+            self.versions.take(recorder, answer.channel, answer.version)
 
     def end_recorder(self, recorder: Recorder, status: int) -> None:
         """A recorder has ended."""
@@ -297,6 +302,7 @@ class Run:
         self.loop.on_read(recorder.answers, None)
         self.outputs.look(recorder)
         self.control.close(recorder)
+        self.marks.ended(recorder)
         self.machine.recorder_ended(recorder.recording, status, time.monotonic())
 
     def end_lines(self, recorder: Recorder) -> None:
@@ -316,8 +322,8 @@ class Run:
         """Starts the capture of all interfaces."""
         if self.observers.is_on():
             self.capture.read_counts(self.observers.counted)
-        if self.console.terminal.is_shown():
-            self.capture.read_lines(self.err)
+        if self.console.takes_lines():
+            self.capture.read_lines(self.err, self.console.terminal.is_shown())
         self.capture.start(self.guard.all, self.end_capture)
 
     def end_capture(self, status: int) -> None:
@@ -332,15 +338,12 @@ class Run:
         if self.events.read() == 0:
             return
         if self.events.origins:
+            self.marks.begin_clock()
             self.machine.capture_ready()
         for recorder in self.recordings.all.values():
             self.durability.write(recorder)
 
     # ---- what is told
-
-    def printing_failed(self) -> None:
-        """Standard output can't be written, which facts have too."""
-        self.machine.printing_failed()
 
     def print_report(self, recorder: Recorder) -> None:
         """Prints what the recorder printed, where another recording may follow once this one is audited."""
@@ -356,34 +359,25 @@ class Run:
             self.err(f"live: {lost.sentence()}")
         return bool(self.events.lost_in_all)
 
+    def status(self) -> int:
+        """The status of the run, once all is recorded and made."""
+        status = self.machine.status(self.report_losses())
+        return self.whole_files.status if self.whole_files.status and status in (0, LOST) else status
+
+    def marked(self, recorder: Recorder, mark: Entry) -> None:
+        """A recording has one more mark."""
+        self.durability.write(recorder)
+        self.observers.marked(recorder, mark)
+
     # ---- the end of a recording
 
     def audit(self, recording: Recording) -> bool:
         """Starts an audit; False where OUT is no file that could be audited."""
-        recorder = self.recordings.of(recording)
-        if not recorder.is_created or recorder.descriptor is None:
-            return False
-        try:
-            with open(self.guard.lifeline_of_live(), "rb", buffering=0) as lifeline:
-                child = recorder.start_audit(self.programs.bpfrec, self.guard.all, lifeline.fileno())
-        except OSError as error:
-            self.err(f"live: {recorder.about.out} can't be audited: {error.strerror}")
-            self.loop.call_soon(lambda: self.end_audit(recorder, FILE_FAULT))
-            return True
-        self.loop.follow(child, lambda status: self.end_audit(recorder, status))
-        return True
+        return self.audits.start(self.recordings.of(recording))
 
-    def end_audit(self, recorder: Recorder, status: int) -> None:
+    def audited(self, recording: Recording, status: int) -> None:
         """An audit has ended."""
-        for line in recorder.text("audit_errors").splitlines():
-            self.err(file_fault(recorder.about.out) if line == file_fault("-") else line)
-        if status > KILLED:
-            number = status - KILLED
-            self.err(
-                f"live: {self.programs.bpfrec} audit was ended by signal {number}: {recorder.about.out} isn't audited"
-            )
-        recorder.report += recorder.text("audit")
-        self.machine.audited(recorder.recording, status)
+        self.machine.audited(recording, status)
 
     def conclude(self, recorder: Recorder) -> None:
         """Tells what is known of a recording at its end, and lets go all that it has."""
@@ -391,6 +385,7 @@ class Run:
         if recorder.report:
             self.console.out(recorder.report)
         self.outputs.end(recorder)
+        self.marks.concluded(recorder)
         self.observers.ended(recorder, status)
         kept = approved(recorder, status)
         self.durability.end(recorder, status, lambda: self.keep(recording, kept))
@@ -400,10 +395,4 @@ class Run:
     def keep(self, recording: Recording, kept: Optional[Kept]) -> None:
         """A recording that was approved has been forced to its disk a last time."""
         if kept and not recording.is_unforced:
-            self.retention.add(kept)
-
-
-def kill(child: Optional[children.Child]) -> None:
-    """Kills a program that was started."""
-    if child:
-        child.send(signal.SIGKILL)
+            self.whole_files.add(kept)

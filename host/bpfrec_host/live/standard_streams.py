@@ -8,6 +8,8 @@ import select
 import stat
 from typing import Optional
 
+from bpfrec_host.live import journal
+
 # How long a line waits for room, in seconds; after one that had none, the next ones don't wait.
 LINE_PAUSE = 0.2
 # A pipe that can be written has room for so much.
@@ -27,6 +29,7 @@ class Lines:
 
     def __init__(self, descriptor: int = 2) -> None:
         self.descriptor, self.left_out = descriptor, 0
+        self.is_journal = journal.is_read_from(descriptor)
 
     def put(self, *lines: str) -> None:
         """Writes lines, or counts them as left out."""
@@ -38,7 +41,7 @@ class Lines:
 
     def write(self, line: str) -> bool:
         """Writes a line: whether there was room, or there never is any."""
-        data = os.fsencode(f"{line}\n")
+        data = os.fsencode(f"{journal.with_priority(line) if self.is_journal else line}\n")
         try:
             while data:
                 if not has_room(self.descriptor, 0 if self.left_out else LINE_PAUSE):

@@ -16,6 +16,8 @@ PATIENCE = 2
 MICROSECONDS = 1_000_000
 NANO, UNSYNCHRONISED = 0x2000, 0x40
 CHRONY_FIELDS = 14
+# The programs that are asked.
+CHRONYC, PMC = ASKED = ("chronyc", "pmc")
 Entry = dict[str, Any]
 
 
@@ -68,7 +70,7 @@ def answer_of(name: str, *arguments: str) -> Optional[str]:
 
 def by_chrony() -> Optional[Entry]:
     """What chrony says: its source, and by how many seconds the clock is off, in its own words."""
-    fields = (answer_of("chronyc", "-c", "tracking") or "").strip().split(",")
+    fields = (answer_of(CHRONYC, "-c", "tracking") or "").strip().split(",")
     if len(fields) < CHRONY_FIELDS:
         return None
     return {
@@ -83,7 +85,7 @@ def by_chrony() -> Optional[Entry]:
 
 def by_ptp() -> Optional[Entry]:
     """What ptp4l says: its grandmaster, and the offset from it, in nanoseconds."""
-    told = answer_of("pmc", "-u", "-b", "0", "GET TIME_STATUS_NP")
+    told = answer_of(PMC, "-u", "-b", "0", "GET TIME_STATUS_NP")
     found = dict(re.findall(r"^\s+(\w+)\s+(\S+)$", told or "", re.MULTILINE))
     if not re.fullmatch(r"-?[0-9]{1,18}", found.get("master_offset", "")):
         return None

@@ -12,8 +12,9 @@ from bpfrec_host.formats import facts
 from bpfrec_host.formats.limits import MAX_CHANNEL_ID
 from bpfrec_host.pcapng import output
 from bpfrec_host.pcapng.index import Index
-from bpfrec_host.pcapng.merging import Interface, Recording, blocks, interfaces_of
-from bpfrec_host.pcapng.times import Times, time_of
+from bpfrec_host.pcapng.merging import Capture, Interface, interfaces_of
+from bpfrec_host.pcapng.recordings import Recording
+from bpfrec_host.pcapng.times import Times, dated, time_of
 from bpfrec_host.progress import Progress
 from bpfrec_host.streams import STREAM, Refused, Unreadable, force, identity
 
@@ -25,7 +26,9 @@ is a host with its interface, by the facts; recordings without facts are of a re
 in which they came, so times step back where a clock was set back. Frames have their frame
 check sequence (FCS) and their error flags. Comments have the first filter of each channel, or the one in force where
 the slice begins, with the counts of the channel, and at the first frame after a change the filter from there on. They
-begin as those of bpfrec export, and go on with the filter's text.
+begin as those of bpfrec export, and go on with the filter's text. The comment of the
+capture has the recordings and their marks, and a mark is a comment of the first frame of its run that comes then or
+later.
 
 The packets of the slice are found by the headers of all packets, and no others are read. Of a channel whose packets
 rise by their counters, frames are looked for in the packets of the slice alone; else in all.
@@ -35,7 +38,9 @@ since the relative time counter (RTC) was 0, from 1970 on. All recordings must h
 know in which scale a clock ran, its times are taken as they are, which is reported on standard error.
 """
 MORE = """\
-TIME is seconds since counter 0, as 12.5, or UTC as 2025-12-01T12:00:00.25Z, which needs facts that know it.
+TIME is seconds since counter 0, as 12.5, or UTC as 2025-12-01T12:00:00.25Z or 23:36:10.5, which needs facts that know
+it. Without its date it is the first such time since the beginning of the first recording, by the clock as it was set
+last; that of --to is the first since --from. So of recordings over several days later ones need their date.
 
 As OUT, `-` is standard output, and as RECORDING standard input; a pipe is copied into TMPDIR. It prints
 `frames <n> skipped <m>`, on standard error if OUT is standard output: m frames have another content, or fewer than 18
@@ -100,15 +105,22 @@ def facts_beside(path: str) -> Optional[facts.Facts]:
         raise Refused(f"{beside}: no facts of a recording: {fault}") from None
 
 
-def recording_at(path: str, given: argparse.Namespace) -> Recording:
-    """A recording with its times, of which nothing but the headers is read."""
-    index = Index(path, tell_fault)
+def times_of(path: str) -> Times:
+    """The times of a recording, by the facts beside it."""
     times = Times(path, facts_beside(path))
     if times.facts and not times.facts.are_all_utc():
         tell_fault(f"{path}: {facts.SCALE_UNKNOWN}")
-    ranges = times.ranges(given.since, given.until)
-    index.read()
-    return Recording(index, times, ranges)
+    return times
+
+
+def recordings_at(given: argparse.Namespace) -> list[Recording]:
+    """The recordings with their times, of which nothing but the headers is read."""
+    opened = [(Index(path, tell_fault), times_of(path)) for path in given.recordings]
+    since, until = dated(given.since, given.until, [times for _, times in opened])
+    found = [Recording(index, times, times.ranges(since, until)) for index, times in opened]
+    for index, _ in opened:
+        index.read()
+    return found
 
 
 def judge_times(recordings: list[Recording]) -> None:
@@ -132,12 +144,12 @@ def judge_asked(recordings: list[Recording], asked: list[Union[int, str]]) -> No
 
 def write_blocks(out: BinaryIO, recordings: list[Recording], interfaces: list[Interface], is_quiet: bool) -> int:
     """Writes the capture's blocks: how many frames they have."""
-    count = -1 - len(interfaces)
+    count, capture = 0, Capture(recordings, interfaces)
     size = sum(each.slice.size() for it in interfaces for each in it.parts)
     with Progress("pcapng", size, is_quiet) as progress:
-        for block in blocks(recordings, interfaces):
+        out.writelines(capture.head())
+        for count, block in enumerate(capture.frames(), 1):
             out.write(block)
-            count += 1
             if count % FRAMES_A_LOOK == 0:
                 progress.at(sum(it.headers.done for it in recordings))
     return count
@@ -167,7 +179,7 @@ def make(given: argparse.Namespace) -> int:
     judge_inputs(given.recordings)
     inputs = [name for it in given.recordings for name in (it, f"{it}.json")]
     output.judge(given.out, inputs, given.force)
-    recordings = [recording_at(it, given) for it in given.recordings]
+    recordings = recordings_at(given)
     judge_times(recordings)
     judge_asked(recordings, given.channel or [])
     interfaces = interfaces_of(recordings, given.channel)

@@ -4,7 +4,6 @@ from __future__ import annotations
 
 import heapq
 import os
-from bisect import bisect_right
 from collections import Counter
 from typing import Iterable, Iterator, NamedTuple, Optional, Union
 
@@ -12,62 +11,12 @@ from bpfrec_host.filter_texts import Texts
 from bpfrec_host.formats import pcapng_blocks
 from bpfrec_host.formats.ch11 import Program
 from bpfrec_host.formats.facts import Origin
-from bpfrec_host.formats.limits import INSN_LEN, MAX_COUNTER, NANOSECONDS_A_TICK
-from bpfrec_host.pcapng.index import Index
+from bpfrec_host.formats.limits import INSN_LEN
+from bpfrec_host.pcapng.marks import Marks, Order
+from bpfrec_host.pcapng.recordings import Recorder, Recording, Run
 from bpfrec_host.pcapng.slices import Frame, Slice
-from bpfrec_host.pcapng.times import Range, Times
 
 PROGRAM = "bpfrec-pcapng"
-
-
-# The time after which counters begin at 0 again, in nanoseconds.
-TURN = (MAX_COUNTER + 1) * NANOSECONDS_A_TICK
-
-
-class Run(NamedTuple):
-    """A run of a recorder, whose recordings have one host, one first origin and the same interfaces, by their facts."""
-
-    host: str
-    origin: str
-    interfaces: tuple[tuple[int, str], ...] = ()
-
-
-class Recorder(NamedTuple):
-    """What recorded a channel: the host and its interface, by the facts; a run, where the channel has a feed; or an
-    unknown one, of a recording alone."""
-
-    source: str
-    interface: Union[str, Run]
-
-
-class Recording(NamedTuple):
-    """A recording: what it has, its times, and the counters that are chosen."""
-
-    headers: Index
-    times: Times
-    ranges: list[Range]
-
-    def interface_of(self, channel: int) -> Optional[str]:
-        """The interface that was a channel, by the facts."""
-        return self.times.facts.interfaces.get(channel) if self.times.facts else None
-
-    def recorder_of(self, channel: int) -> Recorder:
-        """What recorded a channel. Recordings without facts may be of any recorders."""
-        if self.times.facts is None:
-            return Recorder(os.path.basename(self.headers.path), self.headers.path)
-        return Recorder(self.times.facts.host, self.interface_of(channel) or self.run())
-
-    def run(self) -> Run:
-        """The run that it is of."""
-        # As it was noted: its scale may have come to be known since.
-        facts, origin = self.times.facts, self.times.known[0].text
-        if facts is None:
-            return Run(self.headers.path, origin)
-        return Run(facts.host, origin, tuple(sorted(facts.interfaces.items())))
-
-    def channels_of(self, asked: Union[int, str]) -> set[int]:
-        """The channels of an ID, or of an interface."""
-        return {it for it in self.headers.channels if asked in (it, self.interface_of(it))}
 
 
 class Part(NamedTuple):
@@ -176,14 +125,10 @@ Sorted = tuple[int, Interface, Part, Frame]
 
 
 def numbered(interface: Interface, part: Part, last: int) -> Iterator[Sorted]:
-    """The frames of an interface in a recording, each with its moment, as if the last moment of counter 0 had always been
-    that, but for the turns of counters: no clock is set by as much as half of one."""
-    origins = part.recording.times.origins
-    moments = [last + (it.moment - last + TURN // 2) // TURN * TURN for it in origins]
-    counters = [it.counter for it in origins[1:]]
+    """The frames of an interface in a recording, each with where it stands."""
+    place_of = Order(part.recording, last).of
     for frame in part.slice.frames():
-        moment = moments[bisect_right(counters, frame.counter)]
-        yield moment + frame.counter * NANOSECONDS_A_TICK, interface, part, frame
+        yield place_of(frame.counter), interface, part, frame
 
 
 def how_much_is_known(origins: list[Origin]) -> tuple[int, int]:
@@ -200,24 +145,37 @@ def last_moments(recordings: list[Recording]) -> dict[Run, int]:
     return {run: origins[-1].moment for run, origins in known.items()}
 
 
-def merged(recordings: list[Recording], interfaces: list[Interface]) -> Iterable[Sorted]:
+def merged(interfaces: list[Interface], moments: dict[Run, int]) -> Iterable[Sorted]:
     """The frames of all slices in the order in which they came; those of a channel stay in their order."""
-    moments = last_moments(recordings)
     streams = [numbered(it, part, moments[part.recording.run()]) for it in interfaces for part in it.parts]
     return heapq.merge(*streams, key=lambda entry: entry[0])
 
 
-def blocks(recordings: list[Recording], interfaces: list[Interface]) -> Iterator[bytes]:
-    """The blocks of the capture; those from the second on that don't describe an interface are a frame each."""
-    texts, counts = Texts(), Counter(name for it in interfaces for name in it.names())
-    yield pcapng_blocks.section(PROGRAM, [recording_text(it) for it in recordings])
-    for interface in interfaces:
-        *names, longest = interface.names()
-        yield interface.description(texts, next((it for it in names if counts[it] == 1), longest))
-    for _, interface, part, frame in merged(recordings, interfaces):
-        moment = part.recording.times.moment_of(frame.counter)
-        programs = interface.changes(part, frame)
-        options = b""
-        if programs or frame.marks:
-            options = pcapng_blocks.packet_options(frame.marks, program_text(programs, texts) if programs else None)
-        yield pcapng_blocks.packet(interface.number, moment, frame.bytes, options)
+class Capture:
+    """The capture of recordings. Its texts and the marks that wait are kept while its blocks are made."""
+
+    def __init__(self, recordings: list[Recording], interfaces: list[Interface]) -> None:
+        self.recordings, self.interfaces, self.texts = recordings, interfaces, Texts()
+        self.moments = last_moments(recordings)
+        self.marks = Marks(recordings, self.moments)
+
+    def head(self) -> Iterator[bytes]:
+        """The blocks that describe it."""
+        counts = Counter(name for it in self.interfaces for name in it.names())
+        lines = [*(recording_text(it) for it in self.recordings), *self.marks.texts()]
+        yield pcapng_blocks.section(PROGRAM, pcapng_blocks.packed(lines))
+        for interface in self.interfaces:
+            *names, longest = interface.names()
+            yield interface.description(self.texts, next((it for it in names if counts[it] == 1), longest))
+
+    def frames(self) -> Iterator[bytes]:
+        """The blocks of its frames."""
+        for place, interface, part, frame in merged(self.interfaces, self.moments):
+            moment = part.recording.times.moment_of(frame.counter)
+            said, programs = self.marks.due(part.recording, place), interface.changes(part, frame)
+            options = b""
+            if said or programs or frame.marks:
+                # One comment, since some programs show no second.
+                said += [program_text(programs, self.texts)] if programs else []
+                options = pcapng_blocks.packet_options(frame.marks, "\n".join(said) if said else None)
+            yield pcapng_blocks.packet(interface.number, moment, frame.bytes, options)

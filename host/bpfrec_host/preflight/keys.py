@@ -9,7 +9,7 @@ from typing import Optional
 
 from bpfrec_host import program
 from bpfrec_host.formats.answers import SETTINGS_SYNTAX
-from bpfrec_host.formats.limits import CHANNEL_KEYS, MAX_CHANNELS, TOP_KEYS
+from bpfrec_host.formats.limits import CHANNEL_KEYS, MAX_CHANNELS, MAX_KNOWN_SPEED, TOP_KEYS
 from bpfrec_host.formats.settings import Channel, NoReader, NoToml, Settings, number_fault, settings_of, type_of
 from bpfrec_host.preflight.files import Unread, kind_of, read_text
 from bpfrec_host.preflight.report import NotJudged, Report, place
@@ -83,6 +83,10 @@ def judge_channel_keys(settings: Settings, channel: Channel, report: Report) -> 
         fault = channel_key_fault(channel, key)
         if fault:
             report.fault(place_in(settings, channel, key), fault)
+    speed = channel.table.get("speed", 0)
+    if not number_fault(speed, CHANNEL_KEYS["speed"], "speed") and speed > MAX_KNOWN_SPEED:
+        what = f"speed {speed} is reserved in Chapter 11, so a ground station may not take it"
+        report.note(place_in(settings, channel, "speed"), what)
 
 
 def channel_key_fault(channel: Channel, key: str) -> Optional[str]:

@@ -26,8 +26,9 @@ from bpfrec_host.formats.limits import (
 )
 from bpfrec_host.formats.settings import Settings
 from bpfrec_host.live.adapters import asked
-from bpfrec_host.live.ahead import refuse_few_descriptors, refuse_holder, refuse_together
+from bpfrec_host.live.ahead import refuse_alarm_command, refuse_few_descriptors, refuse_holder, refuse_together
 from bpfrec_host.live.arguments import Arguments, read
+from bpfrec_host.live.clock_watch import by_others, by_the_kernel
 from bpfrec_host.live.expressions import gives_filter, listing_in_words, listing_of, words_in
 from bpfrec_host.live.folder import is_channel
 from bpfrec_host.live.folder import judge_settings as refuse_settings
@@ -65,6 +66,7 @@ def judge_live(arguments: list[str], judge: Judge, report: Report) -> None:
         refuse_together(given)
         refuse_endpoint(given)
         refuse_holder()
+        refuse_alarm_command(given)
         settings = read_settings(given.settings, report) if given.settings is not None else None
         if settings:
             with_pipes(settings, given)
@@ -82,6 +84,7 @@ def judge_live(arguments: list[str], judge: Judge, report: Report) -> None:
         if route.expression:
             judge_words(route.interface, route.expression, partial(listing_of, route), report)
     judge_live_out(given, settings, report)
+    judge_clock(given, report)
     for route in given.routes:
         judge_interface(route.interface, report)
     if given.routes:
@@ -136,6 +139,16 @@ def judge_live_out(given: Arguments, settings: Optional[Settings], report: Repor
     channels = [] if settings is None else settings.channels
     inputs = [it for it in channels if os.path.dirname(it.path("feed") or "") != NOWHERE]
     judge_out(out, given.settings or os.devnull, inputs, report)
+
+
+def judge_clock(given: Arguments, report: Report) -> None:
+    """How right the clock is, and whether it is worse than somebody asks for."""
+    state = by_the_kernel()._replace(source=by_others())
+    fault = state.fault(given.clock_error)
+    if fault:
+        report.fault("clock", f"--require-clock: {fault}")
+    else:
+        report.note("clock", state.text())
 
 
 # ---- interfaces

@@ -9,7 +9,7 @@ from typing import Callable, NamedTuple, Optional
 
 from bpfrec_host.live.control.made_filters import MadeFilter
 from bpfrec_host.live.control.words import word_of
-from bpfrec_host.live.expressions import is_in_words
+from bpfrec_host.live.expressions import is_in_words, name_of
 from bpfrec_host.live.folder import Folder, copy_listing
 from bpfrec_host.live.standard_streams import another
 
@@ -64,13 +64,23 @@ def is_foreground() -> bool:
         return False
 
 
+def may_bring_lines() -> bool:
+    """Whether a line may come on standard input: not where it is closed, /dev/null, or the terminal of others."""
+    try:
+        found, null = os.fstat(0), os.stat(os.devnull)
+    except OSError:
+        return False
+    return found.st_rdev != null.st_rdev and (not os.isatty(0) or is_foreground())
+
+
 class Change(NamedTuple):
-    """A line that the recorder has and hasn't answered: the copy of the listing that it names, its channel, and whether
-    live gave it itself."""
+    """A line that the recorder has and hasn't answered: the copy of the listing that it names, its channel, whether live
+    gave it itself, and the filter's name."""
 
     channel: int
     copy: Optional[Path]
     is_own: bool = False
+    name: str = ""
 
 
 class Pipe:
@@ -148,16 +158,13 @@ class Changes:
         found = SET.fullmatch(line)
         if not found:
             return Held(line)
-        text = os.fsdecode(found[2]).strip()
+        channel, text = int(found[1]), os.fsdecode(found[2]).strip()
+        copy, name = self.next_copy(), name_of(text)
         if is_in_words(text):
-            copy = self.next_copy()
-            return Held(line, Change(int(found[1]), copy), self.make(text, copy))
-        if not self.keeps:
-            return Held(line)
-        copy = self.next_copy()
-        if not copy_listing(os.fsdecode(found[2]), copy):
-            return Held(line)
-        return Held(set_line(int(found[1]), copy), Change(int(found[1]), copy))
+            return Held(line, Change(channel, copy, name=name), self.make(text, copy))
+        if not self.keeps or not copy_listing(os.fsdecode(found[2]), copy):
+            return Held(line, Change(channel, None, name=name))
+        return Held(set_line(channel, copy), Change(channel, copy, name=name))
 
     def next_copy(self) -> Path:
         """The file of the next listing."""

@@ -9,20 +9,23 @@ from typing import Callable, NamedTuple, Optional
 from bpfrec_host.formats.answers import Answer
 from bpfrec_host.live.arguments import Arguments
 from bpfrec_host.live.control.changes import MAX_WAITING, Change, Changes, Held, Input
-from bpfrec_host.live.control.words import HELP, Word
+from bpfrec_host.live.control.words import HELP, Word, mark_in, word_of
 from bpfrec_host.live.loop import Loop
 from bpfrec_host.live.recorder import Recorder
 from bpfrec_host.live.status import Terminal
 
 # So many lines a recorder has at once at most: less than are left of a channel's filters when a next recording begins.
 MOST_UNANSWERED = 128
+# So many lines wait for a recorder until no further line is read; marks don't wait behind them.
+MOST_HELD = 16
 
 
 class ControlPorts(NamedTuple):
-    """What lines have beside the recorder: what does a word, what prints a line, and the terminal on which it is
-    shown."""
+    """What lines have beside the recorder: what does a word, what notes a mark, what prints a line, and the terminal on
+    which it is shown."""
 
     perform: Callable[[Word], None]
+    mark: Callable[[bytes], None]
     err: Callable[[str], None]
     terminal: Terminal
 
@@ -34,7 +37,7 @@ class ControlLines:
         self, loop: Loop, given: Arguments, changes: Changes, current: Callable[[], Recorder], ports: ControlPorts
     ) -> None:
         self.loop, self.given, self.changes, self.current = loop, given, changes, current
-        self.perform, self.err, self.terminal = ports
+        self.perform, self.mark, self.err, self.terminal = ports
         self.input = Input()
         # The lines that no recorder has yet.
         self.held: deque[Held] = deque()
@@ -44,10 +47,11 @@ class ControlLines:
         return self.input.descriptor is not None or bool(self.held) or self.given.flush is not None
 
     def read(self) -> None:
-        """Has lines read as long as the recorder takes them."""
+        """Has lines read, up to so many that no recorder takes yet."""
         self.hand_on()
         if self.input.descriptor is not None:
-            self.loop.on_read(self.input.descriptor, None if self.held or self.waits(self.current()) else self.take)
+            is_full = len(self.held) >= MOST_HELD
+            self.loop.on_read(self.input.descriptor, None if is_full else self.take)
 
     def waits(self, recorder: Recorder) -> bool:
         """Whether a recorder takes no line now."""
@@ -62,12 +66,23 @@ class ControlLines:
         for line in self.input.lines() or []:
             if descriptor is not None and self.terminal.is_of(descriptor):
                 self.terminal.note_typed()
-            self.held.append(self.changes.held(line))
+            self.take_line(line)
         if self.input.descriptor is None and descriptor is not None:
             self.loop.on_read(descriptor, None)
             self.current().lines.is_ending = not self.is_open()
             self.push(self.current())
         self.hand_on()
+
+    def take_line(self, line: bytes) -> None:
+        """Takes a line. A mark is noted at once, since it is of this moment."""
+        text = mark_in(line)
+        if text is not None:
+            self.mark(text)
+        elif self.given.is_prefiltered and not word_of(line):
+            # It would change what the kernel doesn't know.
+            self.err(f"live: {os.fsdecode(line)}: with --prefilter no line changes a filter, since the kernel runs it")
+        else:
+            self.held.append(self.changes.held(line))
 
     def hand_on(self) -> None:
         """Hands on the lines that the recorder takes."""

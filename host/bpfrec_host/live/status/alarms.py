@@ -65,6 +65,7 @@ def of_whole(view: View) -> Iterator[Alarm]:
     """What is wrong with the recording, its disk, and those before."""
     yield from of_disk(view)
     yield from of_sync(view)
+    yield from of_clock(view)
     if view.recording and view.recording.fault:
         text = f"{view.recording.name}: {view.recording.fault}: the recording's file isn't what the recorder writes"
         yield Alarm("damaged", ALARM, None, "damaged", text)
@@ -79,7 +80,7 @@ def of_whole(view: View) -> Iterator[Alarm]:
             f"the audit of {plural(view.audits.no, 'recording')} said no{''.join(f', last of {it}' for it in refused)}"
         )
         yield Alarm("audit", ALARM, None, "audit: no", text)
-    if view.state == "waiting" and view.recordings:
+    if view.state == "waiting" and view.recordings and not view.is_ending:
         yield Alarm("waiting", ALARM, None, "not recording", "nothing is recorded: the next recording hasn't begun")
 
 
@@ -106,6 +107,13 @@ def of_sync(view: View) -> Iterator[Alarm]:
     if age > view.sync.interval + SYNC_SECONDS:
         text = f"nothing was forced to the disk for {duration(age)}: lost power would cost as much"
         yield Alarm("sync", ALARM, None, f"sync {duration(age)} ago", text)
+
+
+def of_clock(view: View) -> Iterator[Alarm]:
+    """Whether the clock is worse than somebody asks for."""
+    fault = view.clock.fault()
+    if fault and view.state != "ended":
+        yield Alarm("clock", ALARM, None, "clock", fault)
 
 
 # ---- of a channel

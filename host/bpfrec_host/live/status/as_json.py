@@ -3,10 +3,12 @@
 from __future__ import annotations
 
 import json
+from math import floor
 from typing import Any, Optional
 
+from bpfrec_host.formats.facts import utc_of
 from bpfrec_host.live.status.alarms import Alarm, level_of
-from bpfrec_host.live.status.view import ChannelView, Second, View
+from bpfrec_host.live.status.view import ChannelView, MarkView, Second, View
 
 # The form of the object.
 FORM = 1
@@ -40,9 +42,13 @@ def object_of(view: View, alarms: tuple[Alarm, ...]) -> dict[str, Any]:
         },
         "disk": disk and {"free": disk.free, "seconds_left": rounded(disk.seconds_left)},
         "sync": {"interval": rounded(view.sync.interval), "age": rounded(view.sync.age)},
+        "clock": {**view.clock.state._asdict(), "required": view.clock.most},
         "channels": [channel_object(it, alarms) for it in view.channels],
         "recordings": [{**it._asdict(), "name": printable(it.name)} for it in view.recordings],
         "audits": view.audits._asdict(),
+        "marks": [mark_object(it) for it in view.marks],
+        "host": printable(view.host),
+        "utc": utc_text(view.utc),
     }
 
 
@@ -57,6 +63,8 @@ def channel_object(channel: ChannelView, alarms: tuple[Alarm, ...]) -> dict[str,
         "words": [alarm.word for alarm in mine],
         "version": channel.version,
         "same_since": channel.same_since,
+        "filter": printable(channel.filter.name),
+        "changes": channel.filter.changes,
         "offered": channel.counts and amounts(channel.counts.frames, channel.counts.bytes, last and last[:2]),
         "kept": amounts(channel.kept_frames, channel.kept_bytes, kept_rates(channel.history)),
         "dropped": channel.counts and channel.counts.dropped,
@@ -67,6 +75,16 @@ def channel_object(channel: ChannelView, alarms: tuple[Alarm, ...]) -> dict[str,
         "has_ended": channel.has_ended,
         "history": {name: column(channel.history, at) for at, name in enumerate(Second._fields)},
     }
+
+
+def mark_object(mark: MarkView) -> dict[str, Any]:
+    """What the object has of a mark."""
+    return {**mark._asdict(), "name": printable(mark.name), "age": rounded(mark.age)}
+
+
+def utc_text(moment: Optional[float]) -> Optional[str]:
+    """A moment as UTC, to the millisecond."""
+    return None if moment is None else f"{utc_of(floor(moment * 1_000) * 1_000_000)[:-7]}Z"
 
 
 def amounts(frames: int, size: int, rates: Optional[tuple[Optional[float], ...]]) -> dict[str, Any]:

@@ -5,12 +5,15 @@ from __future__ import annotations
 from collections import deque
 from typing import Optional
 
+from bpfrec_host.live.expressions import ALL
 from bpfrec_host.live.ports import Counts
-from bpfrec_host.live.status.view import HISTORY_SECONDS, ChannelView, Second, Unkept, lost
+from bpfrec_host.live.status.view import HISTORY_SECONDS, ChannelView, FilterView, Second, Unkept, lost
 
 # Counts that come closer together than this make no rate of their own, and those that are older tell none, in seconds.
 LEAST_BETWEEN, MOST_BETWEEN = 0.5, 2.5
 NOTHING = Counts(0, 0, 0, 0, 0, 0)
+# The fields of a second that have what was kept.
+KEPT = (Second._fields.index("kept_frames"), Second._fields.index("kept_bytes"))
 
 
 class Channel:
@@ -18,6 +21,7 @@ class Channel:
 
     def __init__(self, channel: int, interface: Optional[str], now: float) -> None:
         self.channel, self.interface = channel, interface
+        self.filter = FilterView(ALL, 0)
         self.version = self.same_since = self.met_since = 0
         self.met_program, self.has_ended = b"", False
         # The last counts, and those of the last second's end; moments of the last counts, frame and loss.
@@ -32,13 +36,18 @@ class Channel:
         # The counts by which rates are told, and the rates of frames and bytes.
         self.base: tuple[float, Counts] = (now, NOTHING)
         self.rates: Optional[tuple[float, float]] = None
+        # When counts came again behind a pause. How many seconds have passed since the counts by which rates are told,
+        # and behind a pause how many had, until they are the rates of all these.
+        self.resumed_at: Optional[float] = None
+        self.passed = 0
+        self.pause: Optional[int] = None
         self.kept_frames = self.kept_bytes = self.kept_frames_before = self.kept_bytes_before = 0
         self.history: deque[Second] = deque(maxlen=HISTORY_SECONDS)
 
-    def begin(self, interface: Optional[str], version: int) -> None:
-        """A recording begins."""
-        self.interface = interface
-        self.version = self.same_since = self.met_since = version
+    def begin(self, interface: Optional[str], name: str) -> None:
+        """A recording begins, with the filter of this name."""
+        self.interface, self.filter = interface, self.filter._replace(name=name)
+        self.version = self.same_since = self.met_since = 0
         self.met_program, self.has_ended = b"", False
 
     def count(self, counts: Counts, now: float) -> None:
@@ -48,18 +57,21 @@ class Channel:
             self.frame_at = now
         if lost(counts) > lost(last):
             self.lost_at = now
-        begin, base = self.base
-        if self.counts is None or now - begin > MOST_BETWEEN:
-            self.base = now, counts
-        elif now - begin >= LEAST_BETWEEN:
-            lengths = now - begin
-            self.rates = max(counts.frames - base.frames, 0) / lengths, max(counts.bytes - base.bytes, 0) / lengths
-            self.base = now, counts
+        if self.counts is None:
+            self.base, self.passed = (now, counts), 0
+        elif self.counted_at is not None and now - self.counted_at > MOST_BETWEEN:
+            # What came in the pause is counted now and in a moment.
+            self.resumed_at, self.rates = now, None
+        elif now - (self.resumed_at or self.base[0]) >= LEAST_BETWEEN:
+            self.pause, self.resumed_at = None if self.resumed_at is None else self.passed, None
+            self.rates = rates_between(self.base, (now, counts))
+            self.base, self.passed = (now, counts), 0
         self.counts, self.counted_at = counts, now
 
-    def install(self, version: int, is_same: bool) -> None:
-        """The filter is this version now, which is the program of the one before where `is_same` says so."""
-        self.same_since = self.same_since if is_same else version
+    def install(self, version: int, name: Optional[str]) -> None:
+        """The filter is this version now, of this name; without one it is the program of the version before."""
+        if name is not None:
+            self.same_since, self.filter = version, FilterView(name, self.filter.changes + 1)
         self.version = version
 
     def meet(self, version: int, program: bytes) -> None:
@@ -102,6 +114,23 @@ class Channel:
         earlier = last._replace(dropped=0, missed=0, skipped=0, waited=0)
         self.history.extend([earlier] * (min(passed, HISTORY_SECONDS) - 1))
         self.history.append(last)
+        self.passed += passed
+        if self.pause is not None:
+            self.spread(self.pause + passed)
+            self.pause = None
+
+    def spread(self, seconds: int) -> None:
+        """Behind a pause of the counts, whose last second has the rates of all: each of so many seconds gets them, and
+        the mean of what was kept."""
+        last, at = self.history[-1], range(max(len(self.history) - seconds, 0), len(self.history))
+        frames, size = (sum(self.history[it][field] or 0 for it in at) / len(at) for field in KEPT)
+        for second in at:
+            self.history[second] = self.history[second]._replace(
+                offered_frames=last.offered_frames,
+                offered_bytes=last.offered_bytes,
+                kept_frames=frames,
+                kept_bytes=size,
+            )
 
     def unkept(self, now: float) -> Optional[Unkept]:
         """What was offered since a kept frame was last seen; None where nobody counts."""
@@ -127,7 +156,14 @@ class Channel:
             has_ended=self.has_ended,
             unkept=self.unkept(now),
             history=tuple(self.history),
+            filter=self.filter,
         )
+
+
+def rates_between(begin: tuple[float, Counts], end: tuple[float, Counts]) -> tuple[float, float]:
+    """Frames and bytes a second between two counts; one that goes back is taken as nothing."""
+    length, before, after = end[0] - begin[0], begin[1], end[1]
+    return max(after.frames - before.frames, 0) / length, max(after.bytes - before.bytes, 0) / length
 
 
 def since(moment: Optional[float], now: float) -> Optional[float]:

@@ -5,6 +5,7 @@ from __future__ import annotations
 from collections.abc import Callable, Iterable, Iterator
 from typing import NamedTuple, Optional
 
+from bpfrec_host.formats.clock_state import ClockState
 from bpfrec_host.live.status.alarms import Alarm
 from bpfrec_host.live.status.view import ChannelView, View
 
@@ -13,6 +14,7 @@ COUNTER, GAUGE = "counter", "gauge"
 # The names that an alarm may have, so that each has a sample while it isn't one.
 ALARMS = (
     "audit",
+    "clock",
     "damaged",
     "disk",
     "filters",
@@ -77,6 +79,9 @@ CHANNEL_METRICS = (
         lambda channel: channel.counts and channel.counts.waited / 1_000,
     ),
     Metric("filter_version", GAUGE, "The version of the filter, in this recording.", lambda channel: channel.version),
+    Metric(
+        "filter_changes_total", COUNTER, "Changes of the filter in this run.", lambda channel: channel.filter.changes
+    ),
     Metric("filters_left", GAUGE, "Versions that it has room for.", lambda channel: channel.filters_left()),
     Metric("last_frame_age_seconds", GAUGE, "How long ago the last frame came.", lambda channel: channel.frame_age),
 )
@@ -107,8 +112,16 @@ def of_run(view: View) -> Iterator[str]:
     yield family("disk_seconds_left", GAUGE, text, [((), disk and disk.seconds_left)])
     yield family("sync_age_seconds", GAUGE, "How long ago it was forced to its disk.", [((), view.sync.age)])
     yield family("sync_faults_total", COUNTER, "Recordings that can't be forced to it.", [((), view.sync.faults)])
+    yield from of_clock(view.clock.state)
     samples: list[Sample] = [((("answer", name),), count) for name, count in audits.items()]
     yield family("audits_total", COUNTER, "Recordings that have ended, by what the audit said.", samples)
+
+
+def of_clock(state: ClockState) -> Iterator[str]:
+    """How right the host's clock is."""
+    synchronised = None if state.is_synchronised is None else int(state.is_synchronised)
+    yield family("clock_synchronised", GAUGE, "1 while the host's clock is synchronised, else 0.", [((), synchronised)])
+    yield family("clock_max_error_seconds", GAUGE, "By how much it is off at most.", [((), state.maximum_error)])
 
 
 def of_alarms(alarms: tuple[Alarm, ...]) -> Iterator[str]:
@@ -125,6 +138,8 @@ def of_channels(view: View) -> Iterator[str]:
     for metric in CHANNEL_METRICS:
         samples: list[Sample] = [(labels_of(it), metric.value(it)) for it in view.channels]
         yield family(f"channel_{metric.name}", metric.kind, metric.help, samples)
+    named: list[Sample] = [((*labels_of(it), ("filter", it.filter.name)), 1) for it in view.channels]
+    yield family("channel_filter_info", GAUGE, "1, with the filter in its label.", named)
 
 
 def labels_of(channel: ChannelView) -> tuple[tuple[str, str], ...]:
@@ -152,4 +167,4 @@ def escaped(value: str) -> str:
 
 def number(value: float) -> str:
     """A number as it is told."""
-    return str(value) if isinstance(value, int) else repr(round(value, 3))
+    return str(value) if isinstance(value, int) else repr(round(value, 6))

@@ -11,22 +11,25 @@ from typing import Optional
 
 from bpfrec_host.formats.answers import Report
 from bpfrec_host.formats.ch11 import End, Program
-from bpfrec_host.live.ports import Counts, Setup
+from bpfrec_host.formats.clock_state import ClockState
+from bpfrec_host.live.ports import Counts, Marked, Setup
 from bpfrec_host.live.status.channel import Channel, since
 from bpfrec_host.live.status.growth import Growth, Kept, Told
 from bpfrec_host.live.status.view import (
     HISTORY_SECONDS,
     Audits,
     ChannelView,
+    ClockView,
     DiskView,
     EndedView,
+    MarkView,
     RecordingView,
     SyncView,
     View,
 )
 
-# So many recordings that have ended are kept; the others are counted.
-MOST_ENDED = 32
+# So many recordings that have ended are kept, and so many marks; other recordings are counted.
+MOST_ENDED, MOST_MARKS = 32, 32
 
 
 class Going:
@@ -54,13 +57,16 @@ class Model:
         self.channels: dict[int, Channel] = {}
         self.going: dict[int, Going] = {}
         self.current: Optional[int] = None
-        self.is_ended = False
+        self.is_ending = self.is_ended = False
         self.free: Optional[int] = None
         # What was written in all, second by second, by which it is known how fast.
         self.written, self.sizes = 0, deque([(now, 0)], HISTORY_SECONDS + 1)
         self.second = 0
         self.recordings: deque[EndedView] = deque(maxlen=MOST_ENDED)
         self.audits = Audits(0, 0, 0)
+        # The last marks, each with the moment when it was noted.
+        self.marks: deque[tuple[float, MarkView]] = deque(maxlen=MOST_MARKS)
+        self.clock = ClockView(ClockState())
 
     # ---- what happens
 
@@ -72,7 +78,7 @@ class Model:
         kept = {}
         for setup in channels:
             kept[setup.channel] = self.channels.get(setup.channel) or Channel(setup.channel, setup.interface, now)
-            kept[setup.channel].begin(setup.interface, setup.version)
+            kept[setup.channel].begin(setup.interface, setup.filter)
         self.channels = dict(sorted(kept.items()))
 
     def capture_counted(self, interface: str, counts: Counts, now: float) -> None:
@@ -81,11 +87,15 @@ class Model:
             if channel.interface == interface:
                 channel.count(counts, now)
 
-    def filter_changed(self, channel: int, version: int, is_same: bool) -> None:
-        """A channel's filter is this version in the recording that goes on; `is_same` says that it is the program of
-        the version before."""
+    def filter_changed(self, channel: int, version: int, name: Optional[str]) -> None:
+        """A channel's filter is this version in the recording that goes on, of this name; without one it is the program
+        of the version before."""
         if channel in self.channels:
-            self.channels[channel].install(version, is_same)
+            self.channels[channel].install(version, name)
+
+    def marked(self, mark: Marked, name: str, now: float) -> None:
+        """A recording of this name has one more mark."""
+        self.marks.append((now, MarkView(name, mark.counter, mark.time, mark.text, 0)))
 
     def grown(self, number: int, growth: Growth, told: Sequence[Told], now: float) -> None:
         """A recording's file has grown by packets that tell this."""
@@ -182,6 +192,9 @@ class Model:
             channels=self.channel_views(now),
             recordings=tuple(self.recordings),
             audits=self.audits,
+            marks=tuple(mark._replace(age=now - moment) for moment, mark in self.marks),
+            clock=self.clock,
+            is_ending=self.is_ending,
         )
 
     def channel_views(self, now: float) -> tuple[ChannelView, ...]:

@@ -3,19 +3,24 @@
 from __future__ import annotations
 
 import os
+import socket
 import time
-from collections.abc import Iterable, Sequence
+from collections.abc import Callable, Iterable, Sequence
 from typing import Optional
 
 from bpfrec_host.formats.ch11.follow import MOST_PACKETS
+from bpfrec_host.formats.clock_state import ClockState
 from bpfrec_host.formats.limits import TOP_KEYS
-from bpfrec_host.live.ports import Counts, Observer, Setup
+from bpfrec_host.live.ports import Counts, Marked, Observer, Setup
+from bpfrec_host.live.status.alarm_changes import AlarmChange, AlarmChanges
 from bpfrec_host.live.status.alarms import alarms_of
 from bpfrec_host.live.status.endpoint import Endpoint
 from bpfrec_host.live.status.growth import Growth
 from bpfrec_host.live.status.model import Model
 from bpfrec_host.live.status.server import Server, Stock
+from bpfrec_host.live.status.table import report_of
 from bpfrec_host.live.status.terminal import Terminal
+from bpfrec_host.live.status.view import ClockView
 
 # The longest packet where the settings say nothing.
 USUAL_LIMIT = TOP_KEYS["limit"].default or 0
@@ -37,8 +42,11 @@ class Status(Observer):
         now: Optional[float] = None,
     ) -> None:
         self.model = Model(time.monotonic() if now is None else now, sync, has_ring)
-        self.limit, self.terminal = limit, terminal
+        self.limit, self.terminal, self.host = limit, terminal, socket.gethostname()
         self.growths: dict[int, Growth] = {}
+        # Who is told of alarms that begin and end.
+        self.changes = AlarmChanges()
+        self.alarm_changed: Callable[[AlarmChange], None] = lambda _: None
         # It takes its port at once, so that one that can't be had is refused before anything is recorded.
         self.server = Server(endpoint) if endpoint else None
 
@@ -63,10 +71,22 @@ class Status(Observer):
         """The capture has counted so much of an interface since the run began."""
         self.model.capture_counted(interface, counts, now)
 
-    def filter_changed(self, channel: int, version: int, is_same: bool = False) -> None:
-        """A line changed a filter of the recording that goes on; `is_same` says that it was given the program that it
-        had, as to close a packet."""
-        self.model.filter_changed(channel, version, is_same)
+    def filter_changed(self, channel: int, version: int, name: Optional[str]) -> None:
+        """A line changed a filter of the recording that goes on, to one of this name; None says that it was given the
+        program that it had, as to close a packet."""
+        self.model.filter_changed(channel, version, name)
+
+    def marked(self, mark: Marked, now: float) -> None:
+        """A recording has one more mark."""
+        self.model.marked(mark, os.path.basename(mark.path), now)
+
+    def report(self, now: float) -> list[str]:
+        """How the run goes, as lines, by all that its recordings have by now."""
+        for number, growth in self.growths.items():
+            self.follow(number, growth, now)
+        self.look_at_disk()
+        view = self.model.view(now)
+        return report_of(view, alarms_of(view, self.limit))
 
     def synced(self, now: float) -> None:
         """The recording that goes on was forced to its disk."""
@@ -75,6 +95,10 @@ class Status(Observer):
     def sync_failed(self, path: str, why: str) -> None:
         """A recording couldn't be forced to its disk; it is told once of each."""
         self.model.sync_failed(os.path.basename(path), why)
+
+    def clock_seen(self, state: ClockState, most: Optional[float]) -> None:
+        """How right the clock is, and by how many seconds it may be off, where somebody asks for that."""
+        self.model.clock = ClockView(state, most)
 
     def recording_ended(
         self, number: int, status: int, now: float, report: Sequence[str] = (), audit: Sequence[str] = ()
@@ -95,6 +119,10 @@ class Status(Observer):
         self.look_at_disk()
         self.model.pass_time(now)
         self.publish(now)
+
+    def ending(self) -> None:
+        """No other recording will begin."""
+        self.model.is_ending = True
 
     def ended(self, now: float) -> None:
         """All has ended; the page says so until `close`, and the table is taken away."""
@@ -134,10 +162,10 @@ class Status(Observer):
 
     def publish(self, now: float) -> None:
         """Tells how it goes, from now on."""
-        if not self.server and not self.terminal:
-            return
-        view = self.model.view(now)
+        view = self.model.view(now)._replace(host=self.host, utc=time.time())
         alarms = alarms_of(view, self.limit)
+        for change in self.changes.take(alarms):
+            self.alarm_changed(change)
         if self.server:
             self.server.answers.stock = Stock(view, alarms)
         if self.terminal and not self.model.is_ended:

@@ -18,6 +18,8 @@ LEVELS = " ▁▂▃▄▅▆▇█"
 # The least that is drawn, and the widths of names that may be cut.
 LEAST_WIDTH, LEAST_HEIGHT, NAME_WIDTH = 20, 4, 15
 BAR_SECONDS = 20
+# The columns of a filter, where there are so many, and the fewest in which one is shown.
+FILTER_WIDTH, LEAST_FILTER_WIDTH = 24, 5
 
 
 class Line(NamedTuple):
@@ -42,6 +44,13 @@ def lines_of(view: View, alarms: tuple[Alarm, ...], width: int, height: int) -> 
     return [coloured(it, max(width, LEAST_WIDTH)) for it in (head + rows)[:height]]
 
 
+def report_of(view: View, alarms: tuple[Alarm, ...]) -> list[str]:
+    """The table with all alarms, channels and filters, without colours."""
+    told = [it.text for it in alarms]
+    channels = [TITLES, *(row(it, alarms).text for it in view.channels)] if view.channels else []
+    return [printable(it) for it in (heading(view, alarms), *whole(view), *told, *channels)]
+
+
 def heading(view: View, alarms: tuple[Alarm, ...]) -> str:
     """The first line: whether all is well."""
     count = sum(it.level == ALARM for it in alarms)
@@ -57,7 +66,8 @@ def whole(view: View) -> Iterator[str]:
         return
     recording = view.recording
     rate = "" if recording.bytes_per_second is None else f", {size(recording.bytes_per_second)}/s"
-    yield f"{recording.name}  {duration(recording.seconds)}  {size(recording.bytes)}{rate}"
+    clock = "  clock not synchronised" if view.clock.state.is_synchronised is False else ""
+    yield f"{recording.name}  {duration(recording.seconds)}  {size(recording.bytes)}{rate}{clock}"
     left = view.disk and view.disk.seconds_left
     disk = f"disk {size(view.disk.free)} free" if view.disk else "disk not known"
     full = f", full in {duration(left)}" if left is not None else ""
@@ -73,7 +83,9 @@ def ago(age: Optional[float]) -> str:
 
 # ---- channels
 
-TITLES = f"{'channel':<{NAME_WIDTH + 6}} {'came/s':>8} {'kept/s':>8} {'lost':>8} {'filter':>6} {'last':>8}  state"
+TITLES = (
+    f"{'channel':<{NAME_WIDTH + 6}} {'came/s':>8} {'kept/s':>8} {'lost':>7} {'changes':>7} {'last':>8}  state, filter"
+)
 
 # The column at which a channel's state begins.
 STATE_AT = TITLES.index("state")
@@ -88,29 +100,34 @@ def shown(channels: tuple[ChannelView, ...], alarms: tuple[Alarm, ...], room: in
     return sorted(chosen, key=lambda channel: channel.channel)
 
 
-def row(channel: ChannelView, alarms: tuple[Alarm, ...], width: int) -> Line:
-    """A channel, for a line of so many columns."""
+def row(channel: ChannelView, alarms: tuple[Alarm, ...], width: Optional[int] = None) -> Line:
+    """A channel, for a line of so many columns; without them, with its whole filter and no bar."""
     last, kept = current(channel), kept_rates(channel.history)
     name = cut(printable(channel.interface or "(a feed)"), NAME_WIDTH)
     words = ", ".join(alarm.word for alarm in alarms if alarm.channel == channel.channel)
+    said = words.upper() or ("ended" if channel.has_ended else "")
+    whole_state = f"{said} {channel.filter.name}".strip()
     columns = [
         f"{channel.channel:>5} {padded(name, NAME_WIDTH)}",
         f"{rate(last.offered_frames if last else None):>8}",
         f"{rate(kept[0] if kept else None):>8}",
-        f"{'-' if channel.counts is None else format(lost(channel.counts), ','):>8}",
-        f"{channel.same_since:>6}",
+        f"{'-' if channel.counts is None else format(lost(channel.counts), ','):>7}",
+        f"{channel.filter.changes:>7}",
         f"{'-' if channel.frame_age is None else duration(channel.frame_age):>8}",
-        f" {state(channel, words, width - STATE_AT)}",
+        f" {whole_state if width is None else state(channel, said, width - STATE_AT)}",
     ]
     return Line(" ".join(columns), level_of(alarms, channel.channel))
 
 
-def state(channel: ChannelView, words: str, width: int) -> str:
-    """What is wrong with a channel, and its bar in what is left of the columns."""
-    said = words.upper() or ("ended" if channel.has_ended else "")
-    return (
-        said if channel.has_ended else f"{said} {bar(channel, width - len(said) - 1)}" if said else bar(channel, width)
-    )
+def state(channel: ChannelView, said: str, width: int) -> str:
+    """What is wrong with a channel, and in what is left of the columns its filter and its bar."""
+    parts = [said] if said else []
+    room = width - len(said) - len(parts)
+    if room >= LEAST_FILTER_WIDTH:
+        parts.append(padded(cut(printable(channel.filter.name), min(room, FILTER_WIDTH)), FILTER_WIDTH))
+    if not channel.has_ended:
+        parts.append(bar(channel, room - FILTER_WIDTH - 1))
+    return " ".join(parts).rstrip()
 
 
 def rate(value: Optional[float]) -> str:

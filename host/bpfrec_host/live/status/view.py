@@ -9,6 +9,7 @@ from __future__ import annotations
 from typing import NamedTuple, Optional
 
 from bpfrec_host.formats.answers import Verdict
+from bpfrec_host.formats.clock_state import ClockState
 from bpfrec_host.formats.limits import MAX_VERSIONS
 from bpfrec_host.live.ports import Counts
 
@@ -40,6 +41,13 @@ class Unkept(NamedTuple):
     bytes: int
 
 
+class FilterView(NamedTuple):
+    """A channel's filter by now, as people know it, and how many lines have changed it in this run."""
+
+    name: str
+    changes: int
+
+
 class ChannelView(NamedTuple):
     """A channel. `interface` is None where its feed is a file or a pipe, of which nobody counts what is offered.
     `version` is the last version of its filter in this recording, and `same_since` the first of the versions that ended
@@ -60,6 +68,7 @@ class ChannelView(NamedTuple):
     has_ended: bool
     unkept: Optional[Unkept]
     history: tuple[Second, ...]
+    filter: FilterView = FilterView("all", 0)
 
     def filters_left(self) -> int:
         """For how many more versions of the filter the recording has room."""
@@ -118,9 +127,32 @@ class Audits(NamedTuple):
     none: int
 
 
+class MarkView(NamedTuple):
+    """A mark, in the recording of this name: its counter, its time in UTC, its text, and how long ago it was noted."""
+
+    name: str
+    counter: int
+    time: str
+    text: str
+    age: float
+
+
+class ClockView(NamedTuple):
+    """How right the host's clock is, and by how many seconds it may be off, where somebody asks for that."""
+
+    state: ClockState
+    most: Optional[float] = None
+
+    def fault(self) -> Optional[str]:
+        """Why it is worse than it has to be."""
+        return self.state.fault(self.most)
+
+
 class View(NamedTuple):
     """A run at the moment `now`. `state` is `waiting` where no recording goes on, `recording`, or `ended`; `uptime` is
-    how long it has gone on, and `recordings` are the last that ended."""
+    how long it has gone on, and `recordings` are the last that ended. `marks` are the last of the run; `host` is the
+    name of the host, and `utc` the moment by its clock, in seconds since 1970. `is_ending` says that no other recording
+    will begin."""
 
     now: float
     state: str
@@ -131,6 +163,11 @@ class View(NamedTuple):
     channels: tuple[ChannelView, ...]
     recordings: tuple[EndedView, ...]
     audits: Audits
+    marks: tuple[MarkView, ...] = ()
+    host: str = ""
+    utc: Optional[float] = None
+    clock: ClockView = ClockView(ClockState())
+    is_ending: bool = False
 
 
 def current(channel: ChannelView) -> Optional[Second]:

@@ -1,0 +1,226 @@
+"""Tries what `bpfrec chapter11` refuses: arguments, SETUP, files, and recordings that have no whole file."""
+
+import os
+import resource
+import signal
+from pathlib import Path
+
+import pytest
+from drawn_recording import DrawnRecording
+from reading import SAMPLES
+from support import BPFREC, judge, judge_quietly, outcome
+from whole_file import Origin, Setup
+from whole_file_trials import chapter11, judge_file, write_inputs
+
+WANTED = {"bin/bpfrec": "make build"}
+SECOND = 10_000_000
+YEAR_4000 = 64_060_588_800 * 10**9
+LEAST = 'origin = "0"\n'
+RESERVED = (
+    *(
+        "G\\\\PN",
+        "G\\\\106",
+        "G\\\\OD",
+        "G\\\\DSI\\\\N",
+        "G\\\\DSI-1",
+        "G\\\\DST-1",
+        "R-1\\\\ID",
+        "R-1\\\\RID",
+        "R-1\\\\R1",
+    ),
+    *(
+        "R-1\\\\TC1",
+        "R-1\\\\RI3",
+        "R-1\\\\RI4",
+        "R-1\\\\NSB",
+        "R-1\\\\IDX\\\\E",
+        "R-1\\\\IDX\\\\IT",
+        "R-1\\\\IDX\\\\ICV",
+    ),
+    *("R-1\\\\EV\\\\E", "R-1\\\\N", "R-1\\\\COM", "R-1\\\\TK1-1", "R-1\\\\TK4-2", "R-1\\\\CHE-65536", "R-1\\\\DSI-3"),
+    *("R-1\\\\CDT-9", "R-1\\\\TTF-1", "R-1\\\\TFMT-1", "R-1\\\\TSRC-1", "R-1\\\\ENTF-2", "R-1\\\\NNET-2"),
+    *("R-1\\\\ENBR-2-1", "R-1\\\\ENAM-77-1"),
+)
+FAULTS = {
+    "": "3 Missing origin",
+    "a": "1 Syntax",
+    'origin = "0"\norigin = "0"': "1 Syntax",
+    'z = 1\nb = 2\norigin = "0"': "2 Unknown b",
+    'z = 1\norigins = "0"': "2 Unknown z",
+    "origin = 0": "4 Value origin",
+    'origin = ""': "4 Value origin",
+    'origin = "+1"': "4 Value origin",
+    'origin = "1."': "4 Value origin",
+    'origin = ".5"': "4 Value origin",
+    'origin = "1234567890123"': "4 Value origin",
+    'origin = "1.1234567890"': "4 Value origin",
+    'origin = "- 1"': "4 Value origin",
+    'origin = "0"\norigins = []': "4 Value origins",
+    "origins = []": "4 Value origins",
+    "origins = 5": "4 Value origins",
+    "origins = [{ counter = 1 }]": "3 Missing origin",
+    'origins = [{ origin = "1" }]': "3 Missing counter",
+    'origins = [{ counter = 1, origin = "1", from = 2, at = 1 }]': "2 Unknown at",
+    'origins = [{ counter = 281474976710656, origin = "1" }]': "4 Value counter",
+    'origins = [{ counter = -1, origin = "1" }]': "4 Value counter",
+    LEAST + "host = 5": "4 Value host",
+    LEAST + "program = []": "4 Value program",
+    LEAST + 'external = "no"': "4 Value external",
+    LEAST + 'attributes = "A:b"': "4 Value attributes",
+    LEAST + 'attributes = ["Ab"]': "4 Value attributes",
+    LEAST + 'attributes = [":b"]': "4 Value attributes",
+    LEAST + 'attributes = ["A:b;"]': "4 Value attributes",
+    LEAST + 'attributes = ["A:\u00e9"]': "4 Value attributes",
+    LEAST + 'attributes = ["A:b", 5]': "4 Value attributes",
+    LEAST + "channel = 5": "4 Value channel",
+    LEAST + "[[channel]]": "3 Missing id",
+    LEAST + "[[channel]]\nid = 0": "4 Value id",
+    LEAST + "[[channel]]\nid = 65536": "4 Value id",
+    LEAST + "[[channel]]\nid = 1\n[[channel]]\nid = 1": "4 Value id",
+    LEAST + "[[channel]]\nid = 1\nname = 5": "4 Value name",
+    LEAST + "[[channel]]\nid = 1\nnet = 256": "4 Value net",
+    LEAST + "[[channel]]\nid = 1\nspeed = 1\nmax = 2": "2 Unknown max",
+    "host = 5\norigin = 5": "4 Value origin",
+    LEAST + "external = 1\nhost = 5": "4 Value host",
+}
+TAKEN = (
+    'origin = "-0"',
+    'origin = "-999999999999.999999999"',
+    'origin = "0"\nattributes = ["A:", "A:b:c", "R-1\\\\TK1-0:x", "R-1\\\\TK1-01:x", "R-1\\\\ENBR-2-2:x", "g\\\\PN:x"]',
+    'origin = "0"\n[[channel]]\nid = 65535\nname = ""\nnet = 255',
+    'origins = [{ counter = 281474976710655, origin = "1" }]',
+)
+
+
+def setup_fault(work: Path, setup: str) -> str:
+    """The fault of SETUP that is told, where nothing else is."""
+    done = chapter11(work, SAMPLES[1].read_bytes(), setup)
+    judge_quietly(setup, done.returncode == 2 and not done.stdout and done.stderr.startswith("setup "), done)
+    judge_quietly(f"{setup}: no OUT", not (work / "flight.ch10").exists())
+    return done.stderr.removeprefix("setup ").removesuffix("\n")
+
+
+def test_faults_of_setup(work: Path) -> None:
+    for setup, fault in FAULTS.items():
+        found = setup_fault(work, setup)
+        judge_quietly(setup, found == fault, (found, fault))
+    judge(f"{len(FAULTS)} faults", True)
+
+
+def test_names_that_the_setup_record_writes_are_no_attributes(work: Path) -> None:
+    for name in RESERVED:
+        found = setup_fault(work, LEAST + f'attributes = ["{name}:x"]')
+        judge_quietly(name, found == "4 Value attributes", found)
+    judge(f"{len(RESERVED)} names", True)
+
+
+def test_setups_that_are_taken(work: Path) -> None:
+    for setup in TAKEN:
+        done = chapter11(work, b"", setup + "\n")
+        judge_quietly(setup, done.returncode in (0, 1) and not done.stderr, done)
+    origins = ", ".join(['{ counter = 0, origin = "0" }'] * 65_536)
+    judge("65,536 origins", chapter11(work, b"", f"origins = [{origins}]").returncode == 0)
+    one_more = f'origins = [{origins}, {{ counter = 0, origin = "0" }}]'
+    judge("65,537 origins", chapter11(work, b"", one_more).stderr == "setup 4 Value origins\n")
+
+
+def test_files_that_cannot_be_read(work: Path) -> None:
+    recording, setup = write_inputs(work, SAMPLES[1].read_bytes(), LEAST)
+    out, none, pipe = work / "flight.ch10", work / "none", work / "pipe"
+    os.mkfifo(pipe)
+    for words, named in (
+        ((none, setup, out), none),
+        ((work, setup, out), work),
+        ((pipe, setup, out), pipe),
+        ((recording, none, out), none),
+        ((recording, work, out), work),
+        ((recording, setup, recording), recording),
+        ((recording, setup, setup), setup),
+        ((recording, none, recording), recording),
+        ((recording, setup, work), work),
+        ((recording, setup, none / "out"), none / "out"),
+    ):
+        if named is pipe:
+            # its opening waits for a writer
+            kept = os.open(pipe, os.O_RDWR)
+        done = outcome(BPFREC, "chapter11", *words)
+        judge_quietly(f"{words}", (done.returncode, done.stdout, done.stderr) == (3, "", f"file {named}\n"), done)
+        judge_quietly(f"{words}: no OUT", not out.exists())
+    os.close(kept)
+    setup.write_bytes(b'origin = "0"\nhost = "\xff"\n')
+    judge("no UTF-8", outcome(BPFREC, "chapter11", recording, setup, out).stderr == f"file {setup}\n")
+    setup.write_text(LEAST + "#" * (16_777_216 - len(LEAST)))
+    judge("the greatest SETUP", outcome(BPFREC, "chapter11", recording, setup, out).returncode == 0)
+    out.unlink()
+    setup.write_text(LEAST + "#" * (16_777_217 - len(LEAST)))
+    judge("a greater one", outcome(BPFREC, "chapter11", recording, setup, out).stderr == f"file {setup}\n")
+    done = outcome(BPFREC, "chapter11", "-", setup, out)
+    judge("standard input", done.returncode == 2 and "<RECORDING>" in done.stderr, done)
+    judge("the recording is what it was", recording.read_bytes() == SAMPLES[1].read_bytes() and not out.exists())
+
+
+def test_what_is_wrong_first_is_told(work: Path) -> None:
+    """An OUT that is an input, then SETUP, then the recording's reading, then what is refused."""
+    cut = SAMPLES[1].read_bytes()[:-1]
+    done = chapter11(work, cut, "a")
+    judge("SETUP before the reading", done.stderr == "setup 1 Syntax\n", done)
+    other = DrawnRecording()
+    other.add_other(7)
+    done = chapter11(work, bytes(other.data) + cut, LEAST)
+    judge("the reading before Other", done.returncode == 1 and done.stderr.startswith("read 1 Truncated "), done)
+    recording, setup = write_inputs(work, cut, "a")
+    done = outcome(BPFREC, "chapter11", recording, setup, recording)
+    judge("OUT before SETUP", done.stderr == f"file {recording}\n", done)
+
+
+def test_recordings_that_have_no_whole_file(work: Path) -> None:
+    other, zero, gap = DrawnRecording(), DrawnRecording(), DrawnRecording()
+    other.add_frames(1, [(0, 0, 60)])
+    other.add_other(7)
+    other.add_other(7)
+    zero.add_frames(0, [(0, 0, 60)])
+    gap.add_frames(1, [(0, 0, 60)])
+    gap.add_frames(1, [(7_000_000_000_000, 0, 60)])
+    now, late = Setup((Origin(0, 0),)), Setup((Origin(0, YEAR_4000),))
+    judge("another packet", judge_file(work, "other", bytes(other.data), now) == "refused 1 Other 104")
+    judge("frames of channel 0", judge_file(work, "zero", bytes(zero.data), now) == "refused 1 Other 0")
+    judge("a gap", judge_file(work, "gap", bytes(gap.data), now) == "refused 3 Gap 104")
+    judge("the year 4000", judge_file(work, "year", bytes(gap.data), late) == "refused 5 Year 0")
+    judge("other before the year", judge_file(work, "first", bytes(other.data), late) == "refused 1 Other 104")
+    under_way = Setup((Origin(0, YEAR_4000 - 3 * 10**9),))
+    four = DrawnRecording()
+    four.add_frames(1, [(it * SECOND, 0, 60) for it in range(5)])
+    judge("the year 4000 under way", judge_file(work, "four", bytes(four.data), under_way) == "refused 5 Year 0")
+    none = Setup((Origin(0, 50), Origin(2**48 - 1, 99)))
+    last = DrawnRecording()
+    last.add_frames(1, [(2**48 - 1, 0, 60)])
+    judge("no tick", judge_file(work, "last", bytes(last.data), none) == "refused 4 Origin 0")
+
+
+def test_every_channel_is_named(work: Path) -> None:
+    made = DrawnRecording()
+    for channel in range(1, 65_536):
+        made.add_end(channel, 0, 0)
+    judge(
+        "none is left for the time",
+        judge_file(work, "full", bytes(made.data), Setup((Origin(0, 0),))) == "refused 7 Full 0",
+    )
+
+
+@pytest.mark.parametrize("limit", [0, 1, 687, 688, 1_000, 1_191])
+def test_an_output_that_fails(work: Path, limit: int) -> None:
+    recording, setup = write_inputs(work, SAMPLES[1].read_bytes(), 'origin = "1764590400.250000123"\n')
+    out = work / "flight.ch10"
+
+    def limited() -> None:
+        signal.signal(signal.SIGXFSZ, signal.SIG_IGN)
+        resource.setrlimit(resource.RLIMIT_FSIZE, (limit, limit))
+
+    done = outcome(BPFREC, "chapter11", recording, setup, out, preexec_fn=limited)
+    judge(f"at {limit} bytes", (done.returncode, done.stdout, done.stderr) == (3, "", f"file {out}\n"), done)
+
+
+def test_devices_as_out(work: Path) -> None:
+    recording, setup = write_inputs(work, SAMPLES[1].read_bytes(), LEAST)
+    judge("/dev/null", outcome(BPFREC, "chapter11", recording, setup, "/dev/null").returncode == 0)
+    judge("/dev/full", outcome(BPFREC, "chapter11", recording, setup, "/dev/full").stderr == "file /dev/full\n")

@@ -1,0 +1,193 @@
+"""The command line of bpfrec-chapter11."""
+
+from __future__ import annotations
+
+import argparse
+import os
+import re
+from typing import NoReturn, Optional
+
+from bpfrec_host import printing, program
+from bpfrec_host.arguments import Parser, full_name, natural, short_name
+from bpfrec_host.chapter11.networks import networks_of
+from bpfrec_host.chapter11.setup import Asked, setup_text
+from bpfrec_host.formats import facts
+from bpfrec_host.formats.limits import MAX_TAI_OFFSET
+from bpfrec_host.streams import STREAM, Refused, Taken, Unreadable, input_at, refuse_overwriting
+
+ABOUT = """\
+Makes a whole Chapter 11 file of a recording: with a setup record (TMATS), time packets and an index.
+
+OUT has all frames, programs and ends of RECORDING, merged by their counters and cut into packets of 100 ms at most.
+Times are UTC by the facts beside the recording, RECORDING.json. From these the setup record has the host, the
+recorder and the names of interfaces. The network identifier of a channel is that of its first frame.
+
+It writes what is set into SETUP, a text in TOML, and becomes `bpfrec chapter11 RECORDING SETUP OUT`, which makes the
+file and prints its counts. An OUT that exists and isn't empty is refused unless --force is given.
+"""
+MORE = """\
+An adapter's clock may have run UTC or atomic time (TAI). If the facts don't know which, RECORDING is refused unless
+--utc or --tai says it. Both speak of such origins alone.
+
+A security classification is never made up: --attribute 'G\\SC:U' has one.
+
+It runs bpfrec: what BPFREC names, or the one beside it.
+
+Status: 0 made, 1 the recording or the facts are refused, 2 the arguments or SETUP are wrong, 3 a file can't be read or
+written, or OUT is taken, 4 out of memory.
+"""
+SECONDS = re.compile(r"-?[0-9]{1,12}(?:\.[0-9]{1,9})?")
+ATTRIBUTE = re.compile(r"[ -9<-~][ -9<-~]*:[ -:<-~]*")
+
+
+class Unusable(Refused):
+    """Arguments that don't go together, or that lack something."""
+
+    status = 2
+
+
+def parser() -> Parser:
+    """The arguments of bpfrec-chapter11."""
+    name = full_name("chapter11")
+    usage = f"{name} [OPTION..] RECORDING OUT\n       {name} --print-setup [OPTION..] RECORDING"
+    made = Parser(prog=name, usage=usage, description=ABOUT, epilog=MORE)
+    times = made.add_mutually_exclusive_group()
+    times.add_argument("--facts", metavar="FILE", help="the facts of the recording, if they aren't RECORDING.json")
+    times.add_argument(
+        "--origin",
+        metavar="SECONDS",
+        type=origin_of,
+        help="where there are no facts, the moment of counter 0 in UTC, in seconds since 1970 as 1764590400.25",
+    )
+    scales = made.add_mutually_exclusive_group()
+    scales.add_argument(
+        "--utc", dest="ahead", action="store_const", const=0, help="a clock whose scale is unknown ran UTC"
+    )
+    scales.add_argument(
+        "--tai", dest="ahead", metavar="SECONDS", type=ahead_of, help="it ran TAI, ahead of UTC by these seconds, as 37"
+    )
+    made.add_argument("--external", action="store_true", help="an outside source held the clock, as the file then says")
+    made.add_argument(
+        "--attribute",
+        metavar="NAME:VALUE",
+        type=attribute_of,
+        action="append",
+        default=[],
+        help="a further line of the setup record; several times",
+    )
+    made.add_argument("--force", action="store_true", help="overwrites an OUT that exists")
+    made.add_argument("--print-setup", action="store_true", help="prints SETUP, and makes no file")
+    made.add_argument("recording", metavar="RECORDING")
+    made.add_argument("out", metavar="OUT", nargs="?")
+    return made
+
+
+def origin_of(word: str) -> str:
+    """The seconds that a word is."""
+    if not SECONDS.fullmatch(word):
+        raise argparse.ArgumentTypeError(f"{word} is no time in seconds since 1970, as 1764590400.25")
+    return word
+
+
+def ahead_of(word: str) -> int:
+    """The seconds by which TAI is ahead."""
+    number = natural(word)
+    if number > MAX_TAI_OFFSET:
+        raise argparse.ArgumentTypeError(f"{word} is no number of seconds up to {MAX_TAI_OFFSET}")
+    return number
+
+
+def attribute_of(word: str) -> str:
+    """The attribute that a word is."""
+    if not ATTRIBUTE.fullmatch(word):
+        raise argparse.ArgumentTypeError(f"{word!r} is no NAME:VALUE in printable ASCII without a semicolon")
+    return word
+
+
+def facts_path(given: argparse.Namespace) -> Optional[str]:
+    """The file of the facts; None where there is none, and the origin is given."""
+    beside = f"{given.recording}.json"
+    if given.facts is not None:
+        return str(given.facts)
+    if os.path.exists(beside):
+        if given.origin is not None:
+            raise Unusable(f"{beside} has the origins, and --origin is for a recording without facts")
+        return beside
+    if given.origin is None:
+        raise Unusable(f"{given.recording}: no facts beside it: --facts or --origin says when it was recorded")
+    return None
+
+
+def facts_at(path: str) -> facts.Facts:
+    """The facts in a file."""
+    try:
+        return facts.read(0 if path == STREAM else path)
+    except OSError as error:
+        raise Unreadable(f"{path}: {error.strerror}") from None
+    except facts.NoFacts as fault:
+        raise Refused(f"{path}: no facts of a recording: {fault}") from None
+
+
+def judge_outputs(out: Optional[str], inputs: list[str]) -> None:
+    """Refuses an OUT or a standard output that is an input."""
+    for path in (it for it in (out, STREAM) if it is not None):
+        taken = input_at(path, inputs)
+        if taken:
+            raise Taken(f"{path}: it is {'standard input' if taken == STREAM else taken} itself")
+
+
+def judge_overwriting(out: str, is_forced: bool) -> None:
+    """Refuses an OUT that exists, unless it may be overwritten. An empty one loses nothing: who needs its mode makes it
+    ahead."""
+    if not os.path.isfile(out) or os.path.getsize(out):
+        refuse_overwriting(out, is_forced)
+
+
+def setup_of(given: argparse.Namespace) -> str:
+    """SETUP of the recording."""
+    if given.recording == STREAM:
+        raise Unusable(f"{STREAM}: it is standard input, and chapter11 reads a file twice")
+    path = facts_path(given)
+    judge_outputs(given.out, [given.recording, *([path] if path else [])])
+    known = facts_at(path) if path else None
+    asked = Asked(given.origin, given.ahead, given.external, tuple(given.attribute))
+    try:
+        return setup_text(asked, known, networks_of(given.recording))
+    except Refused as refused:
+        raise Refused(f"{path}: {refused}") from None
+
+
+def as_operand(path: str) -> str:
+    """A path as an operand of bpfrec, which no option is."""
+    return os.path.join(".", path) if path.startswith("-") and path != STREAM else path
+
+
+def make(recording: str, setup: str, out: str) -> NoReturn:
+    """Becomes bpfrec, which makes the file by a SETUP in memory. So whatever ends this process ends that program."""
+    bpfrec = program.find()
+    descriptor = os.memfd_create("setup")
+    with open(descriptor, "wb", closefd=False) as file:
+        file.write(setup.encode())
+    os.set_inheritable(descriptor, True)
+    os.execv(bpfrec, [bpfrec, "chapter11", as_operand(recording), f"/proc/self/fd/{descriptor}", as_operand(out)])
+
+
+def run(arguments: list[str]) -> int:
+    """Makes the whole Chapter 11 file of a recording: the status."""
+    made = parser()
+    given = made.parse_args(arguments)
+    if given.out is None and not given.print_setup:
+        made.error("the following arguments are required: OUT")
+    try:
+        setup = setup_of(given)
+        if given.print_setup:
+            printing.out(setup)
+            return 0
+        judge_overwriting(given.out, given.force)
+        make(given.recording, setup, given.out)
+    except Refused as refused:
+        printing.err(f"{short_name('chapter11')}: {refused}")
+        return refused.status
+    except program.Missing as missing:
+        printing.err(f"{short_name('chapter11')}: {missing}")
+        return Unreadable.status

@@ -1,0 +1,139 @@
+"""Whole Chapter 11 files of a run's recordings: each is made once its recording is approved and on its disk.
+
+One is made at a time, by bpfrec-chapter11, which ends with live. What goes wrong is told, and spoils no recording.
+"""
+
+from __future__ import annotations
+
+import os
+import subprocess
+import sys
+import tempfile
+from collections import deque
+from typing import IO, Callable, NamedTuple, Optional
+
+import bpfrec_host
+from bpfrec_host.live import children
+from bpfrec_host.live.engine import FILE_FAULT
+from bpfrec_host.live.guard import Guard
+from bpfrec_host.live.loop import Loop
+from bpfrec_host.live.model import KILLED
+from bpfrec_host.live.names import Files, remove, whole_path
+from bpfrec_host.live.retention import Kept
+
+# Runs the tool from where this package is: a checkout, or the one file of the installed tools.
+CODE = (
+    "import sys; sys.path.insert(0, sys.argv.pop(1)); from bpfrec_host.__main__ import run_tool; "
+    "sys.exit(run_tool('chapter11'))"
+)
+PLACE = os.path.dirname(os.path.dirname(os.path.abspath(bpfrec_host.__file__)))
+COMMAND = (sys.executable, "-I", "-B", "-c", CODE, PLACE)
+# How much of what the tool told is read.
+MOST_TOLD = 1 << 16
+GIVEN_UP = "the run was ended"
+
+
+class Job(NamedTuple):
+    """A file that is being made: of which recording, whether there was none before, and what the tool prints into."""
+
+    kept: Kept
+    out: str
+    is_new: bool
+    told: IO[bytes]
+
+
+class WholeFiles:
+    """Makes them, where they are wanted. `made` takes each recording when nothing more is made of it, and `err` a line
+    for who watches."""
+
+    def __init__(
+        self,
+        is_wanted: bool,
+        files: Files,
+        loop: Loop,
+        guard: Guard,
+        made: Callable[[Kept], None],
+        err: Callable[[str], None],
+    ) -> None:
+        self.is_wanted, self.files, self.loop, self.guard, self.made, self.err = (
+            is_wanted,
+            files,
+            loop,
+            guard,
+            made,
+            err,
+        )
+        self.waiting: deque[Kept] = deque()
+        self.child: Optional[children.Child] = None
+        self.is_given_up = False
+        # That of the first that couldn't be made.
+        self.status = 0
+
+    def add(self, kept: Kept) -> None:
+        """A recording is approved, and on its disk with its facts."""
+        if not self.is_wanted:
+            self.made(kept)
+            return
+        self.waiting.append(kept)
+        self.begin_next()
+
+    def begin_next(self) -> None:
+        """Starts with the recording that has waited longest, where none is in work."""
+        while self.waiting and not self.child:
+            self.start(self.waiting.popleft())
+
+    def start(self, kept: Kept) -> None:
+        """Starts the tool for a recording, or tells that this can't be done."""
+        out = whole_path(kept.out)
+        try:
+            is_new = not os.path.lexists(out)
+            os.close(self.files.create(out))
+            job = Job(kept, out, is_new, tempfile.TemporaryFile())
+            self.child = self.started(job)
+        except OSError as error:
+            self.fail(out, error.strerror or str(error), FILE_FAULT)
+            self.made(kept)
+            return
+        self.loop.follow(self.child, lambda status: self.end(job, status))
+
+    def started(self, job: Job) -> children.Child:
+        """Starts the tool, which prints into a file."""
+        paths = (os.path.abspath(job.kept.out), os.path.abspath(job.out))
+        with open(self.guard.lifeline_of_live(), "rb", buffering=0) as lifeline:
+            manner = children.Manner([self.guard.all], ends_with=lifeline.fileno())
+            streams = (subprocess.DEVNULL, job.told, subprocess.STDOUT)
+            return children.start([*COMMAND, "--force", "--", *paths], streams, manner)
+
+    def end(self, job: Job, status: int) -> None:
+        """The tool has ended."""
+        self.child = None
+        with job.told:
+            job.told.seek(0)
+            lines = os.fsdecode(job.told.read(MOST_TOLD)).splitlines()
+        if status:
+            ended = f"it was ended by signal {status - KILLED}" if status > KILLED else f"status {status}"
+            self.fail(job.out, GIVEN_UP if self.is_given_up else lines[-1] if lines else ended, status)
+            if job.is_new:
+                remove(job.out)
+            self.made(job.kept)
+        else:
+            self.err(f"live: {job.out}: {lines[-1] if lines else 'made'}")
+            self.made(job.kept._replace(beside=(job.out,)))
+        self.begin_next()
+
+    def fail(self, out: str, why: str, status: int) -> None:
+        """Tells that a file couldn't be made."""
+        self.status = self.status or status
+        self.err(f"live: {out} isn't made: {why}")
+
+    def finish(self, turn: Callable[[], None], is_given_up: Callable[[], bool]) -> None:
+        """Waits until all are made, unless nobody waits for that any more."""
+        while (self.child or self.waiting) and not is_given_up():
+            turn()
+        self.is_given_up = True
+        for kept in self.waiting:
+            self.fail(whole_path(kept.out), GIVEN_UP, FILE_FAULT)
+        self.waiting.clear()
+        children.kill(self.child)
+        while self.child:
+            turn()

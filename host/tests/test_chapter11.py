@@ -1,0 +1,378 @@
+"""Tries host/bin/chapter11: SETUP by facts and by the command line, what is refused, and the program that it runs, which
+is played."""
+
+from __future__ import annotations
+
+import json
+import os
+import shutil
+import signal
+import subprocess
+from pathlib import Path
+from typing import Any
+
+import pytest
+import tomllib
+from bpfrec_host.formats import facts
+from bpfrec_host.info.as_json import object_of
+from bpfrec_host.info.contents import read
+from expected_facts import TAI_37, THREE_ORIGINS, UNKNOWN_SCALE, facts_of_run
+from frames import FRAMES, body_of, packet_of
+from reading import SAMPLES
+from support import ROOT, judge, judge_quietly, nanoseconds, outcome
+from whole_file import Origin, Setup, whole_file
+from whole_file_parts import SECOND, faults_of, sample_recording
+
+WANTED: dict[str, str] = {}
+CHAPTER11 = ROOT / "host/bin/chapter11"
+# Plays the program: what it is given, and how it ends.
+PLAYED = """#!/bin/sh
+printf '%s\\n' "$@" > "$(dirname "$0")/given"
+cat "$3" > "$(dirname "$0")/setup"
+echo 'times 1 packets 1 records 3 index 2 bytes 1192'
+echo 'played' >&2
+eval "$PLAYED"
+"""
+ANSWER = "times 1 packets 1 records 3 index 2 bytes 1192\n"
+ONE: list[tuple] = [("1764590400.250000000", 0, None)]
+ORIGIN = ("--origin", "1764590400.25")
+
+
+@pytest.fixture
+def recording(work: Path) -> Path:
+    """A recording without facts."""
+    return Path(shutil.copy(SAMPLES[1], work / "flight.ch11"))
+
+
+def with_facts(recording: Path, origins: list, **more: Any) -> Path:
+    """Has these origins, and more, in the facts beside a recording."""
+    beside = recording.with_name(recording.name + ".json")
+    beside.write_text(json.dumps({**facts_of_run(origins), **more}))
+    return beside
+
+
+def by(recording: Path, *words: object, plays: str = "", **more: Any) -> subprocess.CompletedProcess:
+    """Runs the tool beside a played program."""
+    played = recording.with_name("played")
+    played.write_text(PLAYED)
+    played.chmod(0o755)
+    env = {**os.environ, "BPFREC": str(played), "PLAYED": plays}
+    return outcome(CHAPTER11, *words, env=env, cwd=recording.parent, **more)
+
+
+def setup_by(recording: Path, *words: object) -> dict[str, Any]:
+    """SETUP, as it is printed and read by TOML's rules."""
+    done = outcome(CHAPTER11, "--print-setup", *words, recording, env={**os.environ, "BPFREC": "/none"})
+    judge_quietly("it is printed", (done.returncode, done.stderr) == (0, ""), done)
+    return tomllib.loads(done.stdout)
+
+
+# ---- SETUP
+
+
+def origins(*pairs: tuple[int, str]) -> list[dict[str, object]]:
+    return [{"counter": counter, "origin": origin} for counter, origin in pairs]
+
+
+LISTS: dict[str, tuple[list, list[str], list]] = {
+    "one": (ONE, [], origins((0, "1764590400.250000000"))),
+    "a clock that was set": (
+        THREE_ORIGINS,
+        [],
+        origins((0, "1764590400.250000000"), (32, "1764586800.250000123")),
+    ),
+    "a clock that ran TAI": (TAI_37, [], origins((0, "1764590400.250000000"), (17, "1764590400.250000123"))),
+    "of a scale that is said to be UTC": (UNKNOWN_SCALE, ["--utc"], origins((0, "1764590400.250000000"))),
+    "and TAI": (UNKNOWN_SCALE, ["--tai", "37"], origins((0, "1764590363.250000000"))),
+    "what is said is of an unknown scale alone": (
+        [*TAI_37, ("1764590437.250000124", 18, None, None)],
+        ["--tai", "36"],
+        origins((0, "1764590400.250000000"), (17, "1764590400.250000123"), (18, "1764590401.250000124")),
+    ),
+    "a scale that came to be known": (
+        [("1764590437.250000000", 0, None, None), ("1764590437.250000000", 0, None, "TAI", 37)],
+        [],
+        origins((0, "1764590400.250000000")),
+    ),
+    "the first holds from 0 on": (
+        [("5.000000000", 10, None), ("6.000000000", 7, None), ("7.000000000", 7, None)],
+        [],
+        origins((0, "5.000000000"), (7, "7.000000000")),
+    ),
+    "the first holds for no counter": (
+        [("5.000000000", 10, None), ("6.000000000", 0, None)],
+        [],
+        origins((0, "6.000000000")),
+    ),
+    "before 1970": ([("-0.000000001", 0, None)], [], origins((0, "-0.000000001"))),
+    "TAI that begins in 1970": ([("36.500000000", 0, None, "TAI", 37)], [], origins((0, "-0.500000000"))),
+    "the last counter": (
+        [*ONE, ("7.000000000", 2**48 - 1, None)],
+        [],
+        origins((0, ONE[0][0]), (2**48 - 1, "7.000000000")),
+    ),
+}
+
+
+@pytest.mark.parametrize("name", LISTS)
+def test_origins_are_those_of_the_facts_in_utc(recording: Path, name: str) -> None:
+    noted, words, due = LISTS[name]
+    with_facts(recording, noted)
+    found = setup_by(recording, *words)
+    judge(name, found["origins"] == due, found)
+
+
+def test_without_facts_the_origin_is_given(recording: Path) -> None:
+    for text in ("0", "1764590400", "-1.5", "1764590400.250000123", "999999999999.999999999"):
+        judge_quietly(text, setup_by(recording, "--origin", text) == {"origin": text})
+    for text in ("", "1.", ".5", "1.0000000000", "1000000000000", "+1", "1e3", "now", "2025-12-01T12:00:00Z", "1\n"):
+        done = outcome(CHAPTER11, f"--origin={text}", recording, "out")
+        judge_quietly(repr(text), done.returncode == 2 and "is no time in seconds since 1970" in done.stderr, done)
+    judge("others are no origin", True)
+
+
+def test_names_are_those_of_the_facts(recording: Path) -> None:
+    interfaces = [
+        {"interface": "eth1", "channel": 9},
+        {"interface": 'wing "left"\\ \u00e9\x7f\ud800', "channel": 1},
+        {"interface": "no channel", "channel": 65_536},
+        {"interface": 7, "channel": 3},
+    ]
+    with_facts(recording, ONE, host="b\u00fcch \ud800;", program="bpfrec 0.1.0", interfaces=interfaces)
+    found = setup_by(recording)
+    judge("the host and the program", (found["host"], found["program"]) == ("b\u00fcch \ufffd;", "bpfrec 0.1.0"), found)
+    channels = [{"id": 1, "name": 'wing "left"\\ \u00e9\x7f\ufffd'}, {"id": 9, "name": "eth1"}]
+    judge("the interfaces, by their channels", found["channel"] == channels, found["channel"])
+    for program in (None, 7, "x" * 256):
+        with_facts(recording, ONE, program=program)
+        judge_quietly(f"no program: {program!r:.9}", "program" not in setup_by(recording))
+    judge("a program that is none is left out", True)
+
+
+def test_network_identifiers_are_those_of_frames(recording: Path) -> None:
+    """Of the first frame of each channel, wherever its packet stands; 0 stands where there is none."""
+    frames: dict[int, list[tuple[int, int, bytes]]] = {
+        3: [(0, 7 << 16, bytes(60)), (1, 8 << 16, bytes(60))],
+        5: [(0, 0, bytes(60))],
+        8: [],
+        65_535: [(9, 0xFF << 16 | 5 << 24, bytes(61))],
+    }
+    packets = [packet_of(it, body_of(each), 0, FRAMES, 0, it != 5) for it, each in frames.items()]
+    other = packet_of(4, b"another's data, of no Ethernet", 0, 0x40, 0, True)
+    recording.write_bytes(recording.read_bytes() + other + b"".join(packets))
+    with_facts(recording, ONE, interfaces=[{"interface": "eth0", "channel": 3}, {"interface": "eth1", "channel": 8}])
+    due = [{"id": 3, "name": "eth0", "net": 7}, {"id": 8, "name": "eth1"}, {"id": 65_535, "net": 255}]
+    judge("with facts", setup_by(recording)["channel"] == due, setup_by(recording))
+    recording.with_name("flight.ch11.json").unlink()
+    due = [{"id": 3, "net": 7}, {"id": 65_535, "net": 255}]
+    judge("and without", setup_by(recording, *ORIGIN)["channel"] == due)
+    recording.write_bytes(recording.read_bytes()[:-400])
+    judge("up to a damaged place", setup_by(recording, *ORIGIN).get("channel") is None)
+
+
+def test_what_the_command_line_says_stands_in_setup(recording: Path) -> None:
+    with_facts(recording, ONE)
+    words = ["--external", "--attribute", "G\\SC:U", "--attribute", 'P-1\\X:a "b" :c', "--attribute", "G\\SC:"]
+    found = setup_by(recording, *words)
+    judge("external", found["external"] is True and "external" not in setup_by(recording), found)
+    judge("the attributes, in their order", found["attributes"] == ["G\\SC:U", 'P-1\\X:a "b" :c', "G\\SC:"], found)
+    keys = ["origins", "host", "program", "external", "attributes", "channel"]
+    judge("no other keys", list(found) == keys, list(found))
+
+
+def test_facts_may_be_another_file(recording: Path) -> None:
+    beside = with_facts(recording, ONE, host="one").rename(recording.with_name("facts"))
+    judge("another file", setup_by(recording, "--facts", beside)["host"] == "one")
+    with_facts(recording, ONE, host="two")
+    judge("also where there are others", setup_by(recording, "--facts", beside)["host"] == "one")
+    done = by(recording, "--print-setup", "--facts", "-", recording, stdin=open(beside))
+    judge("standard input", tomllib.loads(done.stdout)["host"] == "one", done)
+
+
+def file_by(recording: Path) -> bytes:
+    """The file that the second writer makes by SETUP."""
+    setup = setup_by(recording)
+    held = tuple(Origin(it["counter"], nanoseconds(*it["origin"].split("."))) for it in setup["origins"])
+    channels = {it["id"]: (it.get("name", "channel"), it.get("net", 0)) for it in setup["channel"]}
+    return bytes(
+        whole_file(recording.read_bytes(), Setup(held, setup["host"], setup["program"], channels=channels)).data
+    )
+
+
+def test_the_file_by_setup_says_what_the_facts_say(recording: Path) -> None:
+    """Host, recorder, names and the times of frames, of a clock that was set and one that ran TAI."""
+    recording.write_bytes(sample_recording())
+    interfaces = [{"interface": "eth0", "channel": 5}, {"interface": "wing", "channel": 9}]
+    lists: list[list[tuple]] = [
+        ONE,
+        [*ONE, ("1764586800.250000123", 3 * SECOND, "-3600.000000000")],
+        [("1764590437.250000001", 0, None, "TAI", 37)],
+    ]
+    for noted in lists:
+        known = facts.read(str(with_facts(recording, noted, interfaces=interfaces)))
+        file = file_by(recording)
+        judge_quietly("the file is right", faults_of(file) == [], faults_of(file))
+        recording.with_name("flight.ch10").write_bytes(file)
+        said = object_of(read(str(recording.with_name("flight.ch10"))), None)
+        judge_quietly(
+            "the host", (said["whole_file"]["host"], said["whole_file"]["program"]) == ("fc1", "bpfrec 0.1.0")
+        )
+        for number, name in ((5, "eth0"), (9, "wing")):
+            found = said["channels"][number]
+            times = [known.time_of(found[f"{it}_counter"]) for it in ("first", "last")]
+            judge_quietly(name, [found["name"], found["first_time"], found["last_time"]] == [name, *times], found)
+    judge("each says the same", True)
+
+
+# ---- what is refused
+
+
+def refused(recording: Path, status: int, line: str, *words: object) -> None:
+    """Judges that words are refused with this line, and the program isn't run."""
+    done = by(recording, *words)
+    judge_quietly(f"{words}", (done.returncode, done.stdout, done.stderr) == (status, "", line), done)
+    judge_quietly("the program isn't run", not recording.with_name("given").exists())
+
+
+def test_arguments_that_make_no_setup_are_refused(recording: Path) -> None:
+    where = "no facts beside it: --facts or --origin says when it was recorded"
+    refused(recording, 2, f"chapter11: flight.ch11: {where}\n", "flight.ch11", "out")
+    twice = "chapter11: -: it is standard input, and chapter11 reads a file twice\n"
+    refused(recording, 2, twice, *ORIGIN, "-", "out")
+    with_facts(recording, ONE)
+    both = "chapter11: flight.ch11.json has the origins, and --origin is for a recording without facts\n"
+    refused(recording, 2, both, *ORIGIN, "flight.ch11", "out")
+    arguments: list[list[object]] = [
+        [recording],
+        ["--facts", "x", *ORIGIN, recording, "out"],
+        ["--utc", "--tai", "37", recording, "out"],
+        ["--tai", "100001", recording, "out"],
+        ["--tai", "-1", recording, "out"],
+        *(["--attribute", it, recording, "out"] for it in ("G\\SC", ":U", "a:b;", "a:\u00e9", "a:b\n", "\u00e9:b", "")),
+    ]
+    for words in arguments:
+        done = by(recording, *words)
+        judge_quietly(f"{words}", done.returncode == 2 and done.stderr.startswith("usage: host/bin/chapter11 "), done)
+    judge("each is refused", True)
+
+
+def test_facts_that_say_no_times_are_refused(recording: Path) -> None:
+    beside = with_facts(recording, UNKNOWN_SCALE)
+    scale = "its scale is unknown: --utc says that it is UTC, and --tai 37 that it is 37 s ahead"
+    line = f"chapter11: flight.ch11.json: the origin from counter 0 on: {scale}\n"
+    refused(recording, 1, line, "flight.ch11", "out")
+    beside.write_text("{}")
+    refused(recording, 1, "chapter11: flight.ch11.json: no facts of a recording: facts isn't 1\n", "flight.ch11", "out")
+    beside.unlink()
+    beside.mkdir()
+    refused(recording, 3, "chapter11: flight.ch11.json: Is a directory\n", "flight.ch11", "out")
+    refused(recording, 3, "chapter11: none: No such file or directory\n", "--facts", "none", "flight.ch11", "out")
+    judge("each is refused", True)
+
+
+def test_recordings_that_are_no_files_are_refused(recording: Path) -> None:
+    refused(recording, 3, "file none: No such file or directory\n", *ORIGIN, "none", "out")
+    refused(recording, 3, "file .: Is a directory\n", *ORIGIN, ".", "out")
+    os.mkfifo(recording.with_name("pipe"))
+    writer = os.open(recording.with_name("pipe"), os.O_RDWR)
+    refused(recording, 3, "file pipe: it is no regular file, which could be read twice\n", *ORIGIN, "pipe", "out")
+    os.close(writer)
+    judge("each is refused", True)
+
+
+def test_an_output_that_is_an_input_is_refused(recording: Path) -> None:
+    beside = with_facts(recording, ONE)
+    recording.with_name("link").hardlink_to(recording)
+    recording.with_name("other").symlink_to(beside)
+    for out, taken in (
+        ("flight.ch11", "flight.ch11"),
+        ("link", "flight.ch11"),
+        ("flight.ch11.json", "flight.ch11.json"),
+        ("other", "flight.ch11.json"),
+    ):
+        refused(recording, 3, f"chapter11: {out}: it is {taken} itself\n", "flight.ch11", out)
+    for path in (recording, beside):
+        before = path.read_bytes()
+        with open(path, "ab") as stream:
+            done = by(recording, "--print-setup", "flight.ch11", stdout=stream, stderr=subprocess.PIPE)
+        line = f"chapter11: -: it is {path.name} itself\n"
+        judge_quietly("standard output", (done.returncode, done.stderr) == (3, line), done)
+        judge_quietly("the input stays", path.read_bytes() == before)
+    judge("each is refused", True)
+
+
+def test_an_out_that_has_bytes_is_refused_without_force(recording: Path) -> None:
+    """An empty one isn't, nor a device."""
+    with_facts(recording, ONE)
+    out = recording.with_name("out")
+    out.write_text("another's")
+    refused(recording, 3, "chapter11: out is there: give it another name, or --force\n", "flight.ch11", "out")
+    judge("it stays", out.read_text() == "another's")
+    judge("with --force it is the program's", by(recording, "--force", "flight.ch11", "out").stdout == ANSWER)
+    judge("SETUP is printed all the same", by(recording, "--print-setup", "flight.ch11", "out").returncode == 0)
+    out.write_text("")
+    for path in ("out", "/dev/null"):
+        judge(path, by(recording, "flight.ch11", path).stdout == ANSWER)
+
+
+# ---- the program
+
+
+def test_the_program_is_given_the_recording_setup_and_out(recording: Path) -> None:
+    with_facts(recording, ONE)
+    before = {it.name for it in recording.parent.iterdir()}
+    done = by(recording, "flight.ch11", "out.ch10")
+    judge("its lines", (done.returncode, done.stdout, done.stderr) == (0, ANSWER, "played\n"), done)
+    given = recording.with_name("given").read_text().split("\n")
+    judge("its operands", given[:2] + given[3:] == ["chapter11", "flight.ch11", "out.ch10", ""], given)
+    setup = recording.with_name("setup").read_text()
+    judge("SETUP is what is printed", setup == by(recording, "--print-setup", "flight.ch11").stdout, setup)
+    names = {it.name for it in recording.parent.iterdir()}
+    judge("no other file is made", names == before | {"given", "played", "setup"}, names)
+
+
+def test_names_that_look_like_options_are_operands(recording: Path) -> None:
+    recording.rename(recording.with_name("-r"))
+    done = by(recording, *ORIGIN, "--", "-r", "-o")
+    given = recording.with_name("given").read_text().split("\n")
+    judge("as paths", done.returncode == 0 and (given[1], given[3]) == ("./-r", "./-o"), (done, given))
+
+
+@pytest.mark.parametrize("status", [0, 1, 2, 3, 4])
+def test_the_status_is_the_programs(recording: Path, status: int) -> None:
+    done = by(recording, *ORIGIN, recording, "out", plays=f"exit {status}")
+    judge("its status", (done.returncode, done.stdout, done.stderr) == (status, ANSWER, "played\n"), done)
+
+
+def test_a_program_that_is_missing_is_said(recording: Path) -> None:
+    done = outcome(CHAPTER11, *ORIGIN, recording, "out", env={**os.environ, "BPFREC": "/none/bpfrec"})
+    judge("missing", (done.returncode, done.stderr) == (3, "chapter11: /none/bpfrec is missing\n"), done)
+
+
+@pytest.mark.parametrize("number", [signal.SIGINT, signal.SIGTERM, signal.SIGKILL], ids=lambda it: it.name)
+def test_what_ends_it_ends_the_program(recording: Path, number: signal.Signals) -> None:
+    """A signal to the tool alone, as `live` sends it."""
+    played = recording.with_name("slow")
+    played.write_text("#!/bin/sh\necho begun\nexec sleep 60\n")
+    played.chmod(0o755)
+    words = [str(it) for it in (CHAPTER11, *ORIGIN, recording, "out")]
+    env = {**os.environ, "BPFREC": str(played)}
+    with subprocess.Popen(words, env=env, stdout=subprocess.PIPE, text=True) as running:
+        assert running.stdout
+        running.stdout.readline()
+        running.send_signal(number)
+        # The end of its output is that of the program too.
+        rest = running.communicate(timeout=10)[0]
+    judge(f"{number.name}", (running.returncode, rest) == (-number, ""), running.returncode)
+
+
+def test_an_output_whose_reader_has_left_is_said(recording: Path) -> None:
+    """By the program, which no SIGPIPE ends."""
+    plays = "trap 'echo killed >&2' PIPE; sleep 0.2; echo more || echo broken >&2; exit 3"
+    script = f"{CHAPTER11} --origin 0 flight.ch11 out | :"
+    played = recording.with_name("played")
+    played.write_text(PLAYED.replace("echo 'times", "true 'times"))
+    played.chmod(0o755)
+    env = {**os.environ, "BPFREC": str(played), "PLAYED": plays}
+    done = outcome("sh", "-c", script, env=env, cwd=recording.parent)
+    judge("it is told of a failed write", "broken" in done.stderr and "killed" not in done.stderr, done)

@@ -1,0 +1,135 @@
+"""Tries how right a clock is by what the kernel, chrony and PTP say, and the watch that says it."""
+
+import argparse
+import time
+from typing import Any
+
+import pytest
+from bpfrec_host.formats.clock_state import ClockState, state_in
+from bpfrec_host.live import arguments, clock_watch
+from bpfrec_host.live.loop import Loop, Signals
+from support import judge, judge_quietly
+
+RIGHT: dict[str, Any] = {"is_synchronised": True, "maximum_error": "0.000125"}
+CHRONY: dict[str, Any] = {"reference": "192.0.2.1", "state": "Normal"}
+PTP: dict[str, Any] = {"has_grandmaster": True, "grandmaster": "001122.fffe.334455"}
+UNSAID = "nobody says whether it is synchronised"
+STATES: list[tuple[Any, str]] = [
+    ({"kernel": RIGHT}, "synchronised, off by at most 0.000125 s"),
+    ({"kernel": RIGHT, "chrony": CHRONY}, "synchronised by chrony (192.0.2.1), off by at most 0.000125 s"),
+    (
+        {"kernel": RIGHT, "chrony": CHRONY, "ptp": PTP},
+        "synchronised by chrony (192.0.2.1) and PTP (001122.fffe.334455), off by at most 0.000125 s",
+    ),
+    ({"kernel": {**RIGHT, "is_synchronised": False}}, "not synchronised"),
+    ({"kernel": {**RIGHT, "is_synchronised": False}, "ptp": PTP}, "not synchronised yet by PTP (001122.fffe.334455)"),
+    (
+        {"kernel": RIGHT, "chrony": {**CHRONY, "state": "Not synchronised"}, "ptp": {**PTP, "has_grandmaster": False}},
+        "synchronised, off by at most 0.000125 s",
+    ),
+    (
+        {"kernel": RIGHT, "chrony": {**CHRONY, "reference": "a\nb"}},
+        "synchronised by chrony (a?b), off by at most 0.000125 s",
+    ),
+    ({"kernel": RIGHT, "chrony": {**CHRONY, "reference": "a" * 256}}, "synchronised, off by at most 0.000125 s"),
+    (
+        {"kernel": RIGHT, "chrony": {"reference": 7}, "ptp": {**PTP, "grandmaster": None}},
+        "synchronised, off by at most 0.000125 s",
+    ),
+    ({"kernel": RIGHT, "chrony": 7, "ptp": []}, "synchronised, off by at most 0.000125 s"),
+    ({"kernel": None}, UNSAID),
+    ({"kernel": {"is_synchronised": 1, "maximum_error": "0.000125"}}, UNSAID),
+    ({"kernel": {"is_synchronised": True, "maximum_error": 1}}, UNSAID),
+    ({"kernel": {"is_synchronised": True, "maximum_error": "-1.5"}}, UNSAID),
+    ([], UNSAID),
+    (None, UNSAID),
+]
+
+
+def test_a_state_is_what_facts_say_of_it() -> None:
+    for told, wanted in STATES:
+        judge_quietly(f"{told}: {state_in(told).text()}", state_in(told).text() == wanted)
+    judge("each state has its text", True)
+
+
+def test_a_clock_is_worse_where_it_is_unsynchronised_unknown_or_off_by_more() -> None:
+    right, at_most = ClockState(True, 0.01), "the clock may be off by 0.010000 s, and 0.009999 s are allowed"
+    table = [
+        (right, None, None),
+        (right, 0.01, None),
+        (right, 0.009999, at_most),
+        (ClockState(False, 0.0), None, None),
+        (ClockState(False, 0.0), 16.0, "the clock is not synchronised"),
+        (ClockState(), 16.0, "nobody says whether the clock is synchronised"),
+    ]
+    for state, most, wanted in table:
+        judge_quietly(f"{state} {most}: {state.fault(most)}", state.fault(most) == wanted)
+    judge("each is as it has to be", True)
+
+
+def test_an_error_of_a_clock_is_taken_with_its_unit() -> None:
+    table = {"0.01": 0.01, "1": 1.0, "16s": 16.0, "10ms": 0.01, "500us": 0.0005, "0.5ms": 0.0005, "0.000001": 1e-6}
+    found = {word: arguments.clock_error(word) for word in table}
+    judge("each is as many seconds", found == pytest.approx(table), found)
+    for word in ("", "0", "0.0000001", "16.1", "17", "-1", "1m", "1e-3", ".5", "1 s", "ms", "١", "nan"):
+        with pytest.raises(argparse.ArgumentTypeError):
+            arguments.clock_error(word)
+    judge("and nothing else is one", True)
+
+
+@pytest.fixture
+def played(monkeypatch: pytest.MonkeyPatch) -> dict:
+    """What the kernel and the others say, which a trial changes."""
+    says: dict = {"kernel": ClockState(True, 0.001), "source": "chrony (a)", "asked": 0}
+
+    def by_others() -> str:
+        says["asked"] += 1
+        return str(says["source"])
+
+    monkeypatch.setattr(clock_watch, "by_the_kernel", lambda: says["kernel"])
+    monkeypatch.setattr(clock_watch, "by_others", by_others)
+    monkeypatch.setattr(clock_watch, "ASKED", ("sh",))
+    return says
+
+
+def looked(loop: Loop, watch: clock_watch.ClockWatch, now: float) -> None:
+    """A second later, and once those who were asked have answered."""
+    watch.tick(now)
+    end = time.monotonic() + 5
+    while watch.is_asking and time.monotonic() < end:
+        loop.turn(0.1)
+
+
+def test_a_watch_says_the_clock_once_and_at_each_change(played: dict, signals: Signals) -> None:
+    lines: list[str] = []
+    seen: list[ClockState] = []
+    loop = Loop(signals, lambda: None)
+    watch = clock_watch.ClockWatch(loop, 0.01, lines.append, lambda state, most: seen.append(state))
+    watch.tick(time.monotonic())
+    judge("it says nothing before something is recorded", lines == [] and watch.deadline() is None)
+    watch.begin()
+    now = watch.deadline() or 0
+    for second in range(5):
+        looked(loop, watch, now + second)
+    first = "live: clock: synchronised by chrony (a), off by at most 0.001000 s"
+    judge("it says it once", lines == [first] and played["asked"] == 1, lines)
+    played["kernel"] = ClockState(True, 0.0099)
+    looked(loop, watch, now + 5)
+    judge("another error that is allowed is no news", lines == [first] and len(seen) == 6, lines)
+    played["kernel"] = ClockState(True, 0.02)
+    looked(loop, watch, now + 6)
+    judge(
+        "one that isn't is", lines[1:] == [f"{first[:-10]}0.020000 s: --require-clock: {seen[-1].fault(0.01)}"], lines
+    )
+    played["kernel"] = ClockState(False, 16.0)
+    looked(loop, watch, now + 7)
+    judge("and so is a clock that nobody holds", lines[2].endswith("--require-clock: the clock is not synchronised"))
+    played["kernel"], played["source"] = ClockState(True, 0.001), "chrony (b)"
+    looked(loop, watch, now + 8)
+    judge("it says so where all is well again", lines[3:] == [first.replace("(a)", "(b)")], lines)
+    looked(loop, watch, now + 8 + clock_watch.QUESTION_PAUSE)
+    judge("the others are asked each minute, and no news is none", played["asked"] == 5 and len(lines) == 4, lines)
+    played["source"] = "chrony (c)"
+    looked(loop, watch, now + 8 + 2 * clock_watch.QUESTION_PAUSE)
+    judge("another source is seen within a minute", lines[4:] == [first.replace("(a)", "(c)")], lines)
+    judge("who observes saw each second", [it.is_synchronised for it in seen[-4:]] == [False, True, True, True], seen)
