@@ -1,7 +1,7 @@
 #!/usr/bin/env python3
 """Times recordings from an interface beside dumpcap and tcpdump, and feeds that are made of a capture file.
 
-usage: bench/wire.py [--frames N] [--rounds N] [--part wire|files|syncs] [--before CHECKOUT]
+usage: bench/wire.py [--frames N] [--rate N] [--rounds N] [--part wire|files|syncs|follow] [--before CHECKOUT]
 
 It makes a network namespace with a pair of virtual interfaces, sends frames of 64, 300 and 1,500 bytes into
 one of them as fast as bin/send_frames can, and records what the other receives: by host/bin/live, with a filter
@@ -11,6 +11,8 @@ buffer. Then it makes a feed of a capture of as many frames, by host/bin/convert
 
 With --part syncs it records by host/bin/live alone, forced to the disk each second (the default), and only at the end
 (`--sync 0`, told as before), in turn: what the syncs cost.
+With --part follow it records by host/bin/live alone (told as before) and with host/bin/follow beside it, in turn: what
+the live view costs the recorder. `--rate` has frames sent at that rate.
 
 It prints tables for RESULTS.md, with the machine's load. It needs root, bin/bpfrec and bin/capture (make
 build), bin/send_frames (make bin/send_frames), and Debian's iproute2, tcpdump and wireshark-common. Files go
@@ -28,14 +30,15 @@ import sys
 import tempfile
 import time
 from pathlib import Path
+from typing import NamedTuple
 
 ROOT = Path(__file__).resolve().parent.parent
 sys.path.insert(0, str(ROOT / "dev/trials/lib"))
 import namespace
 from frames import HEAD
 
-LIVE, FEED, CAPTURE, SENDER = (
-    ROOT / it for it in ("host/bin/live", "host/bin/convert", "bin/capture", "bin/send_frames")
+LIVE, FOLLOW, FEED, CAPTURE, SENDER = (
+    ROOT / it for it in ("host/bin/live", "host/bin/follow", "host/bin/convert", "bin/capture", "bin/send_frames")
 )
 WANTED = {"ip": "iproute2", "tcpdump": "tcpdump", "dumpcap": "wireshark-common"}
 INSIDE = "BPFREC_WIRE_INSIDE"
@@ -46,9 +49,19 @@ KEPT_SHARE = {"all": "all", "port": "3 %"}
 # What bin/capture takes by itself.
 BUFFER_MIB = 256
 PATIENCE = 120
-# What records, by the name of the program and of the filter: its words, and what it says once it is ready.
+
+
+class Recorder(NamedTuple):
+    """What records: its words, what it says once it is ready, and what runs beside it from then on."""
+
+    words: list[object]
+    ready: str
+    beside: list[object] = []
+
+
+# By the name of the program and of the filter.
 Key = tuple[str, str]
-Commands = dict[Key, tuple[list[object], str]]
+Commands = dict[Key, Recorder]
 # Seconds of the sender, seconds until all was recorded, of processors, frames kept and dropped.
 Taken = tuple[float, float, float, int, int]
 
@@ -90,19 +103,16 @@ def commands(work: Path, buffer: int, before: Path | None) -> Commands:
         tcpdump = ["tcpdump", "-Z", "root", "-n", "-i", "rx0", "-B", buffer * 1024, "-w", work / "out", *expression]
         for program, tree in {"host/bin/live, before": before, "host/bin/live": ROOT}.items():
             if tree and not (before and expression):
-                made[program, name] = [tree / "host/bin/live", *live[1:]], "origin"
+                made[program, name] = Recorder([tree / "host/bin/live", *live[1:]], "origin")
             if tree and not before and not expression:
-                made[f"{program} --no-audit", name] = [LIVE, "--no-audit", *live[1:]], "origin"
+                made[f"{program} --no-audit", name] = Recorder([LIVE, "--no-audit", *live[1:]], "origin")
             if tree and expression:
-                made[program.replace("live", "live --prefilter"), name] = [
-                    tree / "host/bin/live",
-                    "--prefilter",
-                    *live[1:],
-                ], "origin"
+                prefiltered = [tree / "host/bin/live", "--prefilter", *live[1:]]
+                made[program.replace("live", "live --prefilter"), name] = Recorder(prefiltered, "origin")
         if before:
             continue
-        made["dumpcap", name] = dumpcap, "File: "
-        made["tcpdump", name] = tcpdump, "listening on"
+        made["dumpcap", name] = Recorder(dumpcap, "File: ")
+        made["tcpdump", name] = Recorder(tcpdump, "listening on")
     return made
 
 
@@ -128,13 +138,13 @@ def go_ahead() -> None:
 
 
 def record_once(
-    work: Path, program: str, words: list[object], ready: str, length: int, frames: int, is_ahead: bool = False
+    work: Path, program: str, made: Recorder, length: int, frames: int, rate: int = 0, is_ahead: bool = False
 ) -> Taken:
     for path in work.glob("out*"):
         path.unlink()
     with open(work / "told", "w+") as told, open(work / "printed", "w+") as printed:
         recorder = subprocess.Popen(
-            [str(it) for it in words],
+            [str(it) for it in made.words],
             stdin=subprocess.DEVNULL,
             stdout=printed,
             stderr=told,
@@ -142,11 +152,12 @@ def record_once(
             preexec_fn=go_ahead if is_ahead else None,
         )
         end = time.monotonic() + PATIENCE
-        while ready not in (work / "told").read_text() and time.monotonic() < end:
+        while made.ready not in (work / "told").read_text() and time.monotonic() < end:
             time.sleep(0.01)
+        beside = subprocess.Popen([str(it) for it in made.beside or ["true"]], stdout=subprocess.DEVNULL)
         time.sleep(0.5)
         begin = time.monotonic()
-        sending = float(run(SENDER, "tx0", length, frames).split()[1])
+        sending = float(run(SENDER, "tx0", length, frames, *[rate] * (rate > 0)).split()[1])
         # dumpcap and tcpdump leave what the kernel holds when they are told to end, so they get time to take it.
         if not program.startswith("host/bin/live"):
             time.sleep(1)
@@ -154,14 +165,15 @@ def record_once(
         _, status, used = os.wait4(recorder.pid, 0)
         spent = time.monotonic() - begin
         recorder.returncode = status
+        beside.wait(PATIENCE)
         texts = [(work / it).read_text() for it in ("told", "printed")]
     kept, dropped = counts_of(program, *texts)
     return sending, spent, used.ru_utime + used.ru_stime, kept, dropped
 
 
-def empty_cost(work: Path, program: str, words: list[object], ready: str) -> float:
+def empty_cost(work: Path, program: str, made: Recorder) -> float:
     """The seconds of processors that a recording of no frame takes: the median of three."""
-    return statistics.median(record_once(work, program, words, ready, LENGTHS[0], 0, True)[2] for _ in range(3))
+    return statistics.median(record_once(work, program, made, LENGTHS[0], 0, is_ahead=True)[2] for _ in range(3))
 
 
 def tell_changes(length: int, runs: dict[Key, list[Taken]], frames: int) -> None:
@@ -183,8 +195,17 @@ def with_and_without_syncs(work: Path, buffer: int) -> Commands:
     (work / "all.toml").write_text(f'[[channel]]\nid = 1\nfilter = "{listing}"\n')
     words = ["--quiet", "--buffer", buffer, work / "all.toml", work / "out", "rx0=1"]
     return {
-        ("host/bin/live, before", "all"): ([LIVE, "--sync", "0", *words], "origin"),
-        ("host/bin/live", "all"): ([LIVE, *words], "origin"),
+        ("host/bin/live, before", "all"): Recorder([LIVE, "--sync", "0", *words], "origin"),
+        ("host/bin/live", "all"): Recorder([LIVE, *words], "origin"),
+    }
+
+
+def with_and_without_follower(work: Path, buffer: int) -> Commands:
+    """Recordings by host/bin/live that nobody looks at, and with host/bin/follow beside them."""
+    words: list[object] = [LIVE, "--quiet", "--buffer", buffer, work / "out", "rx0=1"]
+    return {
+        ("host/bin/live, before", "all"): Recorder(words, "origin"),
+        ("host/bin/live", "all"): Recorder(words, "origin", [FOLLOW, work / "out"]),
     }
 
 
@@ -194,12 +215,12 @@ def time_wire(work: Path, words: argparse.Namespace, made: Commands) -> None:
         "| Bytes | Program | Keeps | Frames sent a second | Taken a second | Dropped by the kernel | least, greatest "
         "| Processor, ns a frame |\n|---|---|---|---|---|---|---|---|"
     )
-    empty = {key: empty_cost(work, key[0], *it) for key, it in made.items()}
+    empty = {key: empty_cost(work, key[0], it) for key, it in made.items()}
     for length in LENGTHS:
         runs: dict[Key, list[Taken]] = {key: [] for key in made}
         for turn in range(rounds):
-            for key, (command, ready) in list(made.items())[:: 1 if turn % 2 == 0 else -1]:
-                runs[key].append(record_once(work, key[0], command, ready, length, frames, words.ahead))
+            for key, recorder in list(made.items())[:: 1 if turn % 2 == 0 else -1]:
+                runs[key].append(record_once(work, key[0], recorder, length, frames, words.rate, words.ahead))
         for (program, name), done in runs.items():
             sent = statistics.median(frames / it[0] for it in done)
             taken = statistics.median((frames - it[4]) / it[0] for it in done)
@@ -271,7 +292,8 @@ def main() -> int:
     parser = argparse.ArgumentParser(description=__doc__, formatter_class=argparse.RawDescriptionHelpFormatter)
     parser.add_argument("--frames", type=int, default=1_000_000)
     parser.add_argument("--rounds", type=int, default=5)
-    parser.add_argument("--part", choices=["wire", "files", "syncs"])
+    parser.add_argument("--part", choices=["wire", "files", "syncs", "follow"])
+    parser.add_argument("--rate", type=int, default=0, help="frames a second, in place of as many as can be sent")
     parser.add_argument("--buffer", type=int, default=BUFFER_MIB, help="MiB of the kernel's buffer for each program")
     parser.add_argument(
         "--before", type=Path, metavar="CHECKOUT", help="times host/bin/live of that checkout and ours in turn alone"
@@ -298,6 +320,9 @@ def main() -> int:
         if words.part == "syncs":
             make_pair()
             time_wire(Path(folder), words, with_and_without_syncs(Path(folder), words.buffer))
+        if words.part == "follow":
+            make_pair()
+            time_wire(Path(folder), words, with_and_without_follower(Path(folder), words.buffer))
         if words.part in (None, "files") and not words.before:
             time_files(Path(folder), words.frames, words.rounds)
     return 0
