@@ -4,6 +4,7 @@ pub mod TickOrder
 pub mod PointSteps
 pub mod FirstMoments
 pub mod PointTimes
+pub mod PointDistances
 pub mod HeldOrigins
 pub mod DigitsRead
 pub mod OriginRead

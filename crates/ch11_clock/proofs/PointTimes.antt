@@ -63,13 +63,13 @@ from_first rule rules start moment tick are (inr point) =
     let end = end_behind rule.counter rules moment tick are point in
     omega (arith, from, end)
 
-some_behind : (begins least : ℕ) (rules : List Origin) (moment : ℤ) (tick : ℕ) → BeginBehind begins rules → IsTimePoint least rules moment tick
+pub some_behind : (begins least : ℕ) (rules : List Origin) (moment : ℤ) (tick : ℕ) → BeginBehind begins rules → IsTimePoint least rules moment tick
     → begins < rule_end rules
 some_behind begins least [] moment tick are point = absurd point
 some_behind begins least (rule ∷ rules) moment tick are point = are.0
 
 -- a recording's time packets stand where the first origin holds, or behind that
-point_from : (least : ℕ) (rules : List Origin) (moment : ℤ) (tick : ℕ) → AreAscending rules → IsTimePoint least rules moment tick → rule_end rules ≤ tick
+pub point_from : (least : ℕ) (rules : List Origin) (moment : ℤ) (tick : ℕ) → AreAscending rules → IsTimePoint least rules moment tick → rule_end rules ≤ tick
 point_from least [] moment tick are point = absurd point
 point_from least (rule ∷ rules) moment tick are (inl (within, start, begins, point)) = from_first rule rules start moment tick are point
 point_from least (rule ∷ rules) moment tick are (inr (far, point)) =

@@ -1,5 +1,5 @@
 //! Laws of the clock and of time packets, with nothing to run.
-ghost use Rattle.std.specs.Prelude.{◌≡◌, ◌<◌, ◌↔◌, ℕ, ℤ, Bool, List, length, Some};
+ghost use Rattle.std.specs.Prelude.{◌≡◌, ◌<◌, ◌^◌, ◌↔◌, ℕ, ℤ, Bool, List, length, Some};
 ghost use Rattle.ch11_clock.specs.declared.origin.Origin.{Origin};
 ghost use Rattle.ch11_clock.specs.declared.civil.CivilTime.{CivilTime};
 ghost use Rattle.ch11_clock.specs.CivilTime.{IsCivilTime, IsTimeOf};
@@ -7,6 +7,7 @@ ghost use Rattle.ch11_clock.specs.TimeBody.{time_bytes};
 ghost use Rattle.ch11_clock.specs.Clock.{started, held_origins, clock_time, IsClock};
 ghost use Rattle.ch11_clock.specs.OriginText.{origin_said, SaysOrigin};
 ghost use Rattle.ch11_clock.specs.TimePoints.{IsTimePoint, AgreesWithClock};
+ghost use Rattle.ch11_clock.specs.TimeDistances.{HasNoneBetween, IsNear};
 
 /// Law: a moment has one date and time of day at most, and the body of a time packet says one, of
 /// one source.
@@ -36,4 +37,14 @@ pub fn held_origins_are_the_clock()
 pub fn time_points_have_the_clocks_time()
     ensures { (least : ℕ) (rules : List Origin) (moment : ℤ) (tick : ℕ) → IsClock rules
         → IsTimePoint least rules moment tick → AgreesWithClock rules moment tick }
+{}
+
+/// Law: a counter lies less than a second behind the last time packet that isn't behind it, and 10 ms more for
+/// each origin that begins between them. A time packet's tick is a counter.
+pub fn counters_lie_near_a_time_point()
+    ensures near { (least : ℕ) (rules : List Origin) (moment : ℤ) (tick counter : ℕ) → IsClock rules
+        → IsTimePoint least rules moment tick → counter < 2 ^ 48
+        → HasNoneBetween least rules tick counter → IsNear rules tick counter }
+    ensures fits { (least : ℕ) (rules : List Origin) (moment : ℤ) (tick : ℕ)
+        → IsTimePoint least rules moment tick → tick < 2 ^ 48 }
 {}

@@ -10,7 +10,7 @@ use Rattle.ch11_index.specs.FileIndex.{IndexState, IsIndexed, NoneFollows, GoesO
 use Rattle.ch11_merge.specs.Merging.{ChannelLeft, Merged, Merges, NothingLeft, IsNextAt, TimeIsNext}
 use Rattle.ch11_merge.specs.Merging.Merged.{OfTime, OfPiece}
 use Rattle.ch11_merge.specs.Kept.{AreNamedApart, TimesStandAhead, held_in, held_of}
-use Rattle.ch11_merge.proofs.Merged.{kept}
+use Rattle.ch11_merge.proofs.Merged.{HasNo, kept, none_else}
 use Rattle.ch11_merge.proofs.TimesAhead.{times_ahead}
 use Rattle.ch11_merge.proofs.Places.{all_there}
 use Rattle.ch11_file.specs.FileBlocks.{FileBlock, BlockContent, item_of, item_with, merged_in, merged_with}
@@ -22,10 +22,10 @@ use Rattle.ch11_file.specs.WholeFile.FileStage.{BeforeSetup, BeforeTime, Merging
 
 -- ---- stages
 
-not_merging_setup : BeforeSetup ≢ Merging
+pub not_merging_setup : BeforeSetup ≢ Merging
 not_merging_setup e = cc
 
-not_merging_time : BeforeTime ≢ Merging
+pub not_merging_time : BeforeTime ≢ Merging
 not_merging_time e = cc
 
 -- ---- the index
@@ -84,7 +84,7 @@ file_indexed facts blocks (end, begins, over) = indexed facts (file_start facts 
 -- ---- the merge
 
 -- the ticks of time packets from a tick on, and a merge by them
-record IsMergeFrom (tick : ℕ) (left : List ChannelLeft) (out : List Merged) : Type 0 where
+pub record IsMergeFrom (tick : ℕ) (left : List ChannelLeft) (out : List Merged) : Type 0 where
   pub after : ℕ → ℕ
   pub rises : (time : ℕ) → time ≤ after time
   pub merges : Merges after tick left out
@@ -165,7 +165,7 @@ merged_from facts old new (b ∷ blocks) go over at = step b.content go.1.goes (
         subst (λ (s : MergeState). IsMergeFrom s.tick s.left (merged_in blocks)) same (rest (ap (λ (s : MergeState). s.stage) same ∙ at))
 
 -- ahead of a merge stands the first time packet
-record IsMergeBehind (tick : ℕ) (left : List ChannelLeft) (out : List Merged) : Type 0 where
+pub record IsMergeBehind (tick : ℕ) (left : List ChannelLeft) (out : List Merged) : Type 0 where
   pub rest : List Merged
   pub next : ℕ
   pub behind : tick < next
@@ -202,7 +202,7 @@ merged_behind facts old new (b ∷ blocks) go over at =
         subst (λ (s : MergeState). IsMergeBehind s.tick s.left (merged_in blocks)) same
         (rest (λ e. at (sym (ap (λ (s : MergeState). s.stage) same) ∙ e)))
 
-file_merged : (facts : FileFacts) (blocks : List FileBlock) (whole : IsWholeFile facts blocks)
+pub file_merged : (facts : FileFacts) (blocks : List FileBlock) (whole : IsWholeFile facts blocks)
     → IsMergeBehind whole.1.first facts.channels (merged_in blocks)
 file_merged facts blocks (end, begins, over) =
     merged_behind facts (file_start facts begins.first) end blocks begins.go over.merged not_merging_setup
@@ -217,3 +217,9 @@ pub file_times_ahead : (facts : FileFacts) (blocks : List FileBlock) → IsWhole
 file_times_ahead facts blocks whole =
     let m = file_merged facts blocks whole in
     subst TimesStandAhead (sym m.out_is) (times_ahead m.merge.after m.next facts.channels m.rest m.merge.rises m.merge.merges)
+
+pub file_has_none_else : (facts : FileFacts) (blocks : List FileBlock) → IsWholeFile facts blocks → (channel : ℕ) → HasNo channel facts.channels
+    → held_of channel (merged_in blocks) ≡ []
+file_has_none_else facts blocks whole channel none =
+    let m = file_merged facts blocks whole in
+    ap (held_of channel) m.out_is ∙ none_else m.merge.after m.next facts.channels m.rest channel none m.merge.merges

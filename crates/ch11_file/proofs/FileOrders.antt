@@ -132,13 +132,13 @@ no_index_packet packet index merge early none (inl full) = none full
 no_index_packet packet index merge early none (inr last) = early last.0.stage
 
 -- the first packet is the setup record
-record IsSetupStep (facts : FileFacts) (first : ℕ) (b : FileBlock) (next : FileState) : Type 0 where
+pub record IsSetupStep (facts : FileFacts) (first : ℕ) (b : FileBlock) (next : FileState) : Type 0 where
   pub text : List ℕ
   pub content_is : b.content ≡ SetupBlock text
   pub goes : SetupGoesNext facts (merge_state BeforeSetup first facts.channels) text b.counter next.merge
   pub index_is : next.index ≡ after_packet (empty_index facts.most) (named_of b)
 
-setup_step : (facts : FileFacts) (first : ℕ) (b : FileBlock) (next : FileState) (content : BlockContent) → 0 < facts.most
+pub setup_step : (facts : FileFacts) (first : ℕ) (b : FileBlock) (next : FileState) (content : BlockContent) → 0 < facts.most
     → BlockGoesNext facts (file_start facts first) content b next → b.content ≡ content → IsSetupStep facts first b next
 setup_step facts first b next (SetupBlock text) some n is = record { text = text; content_is = is; goes = n.goes; index_is = n.index_is }
 setup_step facts first b next (TimeBlock e time) some n is = absurd n.goes.due

@@ -8,3 +8,4 @@ pub mod FileFronts
 pub mod FileMerges
 pub mod FileForms
 pub mod FileOrders
+pub mod FileDistances

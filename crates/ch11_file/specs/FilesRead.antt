@@ -1,11 +1,18 @@
 -- What a reader finds in a whole file.
 use Rattle.std.specs.Prelude.{ℕ, ◌+◌, ◌%◌, ◌≡◌, ◌≤◌, max, List, [], ◌∷◌, ◌++◌, length, ℤ}
+use Rattle.std.specs.List.{AllByRecursion}
 use Rattle.ch11_packet.specs.Header.{IsHeader, header_bytes}
+use Rattle.ch11_packet.specs.FramesRead.{ReadFrameData}
 use Rattle.ch11_packet.specs.Classes.{HasSum}
 use Rattle.ch11_clock.specs.declared.origin.Origin.{Origin}
 use Rattle.ch11_clock.specs.CivilTime.{IsTimeOf}
 use Rattle.ch11_clock.specs.TimePoints.{AgreesWithClock}
+use Rattle.ch11_clock.specs.TimeDistances.{IsNear}
 use Rattle.ch11_clock.specs.declared.civil.CivilTime.{CivilTime}
+use Rattle.ch11_merge.specs.Kept.{LieBehindTimes}
+use Rattle.ch11_merge.specs.Merging.{FilePiece, Merged}
+use Rattle.ch11_merge.specs.Merging.FilePiece.{OfFrames, OfRecord}
+use Rattle.ch11_merge.specs.Merging.Merged.{OfTime, OfPiece}
 use Rattle.ch11_file.specs.declared.limits.TheConstants.{MAX_TICKS_BACK}
 use Rattle.ch11_file.specs.declared.kind.BlockKind.TheVariants.{Setup, Time}
 use Rattle.ch11_file.specs.FileBlocks.{FileBlock, BlockContent, block_packet, block_header, kind_of, blocks_on}
@@ -75,3 +82,45 @@ TellsClock rules (TimeBlock is_external time) counter =
 TellsClock rules (PieceBlock channel piece) counter = Unit {0}
 TellsClock rules (NodeBlock entries) counter = Unit {0}
 TellsClock rules (RootBlock nodes last) counter = Unit {0}
+
+-- what a channel has behind a time packet doesn't lie before its tick, but for the first time packet, which
+-- stands ahead of all
+abbrev pub LieBehindFurtherTimes : (channel : ℕ) → List Merged → Type 0
+LieBehindFurtherTimes channel [] = ⊥
+LieBehindFurtherTimes channel (OfTime tick ∷ out) = LieBehindTimes channel out
+LieBehindFurtherTimes channel (OfPiece other piece ∷ out) = ⊥
+
+-- ---- how far packets lie behind time packets
+
+-- the frames of a piece lie near this tick
+abbrev pub FramesLieNear : List Origin → (tick : ℕ) → FilePiece → Type 0
+FramesLieNear rules tick (OfFrames frames) =
+    AllByRecursion (λ (frame : ReadFrameData). IsNear rules tick frame.counter) frames
+FramesLieNear rules tick (OfRecord counter body) = Unit {0}
+
+abbrev pub ContentLiesNear : List Origin → (tick : ℕ) → BlockContent → Type 0
+ContentLiesNear rules tick (SetupBlock text) = Unit {0}
+ContentLiesNear rules tick (TimeBlock is_external time) = Unit {0}
+ContentLiesNear rules tick (PieceBlock channel piece) = FramesLieNear rules tick piece
+ContentLiesNear rules tick (NodeBlock entries) = Unit {0}
+ContentLiesNear rules tick (RootBlock nodes last) = Unit {0}
+
+-- the tick of the last time packet once a packet has gone out
+abbrev pub last_time : (tick : ℕ) → BlockContent → (counter : ℕ) → ℕ
+last_time tick (SetupBlock text) counter = tick
+last_time tick (TimeBlock is_external time) counter = counter
+last_time tick (PieceBlock channel piece) counter = tick
+last_time tick (NodeBlock entries) counter = tick
+last_time tick (RootBlock nodes last) counter = tick
+
+-- the counter of each header, and of each frame, lies near the tick of the last time packet
+abbrev pub LieNearTimes : List Origin → (tick : ℕ) → List FileBlock → Type 0
+LieNearTimes rules tick [] = Unit {0}
+LieNearTimes rules tick (b ∷ blocks) =
+    IsNear rules (last_time tick b.content b.counter) b.counter × ContentLiesNear rules tick b.content
+    × LieNearTimes rules (last_time tick b.content b.counter) blocks
+
+-- the setup record has the tick of the first time packet
+abbrev pub LieNearTheirTimes : List Origin → List FileBlock → Type 0
+LieNearTheirTimes rules [] = ⊥
+LieNearTheirTimes rules (b ∷ blocks) = LieNearTimes rules b.counter (b ∷ blocks)

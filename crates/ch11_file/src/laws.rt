@@ -1,6 +1,6 @@
 //! Laws of a whole file, with nothing to run.
 
-ghost use Rattle.std.specs.Prelude.{ℕ, ◌≡◌, ◌<◌, ◌≤◌, ◌^◌, true, List, [], ◌∷◌, ◌++◌, None, Some, codes, decimal, length, map, slice_get, All};
+ghost use Rattle.std.specs.Prelude.{ℕ, ◌≡◌, ◌≢◌, ◌<◌, ◌≤◌, ◌^◌, true, List, [], ◌∷◌, ◌++◌, None, Some, codes, decimal, length, map, slice_get, All};
 ghost use Rattle.std.specs.List.{AllByRecursion, flat_map};
 ghost use Rattle.ch11_packet.specs.Frames.{data_len};
 ghost use Rattle.ch11_packet.specs.FramesRead.{ReadFrameData, IsReadFrame, SpellsBody};
@@ -8,7 +8,7 @@ ghost use Rattle.ch11_merge.specs.declared.piece.PieceSoFar.{PieceSoFar};
 ghost use Rattle.ch11_merge.specs.Pieces.{goes_on, with_frames};
 ghost use Rattle.ch11_merge.specs.Short.{FitPacket};
 ghost use Rattle.ch11_merge.specs.Merging.{ChannelLeft};
-ghost use Rattle.ch11_merge.specs.Kept.{AreNamedApart, TimesStandAhead, held_in, held_of};
+ghost use Rattle.ch11_merge.specs.Kept.{AreNamedApart, IsSteady, TimesStandAhead, held_in, held_of};
 ghost use Rattle.ch11_index.specs.FileIndex.{IsIndexed, empty_index};
 ghost use Rattle.ch11_index.specs.IndexRead.{AreChained, AreWithin, EndsWithRoot};
 ghost use Rattle.ch11_index.specs.IndexRead.{named_in, nodes_from, packets_from, rooted_in};
@@ -16,7 +16,8 @@ ghost use Rattle.ch11_file.specs.CopiedFrames.{frames_body};
 ghost use Rattle.ch11_file.specs.FileBlocks.{FileBlock, block_len, block_packet, item_of, merged_in};
 ghost use Rattle.ch11_file.specs.WholeFile.{FileFacts, IsWholeFile, setup_at, setup_text};
 ghost use Rattle.ch11_file.specs.FilesRead.{BeginAtZero, BeginsWithSetup, IsValidPacket, NeverFarBehind, RiseByOne};
-ghost use Rattle.ch11_file.specs.FilesRead.{TellsClock, TimeStandsSecond};
+ghost use Rattle.ch11_file.specs.FilesRead.{LieBehindFurtherTimes, LieNearTheirTimes, TellsClock};
+ghost use Rattle.ch11_file.specs.FilesRead.{TimeStandsSecond};
 ghost use Rattle.ch11_file.specs.declared.setup.FileSetup.{FileSetup};
 ghost use Rattle.ch11_clock.specs.declared.civil.CivilTime.{CivilTime};
 ghost use Rattle.ch11_setup.specs.Attributes.{HoldsAttributes};
@@ -25,7 +26,7 @@ ghost use Rattle.ch11_setup.specs.Sources.{HasNoneOf, channel_numbers, channel_t
 ghost use Rattle.ch11_clock.specs.Clock.{IsClock};
 
 use crate::limits::{MAX_SETUP_LEN, MAX_TICKS_AHEAD, MAX_TICKS_BACK};
-use ch11_clock::time_points_have_the_clocks_time;
+use ch11_clock::{counters_lie_near_a_time_point, time_points_have_the_clocks_time};
 use ch11_index::an_index_names_all;
 use ch11_setup::{a_setup_record_is_read_back, a_setup_record_names_the_channels};
 
@@ -74,12 +75,37 @@ pub fn a_whole_file_keeps_each_channel()
         → held_of c.channel (merged_in blocks) ≡ flat_map held_in c.pieces }
 {}
 
+/// Law: a whole file holds nothing of any other channel.
+pub fn a_whole_file_has_no_other_channel()
+    ensures { (facts : FileFacts) (blocks : List FileBlock) → IsWholeFile facts blocks → (channel : ℕ)
+        → ((at : ℕ) (c : ChannelLeft) → slice_get facts.channels at ≡ Some c → c.channel ≢ channel)
+        → held_of channel (merged_in blocks) ≡ [] }
+{}
+
 /// Law: each time packet of a whole file whose counter is at most that of a frame or of a record stands ahead of
 /// that.
 pub fn times_of_a_whole_file_stand_ahead()
     ensures { (facts : FileFacts) (blocks : List FileBlock) → IsWholeFile facts blocks
         → TimesStandAhead (merged_in blocks) }
 {}
+
+/// Law: of a channel whose counters never fall, no time packet of a whole file but the first stands ahead of a
+/// frame or of a record whose counter is less than its tick.
+pub fn times_of_a_whole_file_stand_late()
+    ensures { (facts : FileFacts) (blocks : List FileBlock) → IsWholeFile facts blocks
+        → AreNamedApart facts.channels → (at : ℕ) (c : ChannelLeft)
+        → slice_get facts.channels at ≡ Some c → IsSteady c.pieces
+        → LieBehindFurtherTimes c.channel (merged_in blocks) }
+{}
+
+/// Law: the counter of each header of a whole file, and of each of its frames, lies less than a second behind the
+/// last time packet ahead of it, and 10 ms more for each origin that begins between them.
+pub fn packets_lie_near_their_times()
+    ensures { (facts : FileFacts) (blocks : List FileBlock) → IsClock facts.rules → 0 < facts.most
+        → IsWholeFile facts blocks → LieNearTheirTimes facts.rules blocks }
+{
+    counters_lie_near_a_time_point();
+}
 
 /// Law: each packet of a whole file has a valid header with its length, and a right data checksum, and the
 /// sequence numbers of a channel begin at 0 and rise by one, modulo 256.

@@ -6,4 +6,5 @@ pub mod Answering
 pub mod Runs
 pub mod PartsTaken
 pub mod TimesAhead
+pub mod TimesBehind
 pub mod ShortPieces

@@ -38,14 +38,14 @@ part_held tick (OfFrames fs) =
     ∙ sym (map-append HeldFrame (frames_before tick fs) (frames_from tick fs)) ∙ ap (map HeldFrame) (frames_split tick fs)
 part_held tick (OfRecord counter body) = refl
 
-takes_held : (tick : ℕ) (old : List FilePiece) (taken : FilePiece) (new : List FilePiece) → TakesPart tick old taken new
+pub takes_held : (tick : ℕ) (old : List FilePiece) (taken : FilePiece) (new : List FilePiece) → TakesPart tick old taken new
     → held_in taken ++ flat_map held_in new ≡ flat_map held_in old
 takes_held tick [] taken new t = absurd t
 takes_held tick (p ∷ ps) taken new t =
     rw (t.0, t.1, flat_map-append held_in (part_from tick p) ps, ← append_assoc, part_held tick p) refl
 
 -- a channel's ID stays
-apart_with : (channels : List ChannelLeft) (at channel : ℕ) (of : ChannelLeft) (rest : List FilePiece) → AreNamedApart channels
+pub apart_with : (channels : List ChannelLeft) (at channel : ℕ) (of : ChannelLeft) (rest : List FilePiece) → AreNamedApart channels
     → slice_get channels at ≡ Some of → of.channel ≡ channel → AreNamedApart (slice_set channels at (channel_with channel rest))
 apart_with channels at channel of rest apart there named k j c d is other same =
     elim (set_cases channels at (channel_with channel rest) k c is) as (λ _. k ≡ j) [
@@ -81,6 +81,25 @@ kept after tick channels (OfPiece channel piece ∷ out) apart m k c is =
           rw (ne_eqb channel c.channel other) (kept after tick (slice_set channels s.at (channel_with channel s.rest)) out still more k c
           (set_elsewhere channels s.at k c (channel_with channel s.rest) is away))
     ]
+
+-- what is left of other channels names this one nowhere
+abbrev pub HasNo : (channel : ℕ) → List ChannelLeft → Type 0
+HasNo channel channels = (k : ℕ) (c : ChannelLeft) → slice_get channels k ≡ Some c → c.channel ≢ channel
+
+pub none_else : (after : ℕ → ℕ) (tick : ℕ) (channels : List ChannelLeft) (out : List Merged) (channel : ℕ) → HasNo channel channels
+    → Merges after tick channels out → held_of channel out ≡ []
+none_else after tick channels [] channel none m = refl
+none_else after tick channels (OfTime time ∷ out) channel none m = none_else after (after tick) channels out channel none m.2
+none_else after tick channels (OfPiece other piece ∷ out) channel none m =
+    let s = m.1 in
+    let left = channel_with other s.rest in
+    let off : other ≢ channel = λ (e : other ≡ channel). none s.at s.of s.is_next.there (s.named ∙ e) in
+    let still : HasNo channel (slice_set channels s.at left) = λ k c is. elim (set_cases channels s.at left k c is) as (λ _. c.channel ≢ channel) [
+      | inl here ↦ (λ e. off (sym (ap (λ (x : ChannelLeft). x.channel) here.1) ∙ e))
+      | inr away ↦ none k c away.1
+    ] in
+    let more = subst (λ (new : List ChannelLeft). Merges after tick new out) s.others m.2 in
+    rw (ne_eqb other channel off) (none_else after tick (slice_set channels s.at left) out channel still more)
 
 -- ---- one merge
 

@@ -10,7 +10,7 @@ use Rattle.ch11_merge.specs.Merging.FilePiece.{OfFrames, OfRecord}
 use Rattle.ch11_merge.specs.Merging.Merged.{OfTime, OfPiece}
 use Rattle.ch11_merge.specs.Kept.{LiesBefore, times_in, TimesStandAhead}
 
-weaker : {X : Type 0} (P Q : X → Type 0) → ((x : X) → P x → Q x) → (xs : List X) → AllByRecursion P xs → AllByRecursion Q xs
+pub weaker : {X : Type 0} (P Q : X → Type 0) → ((x : X) → P x → Q x) → (xs : List X) → AllByRecursion P xs → AllByRecursion Q xs
 weaker P Q h [] all = tt
 weaker P Q h (x ∷ xs) all = (h x all.0, weaker P Q h xs all.1)
 
@@ -39,7 +39,7 @@ part_lies tick (OfFrames fs) pieces early = before_tick tick fs
 part_lies tick (OfRecord (Some c) body) pieces early = grind (arith, nat_tests)
 part_lies tick (OfRecord None body) pieces early = tt
 
-taken_lies : (tick : ℕ) (old : List FilePiece) (taken : FilePiece) (new : List FilePiece) → is_due tick (head_of old) ≡ false → TakesPart tick old taken new
+pub taken_lies : (tick : ℕ) (old : List FilePiece) (taken : FilePiece) (new : List FilePiece) → is_due tick (head_of old) ≡ false → TakesPart tick old taken new
     → LiesBefore taken tick
 taken_lies tick [] taken new early t = absurd t
 taken_lies tick (p ∷ ps) taken new early t = subst (λ piece. LiesBefore piece tick) (sym t.0) (part_lies tick p ps early)

@@ -1,6 +1,6 @@
 -- What a merge keeps of each channel.
-use Rattle.std.specs.Prelude.{ℕ, ◌≡◌, ◌<◌, ◌==◌, if◌then◌else◌, List, [], ◌∷◌, ◌++◌, map, Option, None, Some, slice_get}
-use Rattle.std.specs.List.{AllByRecursion}
+use Rattle.std.specs.Prelude.{ℕ, ◌≡◌, ◌≢◌, ◌<◌, ◌≤◌, ◌==◌, if◌then◌else◌, List, [], ◌∷◌, ◌++◌, map, Option, None, Some, slice_get}
+use Rattle.std.specs.List.{AllByRecursion, flat_map}
 use Rattle.ch11_packet.specs.FramesRead.{ReadFrameData}
 use Rattle.ch11_merge.specs.Merging.{FilePiece, ChannelLeft, Merged}
 use Rattle.ch11_merge.specs.Merging.FilePiece.{OfFrames, OfRecord}
@@ -52,3 +52,39 @@ TimesStandAhead [] = Unit {0}
 TimesStandAhead (OfTime tick ∷ out) = TimesStandAhead out
 TimesStandAhead (OfPiece channel piece ∷ out) =
     AllByRecursion (LiesBefore piece) (times_in out) × TimesStandAhead out
+
+-- ---- what stands behind a time packet
+
+-- a counter, if there is one, isn't less than a tick
+abbrev pub LiesFrom : (tick : ℕ) → Held → Type 0
+LiesFrom tick (HeldFrame frame) = tick ≤ frame.counter
+LiesFrom tick (HeldRecord (Some counter) body) = tick ≤ counter
+LiesFrom tick (HeldRecord None body) = Unit {0}
+
+abbrev pub HasNoCounter : Held → Type 0
+HasNoCounter (HeldFrame frame) = ⊥
+HasNoCounter (HeldRecord (Some counter) body) = ⊥
+HasNoCounter (HeldRecord None body) = Unit {0}
+
+-- a later counter isn't less, and behind what has no counter there is none
+abbrev pub IsNotStepBack : (held later : Held) → Type 0
+IsNotStepBack (HeldFrame frame) later = LiesFrom frame.counter later
+IsNotStepBack (HeldRecord (Some counter) body) later = LiesFrom counter later
+IsNotStepBack (HeldRecord None body) later = HasNoCounter later
+
+-- the counters of a channel never fall
+abbrev pub NeverStepBack : List Held → Type 0
+NeverStepBack [] = Unit {0}
+NeverStepBack (held ∷ rest) = AllByRecursion (IsNotStepBack held) rest × NeverStepBack rest
+
+-- a channel of which each piece holds something, and whose counters never fall
+pub record IsSteady (pieces : List FilePiece) : Type 0 where
+  pub some : AllByRecursion (λ piece. held_in piece ≢ []) pieces
+  pub rises : NeverStepBack (flat_map held_in pieces)
+
+-- what a channel has behind a time packet doesn't lie before its tick
+abbrev pub LieBehindTimes : (channel : ℕ) → List Merged → Type 0
+LieBehindTimes channel [] = Unit {0}
+LieBehindTimes channel (OfTime tick ∷ out) =
+    AllByRecursion (LiesFrom tick) (held_of channel out) × LieBehindTimes channel out
+LieBehindTimes channel (OfPiece other piece ∷ out) = LieBehindTimes channel out

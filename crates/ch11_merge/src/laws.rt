@@ -1,14 +1,14 @@
 //! Laws of pieces and of their order, with nothing to run.
 
-ghost use Rattle.std.specs.Prelude.{ℕ, ◌≡◌, ◌≤◌, List, Some, map, slice_get};
+ghost use Rattle.std.specs.Prelude.{ℕ, ◌≡◌, ◌≢◌, ◌≤◌, List, [], Some, map, slice_get};
 ghost use Rattle.std.specs.List.{AllByRecursion, flat_map};
 ghost use Rattle.ch11_packet.specs.FramesRead.{ReadFrameData};
 ghost use Rattle.ch11_merge.specs.Pieces.{AreCut};
 ghost use Rattle.ch11_merge.specs.Short.{IsShortPiece};
 ghost use Rattle.ch11_merge.specs.Parts.{frames_of_piece, frames_pieces};
 ghost use Rattle.ch11_merge.specs.Merging.{ChannelLeft, Merged, Merges};
-ghost use Rattle.ch11_merge.specs.Kept.{AreNamedApart, FollowEachOther, TimesStandAhead, held_in};
-ghost use Rattle.ch11_merge.specs.Kept.{held_of, times_in};
+ghost use Rattle.ch11_merge.specs.Kept.{AreNamedApart, FollowEachOther, IsSteady, LieBehindTimes};
+ghost use Rattle.ch11_merge.specs.Kept.{TimesStandAhead, held_in, held_of, times_in};
 
 /// Law: all frames can be cut into pieces.
 pub fn frames_have_pieces()
@@ -42,6 +42,13 @@ pub fn a_merge_keeps_each_channel()
         → held_of c.channel out ≡ flat_map held_in c.pieces }
 {}
 
+/// Law: a merge holds nothing of any other channel.
+pub fn a_merge_has_no_other_channel()
+    ensures { (after : ℕ → ℕ) (tick : ℕ) (channels : List ChannelLeft) (out : List Merged) (channel : ℕ)
+        → ((at : ℕ) (c : ChannelLeft) → slice_get channels at ≡ Some c → c.channel ≢ channel)
+        → Merges after tick channels out → held_of channel out ≡ [] }
+{}
+
 /// Law: channels have one merge.
 pub fn there_is_one_merge()
     ensures { (after : ℕ → ℕ) (tick : ℕ) (channels : List ChannelLeft) (out others : List Merged)
@@ -60,4 +67,12 @@ pub fn times_follow_each_other()
 pub fn time_packets_stand_ahead()
     ensures { (after : ℕ → ℕ) (tick : ℕ) (channels : List ChannelLeft) (out : List Merged)
         → ((time : ℕ) → time ≤ after time) → Merges after tick channels out → TimesStandAhead out }
+{}
+
+/// Law: of a channel whose counters never fall, no time packet of a merge stands ahead of a frame or of a record
+/// whose counter is less than its tick.
+pub fn time_packets_stand_late()
+    ensures { (after : ℕ → ℕ) (tick : ℕ) (channels : List ChannelLeft) (out : List Merged)
+        → AreNamedApart channels → Merges after tick channels out → (at : ℕ) (c : ChannelLeft)
+        → slice_get channels at ≡ Some c → IsSteady c.pieces → LieBehindTimes c.channel out }
 {}

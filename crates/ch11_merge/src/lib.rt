@@ -11,9 +11,9 @@ mod source;
 
 pub use frames::FramesSource;
 pub use laws::{
-    a_merge_keeps_each_channel, frames_are_cut_in_one_way, frames_have_pieces, pieces_are_short,
-    pieces_of_frames_are_the_cut, there_is_one_merge, time_packets_stand_ahead,
-    times_follow_each_other,
+    a_merge_has_no_other_channel, a_merge_keeps_each_channel, frames_are_cut_in_one_way,
+    frames_have_pieces, pieces_are_short, pieces_of_frames_are_the_cut, there_is_one_merge,
+    time_packets_stand_ahead, time_packets_stand_late, times_follow_each_other,
 };
 pub use merge::{MergeEnd, PlacedSink, TimeTicks, merge_into};
 pub use piece::{PIECE_TICKS, PieceSoFar};

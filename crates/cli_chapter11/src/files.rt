@@ -27,6 +27,11 @@ pub(crate) fn open_recording<'a, R: AllocGlobal + Files>(
             For more information, try '--help'.\n"
         )?));
     }
+    // Opening a pipe would wait for its writer.
+    match rt.metadata(recording) {
+        Ok(found) if !found.is_file() => return Err(CommandEnding::File(recording)),
+        Ok(_) | Err(_) => {}
+    }
     let file = fs::open(rt, recording).map_err(|error| CommandEnding::of_io(recording, &error))?;
     match file.metadata() {
         Ok(found) if found.is_file() => {}

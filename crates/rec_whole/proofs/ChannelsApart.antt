@@ -1,5 +1,5 @@
 -- The channels that packets name stand in a list once each.
-use Rattle.std.proofs.Common.{ℕ, zero, suc, ◌+◌, ◌≡◌, ◌≤◌, ◌<◌, ◌^◌, List, ◌∷◌, Bool, true, false, Option, None, Some, arith, refl, sym, ◌∙◌, ap, subst}
+use Rattle.std.proofs.Common.{ℕ, zero, suc, ◌+◌, ◌≡◌, ◌≢◌, ◌≤◌, ◌<◌, ◌^◌, List, ◌∷◌, Bool, true, false, Option, None, Some, arith, refl, sym, ◌∙◌, ap, subst}
 use Rattle.std.specs.Prelude.{cond, slice_get}
 use Rattle.std.specs.Option.{option_map}
 use Rattle.std.specs.List.{filter, range_with_len}
@@ -106,3 +106,25 @@ pub channel_there : (packets : List PacketData) (channel : ℕ) → channel < 2 
 channel_there packets channel less is =
     let there = named_there packets channel less is in
     (there.0, slice_get-map (channel_of_packets packets) (named_channels packets) there.0 ∙ ap (option_map (channel_of_packets packets)) there.1)
+
+-- ---- no others
+
+tested : (p : ℕ → Bool) (b : Bool) (a at v : ℕ) (xs : List ℕ) → p a ≡ b → ((k : ℕ) → slice_get xs k ≡ Some v → p v ≡ true)
+    → slice_get (cond b (a ∷ xs) xs) at ≡ Some v → p v ≡ true
+tested p true a zero v xs e rest is = ap p (sym (same_Some a v is)) ∙ e
+tested p true a (suc at) v xs e rest is = rest at is
+tested p false a at v xs e rest is = rest at is
+
+all_tested : (p : ℕ → Bool) (a n at v : ℕ) → slice_get (filter p (range_with_len a n)) at ≡ Some v → p v ≡ true
+all_tested p a zero at v is = absurd (none-some v is)
+all_tested p a (suc n) at v is =
+    tested p (p a) a at v (filter p (range_with_len (a + 1) n)) refl (λ k there. all_tested p (a + 1) n k v there) is
+
+named_only : (packets : List PacketData) (at channel : ℕ) → slice_get (named_channels packets) at ≡ Some channel → is_named packets channel ≡ true
+unfolding named_channels
+named_only packets at channel is = all_tested (is_named packets) 0 (2 ^ 16) at channel is
+
+pub channel_nowhere : (packets : List PacketData) (channel : ℕ) → is_named packets channel ≡ false
+    → (at : ℕ) (c : ChannelLeft) → slice_get (channels_of_packets packets) at ≡ Some c → c.channel ≢ channel
+channel_nowhere packets channel off at c is same =
+    true≢false (sym (named_only packets at c.channel (id_at packets at c is)) ∙ (ap (is_named packets) same ∙ off))

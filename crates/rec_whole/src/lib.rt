@@ -7,7 +7,7 @@ mod names;
 mod refusal;
 mod whole;
 
-pub use laws::a_whole_file_keeps_the_frames;
+pub use laws::{a_whole_file_has_no_other_frames, a_whole_file_keeps_the_frames};
 pub use names::FileNames;
 pub use refusal::{WholeEnd, WholeRefusal};
 pub use whole::write_whole_file;

@@ -140,13 +140,9 @@ def test_files_that_cannot_be_read(work: Path) -> None:
         ((recording, setup, work), work),
         ((recording, setup, none / "out"), none / "out"),
     ):
-        if named is pipe:
-            # its opening waits for a writer
-            kept = os.open(pipe, os.O_RDWR)
         done = outcome(BPFREC, "chapter11", *words)
         judge_quietly(f"{words}", (done.returncode, done.stdout, done.stderr) == (3, "", f"file {named}\n"), done)
         judge_quietly(f"{words}: no OUT", not out.exists())
-    os.close(kept)
     setup.write_bytes(b'origin = "0"\nhost = "\xff"\n')
     judge("no UTF-8", outcome(BPFREC, "chapter11", recording, setup, out).stderr == f"file {setup}\n")
     setup.write_text(LEAST + "#" * (16_777_216 - len(LEAST)))
