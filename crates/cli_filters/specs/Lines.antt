@@ -1,5 +1,5 @@
--- The input of a run without words, and its answer.
-use Rattle.std.specs.Prelude.{ℕ, ◌≡◌, ◌==◌, if◌then◌else◌, List, [], ◌∷◌, ◌++◌, Ok, Option}
+-- The input of a run without words, and what `run` and `verify` print.
+use Rattle.std.specs.Prelude.{ℕ, ◌≡◌, ◌==◌, if◌then◌else◌, List, [], ◌∷◌, ◌++◌, codes, Ok, Option}
 use Rattle.std.specs.List.{before_first, after_first}
 use Rattle.std.specs.Fmt.{decimal}
 use Rattle.std.specs.Io.KnownBytes.{Appends}
@@ -33,6 +33,10 @@ RunsOn listing_text view_text steps value =
 -- what a run prints: its value, a space, its steps and a line feed
 abbrev pub outcome_line : ℕ → ℕ → List ℕ
 outcome_line value steps = decimal value ++ (32 ∷ []) ++ decimal steps ++ (10 ∷ [])
+
+-- what `verify` prints of a valid program: the number of its instructions
+abbrev pub valid_line : ℕ → List ℕ
+valid_line count = codes "valid " ++ (decimal count ++ (10 ∷ []))
 
 -- the output took the line of the run of the first line's program on the second line's view
 abbrev pub AnswersLines : List ℕ → Option (List ℕ) → Option (List ℕ) → Type 0

@@ -1,5 +1,9 @@
 //! The commands on one filter: to assemble, disassemble, verify and run it.
 
+ghost use Rattle.std.specs.Prelude.{OnOk};
+ghost use Rattle.std.specs.Io.KnownBytes.{Appends};
+ghost use Rattle.cli_filters.specs.Lines.{valid_line};
+
 use crate::outcome::{outcome_of, print_outcome};
 use bpf_asm::assemble;
 use bpf_dis::text_of;
@@ -7,6 +11,7 @@ use bpf_insn::{parse_listing, print_listing};
 use cli_streams::{
     CommandEnding, MAX_LISTING, MAX_TEXT, listed_program, print_line, print_text, text_in,
 };
+use std::alloc::Global;
 use std::io::{Read, Write};
 use std::rt::Files;
 
@@ -48,8 +53,20 @@ pub fn verify_file<'a, R: AllocGlobal + Files, I: Read, O: Write>(
     let program = listed_program(rt.alloc(), listing.as_str()).map_err(
         |fault| CommandEnding::of_listed(rt.alloc(), fault),
     )?;
-    let mut line = Vec::new(rt.alloc());
-    let built = writeln!(&mut line, "valid {}", program.len());
+    print_valid(rt.alloc(), output, program.len())
+}
+
+/// Prints the number of a valid program's instructions.
+fn print_valid<O: Write>(
+    alloc: Global,
+    output: &mut O,
+    count: usize,
+) -> Result<(), CommandEnding<'static>>
+    ensures { OnOk result (Appends (O.contents output.old) (O.contents output.new)
+        (valid_line count)) }
+{
+    let mut line = Vec::new(alloc);
+    let built = writeln!(&mut line, "valid {count}");
     print_line(output, &mut line, built)
 }
 

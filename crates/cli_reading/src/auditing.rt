@@ -1,10 +1,14 @@
 //! The command that judges a recording by itself.
 
+ghost use Rattle.std.specs.Prelude.{OnOk};
+ghost use Rattle.std.specs.Io.KnownBytes.{Appends};
+ghost use Rattle.cli_reading.specs.Printed.{audit_line, audit_lines};
+
 use crate::reading::{next_packet, reader_of, reader_over};
 use cli_streams::{CommandEnding, STREAM, print_line, refuse_output_into_input};
 use rec_reader::{Audit, AuditLine, Auditor, Reader};
 use std::alloc::Global;
-use std::io::{Read, Write};
+use std::io::{self, Read, Write};
 use std::rt::Files;
 
 /// `audit FILE`: prints a line for each channel, and how many packets hold something else; or the
@@ -48,21 +52,31 @@ fn print_audit<O: Write>(
     alloc: Global,
     output: &mut O,
     audited: &Audit,
-) -> Result<(), CommandEnding<'static>> {
+) -> Result<(), CommandEnding<'static>>
+    ensures { OnOk result (Appends (O.contents output.old) (O.contents output.new)
+        (audit_lines audited.now.channels audited.now.other)) }
+{
     let mut text = Vec::new(alloc);
     'channels: for line in audited.channels.as_slice() {
-        let AuditLine {
-            channel,
-            programs,
-            frames,
-            offered,
-        } = line;
-        let built = writeln!(
-            &mut text,
-            "channel {channel} programs {programs} frames {frames} offered {offered}"
-        );
+        let built = print_channel(&mut text, line);
         print_line(output, &mut text, built)?;
     }
     let built = writeln!(&mut text, "yes other {}", audited.other);
     print_line(output, &mut text, built)
+}
+
+/// Prints the line of a channel.
+fn print_channel<O: Write>(output: &mut O, line: &AuditLine) -> io::Result<()>
+    ensures { OnOk result (Appends (O.contents output.old) (O.contents output.new) (audit_line line.now)) }
+{
+    let AuditLine {
+        channel,
+        programs,
+        frames,
+        offered,
+    } = line;
+    writeln!(
+        output,
+        "channel {channel} programs {programs} frames {frames} offered {offered}"
+    )
 }

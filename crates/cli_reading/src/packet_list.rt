@@ -1,5 +1,11 @@
 //! The command that lists a recording's packets.
 
+ghost use Rattle.std.specs.Prelude.{◌≡◌, OnOk};
+ghost use Rattle.std.specs.Io.KnownBytes.{Appends};
+ghost use Rattle.rec_reader.specs.Views.{packet_data};
+ghost use Rattle.cli_reading.specs.Counts.{counts_with};
+ghost use Rattle.cli_reading.specs.Printed.{counts_line, header_text, kind_text, numbers_text, packet_line, what_text};
+
 use crate::reading::{
     Counts, begin_again, counts_of, is_read_twice, next_packet, open, packet_again, reader_over,
 };
@@ -92,20 +98,37 @@ fn add_line<W: Write>(
     lines: &mut W,
     packet: &Packet<'_>,
     counts: &mut Counts,
-) -> Result<(), CommandEnding<'static>> {
+) -> Result<(), CommandEnding<'static>>
+    ensures line { OnOk result (Appends (W.contents lines.old) (W.contents lines.new)
+        (packet_line packet.now.at packet.now.header packet.now.what)) }
+    ensures counts { counts.new ≡ counts_with counts.old (packet_data packet.now) }
+{
     counts.count(packet);
     print_packet(lines, packet).map_err(|error| CommandEnding::of_io(STREAM, &error))
 }
 
 /// Prints how many packets there are.
-fn print_counts<W: Write>(lines: &mut W, counts: Counts) -> io::Result<()> {
+fn print_counts<W: Write>(lines: &mut W, counts: Counts) -> io::Result<()>
+    ensures { OnOk result (Appends (W.contents lines.old) (W.contents lines.new)
+        (counts_line counts.packets counts.others)) }
+{
     writeln!(lines, "packets {} other {}", counts.packets, counts.others)
 }
 
 /// Prints a packet's line: its place, its header's fields, and what it holds.
-fn print_packet<W: Write>(lines: &mut W, packet: &Packet<'_>) -> io::Result<()> {
-    print_header(lines, packet)?;
-    match packet.what {
+fn print_packet<W: Write>(lines: &mut W, packet: &Packet<'_>) -> io::Result<()>
+    ensures { OnOk result (Appends (W.contents lines.old) (W.contents lines.new)
+        (packet_line packet.now.at packet.now.header packet.now.what)) }
+{
+    print_header(lines, packet.at, packet.header)?;
+    print_what(lines, packet.what)
+}
+
+/// Prints what a packet holds.
+fn print_what<W: Write>(lines: &mut W, what: What) -> io::Result<()>
+    ensures { OnOk result (Appends (W.contents lines.old) (W.contents lines.new) (what_text what)) }
+{
+    match what {
         What::Frames(count) => writeln!(lines, "frames {count}"),
         What::Program {
             channel,
@@ -123,7 +146,9 @@ fn print_packet<W: Write>(lines: &mut W, packet: &Packet<'_>) -> io::Result<()> 
 }
 
 /// Prints a packet's place and its header's fields.
-fn print_header<W: Write>(lines: &mut W, packet: &Packet<'_>) -> io::Result<()> {
+fn print_header<W: Write>(lines: &mut W, at: u64, header: Header) -> io::Result<()>
+    ensures { OnOk result (Appends (W.contents lines.old) (W.contents lines.new) (header_text at header)) }
+{
     let Header {
         channel,
         packet_len,
@@ -132,9 +157,9 @@ fn print_header<W: Write>(lines: &mut W, packet: &Packet<'_>) -> io::Result<()> 
         kind,
         counter,
         ..
-    } = packet.header;
-    print_numbers(lines, &[packet.at, u64::from(channel)])?;
-    write!(lines, "{kind:02x} ")?;
+    } = header;
+    print_numbers(lines, &[at, u64::from(channel)])?;
+    print_kind(lines, kind)?;
     print_numbers(
         lines,
         &[
@@ -146,9 +171,19 @@ fn print_header<W: Write>(lines: &mut W, packet: &Packet<'_>) -> io::Result<()> 
     )
 }
 
+/// Prints a data type in two hexadecimal digits, with a blank behind it.
+#[tactic(auto, using(std::proofs::lemmas::Fmt::hex_byte))]
+fn print_kind<W: Write>(lines: &mut W, kind: u8) -> io::Result<()>
+    ensures { OnOk result (Appends (W.contents lines.old) (W.contents lines.new) (kind_text kind)) }
+{
+    write!(lines, "{kind:02x} ")
+}
+
 /// Prints numbers, each with a blank behind it. One at a time: the proof of a text with more values
 /// takes several times as long.
-fn print_numbers<W: Write>(lines: &mut W, numbers: &[u64]) -> io::Result<()> {
+fn print_numbers<W: Write>(lines: &mut W, numbers: &[u64]) -> io::Result<()>
+    ensures { OnOk result (Appends (W.contents lines.old) (W.contents lines.new) (numbers_text numbers.now)) }
+{
     'numbers: for number in numbers {
         write!(lines, "{number} ")?;
     }

@@ -1,5 +1,9 @@
 //! The command that runs a script of events.
 
+ghost use Rattle.std.specs.Prelude.{◌≡◌, OnOk};
+ghost use Rattle.std.specs.Io.KnownBytes.{Appends};
+ghost use Rattle.cli_simulate.specs.Replies.{byte_text, last_of, packet_text, reply_text, sent_text};
+
 use crate::script::{LineFault, Recorder, channel_of, event_in, recorder_in};
 use ch11_packet::Limit;
 use cli_streams::{CommandEnding, MAX_TEXT, print_line, text_in};
@@ -123,7 +127,10 @@ fn number_of(lines: &[ScriptLine<'_>]) -> u64 {
 }
 
 /// Prints what an event did; a packet that was written is the end of the output.
-fn print_reply<O: Write>(output: &mut O, reply: Reply, out: &[u8]) -> io::Result<()> {
+fn print_reply<O: Write>(output: &mut O, reply: Reply, out: &[u8]) -> io::Result<()>
+    ensures { OnOk result (Appends (O.contents output.old) (O.contents output.new)
+        (reply_text reply out.now)) }
+{
     match reply {
         Reply::Took {
             number,
@@ -131,24 +138,45 @@ fn print_reply<O: Write>(output: &mut O, reply: Reply, out: &[u8]) -> io::Result
             value,
         } => writeln!(output, "took {number} {version} {value}"),
         Reply::Installed { version, mark } => writeln!(output, "installed {version} {mark}"),
-        Reply::Sent(Which::Program(version)) => writeln!(output, "sent program {version}"),
-        Reply::Sent(Which::Frames(count)) => writeln!(output, "sent frames {count}"),
-        Reply::Sent(Which::End) => writeln!(output, "sent end"),
+        Reply::Sent(which) => print_sent(output, which),
         Reply::Wrote { bytes } => print_packet(output, last_bytes(out, bytes as usize)),
         Reply::Closed { offered, kept } => writeln!(output, "closed {offered} {kept}"),
     }
 }
 
+/// Prints which piece was sent.
+fn print_sent<O: Write>(output: &mut O, which: Which) -> io::Result<()>
+    ensures { OnOk result (Appends (O.contents output.old) (O.contents output.new) (sent_text which)) }
+{
+    match which {
+        Which::Program(version) => writeln!(output, "sent program {version}"),
+        Which::Frames(count) => writeln!(output, "sent frames {count}"),
+        Which::End => writeln!(output, "sent end"),
+    }
+}
+
 /// The last bytes, so many of them or all.
-fn last_bytes(bytes: &[u8], count: usize) -> &[u8] {
+fn last_bytes(bytes: &[u8], count: usize) -> &[u8]
+    ensures { result.now ≡ last_of bytes.now count }
+{
     &bytes[bytes.len().saturating_sub(count)..]
 }
 
 /// Prints a packet in hexadecimal digits.
-fn print_packet<O: Write>(output: &mut O, packet: &[u8]) -> io::Result<()> {
+fn print_packet<O: Write>(output: &mut O, packet: &[u8]) -> io::Result<()>
+    ensures { OnOk result (Appends (O.contents output.old) (O.contents output.new) (packet_text packet.now)) }
+{
     write!(output, "wrote ")?;
     'bytes: for byte in packet {
-        write!(output, "{byte:02x}")?;
+        print_byte(output, *byte)?;
     }
     writeln!(output)
+}
+
+/// Prints a byte in two hexadecimal digits.
+#[tactic(auto, using(std::proofs::lemmas::Fmt::hex_byte))]
+fn print_byte<O: Write>(output: &mut O, byte: u8) -> io::Result<()>
+    ensures { OnOk result (Appends (O.contents output.old) (O.contents output.new) (byte_text byte)) }
+{
+    write!(output, "{byte:02x}")
 }

@@ -130,11 +130,16 @@ def frames_packet(frames: Iterable[tuple[int, int, bytes]], sequence: int, count
 
 
 def program_packet(
-    channel: int, version: int, insn: tuple = (6, 0, 0, 1), is_summed: bool = True, count: int = 1
+    channel: int,
+    version: int,
+    insn: tuple = (6, 0, 0, 1),
+    is_summed: bool = True,
+    count: int = 1,
+    sequence: int = 0,
 ) -> bytes:
     """The packet of a program of one instruction, as often as `count` says, from frame 0 on."""
     data = struct.pack("<I4sHHIQHH", 0, b"CBPR", 1, channel, version, 0, count, 0) + struct.pack("<HBBI", *insn) * count
-    return packet_of(0, data, 0, COMPUTER, 0, is_summed)
+    return packet_of(0, data, sequence, COMPUTER, 0, is_summed)
 
 
 def end_packet(channel: int, count: int, sequence: int = 1, is_summed: bool = True) -> bytes:
