@@ -14,8 +14,9 @@ use std::fs::OpenFile;
 use std::io::{BufReader, Read, Seek, SeekFrom};
 use std::rt::Files;
 
-/// How many bytes of a recording are read at once.
-const PIECE: usize = 65_536;
+/// How many bytes of a recording are read at once, but of a longer packet its rest, which is read to its
+/// place and not copied.
+const PIECE: usize = 16_384;
 
 /// The packets that a pass over a recording met.
 #[derive(Clone, Copy, PartialEq, Eq)]

@@ -7,7 +7,7 @@ use crate::listed::{FilterFault, program_in};
 use crate::retried::Retried;
 use bpf_verify::Verified;
 use cli_streams::{CommandEnding, Inputs, MAX_LISTING, bounded_text};
-use eth_frame::{FeedSource, FrameSource};
+use eth_frame::{BufferedFeedSource, FrameSource};
 use rec_words::{Settings, settings_of};
 use std::fs;
 use std::io::BufReader;
@@ -18,7 +18,7 @@ const FEED_BUFFER: usize = 65_536;
 
 /// The source of a channel's frames, which closes its feed with the channel's last frame. A read that a
 /// signal interrupts is made again.
-pub type Source<F> = ClosingSource<FeedSource<BufReader<Retried<F>>>>;
+pub type Source<F> = ClosingSource<BufferedFeedSource<BufReader<Retried<F>>>>;
 
 /// The settings in a file, which is added to the inputs.
 pub fn read_settings<'a, R: AllocGlobal + Files>(
@@ -78,5 +78,5 @@ pub fn open_feed<'a, R: AllocGlobal + Files>(
     let reader = BufReader::with_capacity(rt.alloc(), FEED_BUFFER, file).map_err(
         |_| CommandEnding::Memory,
     )?;
-    Ok(ClosingSource::new(FeedSource::new(reader), max))
+    Ok(ClosingSource::new(BufferedFeedSource::new(reader), max))
 }

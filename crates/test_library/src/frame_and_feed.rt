@@ -4,7 +4,7 @@ use eth_frame::*;
 use std::alloc::Global;
 use std::cell::Cell;
 use std::io;
-use std::io::{ErrorKind, Read, Write};
+use std::io::{BufReader, ErrorKind, Read, Write};
 use std::test::Fail;
 use test_samples::all_bytes;
 

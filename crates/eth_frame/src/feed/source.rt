@@ -67,7 +67,10 @@ impl<R: Read> FrameSource for FeedSource<R> {
 }
 
 /// Takes a whole record from the front of what the reader has left.
-fn take_record<R: Read>(reader: &mut R, buffer: &mut FrameBuf) -> Result<Next, SourceFault>
+pub(super) fn take_record<R: Read>(
+    reader: &mut R,
+    buffer: &mut FrameBuf,
+) -> Result<Next, SourceFault>
     requires { buffer.old ≡ None }
     ensures held { IsSome buffer.new ↔ (result ≡ Ok Next.Frame) }
     ensures record { IfSome (R.remaining reader.old) (λ bytes.

@@ -192,3 +192,53 @@ fn a_long_feed_is_read_in_any_pieces(rt: HostRuntime) -> Result<(), Fail> {
     }
     Ok(())
 }
+
+#[test]
+fn a_long_feed_is_read_from_a_buffer_of_any_room(rt: HostRuntime) -> Result<(), Fail> {
+    let mut bytes = [0; 16_640];
+    for (at, byte) in bytes.iter_mut().enumerate() {
+        *byte = (at % 253) as u8;
+    }
+    let mut feed = Vec::new(rt.alloc());
+    for at in 0..1_000 {
+        let frame = frame_at(at, &bytes).ok_or("a frame")?;
+        write_feed(&frame, &mut feed)?;
+    }
+    for (room, most) in [
+        (1, 1),
+        (9, 4_096),
+        (27, 4_096),
+        (4_096, 7),
+        (65_536, 65_536),
+    ] {
+        let reader = BufReader::with_capacity(rt.alloc(), room, Pieces::of(&feed, most))?;
+        let mut source = BufferedFeedSource::new(reader);
+        let mut buffer = FrameBuf::new();
+        for at in 0..1_000 {
+            let want = frame_at(at, &bytes).ok_or("a frame")?;
+            assert_same!(rt; source.next(&mut buffer), Ok(Next::Frame));
+            assert_same!(rt; buffer.frame(), Some(want), "frame {at}, room {room}, pieces of {most}");
+        }
+        assert_same!(rt; answers(&mut source, &mut buffer), [Ok(Next::End); 3]);
+        assert!(rt; buffer.frame().is_none());
+    }
+    Ok(())
+}
+
+#[test]
+fn each_record_cut_in_a_buffer_is_truncated(rt: HostRuntime) -> Result<(), Fail> {
+    let record: [u8; 27] = bytes(rt.alloc(), RECORD)?;
+    let mut buffer = FrameBuf::new();
+    for cut in 1..27 {
+        let reader = BufReader::with_capacity(rt.alloc(), 64, Pieces::of(&record[..cut], 4_096))?;
+        let mut source = BufferedFeedSource::new(reader);
+        let want = [Err(SourceFault::Truncated); 3];
+        assert_same!(rt;
+            answers(&mut source, &mut buffer),
+            want,
+            "cut after {cut} bytes"
+        );
+        assert!(rt; buffer.frame().is_none());
+    }
+    Ok(())
+}
