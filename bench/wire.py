@@ -1,7 +1,7 @@
 #!/usr/bin/env python3
 """Times recordings from an interface beside dumpcap and tcpdump, and feeds that are made of a capture file.
 
-usage: bench/wire.py [--frames N] [--rate N] [--rounds N] [--part wire|files|syncs|follow] [--before CHECKOUT]
+usage: bench/wire.py [--frames N] [--rate N] [--most N] [--part wire|files|syncs|follow] [--before CHECKOUT]
 
 It makes a network namespace with a pair of virtual interfaces, sends frames of 64, 300 and 1,500 bytes into
 one of them as fast as bin/send_frames can, and records what the other receives: by host/bin/live, with a filter
@@ -13,6 +13,10 @@ With --part syncs it records by host/bin/live alone, forced to the disk each sec
 (`--sync 0`, told as before), in turn: what the syncs cost.
 With --part follow it records by host/bin/live alone (told as before) and with host/bin/follow beside it, in turn: what
 the live view costs the recorder. `--rate` has frames sent at that rate.
+
+Each recording of a round is compared with that of the same round by tcpdump, or by the other way. Rounds go on until
+the medians of the ratios of both halves of the rounds differ by 3 % at most; where they never do it says that the
+machine is too noisy. A ratio is printed with the quarters of its pairs.
 
 It prints tables for RESULTS.md, with the machine's load. It needs root, bin/bpfrec and bin/capture (make
 build), bin/send_frames (make bin/send_frames), and Debian's iproute2, tcpdump and wireshark-common. Files go
@@ -49,6 +53,8 @@ KEPT_SHARE = {"all": "all", "port": "3 %"}
 # What bin/capture takes by itself.
 BUFFER_MIB = 256
 PATIENCE = 120
+# By how much the medians of both halves of the rounds may differ.
+SETTLED = 0.03
 
 
 class Recorder(NamedTuple):
@@ -176,14 +182,57 @@ def empty_cost(work: Path, program: str, made: Recorder) -> float:
     return statistics.median(record_once(work, program, made, LENGTHS[0], 0, is_ahead=True)[2] for _ in range(3))
 
 
-def tell_changes(length: int, runs: dict[Key, list[Taken]], frames: int) -> None:
-    """What the other checkout took, and what ours does: medians over the rounds, in which the two went in turn."""
-    for before, after in [(key, (key[0].replace(", before", ""), key[1])) for key in runs if ", before" in key[0]]:
-        rates = [one[0] / other[0] for one, other in zip(runs[before], runs[after])]
-        spent = [1e9 * (other[2] - one[2]) / frames for one, other in zip(runs[before], runs[after])]
+class Ratios(NamedTuple):
+    """What a program took beside another one, round for round: of frames that were taken, and of processors."""
+
+    taken: list[float]
+    processors: list[float]
+
+    def are_settled(self) -> bool:
+        return all(is_settled(it) for it in self)
+
+
+def is_settled(ratios: list[float]) -> bool:
+    """Whether the medians of the first and of the second half differ by little."""
+    half = len(ratios) // 2
+    first, second = statistics.median(ratios[:half]), statistics.median(ratios[half:])
+    return abs(first - second) <= SETTLED * statistics.median(ratios)
+
+
+def beside(key: Key) -> Key:
+    """The program that another one is compared with: what stood before, or tcpdump."""
+    return (f"{key[0]}, before", key[1])
+
+
+def ratios_in(runs: dict[Key, list[Taken]], empty: dict[Key, float], frames: int) -> dict[Key, Ratios]:
+    """Of each program beside the one that it is compared with. Of a frame a nanosecond is taken at least."""
+
+    def spent(key: Key, taken: Taken) -> float:
+        return max(taken[2] - empty[key], frames / 1e9)
+
+    found = {}
+    for key, done in runs.items():
+        other = next((it for it in (beside(key), ("tcpdump", key[1])) if it in runs and it != key), None)
+        if other is None or ", before" in key[0]:
+            continue
+        pairs = list(zip(done, runs[other]))
+        taken = [(one[3] / one[0]) / max(two[3] / two[0], 1) for one, two in pairs]
+        found[key] = Ratios(taken, [spent(key, one) / spent(other, two) for one, two in pairs])
+    return found
+
+
+def told_ratio(ratios: list[float]) -> str:
+    low, middle, high = statistics.quantiles(ratios, n=4)
+    return f"{middle:.2f} ({low:.2f} to {high:.2f})"
+
+
+def tell_ratios(length: int, found: dict[Key, Ratios]) -> None:
+    """How each program compares, with the quarters of its pairs."""
+    for (program, name), ratios in found.items():
+        noise = "" if ratios.are_settled() else "; TOO NOISY: its halves differ by more than 3 %"
         print(
-            f"{length} bytes, {after[0]}: {statistics.median(rates):.3f} times as many frames a second "
-            f"({min(rates):.2f} to {max(rates):.2f}), {statistics.median(spent):+.0f} ns of processors a frame",
+            f"{length} bytes, {program}, {KEPT_SHARE[name]}, in {len(ratios.taken)} pairs: {told_ratio(ratios.taken)} "
+            f"of the frames a second, {told_ratio(ratios.processors)} of the processors{noise}",
             flush=True,
         )
 
@@ -210,7 +259,7 @@ def with_and_without_follower(work: Path, buffer: int) -> Commands:
 
 
 def time_wire(work: Path, words: argparse.Namespace, made: Commands) -> None:
-    frames, rounds = words.frames, words.rounds
+    frames = words.frames
     print(
         "| Bytes | Program | Keeps | Frames sent a second | Taken a second | Dropped by the kernel | least, greatest "
         "| Processor, ns a frame |\n|---|---|---|---|---|---|---|---|"
@@ -218,9 +267,11 @@ def time_wire(work: Path, words: argparse.Namespace, made: Commands) -> None:
     empty = {key: empty_cost(work, key[0], it) for key, it in made.items()}
     for length in LENGTHS:
         runs: dict[Key, list[Taken]] = {key: [] for key in made}
-        for turn in range(rounds):
+        for turn in range(words.most):
             for key, recorder in list(made.items())[:: 1 if turn % 2 == 0 else -1]:
                 runs[key].append(record_once(work, key[0], recorder, length, frames, words.rate, words.ahead))
+            if turn + 1 >= words.least and all(it.are_settled() for it in ratios_in(runs, empty, frames).values()):
+                break
         for (program, name), done in runs.items():
             sent = statistics.median(frames / it[0] for it in done)
             taken = statistics.median((frames - it[4]) / it[0] for it in done)
@@ -231,7 +282,7 @@ def time_wire(work: Path, words: argparse.Namespace, made: Commands) -> None:
                 f"| {statistics.median(drops):,.0f} | {min(drops):,}, {max(drops):,} | {processors:,.0f} |",
                 flush=True,
             )
-        tell_changes(length, runs, frames)
+        tell_ratios(length, ratios_in(runs, empty, frames))
     print(f"\nLoad: {os.getloadavg()[0]:.1f} on {os.cpu_count()} processors")
 
 
@@ -291,7 +342,8 @@ def missing() -> list[str]:
 def main() -> int:
     parser = argparse.ArgumentParser(description=__doc__, formatter_class=argparse.RawDescriptionHelpFormatter)
     parser.add_argument("--frames", type=int, default=1_000_000)
-    parser.add_argument("--rounds", type=int, default=5)
+    parser.add_argument("--least", type=int, default=6, help="rounds, at least (6)")
+    parser.add_argument("--most", type=int, default=30, help="rounds, at most (30)")
     parser.add_argument("--part", choices=["wire", "files", "syncs", "follow"])
     parser.add_argument("--rate", type=int, default=0, help="frames a second, in place of as many as can be sent")
     parser.add_argument("--buffer", type=int, default=BUFFER_MIB, help="MiB of the kernel's buffer for each program")
@@ -324,7 +376,7 @@ def main() -> int:
             make_pair()
             time_wire(Path(folder), words, with_and_without_follower(Path(folder), words.buffer))
         if words.part in (None, "files") and not words.before:
-            time_files(Path(folder), words.frames, words.rounds)
+            time_files(Path(folder), words.frames, words.least)
     return 0
 
 
