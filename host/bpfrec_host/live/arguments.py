@@ -60,6 +60,7 @@ class Arguments(NamedTuple):
     clock_error: Optional[float]
     # The program that is run for alarms, with its own arguments.
     on_alarm: Optional[list[str]]
+    # The Unix socket by which lines come too.
     control: Optional[str]
     # Whether a whole Chapter 11 file is made of each recording.
     makes_whole_files: bool

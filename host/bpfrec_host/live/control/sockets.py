@@ -1,7 +1,7 @@
 """Lines by a Unix socket: each client's lines are taken as those of standard input are, and answered to it.
 
-An answer is a line `done` or `refused`, lines that say what, and an empty line. Answers come in any order but that in
-which their lines were done: a client that wants to know which is which waits for each.
+An answer is a line `done` or `refused`, lines that say what, and an empty line. A mark is answered at once, also ahead of
+filters that came before: a client that has to know which is which waits for each.
 """
 
 from __future__ import annotations
@@ -147,8 +147,6 @@ class ControlSocket:
 
 def listening_at(path: str) -> socket.socket:
     """A socket that listens at a path. One that nobody listens at any more is replaced, and nothing else is."""
-    if len(os.fsencode(path)) > MAX_PATH_LEN:
-        raise Refusal(2, f"live: --control {path}: a socket's path has at most {MAX_PATH_LEN} bytes")
     remove_left(path)
     made = socket.socket(socket.AF_UNIX, socket.SOCK_STREAM | socket.SOCK_NONBLOCK | socket.SOCK_CLOEXEC)
     before = os.umask(0o777 & ~OWNERS)
@@ -163,13 +161,23 @@ def listening_at(path: str) -> socket.socket:
     return made
 
 
+def judge_path(path: str) -> bool:
+    """Refuses a path at which no socket can be made; gives whether one stands there."""
+    if len(os.fsencode(path)) > MAX_PATH_LEN:
+        raise Refusal(2, f"live: --control {path}: a socket's path has at most {MAX_PATH_LEN} bytes")
+    found = kind_of(path)
+    if found is not None and not stat.S_ISSOCK(found):
+        raise Refusal(3, f"live: --control {path}: it exists, and is no socket")
+    folder = os.path.dirname(path) or "."
+    if not os.path.isdir(folder):
+        raise Refusal(3, f"live: --control {path}: there is no folder {folder}")
+    return found is not None
+
+
 def remove_left(path: str) -> None:
     """Removes a socket that was left by a run that was killed."""
-    found = kind_of(path)
-    if found is None:
+    if not judge_path(path):
         return
-    if not stat.S_ISSOCK(found):
-        raise Refusal(3, f"live: --control {path}: it exists, and is no socket")
     with socket.socket(socket.AF_UNIX, socket.SOCK_STREAM) as asked:
         try:
             asked.connect(path)
