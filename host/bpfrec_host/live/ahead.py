@@ -8,8 +8,8 @@ import shutil
 
 from bpfrec_host.formats.settings import Settings
 from bpfrec_host.live.arguments import Arguments
-from bpfrec_host.live.control.sockets import judge_path
 from bpfrec_host.live.clock_watch import by_the_kernel
+from bpfrec_host.live.control.sockets import judge_path
 from bpfrec_host.live.names import Refusal
 
 # How many descriptors live has open at most: while it records, while recordings follow one another, and for browsers.
