@@ -9,6 +9,7 @@ import shutil
 from bpfrec_host.formats.settings import Settings
 from bpfrec_host.live.arguments import Arguments
 from bpfrec_host.live.clock_watch import by_the_kernel
+from bpfrec_host.live.control.sockets import judge_path
 from bpfrec_host.live.names import Refusal
 
 # How many descriptors live has open at most: while it records, while recordings follow one another, and for browsers.
@@ -73,6 +74,12 @@ def refuse_alarm_command(given: Arguments) -> None:
     """Refuses a program for alarms that isn't there."""
     if given.on_alarm and not shutil.which(given.on_alarm[0]):
         raise Refusal(3, f"live: --on-alarm: {given.on_alarm[0]} is missing, or can't be run")
+
+
+def refuse_control(given: Arguments) -> None:
+    """Refuses a path at which no socket can be made."""
+    if given.control is not None:
+        judge_path(given.control)
 
 
 def refuse_together(given: Arguments) -> None:

@@ -60,6 +60,8 @@ class Arguments(NamedTuple):
     clock_error: Optional[float]
     # The program that is run for alarms, with its own arguments.
     on_alarm: Optional[list[str]]
+    # The Unix socket by which lines come too.
+    control: Optional[str]
     # Whether a whole Chapter 11 file is made of each recording.
     makes_whole_files: bool
 
@@ -173,6 +175,9 @@ def parser() -> Parser:
     made.add_argument("--require-clock", metavar="SECONDS", dest="clock_error", type=clock_error, help=asked)
     ran = "runs a program when an alarm begins or ends"
     made.add_argument("--on-alarm", metavar="COMMAND", type=command_words, help=ran)
+    made.add_argument(
+        "--control", metavar="PATH", help="takes lines by a Unix socket too, as bpfrec-control sends them"
+    )
     made.add_argument("--prefilter", action="store_true", help="has the kernel run the filters too")
     whole = "makes OUT.ch10, a whole Chapter 11 file, after each recording"
     made.add_argument("--chapter11", action="store_true", help=whole)
@@ -209,5 +214,6 @@ def read(arguments: list[str]) -> Arguments:
         mode=given.mode,
         clock_error=given.clock_error,
         on_alarm=given.on_alarm,
+        control=given.control,
         makes_whole_files=given.chapter11,
     )

@@ -11,6 +11,7 @@ from bpfrec_host.live import journal
 from bpfrec_host.live.ahead import (
     refuse_alarm_command,
     refuse_clock,
+    refuse_control,
     refuse_few_descriptors,
     refuse_holder,
     refuse_many_channels,
@@ -85,7 +86,7 @@ def made_status(given: Arguments, limit: object, terminal: Terminal) -> Optional
     """What shows how it goes, where somebody looks; a port that can't be had is refused."""
     try:
         endpoint = endpoint_in(given.status, given.status_names) if given.status is not None else None
-        is_told = given.on_alarm or journal.is_read_from(2)
+        is_told = given.on_alarm or given.control or journal.is_read_from(2)
         is_watched = endpoint or terminal.is_shown() or may_bring_lines() or is_told
         longest = limit if isinstance(limit, int) else USUAL_LIMIT
         has_ring = given.keep is not None or given.keep_free is not None
@@ -118,6 +119,7 @@ def look_ahead(given: Arguments) -> None:
     refuse_together(given)
     refuse_holder()
     refuse_alarm_command(given)
+    refuse_control(given)
     refuse_clock(given)
     if not given.is_rotating():
         beside = (whole_path(given.out),) if given.makes_whole_files else ()

@@ -57,6 +57,10 @@ fails or can't be started a line says so, and the recording never waits for it.
 If systemd reads standard error, each line has its priority ahead: <3> alarms and errors, <4> warnings, <6> all else.
 Alarms and warnings are lines too then.
 
+--control PATH takes lines by a Unix socket too, which the owner alone may open: bpfrec-control PATH LINE sends one and
+waits for what it comes to. PATH is made when the run begins, and removed when it ends; a socket that a run left which
+was killed is replaced.
+
 On a terminal a table shows each second how the recording goes, unless --quiet is given. With --status PORT a page shows
 the same to a browser, on this machine alone; with --status ADDRESS:PORT to anybody who reaches the address and asks by
 it, or by a NAME of --status-name. The port serves the data too: /status.json as JSON and /metrics for Prometheus.

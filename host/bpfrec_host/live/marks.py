@@ -9,6 +9,7 @@ from typing import Callable, NamedTuple, Optional
 from bpfrec_host.formats.facts import nanoseconds_of
 from bpfrec_host.formats.limits import MAX_COUNTER, MAX_NOTED_MARKS, NANOSECONDS_A_TICK
 from bpfrec_host.formats.marks import text_fault
+from bpfrec_host.live.control.asking import Asker, answer
 from bpfrec_host.live.events import Events
 from bpfrec_host.live.noted import Entry, Noted, note
 from bpfrec_host.live.recorder import Recorder
@@ -16,11 +17,12 @@ from bpfrec_host.live.recorder import Recorder
 
 class Typed(NamedTuple):
     """A mark that no recording has yet: the moment at which it was typed, by the clock that nobody sets and by the
-    host's, in nanoseconds."""
+    host's, in nanoseconds, and who asked for it."""
 
     steady: int
     moment: int
     text: str
+    asker: Asker = None
 
 
 class Marks:
@@ -46,7 +48,7 @@ class Marks:
         if self.ahead is None:
             self.ahead = time.time_ns() - time.monotonic_ns()
 
-    def take(self, given: bytes) -> None:
+    def take(self, given: bytes, asker: Asker = None) -> None:
         """Takes the text of a mark that was typed just now."""
         steady, moment = time.monotonic_ns(), time.time_ns()
         try:
@@ -57,9 +59,9 @@ class Marks:
         if not fault and len(self.waiting) >= MAX_NOTED_MARKS:
             fault = f"{MAX_NOTED_MARKS:,} wait for the next recording, and no more can"
         if fault:
-            self.err(f"live: mark: {fault}")
+            self.refuse(asker, f"live: mark: {fault}")
             return
-        self.waiting.append(Typed(steady, moment, text))
+        self.waiting.append(Typed(steady, moment, text, asker))
         self.note_all()
 
     # ---- recordings
@@ -84,7 +86,7 @@ class Marks:
     def finish(self) -> None:
         """The run has ended: says which marks no recording has."""
         for typed in self.waiting:
-            self.err(f"live: mark {typed.text}: the recording has ended")
+            self.refuse(typed.asker, f"live: mark {typed.text}: the recording has ended")
         self.waiting.clear()
 
     # ---- how
@@ -95,7 +97,12 @@ class Marks:
             typed = self.waiting.popleft()
             fault = self.note(typed, self.current)
             if fault:
-                self.err(f"live: mark {typed.text}: {fault}")
+                self.refuse(typed.asker, f"live: mark {typed.text}: {fault}")
+
+    def refuse(self, asker: Asker, text: str) -> None:
+        """Says why a mark isn't noted."""
+        self.err(text)
+        answer(asker, text, False)
 
     def note(self, typed: Typed, recorder: Recorder) -> Optional[str]:
         """Notes a mark in a recording: why that can't be done, where it can't."""
@@ -111,7 +118,9 @@ class Marks:
             return f"it can't be noted: {error.strerror}"
         marks.append(typed)
         told = mark.facts([self.events.origins[-1].facts()])
-        self.err(f"marked {told['counter']} {told['time']}{f' in {out}' if self.is_rotating else ''}")
+        text = f"marked {told['counter']} {told['time']}{f' in {out}' if self.is_rotating else ''}"
+        self.err(text)
+        answer(typed.asker, text, True)
         self.noted(recorder, told)
         return None
 

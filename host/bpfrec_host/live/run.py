@@ -14,6 +14,7 @@ from bpfrec_host.live.audits import Audits
 from bpfrec_host.live.capture import Capture
 from bpfrec_host.live.clock_watch import ClockWatch
 from bpfrec_host.live.console import Console
+from bpfrec_host.live.control.asking import Asker, answer
 from bpfrec_host.live.control.changes import Change, Changes
 from bpfrec_host.live.control.lines import ControlLines, ControlPorts
 from bpfrec_host.live.control.maker import Maker
@@ -186,6 +187,7 @@ class Run:
     def finish(self) -> None:
         """Ends what still runs beside: what wasn't printed, and the guard."""
         self.marks.finish()
+        self.control.finish()
         came = self.signals_came
         self.console.finish(lambda: self.signals_came > max(came, 1))
         self.observers.all_ended()
@@ -213,17 +215,18 @@ class Run:
         if not self.machine.is_ending():
             self.machine.told_to_end(time.monotonic())
 
-    def obey(self, word: Word) -> None:
+    def obey(self, word: Word, asker: Asker) -> None:
         """Does what a line says that is a word alone."""
         if word is Word.STOP:
+            answer(asker, "the recording ends", True)
             self.end()
         elif word is Word.STATUS:
-            for line in self.observers.report():
-                self.err(line)
+            self.control.say(asker, "\n".join(self.observers.report()), True)
         elif self.given.is_rotating():
+            answer(asker, "the next recording begins", True)
             self.machine.used_up(self.machine.current)
         else:
-            self.err("live: next: recordings follow one another with --every or --size alone")
+            self.control.say(asker, "live: next: recordings follow one another with --every or --size alone", False)
 
     def end_guard(self, status: int) -> None:
         """The guard has ended, which it does by itself only once live has."""

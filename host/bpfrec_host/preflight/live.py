@@ -26,7 +26,13 @@ from bpfrec_host.formats.limits import (
 )
 from bpfrec_host.formats.settings import Settings
 from bpfrec_host.live.adapters import asked
-from bpfrec_host.live.ahead import refuse_alarm_command, refuse_few_descriptors, refuse_holder, refuse_together
+from bpfrec_host.live.ahead import (
+    refuse_alarm_command,
+    refuse_control,
+    refuse_few_descriptors,
+    refuse_holder,
+    refuse_together,
+)
 from bpfrec_host.live.arguments import Arguments, read
 from bpfrec_host.live.clock_watch import by_others, by_the_kernel
 from bpfrec_host.live.expressions import gives_filter, listing_in_words, listing_of, words_in
@@ -67,6 +73,7 @@ def judge_live(arguments: list[str], judge: Judge, report: Report) -> None:
         refuse_endpoint(given)
         refuse_holder()
         refuse_alarm_command(given)
+        refuse_control(given)
         settings = read_settings(given.settings, report) if given.settings is not None else None
         if settings:
             with_pipes(settings, given)

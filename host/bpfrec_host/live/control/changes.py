@@ -7,6 +7,7 @@ import re
 from pathlib import Path
 from typing import Callable, NamedTuple, Optional
 
+from bpfrec_host.live.control.asking import Asker, answer
 from bpfrec_host.live.control.made_filters import MadeFilter
 from bpfrec_host.live.control.words import word_of
 from bpfrec_host.live.expressions import is_in_words, name_of
@@ -75,12 +76,13 @@ def may_bring_lines() -> bool:
 
 class Change(NamedTuple):
     """A line that the recorder has and hasn't answered: the copy of the listing that it names, its channel, whether live
-    gave it itself, and the filter's name."""
+    gave it itself, the filter's name, and who asked."""
 
     channel: int
     copy: Optional[Path]
     is_own: bool = False
     name: str = ""
+    asker: Asker = None
 
 
 class Pipe:
@@ -108,7 +110,13 @@ class Pipe:
             pass
         except OSError:
             self.waiting.clear()
-            self.unanswered.clear()
+            self.forget()
+
+    def forget(self) -> None:
+        """No line is answered any more: says so to who asked."""
+        for change in self.unanswered:
+            answer(change.asker, "live: the recording ended ahead of an answer", False)
+        self.unanswered.clear()
 
     def close(self) -> None:
         """Closes the pipe."""
@@ -153,18 +161,18 @@ class Changes:
     def __init__(self, folder: Folder, keeps: bool, make: Make) -> None:
         self.folder, self.keeps, self.make, self.count = folder, keeps, make, 0
 
-    def held(self, line: bytes) -> Held:
+    def held(self, line: bytes, asker: Asker = None) -> Held:
         """A line as it waits for the recorder."""
         found = SET.fullmatch(line)
         if not found:
-            return Held(line)
+            return Held(line, Change(0, None, asker=asker))
         channel, text = int(found[1]), os.fsdecode(found[2]).strip()
         copy, name = self.next_copy(), name_of(text)
         if is_in_words(text):
-            return Held(line, Change(channel, copy, name=name), self.make(text, copy))
+            return Held(line, Change(channel, copy, name=name, asker=asker), self.make(text, copy))
         if not self.keeps or not copy_listing(os.fsdecode(found[2]), copy):
-            return Held(line, Change(channel, None, name=name))
-        return Held(set_line(channel, copy), Change(channel, copy, name=name))
+            return Held(line, Change(channel, None, name=name, asker=asker))
+        return Held(set_line(channel, copy), Change(channel, copy, name=name, asker=asker))
 
     def next_copy(self) -> Path:
         """The file of the next listing."""

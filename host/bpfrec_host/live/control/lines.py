@@ -8,7 +8,9 @@ from typing import Callable, NamedTuple, Optional
 
 from bpfrec_host.formats.answers import Answer
 from bpfrec_host.live.arguments import Arguments
+from bpfrec_host.live.control.asking import Asker, answer
 from bpfrec_host.live.control.changes import MAX_WAITING, Change, Changes, Held, Input
+from bpfrec_host.live.control.sockets import ControlSocket
 from bpfrec_host.live.control.words import HELP, Word, mark_in, word_of
 from bpfrec_host.live.loop import Loop
 from bpfrec_host.live.recorder import Recorder
@@ -24,8 +26,8 @@ class ControlPorts(NamedTuple):
     """What lines have beside the recorder: what does a word, what notes a mark, what prints a line, and the terminal on
     which it is shown."""
 
-    perform: Callable[[Word], None]
-    mark: Callable[[bytes], None]
+    perform: Callable[[Word, Asker], None]
+    mark: Callable[[bytes, Asker], None]
     err: Callable[[str], None]
     terminal: Terminal
 
@@ -39,19 +41,25 @@ class ControlLines:
         self.loop, self.given, self.changes, self.current = loop, given, changes, current
         self.perform, self.mark, self.err, self.terminal = ports
         self.input = Input()
+        self.socket: Optional[ControlSocket] = None
+        if given.control is not None:
+            self.socket = ControlSocket(given.control, loop, self.take_asked)
         # The lines that no recorder has yet.
         self.held: deque[Held] = deque()
 
     def is_open(self) -> bool:
-        """Whether a line may come still, from standard input or from live itself."""
-        return self.input.descriptor is not None or bool(self.held) or self.given.flush is not None
+        """Whether a line may come still: from standard input, by the socket, or from live itself."""
+        may_come = self.input.descriptor is not None or self.socket is not None
+        return may_come or bool(self.held) or self.given.flush is not None
 
     def read(self) -> None:
         """Has lines read, up to so many that no recorder takes yet."""
         self.hand_on()
+        is_full = len(self.held) >= MOST_HELD
         if self.input.descriptor is not None:
-            is_full = len(self.held) >= MOST_HELD
             self.loop.on_read(self.input.descriptor, None if is_full else self.take)
+        if self.socket:
+            self.socket.read(is_full)
 
     def waits(self, recorder: Recorder) -> bool:
         """Whether a recorder takes no line now."""
@@ -73,16 +81,29 @@ class ControlLines:
             self.push(self.current())
         self.hand_on()
 
-    def take_line(self, line: bytes) -> None:
+    def take_asked(self, line: bytes, asker: Asker) -> None:
+        """Takes a line that came by the socket."""
+        self.take_line(line, asker)
+        self.hand_on()
+
+    def take_line(self, line: bytes, asker: Asker = None) -> None:
         """Takes a line. A mark is noted at once, since it is of this moment."""
         text = mark_in(line)
         if text is not None:
-            self.mark(text)
+            self.mark(text, asker)
         elif self.given.is_prefiltered and not word_of(line):
             # It would change what the kernel doesn't know.
-            self.err(f"live: {os.fsdecode(line)}: with --prefilter no line changes a filter, since the kernel runs it")
+            why = "with --prefilter no line changes a filter, since the kernel runs it"
+            self.say(asker, f"live: {os.fsdecode(line)}: {why}", False)
         else:
-            self.held.append(self.changes.held(line))
+            self.held.append(self.changes.held(line, asker))
+
+    def say(self, asker: Asker, text: str, is_done: bool) -> None:
+        """Answers who asked; what was asked on standard input is answered on standard error."""
+        if asker:
+            asker(text, is_done)
+        else:
+            self.err(text)
 
     def hand_on(self) -> None:
         """Hands on the lines that the recorder takes."""
@@ -114,13 +135,16 @@ class ControlLines:
 
     def pass_on(self, held: Held, recorder: Recorder) -> None:
         """Does what a line says, or hands it on; a filter that isn't made yet comes too late."""
-        fault = held.fault() if held.is_ready() else f"live: {os.fsdecode(held.line)}: the recording ends"
+        too_late = f"live: {os.fsdecode(held.line)}: the recording ends"
+        fault, asker = held.fault() if held.is_ready() else too_late, held.change.asker
         if fault:
-            self.err(fault)
+            self.say(asker, fault, False)
         elif held.word is Word.HELP:
-            self.err(HELP)
+            self.say(asker, HELP, True)
         elif held.word:
-            self.perform(held.word)
+            self.perform(held.word, asker)
+        elif recorder.lines.is_ending:
+            answer(asker, too_late, False)
         else:
             recorder.lines.put(*held.asked())
 
@@ -129,16 +153,27 @@ class ControlLines:
         if not recorder.lines.has_ended:
             self.loop.on_room(recorder.lines.writer, None)
             recorder.lines.close()
+        recorder.lines.forget()
+
+    def finish(self) -> None:
+        """The run has ended: lines that nobody took are answered, and none comes any more."""
+        for held in self.held:
+            answer(held.change.asker, f"live: {os.fsdecode(held.line)}: the run has ended", False)
+        if self.socket:
+            self.socket.close()
+            self.socket = None
 
     def told(self, recorder: Recorder, line: str, changed: Callable[[Change, Answer], None]) -> Optional[str]:
         """How a line of the recorder is told: an answer with the recording, where another one may follow; None where it
         isn't told. `changed` is called with each change that was answered, and its answer."""
-        answer = Answer.of(line)
-        if not answer or not recorder.lines.unanswered:
+        found = Answer.of(line)
+        if not found or not recorder.lines.unanswered:
             return line
         change = recorder.lines.unanswered.pop(0)
-        self.changes.answered(change, answer.is_installed())
-        changed(change, answer)
+        self.changes.answered(change, found.is_installed())
+        changed(change, found)
         if change.is_own:
             return None
-        return f"{line} in {recorder.about.out}" if answer.is_installed() and self.given.is_rotating() else line
+        told = f"{line} in {recorder.about.out}" if found.is_installed() and self.given.is_rotating() else line
+        answer(change.asker, told, found.is_installed())
+        return told

@@ -1,0 +1,1 @@
+"""bpfrec-control: lines for a recording that goes on."""
