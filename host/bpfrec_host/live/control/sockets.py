@@ -9,6 +9,7 @@ from __future__ import annotations
 import os
 import socket
 import stat
+from functools import partial
 from typing import Callable, Optional
 
 from bpfrec_host.live.control.asking import Answering
@@ -84,7 +85,7 @@ class ControlSocket:
         self.loop.on_read(self.listener.fileno(), self.accept)
         for client in self.clients:
             wants = not is_full and not client.has_ended
-            self.loop.on_read(client.connection.fileno(), (lambda it=client: self.take_from(it)) if wants else None)
+            self.loop.on_read(client.connection.fileno(), partial(self.take_from, client) if wants else None)
 
     def accept(self) -> None:
         """Takes another client, if there aren't too many."""
