@@ -13,15 +13,3 @@ pub returns-clause-room : goal.returns-clause-room
 returns-clause-room c = λ ring specs moves new lead k d within.
     let few = c.buffers_are_neither_lost_nor_doubled.ensures.room ring SPARE_BUFFERS specs moves new lead k d within in
     omega (arith, few)
-
-pub returns-clause-each : goal.returns-clause-each
-returns-clause-each c = λ ring specs moves new some lead. c.no_channel_stands_still.ensures.each ring SPARE_BUFFERS specs moves new some lead
-
-pub returns-clause-count : goal.returns-clause-count
-returns-clause-count c = λ ring specs moves new lead. c.buffers_are_neither_lost_nor_doubled.ensures.count ring SPARE_BUFFERS specs moves new lead
-
-pub returns-clause-few : goal.returns-clause-few
-returns-clause-few c = λ ring specs moves new lead. c.a_recorder_comes_to_its_end.ensures.few ring SPARE_BUFFERS specs moves new lead
-
-pub returns-clause-end : goal.returns-clause-end
-returns-clause-end c = λ ring specs moves new some lead. c.a_recorder_comes_to_its_end.ensures.end ring SPARE_BUFFERS specs moves new some lead
