@@ -4,8 +4,8 @@ use crate::serving::order::channel::Setting;
 use crate::serving::order::notes::Note::*;
 use crate::serving::order::notes::Piece::{End, Frames, Program};
 use crate::serving::order::notes::{Note, Piece};
-use crate::serving::order::search::Found::{Allowed, Forbidden};
-use crate::serving::order::search::{Found, found};
+use crate::serving::order::search::Verdict::{Allowed, Forbidden};
+use crate::serving::order::search::{Verdict, verdict_of};
 use crate::serving::order::world::Settings;
 use std::alloc::Global;
 use std::test::Fail;
@@ -50,7 +50,7 @@ const WHOLE: [Note; 15] = [
 
 /// Notes that stand in the place of some of a list: from which one on, of how many, and what is found
 /// then.
-type Edit<'a> = (usize, usize, &'a [Note], Found);
+type Edit<'a> = (usize, usize, &'a [Note], Verdict);
 
 /// The same with other notes.
 const EDITS: [Edit<'static>; 20] = [
@@ -195,12 +195,12 @@ fn edited(alloc: Global, list: &[Note], edit: Edit<'_>) -> Result<Vec<Note>, Fai
 fn the_model_allows_a_recording_and_no_other_order(rt: HostRuntime) -> Result<(), Fail> {
     for edit in EDITS {
         let list = edited(rt.alloc(), &WHOLE, edit)?;
-        let verdict = found(rt.alloc(), settings(1), list.as_slice())?;
+        let verdict = verdict_of(rt.alloc(), settings(1), list.as_slice())?;
         assert_same!(rt; verdict, edit.3, "{list:?}");
     }
     for edit in CHANGE_EDITS {
         let list = edited(rt.alloc(), &CHANGE, edit)?;
-        let verdict = found(rt.alloc(), settings(2), list.as_slice())?;
+        let verdict = verdict_of(rt.alloc(), settings(2), list.as_slice())?;
         assert_same!(rt; verdict, edit.3, "{list:?}");
     }
     Ok(())
@@ -211,7 +211,7 @@ fn the_model_allows_a_recording_and_no_other_order(rt: HostRuntime) -> Result<()
 fn each_note_of_a_recording_is_needed(rt: HostRuntime) -> Result<(), Fail> {
     for at in 0..WHOLE.len().saturating_sub(1) {
         let list = edited(rt.alloc(), &WHOLE, (at, 1, &[], Forbidden))?;
-        let verdict = found(rt.alloc(), settings(1), list.as_slice())?;
+        let verdict = verdict_of(rt.alloc(), settings(1), list.as_slice())?;
         assert_same!(rt; verdict, Forbidden, "{list:?}");
     }
     Ok(())
@@ -226,19 +226,19 @@ fn a_full_ring_stops_its_worker(rt: HostRuntime) -> Result<(), Fail> {
         for _ in 0..ring.saturating_add(2) {
             list.extend_from_slice(&[Asked(0), Gave(0)])?;
         }
-        let full = found(rt.alloc(), settings(ring), list.as_slice())?;
+        let full = verdict_of(rt.alloc(), settings(ring), list.as_slice())?;
         assert_same!(rt; full, Allowed, "ring {ring}");
         list.push(Begun)?;
         for (note, verdict) in [(Asked(0), Forbidden), (Written(0, FIRST), Allowed)] {
             list.push(note)?;
-            let next = found(rt.alloc(), settings(ring), list.as_slice())?;
+            let next = verdict_of(rt.alloc(), settings(ring), list.as_slice())?;
             assert_same!(rt; next, verdict, "ring {ring}");
             if verdict == Forbidden {
                 list.pop();
             }
         }
         list.push(Asked(0))?;
-        let next = found(rt.alloc(), settings(ring), list.as_slice())?;
+        let next = verdict_of(rt.alloc(), settings(ring), list.as_slice())?;
         assert_same!(rt; next, Allowed, "ring {ring}");
     }
     Ok(())

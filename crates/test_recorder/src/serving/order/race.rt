@@ -38,21 +38,26 @@ struct Draws {
 
 impl Draws {
     /// A number below this one.
-    fn below(&mut self, bound: u64) -> u64 {
+    fn below(&mut self, bound: u64) -> u64
+        requires { 0 < bound }
+        ensures { result < bound }
+    {
         self.state = self
             .state
             .wrapping_mul(6364136223846793005)
             .wrapping_add(1442695040888963407);
-        (self.state >> 33).checked_rem(bound).unwrap_or(0)
+        (self.state >> 33) % bound
     }
 
-    fn once_in(&mut self, times: u64) -> bool {
+    fn once_in(&mut self, times: u64) -> bool
+        requires { 0 < times }
+    {
         self.below(times) == 0
     }
 
     /// What a channel is to have: its frames, and how many it may have.
     fn frames(&mut self, ring: usize) -> (u64, u64) {
-        let frames = self.below((ring as u64).saturating_add(MORE_FRAMES));
+        let frames = self.below(MORE_FRAMES.saturating_add(ring as u64));
         if self.once_in(4) {
             (frames, self.below(frames.saturating_add(1)))
         } else {
@@ -64,7 +69,7 @@ impl Draws {
         if self.once_in(2) {
             None
         } else {
-            Some((self.below(2) as u16, self.once_in(2)))
+            Some((u16::from(self.once_in(2)), self.once_in(2)))
         }
     }
 
@@ -76,9 +81,13 @@ impl Draws {
             usize::MAX
         }
     }
+}
 
-    /// Draws a recording.
-    fn race(seed: u64) -> Race {
+impl Race {
+    /// The recording of a number.
+    pub(super) fn drawn(seed: u64) -> Race
+        ensures ring { (1 ≤ result.ring) × (result.ring ≤ 4) }
+    {
         let mut draws = Draws { state: seed };
         let ring = draws.below(4).saturating_add(1) as usize;
         let (one, other) = (draws.frames(ring), draws.frames(ring));
@@ -91,15 +100,6 @@ impl Draws {
             room: draws.room(),
             seed,
         }
-    }
-}
-
-impl Race {
-    /// The recording of a number.
-    pub(super) fn drawn(seed: u64) -> Race
-        ensures ring { (1 ≤ result.ring) × (result.ring ≤ 4) }
-    {
-        Draws::race(seed)
     }
 
     /// How the model's channels are set.

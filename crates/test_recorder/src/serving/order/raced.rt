@@ -7,7 +7,7 @@ use crate::serving::order::calls::{NotedControl, NotedFrames};
 use crate::serving::order::notes::{Note, in_order};
 use crate::serving::order::output::NotedOutput;
 use crate::serving::order::race::Race;
-use crate::serving::order::search::{Found, found};
+use crate::serving::order::search::{Verdict, verdict_of};
 use crate::serving::signals::Watch;
 use rec_run::{ChannelReport, Done, RunFault, jobs_ok, record};
 use std::alloc::Global;
@@ -123,8 +123,8 @@ fn race_round<R: Threads + Wait + Sync>(
         let race = Race::drawn(round.saturating_mul(RACES).saturating_add(number));
         let notes = noted(threads, rt.alloc(), &race)?;
         let notes = notes.as_slice();
-        let verdict = found(rt.alloc(), race.settings(), notes)?;
-        if verdict != Found::Allowed {
+        let verdict = verdict_of(rt.alloc(), race.settings(), notes)?;
+        if verdict != Verdict::Allowed {
             return Err(format!(in rt.alloc(); "{verdict:?}: {race:?} {notes:?}")?.into());
         }
         let has_failed = notes.contains(&Note::Failed);
