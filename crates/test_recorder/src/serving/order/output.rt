@@ -9,7 +9,7 @@ use std::alloc::Global;
 use std::io;
 use std::io::{ErrorKind, Write};
 
-/// Where a packet's length stands in its header, and the length of a header.
+/// Where a packet's length stands in its header.
 const LENGTH: usize = 4;
 
 /// An output that fails at a packet, once it has taken `room` of them.
