@@ -90,10 +90,10 @@ pub fn a_failed_output_is_cut_in_one_piece()
         → IsCutShortAt before core.writer world channel }
 {}
 
-/// Law: no channel stands still. In every state that steps lead to, a channel is closed and all its
-/// pieces are written, or its source is asked, or the recorder can do a step of it, or the writer can
-/// give back the buffer in its hand. So all is ended, or some step can be done, or some source is
-/// asked.
+/// Law: no channel of the model stands still. In every state that steps lead to, a channel is closed
+/// and all its pieces are written, or its source is asked or has just answered, or the recorder can do
+/// a step of it, or the writer can give back the buffer in its hand. So all is ended, or some step can
+/// be done, or some worker is at its source.
 pub fn no_channel_stands_still()
     ensures each { (ring spare : ℕ) (specs : List FlowSpec) (moves : List Move) (new : FlowWorld)
         → 0 < ring → LeadTo ring spare specs moves new
@@ -147,8 +147,8 @@ pub fn a_recorder_comes_to_its_end()
 }
 
 /// Law: nor does a worker stand still where the output failed, and the writer neither writes nor gives
-/// a buffer back. It is at its end, or looks at the stop word, or its source is asked, or it can do a
-/// step; and it does only as many as were left.
+/// a buffer back. It is at its end, or looks at the stop word, or its source is asked or has just
+/// answered, or it can do a step; and it does only as many as were left.
 pub fn no_worker_waits_for_a_failed_output()
     ensures each { (ring spare : ℕ) (specs : List FlowSpec) (moves : List Move) (new : FlowWorld)
         → LeadTo ring spare specs moves new

@@ -1,7 +1,7 @@
 -- From what the threads have left to what was recorded.
 -- idea: channel by channel what the worker did, what the writer took of it and the slot's history are put together: the
 -- comparisons after the joins say that the history served the versions met, so the frames met what it has in force.
-use Rattle.std.proofs.Common.{◌≡◌, ℕ, zero, suc, ◌<◌, ◌≤◌, ◌^◌, List, [], ◌∷◌, ◌++◌, length, map, get_or}
+use Rattle.std.proofs.Common.{◌≡◌, ℕ, zero, suc, ◌<◌, ◌≤◌, List, [], ◌∷◌, ◌++◌, length, map, get_or}
 use Rattle.std.proofs.Common.{Option, None, Some, All, arith, refl, ◌∙◌, ap, sym, subst}
 use Rattle.std.specs.Prelude.{Contains}
 use Rattle.std.specs.List.{filter, AllZip, Any}

@@ -1,6 +1,8 @@
 -- The jobs as they are prepared and as their workers run, what is known of a channel once its worker has ended, and what the threads have left.
-use Rattle.std.specs.Prelude.{◌≡◌, List, [], length, map, All, ℕ, Option, ◌≤◌, Bool, false, ◌∷◌, ◌++◌, Contains, Vec, vec_len, vec_capacity}
-use Rattle.rtrb.specs.Ring.{received, sent}
+use Rattle.std.specs.Prelude.{◌≡◌, ◌+◌, List, [], length, map, All, ℕ, Option, ◌≤◌, Bool, false, ◌∷◌, ◌++◌, Contains, Vec, vec_len, vec_capacity}
+use Rattle.rtrb.specs.Ring.{received, sent, producer_capacity}
+use Rattle.rec_core.specs.Buffers.{return_places}
+use Rattle.rec_run.specs.declared.threads.setup.TheConstants.{SPARE_BUFFERS}
 use Rattle.rec_run.specs.declared.job.Job.{Job}
 use Rattle.rec_run.specs.declared.writer.line.WriterLine.{WriterLine}
 use Rattle.rec_run.specs.declared.threads.prepared.PreparedChannel.{PreparedChannel}
@@ -35,6 +37,17 @@ module _ {S : Type 0} where
 
   abbrev pub jobs_in : List (PreparedChannel S) → List (Job S)
   jobs_in ps = map job_in ps
+
+  -- its rings and its buffers are those of the model with rings of this size: that of its pieces has
+  -- as many places, its return ring has room for all buffers of the channel, and all but the one that
+  -- its lane has from the start are in it
+  pub record IsSized (ring : ℕ) (p : PreparedChannel S) : Type 0 where
+    pub pieces_places : producer_capacity p.tools.ring ≡ ring
+    pub return_ring_places : producer_capacity p.returns ≡ return_places ring SPARE_BUFFERS
+    pub buffers_are : length (sent p.returns) ≡ ring + SPARE_BUFFERS
+
+  abbrev pub AreSized : (ring : ℕ) → List (PreparedChannel S) → Type 0
+  AreSized ring ps = All (IsSized ring) ps
 
   -- the job that a worker got
   abbrev pub job_at : WriterLine S → Job S

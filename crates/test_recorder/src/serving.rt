@@ -2,6 +2,7 @@
 //! turns, and in how many writes they go out.
 mod endless;
 mod frames;
+mod order;
 mod packet;
 mod signals;
 mod stopping;

@@ -17,7 +17,6 @@ mod pieces;
 mod search;
 #[cfg(test)]
 mod shared;
-#[cfg(test)]
 mod standing;
 #[cfg(test)]
 mod tests;

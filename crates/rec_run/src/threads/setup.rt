@@ -1,13 +1,14 @@
 //! What is made for each job before the first thread starts, and the start of the workers.
 
-ghost use Rattle.std.specs.Prelude.{ℕ, ◌≡◌, [], length, List, All, ◌+◌, ◌^◌, ◌<◌, ◌≤◌, vec_len, vec_capacity, IfOk, OnOk};
+ghost use Rattle.std.specs.Prelude.{ℕ, ◌≡◌, ◌⊎◌, [], length, List, All, Some, slice_get, ◌+◌, ◌^◌, ◌<◌, ◌≤◌, vec_len, vec_capacity, IfOk, OnOk};
 ghost use Rattle.rtrb.specs.Ring.{IsPair, sent, received, known_free, producer_capacity};
 ghost use Rattle.rec_lane.specs.Settings.{spec_data};
-ghost use Rattle.rec_core.specs.Buffers.{Move, FlowState, FlowSpec, FlowWorld, LeadTo, IsAnyMoving, return_places};
+ghost use Rattle.rec_core.specs.Buffers.{Move, FlowState, FlowSpec, FlowWorld, LeadTo, CanStep, IsMoving, IsAnyMoving, buffers_of, return_places, without_buffers, is_without_frames, work_left, most_steps};
 ghost use Rattle.rec_core.specs.Buffers.Stage.{NeedsBuffer};
+ghost use Rattle.rec_core.specs.Written.{AreEnded};
 ghost use Rattle.rec_run.specs.WorkerThread.{StartsWith};
 ghost use Rattle.rec_run.specs.Jobs.{IsJob};
-ghost use Rattle.rec_run.specs.Threads.{jobs_in, job_at, jobs_of, IsUnread, AreUnread};
+ghost use Rattle.rec_run.specs.Threads.{jobs_in, job_at, jobs_of, IsUnread, AreUnread, IsSized, AreSized};
 
 use crate::job::Job;
 use crate::ranges::a_job_is_in_range;
@@ -17,7 +18,9 @@ use crate::writer::line::WriterLine;
 use ch11_packet::{Blank, Limit};
 use eth_frame::FrameSource;
 use rec_channel::{MAX_VERSIONS, SharedSlot, Slot};
-use rec_core::{buffers_are_neither_lost_nor_doubled, no_channel_stands_still};
+use rec_core::{
+    a_recorder_comes_to_its_end, buffers_are_neither_lost_nor_doubled, no_channel_stands_still,
+};
 use rec_lane::{Lane, LaneSpec, Piece};
 use rtrb::{Consumer, Producer, RingBuffer};
 use std::alloc::{AllocError, Global};
@@ -29,9 +32,14 @@ use std::thread::{Scope, Threads};
 /// pieces: one for the open packet's successor, and one that is on its way.
 const SPARE_BUFFERS: usize = 2;
 
-/// Law: as many buffers are enough. With rings of any size a recorder doesn't stand still; a worker
-/// that needs a buffer finds one; and the return ring has a place for each one that comes back.
+/// Law: as many buffers are enough, in the model. With rings of any size from 1 on no channel stands
+/// still; a worker that needs a buffer finds one; no buffer is lost, so the return ring has a place
+/// for each one that comes back; and the steps are few and lead to the end.
 pub fn the_spare_buffers_are_enough()
+    ensures each { (ring : ℕ) (specs : List FlowSpec) (moves : List Move) (new : FlowWorld)
+        → 0 < ring → LeadTo ring SPARE_BUFFERS specs moves new
+        → (at : ℕ) (f : FlowState) → slice_get new.flows at ≡ Some f
+        → IsMoving ring (return_places ring SPARE_BUFFERS) new at f }
     ensures moves { (ring : ℕ) (specs : List FlowSpec) (moves : List Move) (new : FlowWorld)
         → 0 < ring → LeadTo ring SPARE_BUFFERS specs moves new
         → IsAnyMoving ring (return_places ring SPARE_BUFFERS) new }
@@ -42,9 +50,20 @@ pub fn the_spare_buffers_are_enough()
         → LeadTo ring SPARE_BUFFERS specs moves new
         → All (λ (f : FlowState). f.returned + f.hand < return_places ring SPARE_BUFFERS)
         new.flows }
+    ensures count { (ring : ℕ) (specs : List FlowSpec) (moves : List Move) (new : FlowWorld)
+        → LeadTo ring SPARE_BUFFERS specs moves new
+        → All (λ (f : FlowState). buffers_of f ≡ return_places ring SPARE_BUFFERS) new.flows }
+    ensures few { (ring : ℕ) (specs : List FlowSpec) (moves : List Move) (new : FlowWorld)
+        → LeadTo ring SPARE_BUFFERS specs moves new
+        → length moves + work_left new ≤ most_steps specs }
+    ensures end { (ring : ℕ) (specs : List FlowSpec) (moves : List Move) (new : FlowWorld)
+        → 0 < ring → LeadTo ring SPARE_BUFFERS specs moves new
+        → AreEnded (without_buffers new)
+        ⊎ ((at : ℕ) × CanStep ring (return_places ring SPARE_BUFFERS) new at is_without_frames) }
 {
     no_channel_stands_still();
     buffers_are_neither_lost_nor_doubled();
+    a_recorder_comes_to_its_end();
 }
 
 /// Makes the ring on which empty buffers come back: `ring + 2` of them are in it, and there is room
@@ -82,6 +101,7 @@ fn make_tools(
         × (ring + SPARE_BUFFERS < 2 ^ 64)) }
     ensures places { IfOk result (λ r.
         producer_capacity r.2 ≡ return_places ring SPARE_BUFFERS) }
+    ensures ring { IfOk result (λ r. producer_capacity r.0.ring ≡ ring) }
 {
     let limit = spec.limit;
     let lane = Lane::new(alloc, spec)?;
@@ -103,7 +123,8 @@ fn prepare_one<S: Drop>(
     ring: usize,
     job: Job<S>,
 ) -> Result<PreparedChannel<S>, AllocError>
-    ensures { IfOk result (λ p. p.job ≡ job) }
+    ensures job { IfOk result (λ p. p.job ≡ job) }
+    ensures sized { IfOk result (IsSized ring) }
 {
     a_job_is_in_range(&job);
     let (tools, pieces, returns) = make_tools(alloc, ring, job.spec)?;
@@ -123,6 +144,7 @@ pub(crate) fn prepare_all<S: Drop>(
     jobs: Vec<Job<S>>,
 ) -> Result<Vec<PreparedChannel<S>>, AllocError>
     ensures jobs { IfOk result (λ p. jobs_in p.items ≡ jobs.items) }
+    ensures sized { IfOk result (λ p. AreSized ring p.items) }
     ensures len { IfOk result (λ p. vec_len p ≡ vec_len jobs) }
 {
     let mut all = Vec::new(alloc);

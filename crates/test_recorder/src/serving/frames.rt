@@ -23,6 +23,9 @@ pub(super) const LONGEST: usize = MAX_FRAME_LEN;
 
 /// Tells the length of each frame when it is asked for.
 pub(super) trait Lengths {
+    /// The source is asked, maybe after its end.
+    fn asked(&mut self) {}
+
     /// The length of the next frame; `None` if there is none any more.
     fn next_len(&mut self) -> Option<usize>;
 }
@@ -81,6 +84,7 @@ impl<L: Lengths + Drop> FrameSource for Frames<L> {
 
     fn next(&mut self, buffer: &mut FrameBuf) -> Result<Next, SourceFault> {
         buffer.clear();
+        self.lengths.asked();
         if !self.ended && self.give(buffer) {
             return Ok(Next::Frame);
         }
