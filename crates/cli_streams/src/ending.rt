@@ -1,6 +1,7 @@
 //! How a command ends: its exit status, and the text of a fault.
 
-ghost use Rattle.std.specs.Prelude.{◌<◌};
+ghost use Rattle.std.specs.Prelude.{◌≡◌, ◌<◌};
+ghost use Rattle.cli_streams.specs.Endings.{reading_ending};
 
 use crate::listed::ListedFault;
 use crate::output::print_line;
@@ -114,7 +115,9 @@ impl<'a> CommandEnding<'a> {
     }
 
     /// What a fault of a recording comes to.
-    pub fn of_reading(path: &'a str, end: ReadEnd) -> CommandEnding<'a> {
+    pub fn of_reading(path: &'a str, end: ReadEnd) -> CommandEnding<'a>
+        ensures { result ≡ reading_ending path.entry end }
+    {
         match end.kind {
             ReadFaultKind::Memory => CommandEnding::Memory,
             ReadFaultKind::Device => CommandEnding::File(path),
