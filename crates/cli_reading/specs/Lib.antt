@@ -1,3 +1,4 @@
 pub mod Counts
+pub mod Exports
 pub mod Lines
 pub mod Written

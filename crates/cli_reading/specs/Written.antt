@@ -1,7 +1,8 @@
 -- What `extract` and `upgrade` write for the packets of a recording.
-use Rattle.std.specs.Prelude.{ℕ, ◌≡◌, List, ◌++◌, Option, None, Ok}
+use Rattle.std.specs.Prelude.{ℕ, ◌≡◌, List, ◌++◌, Option, None, Ok, Err}
 use Rattle.std.specs.List.{flat_map, FoldsTo}
 use Rattle.std.specs.Io.KnownBytes.{Appends}
+use Rattle.rec_reader.specs.declared.fault.ReadEnd.{ReadEnd}
 use Rattle.rec_reader.specs.Packets.{PacketData, BeginsPackets}
 use Rattle.rec_reader.specs.Readers.{ReaderState, HasRead, Tells, given_by}
 use Rattle.rec_reader.specs.Reading.{Reads}
@@ -13,6 +14,12 @@ abbrev pub GivesNext : Option PacketData → (old new : ReaderState) → Type 0
 GivesNext taken old new =
     (bytes : List ℕ) (packets : List PacketData) → HasRead bytes packets old
     → HasRead bytes (packets ++ given_by (Ok taken)) new × Tells bytes packets (Ok taken)
+
+-- after the packets that a reader had given of some bytes no further one is given, for this reason
+abbrev pub StopsBehind : ReadEnd → ReaderState → Type 0
+StopsBehind end reader =
+    (bytes : List ℕ) (packets : List PacketData) → HasRead bytes packets reader
+    → Tells bytes packets (Err end)
 
 -- what is written for each packet of a recording, in order and once each, and what is counted of
 -- each meanwhile, from one state to another

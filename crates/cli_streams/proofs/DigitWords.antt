@@ -39,3 +39,7 @@ unread_is_great bits word error parsed number says = by_size (nat_lt number (2 ^
     by_size true less =
         let small = ltb-true number (2 ^ bits) less in
         absurd (err_isnt_ok (parse_gives digit_words bits word (Err error) parsed says.digits says.some (let is = says.value in omega (arith, is, small))))
+
+-- a word says one number
+pub one_number : (word : List ℕ) (number other : ℕ) → SaysNumber word number → SaysNumber word other → number ≡ other
+one_number word number other says also = sym says.value ∙ also.value

@@ -1,5 +1,5 @@
--- How a command ends at a fault of a recording.
-use Rattle.std.specs.Prelude.{ℕ, List}
+-- How a command ends at a fault of a recording, or of its output.
+use Rattle.std.specs.Prelude.{ℕ, ◌≡◌, codes, List}
 use Rattle.std.specs.Borrow.{Bor}
 use Rattle.rec_reader.specs.declared.fault.ReadEnd.{ReadEnd}
 use Rattle.rec_reader.specs.declared.fault.ReadFaultKind.{ReadFaultKind}
@@ -17,3 +17,14 @@ ending_by_kind path end kind = Reading end
 -- the ending for the end of a recording with this path
 abbrev pub reading_ending : (path : Bor (List ℕ)) → ReadEnd → CommandEnding
 reading_ending path end = ending_by_kind path end end.kind
+
+-- what holds of the end of a recording, where a command ends for that
+abbrev pub IfReading : CommandEnding → (ReadEnd → Type 0) → Type 0
+IfReading (Reading end) P = P end
+IfReading ending P = Unit {0}
+
+-- a command ends so where standard output fails: as for a fault of the file `-`, or for want of memory
+abbrev pub IsPrintingFault : CommandEnding → Type 0
+IsPrintingFault (File path) = path.now ≡ codes "-"
+IsPrintingFault Memory = Unit {0}
+IsPrintingFault ending = ⊥

@@ -25,26 +25,26 @@ short_note content len fits = by_content (content == 0)
 
     by_content : (b : Bool)
         → IfSome (cond b (cond (nat_lt len 18) (Some (codes "too short for an Ethernet frame with its FCS")) None)
-        (Some (codes "content " ++ (decimal content ++ codes ", not 0: no Ethernet frame with its FCS")))) (λ text. length text ≤ 100)
+        (Some (codes "content " ++ (decimal content ++ codes ": no Ethernet frame with its FCS")))) (λ text. length text ≤ 100)
     by_content true = by_length (nat_lt len 18)
     by_content false =
         let its = length-decimal-le 5 content (omega arith) (omega (arith, fits)) (omega (arith, fits)) in
-        let all = length-append (decimal content) (codes ", not 0: no Ethernet frame with its FCS") in
+        let all = length-append (decimal content) (codes ": no Ethernet frame with its FCS") in
         omega (arith, its, all)
 
 -- that of content 1, 2 and 3, whose digit is written out
 digit_said : (n : ℕ) → n < 10
-    → Some (codes "content " ++ ((48 + n) ∷ codes ", not 0: no Ethernet frame with its FCS"))
-    ≡ Some (codes "content " ++ (decimal n ++ codes ", not 0: no Ethernet frame with its FCS"))
-digit_said n few = ap (λ digits. Some (codes "content " ++ (digits ++ codes ", not 0: no Ethernet frame with its FCS"))) (sym (decimal_digit n few))
+    → Some (codes "content " ++ ((48 + n) ∷ codes ": no Ethernet frame with its FCS"))
+    ≡ Some (codes "content " ++ (decimal n ++ codes ": no Ethernet frame with its FCS"))
+digit_said n few = ap (λ digits. Some (codes "content " ++ (digits ++ codes ": no Ethernet frame with its FCS"))) (sym (decimal_digit n few))
 
-pub content_1 : (content len : ℕ) → content ≡ 1 → Some (codes "content 1, not 0: no Ethernet frame with its FCS") ≡ note_for content len
+pub content_1 : (content len : ℕ) → content ≡ 1 → Some (codes "content 1: no Ethernet frame with its FCS") ≡ note_for content len
 content_1 content len is = digit_said 1 (omega arith) ∙ ap (λ c. note_for c len) (sym is)
 
-pub content_2 : (content len : ℕ) → content ≡ 2 → Some (codes "content 2, not 0: no Ethernet frame with its FCS") ≡ note_for content len
+pub content_2 : (content len : ℕ) → content ≡ 2 → Some (codes "content 2: no Ethernet frame with its FCS") ≡ note_for content len
 content_2 content len is = digit_said 2 (omega arith) ∙ ap (λ c. note_for c len) (sym is)
 
-pub content_3 : (content len : ℕ) → content ≡ 3 → Some (codes "content 3, not 0: no Ethernet frame with its FCS") ≡ note_for content len
+pub content_3 : (content len : ℕ) → content ≡ 3 → Some (codes "content 3: no Ethernet frame with its FCS") ≡ note_for content len
 content_3 content len is = digit_said 3 (omega arith) ∙ ap (λ c. note_for c len) (sym is)
 
 -- ---- options

@@ -13,3 +13,4 @@ mod LaterPut
 mod Order
 mod ShownComments
 mod Described
+pub mod Leaving

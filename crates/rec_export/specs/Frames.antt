@@ -52,7 +52,7 @@ note_for content len =
     then (if nat_lt len MIN_FRAME_LEN
     then Some (codes "too short for an Ethernet frame with its FCS") else None)
     else Some (codes "content " ++ (decimal content
-    ++ codes ", not 0: no Ethernet frame with its FCS"))
+    ++ codes ": no Ethernet frame with its FCS"))
 
 -- what is said of a frame that is none
 abbrev pub note_of : ReadFrameData → Option (List ℕ)

@@ -26,11 +26,11 @@ const MOST_OPTIONS: usize = 3;
 /// What is said of bytes that are too few for a frame.
 const TOO_SHORT: &[u8] = b"too short for an Ethernet frame with its FCS";
 /// What is said of bytes of each content but 0.
-const CONTENT_1: &[u8] = b"content 1, not 0: no Ethernet frame with its FCS";
+const CONTENT_1: &[u8] = b"content 1: no Ethernet frame with its FCS";
 
-const CONTENT_2: &[u8] = b"content 2, not 0: no Ethernet frame with its FCS";
+const CONTENT_2: &[u8] = b"content 2: no Ethernet frame with its FCS";
 
-const CONTENT_3: &[u8] = b"content 3, not 0: no Ethernet frame with its FCS";
+const CONTENT_3: &[u8] = b"content 3: no Ethernet frame with its FCS";
 
 /// Writes frames as the packets of an interface, with a comment on the first.
 pub(crate) fn write_frames<W: Write>(
