@@ -15,10 +15,10 @@ use Rattle.rec_export.specs.Export.{ExportState}
 use Rattle.rec_export.proofs.Whole.{HasExported}
 use Rattle.rec_export.proofs.Leaving.{exported_starts, stopped_starts, starts_kept, stopped_kept}
 use Rattle.cli_streams.specs.declared.ending.CommandEnding.{CommandEnding}
-use Rattle.cli_streams.specs.Endings.{ending_by_kind, IfReading, IsPrintingFault}
-use Rattle.cli_streams.specs.declared.ending.CommandEnding.TheVariants.{File, Reading, Memory}
+use Rattle.cli_streams.specs.Endings.{ending_by_kind, IfReading}
+use Rattle.cli_streams.specs.declared.ending.CommandEnding.TheVariants.{Reading}
 use Rattle.cli_reading.specs.Written.{StopsBehind}
-use Rattle.cli_reading.specs.Exports.{export_ending, LeavesExport, RefusesOrigin, SaysOrigin, StreamsExport}
+use Rattle.cli_reading.specs.Exports.{export_ending, LeavesExport, RefusesOrigin, NamesOrigin, StreamsExport}
 
 -- ---- endings
 
@@ -43,13 +43,6 @@ leaves origin recording old held new file out end ending failed keeps is = subst
     by_end (ReadingEnd end) stopped = leaves_by_kind origin recording old new file end end.kind (stopped_kept origin recording end old held new stopped keeps)
     by_end OutputEnd starts = starts_kept origin recording old held new starts keeps
     by_end MemoryEnd starts = starts_kept origin recording old held new starts keeps
-
--- an ending that is a printing fault is of no recording
-pub printing_reads_nothing : (ending : CommandEnding) (P : ReadEnd → Type 0) → IsPrintingFault ending → IfReading ending P
-printing_reads_nothing (Reading end) P is = absurd is
-printing_reads_nothing (File path) P is = tt
-printing_reads_nothing Memory P is = tt
-printing_reads_nothing ending P is = tt
 
 -- ---- answers
 
@@ -115,8 +108,5 @@ pub streams_nothing : (word : Option (Bor (List ℕ))) (left old new : Option (L
 streams_nothing word left old new (Ok value) ending is same nothing = absurd same
 streams_nothing word left old new (Err other) ending is same nothing =
     let P = λ (end : ReadEnd). IfSome left (λ recording. length recording < 2 ^ 64
-    → (origin : Option ℕ) × SaysOrigin word origin × StopsExport origin recording end old new) in
+    → (origin : Option ℕ) × NamesOrigin word origin × StopsExport origin recording end old new) in
     record { whole = tt; part = subst (λ e. IfReading e P) (sym same) (nothing P) }
-
-pub memory_reads_nothing : (ending : CommandEnding) → ending ≡ Memory → (P : ReadEnd → Type 0) → IfReading ending P
-memory_reads_nothing ending is P = subst (λ e. IfReading e P) (sym is) tt

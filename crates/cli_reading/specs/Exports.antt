@@ -23,15 +23,15 @@ LeavesExport origin recording old new (Reading end) = StopsExport origin recordi
 LeavesExport origin recording old new ending = StartsExport origin recording old new
 
 -- ORIGIN says this origin: seconds in decimal digits alone, below 2^63; without ORIGIN there is none
-abbrev pub SaysOrigin : Option (Bor (List ℕ)) → Option ℕ → Type 0
-SaysOrigin None None = Unit {0}
-SaysOrigin None (Some seconds) = ⊥
-SaysOrigin (Some word) None = ⊥
-SaysOrigin (Some word) (Some seconds) = SaysNumber word.now seconds × (seconds < 2 ^ 63)
+abbrev pub NamesOrigin : Option (Bor (List ℕ)) → Option ℕ → Type 0
+NamesOrigin None None = Unit {0}
+NamesOrigin None (Some seconds) = ⊥
+NamesOrigin (Some word) None = ⊥
+NamesOrigin (Some word) (Some seconds) = SaysNumber word.now seconds × (seconds < 2 ^ 63)
 
 -- ORIGIN is refused with this ending: it says no origin, or there was no memory for the text
 abbrev pub RefusesOrigin : Option (Bor (List ℕ)) → CommandEnding → Type 0
-RefusesOrigin word (Words text) = (origin : Option ℕ) → ¬ SaysOrigin word origin
+RefusesOrigin word (Words text) = (origin : Option ℕ) → ¬ NamesOrigin word origin
 RefusesOrigin word Memory = Unit {0}
 RefusesOrigin word ending = ⊥
 
@@ -40,7 +40,7 @@ RefusesOrigin word ending = ⊥
 pub record StreamsExport {T : Type 0} (word : Option (Bor (List ℕ))) (left : Option (List ℕ))
     (old new : Option (List ℕ)) (result : Result T CommandEnding) : Type 0 where
   pub whole : OnOk result (IfSome left (λ recording. length recording < 2 ^ 64
-      → (origin : Option ℕ) × SaysOrigin word origin × IsExported origin recording old new))
+      → (origin : Option ℕ) × NamesOrigin word origin × IsExported origin recording old new))
   pub part : IfErr result (λ ending. IfReading ending (λ end.
       IfSome left (λ recording. length recording < 2 ^ 64
-      → (origin : Option ℕ) × SaysOrigin word origin × StopsExport origin recording end old new)))
+      → (origin : Option ℕ) × NamesOrigin word origin × StopsExport origin recording end old new)))

@@ -1,4 +1,4 @@
 pub mod Counts
 pub mod Exports
-pub mod Lines
 pub mod Written
+pub mod Lines

@@ -31,6 +31,13 @@ pub record IsWritten {S : Type 0} (bytes_for : PacketData → List ℕ)
   pub whole : written ≡ flat_map bytes_for packets
   pub each : FoldsTo counts old packets new
 
+-- what was counted of each packet of a recording, in order and once each, from one state to another
+pub record IsCounted {S : Type 0} (counts : S → PacketData → S → Type 0) (recording : List ℕ)
+    (old new : S) : Type 0 where
+  pub packets : List PacketData
+  pub reads : Reads recording packets None
+  pub each : FoldsTo counts old packets new
+
 -- an output took what is written for each of a recording's first packets, in order and once each:
 -- for as many of them as have the counts that were judged; and what is counted of each meanwhile
 pub record TakesWritten {S : Type 0} (bytes_for : PacketData → List ℕ)

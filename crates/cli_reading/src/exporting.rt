@@ -6,7 +6,7 @@ ghost use Rattle.rec_reader.specs.Readers.{HasRead};
 ghost use Rattle.rec_export.specs.Exported.{IsExported, StopsExport};
 ghost use Rattle.cli_streams.specs.Digits.{SaysNumber};
 ghost use Rattle.cli_streams.specs.Endings.{IfReading};
-ghost use Rattle.cli_reading.specs.Exports.{export_ending, LeavesExport, RefusesOrigin, SaysOrigin, StreamsExport};
+ghost use Rattle.cli_reading.specs.Exports.{export_ending, LeavesExport, RefusesOrigin, NamesOrigin, StreamsExport};
 
 use crate::reading::{next_packet, open, reader_over};
 use cli_streams::{
@@ -158,7 +158,7 @@ fn ending_of<'a>(file: &'a str, out: &'a str, end: ExportEnd) -> CommandEnding<'
 
 /// The origin that a word names: a number of seconds, in decimal digits alone.
 fn origin_in<'a>(alloc: Global, word: Option<&str>) -> Result<Option<u64>, CommandEnding<'a>>
-    ensures origin { IfOk result (λ origin. SaysOrigin word.entry origin) }
+    ensures origin { IfOk result (λ origin. NamesOrigin word.entry origin) }
     ensures refused { IfErr result (λ ending. RefusesOrigin word.entry ending) }
 {
     let Some(word) = word else {

@@ -4,16 +4,16 @@ use Rattle.std.specs.Prelude.{◌==◌, ◌≢◌, nat_lt, Ok, Err}
 use Rattle.std.specs.Str.Parse.{ParsesUnsigned}
 use Rattle.std.proofs.lemmas.Bool.{eq-eqb, ltb-true, ltb-false}
 use Rattle.std.proofs.lemmas.Str.Parse.{IsDigitsTest, WeighsDigits, IsNumeralModel, numerals_by_weight, parse_plain, parse_gives}
-use Rattle.cli_streams.specs.Digits.{AreDigits, number_written, SaysNumber}
+use Rattle.cli_streams.specs.Digits.{AreDecimalDigits, number_written, SaysNumber}
 
-tests_digits : IsDigitsTest AreDigits
+tests_digits : IsDigitsTest AreDecimalDigits
 tests_digits = record { empty = tt; parts = λ c cs are. are; more = λ c cs is are. (is, are) }
 
 weighs_digits : WeighsDigits number_written
 weighs_digits = record { empty = refl; more = λ c cs is. refl }
 
-digit_words : IsNumeralModel AreDigits number_written
-digit_words = numerals_by_weight AreDigits tests_digits number_written weighs_digits
+digit_words : IsNumeralModel AreDecimalDigits number_written
+digit_words = numerals_by_weight AreDecimalDigits tests_digits number_written weighs_digits
 
 -- the first byte is no plus
 no_plus : (word : List ℕ) → false ≡ (get_or word 0 0 == 43) → get_or word 0 0 ≢ 43

@@ -2,9 +2,9 @@
 use Rattle.std.specs.Prelude.{ℕ, ◌≡◌, ◌+◌, ◌-◌, ◌*◌, ◌^◌, ◌<◌, ◌≤◌, List, [], ◌∷◌, length}
 
 -- each byte is a decimal digit, from 48 for 0 to 57 for 9
-abbrev pub AreDigits : List ℕ → Type 0
-AreDigits [] = Unit {0}
-AreDigits (byte ∷ bytes) = ((48 ≤ byte) × (byte ≤ 57)) × AreDigits bytes
+abbrev pub AreDecimalDigits : List ℕ → Type 0
+AreDecimalDigits [] = Unit {0}
+AreDecimalDigits (byte ∷ bytes) = ((48 ≤ byte) × (byte ≤ 57)) × AreDecimalDigits bytes
 
 -- the number that digits write: each counts ten times as much as the one behind it
 abbrev pub number_written : List ℕ → ℕ
@@ -14,5 +14,5 @@ number_written (byte ∷ bytes) = (byte - 48) * 10 ^ length bytes + number_writt
 -- a word says this number: it is one decimal digit or more, and nothing else
 pub record SaysNumber (word : List ℕ) (number : ℕ) : Type 0 where
   pub some : 0 < length word
-  pub digits : AreDigits word
+  pub digits : AreDecimalDigits word
   pub value : number_written word ≡ number

@@ -15,7 +15,7 @@ use Rattle.rec_export.specs.Versions.{filter_version, version_text}
 use Rattle.rec_export.specs.Interfaces.{channel_name, description_options, number_of, is_described, later_of}
 use Rattle.rec_export.specs.Export.{ExportState, description, later_behind, later_with, blocks_said, state_said, state_behind, packets_blocks}
 use Rattle.rec_export.specs.Export.{state_behind_all}
-use Rattle.rec_export.specs.Comments.{said_on, sayings_on, texts_of, interface_comments}
+use Rattle.rec_export.specs.Comments.{said_on, sayings_on, only_text, interface_comments}
 use Rattle.rec_export.specs.Shown.{interfaces_in}
 use Rattle.rec_export.specs.Found.{DescribesChannel}
 use Rattle.rec_export.proofs.Numbering.{most, takes_number, keeps_all}
@@ -34,7 +34,7 @@ described_as origin channel version = record {
 }
 
 describes : (origin : Option ℕ) (channel : ℕ) (version : Option FilterVersion)
-    → DescribesChannel origin channel (texts_of (option_map version_text version)) (described_as origin channel version)
+    → DescribesChannel origin channel (only_text (option_map version_text version)) (described_as origin channel version)
 describes None channel None = record {
   link = refl;
   any_length = refl;
@@ -154,7 +154,7 @@ next_number channel state isnt =
 -- the interface of a description that stands first
 now_described : (channel : ℕ) (state : ExportState) (version : Option FilterVersion) (number : ℕ) (comments : List (List ℕ)) (more : List BlockData)
     (interfaces : List InterfaceData)
-    → is_described channel state.interfaces ≡ false → number ≡ number_of channel state.interfaces → texts_of (option_map version_text version) ≡ comments
+    → is_described channel state.interfaces ≡ false → number ≡ number_of channel state.interfaces → only_text (option_map version_text version) ≡ comments
     → interfaces ≡ interfaces_in (description state channel version) ++ interfaces_in more
     → StandsDescribed state.origin channel (length state.interfaces) number comments interfaces
 now_described channel state version number comments more interfaces isnt same says whole =
@@ -165,7 +165,8 @@ now_described channel state version number comments more interfaces isnt same sa
       interface = described_as state.origin channel version;
       whole = whole ∙ ap (λ blocks. interfaces_in blocks ++ interfaces_in more) (cond-false (is_described channel state.interfaces) _ _ isnt);
       place = omega (arith, same, next);
-      its = subst (λ texts. DescribesChannel state.origin channel texts (described_as state.origin channel version)) says (describes state.origin channel version);
+      its = subst (λ texts. DescribesChannel state.origin channel texts (described_as state.origin channel version)) says
+          (describes state.origin channel version);
     }
 
 own_begins : (channel : ℕ) (state : ExportState) (packets : List PacketData) (saying : Saying) → is_described channel state.interfaces ≡ false
@@ -216,7 +217,8 @@ other_begins channel other state packets saying differ isnt is begins =
     (sym (interfaces_in-append (blocks_said state said) (packets_blocks next packets)))
     (stands_behind state.origin channel (length state.interfaces) (length next.interfaces) number _ (interfaces_in (blocks_said state said)) _
     (length_said state said)
-    (subst (λ said. StandsDescribed state.origin channel (length next.interfaces) number (interface_comments said) (interfaces_in (packets_blocks next packets)))
+    (subst (λ said. StandsDescribed state.origin channel (length next.interfaces) number (interface_comments said)
+    (interfaces_in (packets_blocks next packets)))
     (sym (none_first channel other saying (sayings_on channel packets) differ))
     (subst (λ origin. StandsDescribed origin channel (length next.interfaces) number (interface_comments (sayings_on channel packets))
     (interfaces_in (packets_blocks next packets))) (same_origin state other saying)

@@ -72,10 +72,12 @@ not_described_beside channel other later interfaces differ isnt = by_cases (case
         → is_described channel (with_interface other later interfaces) ≡ false
     by_cases (inl is) =
         let number = number_in_place channel other later interfaces is in
-        let len : length (with_interface other later interfaces) ≡ length interfaces = ap (λ (l : List Interface). length l) (cond-true (is_described other interfaces) _ _ is)
+        let len : length (with_interface other later interfaces) ≡ length interfaces =
+        ap (λ (l : List Interface). length l) (cond-true (is_described other interfaces) _ _ is)
         ∙ length-set interfaces (number_of other interfaces) (its other later) in
         let past = least in
-        le-ltb (number_of channel (with_interface other later interfaces)) (length (with_interface other later interfaces)) (omega (arith, number, len, past))
+        le-ltb (number_of channel (with_interface other later interfaces)) (length (with_interface other later interfaces))
+        (omega (arith, number, len, past))
     by_cases (inr none) =
         let past = least in
         let upper = most channel interfaces in
@@ -84,6 +86,7 @@ not_described_beside channel other later interfaces differ isnt = by_cases (case
         number_behind channel other later interfaces none
         ∙ cond-true (number_of channel interfaces == length interfaces) _ _ (eq-eqb _ _ last)
         ∙ ap (λ b. length interfaces + cond b 0 1) differ in
-        let len : length (with_interface other later interfaces) ≡ length interfaces + 1 = ap (λ (l : List Interface). length l) (cond-false (is_described other interfaces) _ _ none)
+        let len : length (with_interface other later interfaces) ≡ length interfaces + 1 =
+        ap (λ (l : List Interface). length l) (cond-false (is_described other interfaces) _ _ none)
         ∙ length-append interfaces (its other later ∷ []) in
         le-ltb (number_of channel (with_interface other later interfaces)) (length (with_interface other later interfaces)) (omega (arith, number, len))

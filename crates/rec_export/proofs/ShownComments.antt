@@ -20,8 +20,8 @@ use Rattle.rec_export.specs.Versions.{filter_version, later_text, joined_by}
 use Rattle.rec_export.specs.Interfaces.{interface_block, number_of, is_described, later_of}
 use Rattle.rec_export.specs.Export.{ExportState, description, later_behind, later_with, blocks_said, state_said, packets_blocks}
 use Rattle.rec_export.specs.Export.{state_behind_all}
-use Rattle.rec_export.specs.Comments.{said_on, sayings_on, last_version, joined, texts_of, comments_behind, comments_from, frame_comments}
-use Rattle.rec_export.specs.Shown.{values_of, comments_in, packet_comments, comments_on}
+use Rattle.rec_export.specs.Comments.{said_on, sayings_on, last_version, joined, only_text, comments_behind, comments_from, frame_comments}
+use Rattle.rec_export.specs.Shown.{option_values, comments_in, packet_comments, comments_on}
 use Rattle.rec_export.proofs.LaterPut.{later_put, later_put_beside, no_later, not_described_beside}
 use Rattle.rec_export.proofs.Numbering.{takes_number, keeps_number, keeps_all}
 use Rattle.rec_export.proofs.ShownFrames.{packets_on-append, is_own}
@@ -33,9 +33,10 @@ first_value : (b : Bool) (value : List ℕ) (all first rest : List (List ℕ)) �
 first_value true value all first rest e = ap (λ l. value ∷ l) e
 first_value false value all first rest e = e
 
-pub values_of-append : (code : ℕ) (options more : List OptionData) → values_of code (options ++ more) ≡ values_of code options ++ values_of code more
-values_of-append code [] more = refl
-values_of-append code (option ∷ options) more = first_value (option.code == code) option.value _ _ _ (values_of-append code options more)
+pub option_values-append : (code : ℕ) (options more : List OptionData)
+    → option_values code (options ++ more) ≡ option_values code options ++ option_values code more
+option_values-append code [] more = refl
+option_values-append code (option ∷ options) more = first_value (option.code == code) option.value _ _ _ (option_values-append code options more)
 
 flags_have_none : (crc_error frame_error : Bool) → comments_in (flag_options crc_error frame_error) ≡ []
 flags_have_none true true = refl
@@ -43,18 +44,18 @@ flags_have_none true false = refl
 flags_have_none false true = refl
 flags_have_none false false = refl
 
-pub comment_there : (comment : Option (List ℕ)) → comments_in (comment_options comment) ≡ texts_of comment
+pub comment_there : (comment : Option (List ℕ)) → comments_in (comment_options comment) ≡ only_text comment
 comment_there None = refl
 comment_there (Some text) = refl
 
 frame_comments_there : (comment : Option (List ℕ)) (frame : ReadFrameData)
-    → comments_in (frame_options comment frame) ≡ texts_of comment ++ texts_of (note_of frame)
+    → comments_in (frame_options comment frame) ≡ only_text comment ++ only_text (note_of frame)
 frame_comments_there comment frame =
-    values_of-append 1 (flag_options frame.crc_error frame.frame_error) (comment_options comment ++ comment_options (note_of frame))
+    option_values-append 1 (flag_options frame.crc_error frame.frame_error) (comment_options comment ++ comment_options (note_of frame))
     ∙ ap (λ l. l ++ comments_in (comment_options comment ++ comment_options (note_of frame))) (flags_have_none frame.crc_error frame.frame_error)
-    ∙ values_of-append 1 (comment_options comment) (comment_options (note_of frame))
+    ∙ option_values-append 1 (comment_options comment) (comment_options (note_of frame))
     ∙ ap (λ l. l ++ comments_in (comment_options (note_of frame))) (comment_there comment)
-    ∙ ap (λ l. texts_of comment ++ l) (comment_there (note_of frame))
+    ∙ ap (λ l. only_text comment ++ l) (comment_there (note_of frame))
 
 -- ---- comments on an interface
 
@@ -72,7 +73,7 @@ no_comments_described n state channel version = none_on n (is_described channel 
 -- those of frames, with this comment on the first
 abbrev its_comments : (comment : Option (List ℕ)) → List ReadFrameData → List (List (List ℕ))
 its_comments comment [] = []
-its_comments comment (frame ∷ frames) = (texts_of comment ++ texts_of (note_of frame)) ∷ map (comments_behind []) frames
+its_comments comment (frame ∷ frames) = (only_text comment ++ only_text (note_of frame)) ∷ map (comments_behind []) frames
 
 no_further : (frames : List ReadFrameData) → its_comments None frames ≡ map (comments_behind []) frames
 no_further [] = refl
@@ -83,7 +84,7 @@ comments_there n comment [] = refl
 comments_there n comment (frame ∷ frames) =
     ap (map packet_comments) (cond-true (n == n) _ _ (eq-eqb n n refl))
     ∙ ap (λ texts. texts ∷ comments_on n (frame_blocks n None frames)) (frame_comments_there comment frame)
-    ∙ ap (λ l. (texts_of comment ++ texts_of (note_of frame)) ∷ l) (comments_there n None frames ∙ no_further frames)
+    ∙ ap (λ l. (only_text comment ++ only_text (note_of frame)) ∷ l) (comments_there n None frames ∙ no_further frames)
 
 comments_elsewhere : (n other : ℕ) (comment : Option (List ℕ)) (frames : List ReadFrameData) → (other == n) ≡ false
     → comments_on n (frame_blocks other comment frames) ≡ []

@@ -25,8 +25,8 @@ use Rattle.ch11_packet.specs.Header.{HeaderData}
 use Rattle.ch11_packet.specs.Classes.{HasClass}
 use Rattle.ch11_packet.proofs.Classing.{said_by_body}
 use Rattle.ch11_packet.proofs.StoredInsns.{length-stored_insns}
-use Rattle.pcapng_blocks.specs.Options.{OptionData, IsOption, AreOptions, option_of, name_option, resolution_option, fcs_len_option, option_bytes, options_bytes}
-use Rattle.pcapng_blocks.specs.Options.{end_of_options}
+use Rattle.pcapng_blocks.specs.Options.{OptionData, IsOption, AreOptions, option_of, name_option, resolution_option, fcs_len_option}
+use Rattle.pcapng_blocks.specs.Options.{option_bytes, options_bytes, end_of_options}
 use Rattle.pcapng_blocks.specs.Blocks.{BlockData, IsBlock, AreBlocks}
 use Rattle.pcapng_blocks.proofs.BlockParts.{length-option, length-packet_body}
 use Rattle.rec_reader.specs.Packets.{PacketData, BeginsPackets, BeginSomeBytes}

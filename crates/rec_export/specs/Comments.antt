@@ -40,15 +40,15 @@ joined (first ∷ next ∷ versions) = Some (Several first.number (last_version 
 -- ---- comments
 
 -- a text as the only one, if there is one
-abbrev pub texts_of : Option (List ℕ) → List (List ℕ)
-texts_of None = []
-texts_of (Some text) = text ∷ []
+abbrev pub only_text : Option (List ℕ) → List (List ℕ)
+only_text None = []
+only_text (Some text) = text ∷ []
 
 -- the comments of a frame that stands behind these versions: what is said of them, and what is said
 -- of bytes that are no frame
 abbrev pub comments_behind : List FilterVersion → ReadFrameData → List (List ℕ)
 comments_behind versions frame =
-    texts_of (option_map later_text (joined versions)) ++ texts_of (note_of frame)
+    only_text (option_map later_text (joined versions)) ++ only_text (note_of frame)
 
 -- the comments of each frame among what is said of a channel, where these versions stand ahead: the
 -- first frame behind a version has what is said of it

@@ -11,8 +11,8 @@ use Rattle.pcapng_blocks.specs.Reading.{HoldsBlocks}
 use Rattle.rec_reader.specs.Packets.{PacketData}
 use Rattle.rec_reader.specs.ChannelFrames.{channel_frames}
 use Rattle.rec_export.specs.Interfaces.{channel_name}
-use Rattle.rec_export.specs.Comments.{sayings_on, texts_of, frame_comments, interface_comments}
-use Rattle.rec_export.specs.Shown.{values_of, comments_in, uncommented, interfaces_in, frame_shown, frames_on, comments_on, names_in}
+use Rattle.rec_export.specs.Comments.{sayings_on, only_text, frame_comments, interface_comments}
+use Rattle.rec_export.specs.Shown.{option_values, comments_in, uncommented, interfaces_in, frame_shown, frames_on, comments_on, names_in}
 
 -- bytes are read as these blocks, and as no others
 pub record AreReadAs (bytes : List ℕ) (blocks : List BlockData) : Type 0 where
@@ -45,11 +45,11 @@ pub record DescribesChannel (origin : Option ℕ) (channel : ℕ) (comments : Li
   pub link : interface.link_type ≡ 1
   pub any_length : interface.snap_len ≡ 0
   pub unit_first : take 1 interface.options ≡ option_of 9 (7 ∷ []) ∷ []
-  pub unit : values_of 9 interface.options ≡ (7 ∷ []) ∷ []
-  pub name : values_of 2 interface.options ≡ channel_name channel ∷ []
-  pub check_sequence : values_of 13 interface.options ≡ (4 ∷ []) ∷ []
-  pub offset : values_of 14 interface.options
-      ≡ texts_of (option_map (λ (seconds : ℕ). to_le_bytes w64 seconds) origin)
+  pub unit : option_values 9 interface.options ≡ (7 ∷ []) ∷ []
+  pub name : option_values 2 interface.options ≡ channel_name channel ∷ []
+  pub check_sequence : option_values 13 interface.options ≡ (4 ∷ []) ∷ []
+  pub offset : option_values 14 interface.options
+      ≡ only_text (option_map (λ (seconds : ℕ). to_le_bytes w64 seconds) origin)
   pub comment : comments_in interface.options ≡ comments
   pub comment_last : interface.options ≡ uncommented interface.options
       ++ map (λ (text : List ℕ). option_of 1 text) comments

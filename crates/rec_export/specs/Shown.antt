@@ -20,16 +20,16 @@ packets_on interface (OfPacket packet ∷ blocks) =
     else packets_on interface blocks
 
 -- the values of the options of a code, in order
-abbrev pub values_of : (code : ℕ) → List OptionData → List (List ℕ)
-values_of code [] = []
-values_of code (option ∷ options) =
+abbrev pub option_values : (code : ℕ) → List OptionData → List (List ℕ)
+option_values code [] = []
+option_values code (option ∷ options) =
     if option.code == code
-    then option.value ∷ values_of code options
-    else values_of code options
+    then option.value ∷ option_values code options
+    else option_values code options
 
 -- the comments in options, whose code is 1
 abbrev pub comments_in : List OptionData → List (List ℕ)
-comments_in options = values_of 1 options
+comments_in options = option_values 1 options
 
 -- options without the comments
 abbrev pub uncommented : List OptionData → List OptionData

@@ -240,7 +240,11 @@ def test_what_is_no_frame_says_so(work: Path) -> None:
     recording.write_bytes(b"".join([*packets, packet_of(1, body_of(frames), 0, FRAMES, 1, True)]))
     judge_export(work, recording)
     shown = [it.comments[-1:] for it in wanted_of(recording.read_bytes()).frames]
-    judge("each of them, and no other", [bool(it) for it in shown] == [kind not in ((0, 18), (0, 60)) for kind in kinds], shown)
+    judge(
+        "each of them, and no other",
+        [bool(it) for it in shown] == [kind not in ((0, 18), (0, 60)) for kind in kinds],
+        shown,
+    )
 
 
 @pytest.mark.timed

@@ -28,7 +28,8 @@ returns-clause-whole g c =
 
 pub returns-in_err-write_block-clause-part : goal.returns-in_err-write_block-clause-part
 returns-in_err-write_block-clause-part g c =
-    subst (λ (options : List OptionData). OnErr c.from_residual-in_err-write_block.result (TakesStart (g.W.Write.contents c.args.out.now) (g.W.Write.contents c.write_block.new.out)
+    subst (λ (options : List OptionData). OnErr c.from_residual-in_err-write_block.result
+    (TakesStart (g.W.Write.contents c.args.out.now) (g.W.Write.contents c.write_block.new.out)
     (block_bytes (OfInterface (record { link_type = 1; snap_len = 0; options = options })))))
     (ap options_data c.as_slice-2.ensures.value ∙ c.in_ok-options.ensures
     ∙ ap (λ (text : Option (List ℕ)). description_options text c.as_slice.result.now c.args.origin) (c.text_in.ensures ∙ c.in_ok-comment.ensures.text)
