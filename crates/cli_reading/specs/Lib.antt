@@ -1,4 +1,5 @@
 pub mod Counts
-pub mod Lines
+pub mod Exports
 pub mod Written
+pub mod Lines
 pub mod Printed

@@ -1,14 +1,19 @@
 //! The command that exports a recording.
 
-ghost use Rattle.std.specs.Prelude.{◌^◌, ◌<◌, length, IfSome, OnOk};
-ghost use Rattle.rec_export.specs.Exported.{IsExported};
+ghost use Rattle.std.specs.Prelude.{ℕ, ◌≡◌, ◌≤◌, ◌^◌, ◌<◌, List, [], codes, length, IfErr, IfOk, IfSome, MatchOption, OnOk};
+ghost use Rattle.std.specs.Io.Buffered.{writer_buffer, writer_contents};
+ghost use Rattle.rec_reader.specs.Readers.{HasRead};
+ghost use Rattle.rec_export.specs.Exported.{IsExported, StopsExport};
+ghost use Rattle.cli_streams.specs.Digits.{SaysNumber};
+ghost use Rattle.cli_streams.specs.Endings.{IfReading};
+ghost use Rattle.cli_reading.specs.Exports.{export_ending, LeavesExport, RefusesOrigin, NamesOrigin, StreamsExport};
 
-use crate::reading::{open, reader_over};
+use crate::reading::{next_packet, open, reader_over};
 use cli_streams::{
-    CommandEnding, Inputs, LockFile, OUTPUT_PIECE, STREAM, buffered_output,
-    refuse_output_into_input,
+    CommandEnding, Inputs, LockFile, STREAM, buffered_output, print_line, refuse_output_into_input,
 };
-use rec_export::{ExportEnd, export_recording};
+use rec_export::{ExportEnd, Exporter, export_recording};
+use rec_reader::Reader;
 use std::alloc::Global;
 use std::io::{BufWriter, Read, Write};
 use std::rt::Files;
@@ -29,6 +34,9 @@ pub fn export_frames<'a, R: AllocGlobal + Files, I: Read, O: Write>(
 ) -> Result<(), CommandEnding<'a>>
 where
     R::File: LockFile,
+    ensures streamed { file.now ≡ codes "-" → out.now ≡ codes "-"
+        → StreamsExport origin.entry (I.remaining input.old)
+        (O.contents output.old) (O.contents output.new) result }
 {
     let origin = origin_in(rt.alloc(), origin)?;
     let mut inputs = Inputs::new(rt.alloc());
@@ -55,13 +63,17 @@ fn export_into<'a, R: AllocGlobal + Files, I: Read + Drop, O: Write>(
 ) -> Result<(), CommandEnding<'a>>
 where
     R::File: LockFile,
+    ensures whole { out.now ≡ codes "-" → OnOk result (IfSome (I.remaining input) (λ recording.
+        length recording < 2 ^ 64 → IsExported origin recording
+        (O.contents output.old) (O.contents output.new))) }
+    ensures part { out.now ≡ codes "-" → IfErr result (λ ending. IfReading ending (λ end.
+        IfSome (I.remaining input) (λ recording. length recording < 2 ^ 64
+        → StopsExport origin recording end (O.contents output.old) (O.contents output.new)))) }
 {
     let alloc = rt.alloc();
     if out == STREAM {
-        let mut output = BufWriter::with_capacity(alloc, OUTPUT_PIECE, output).map_err(
-            |_| CommandEnding::Memory,
-        )?;
-        return export(alloc, file, input, origin, out, &mut output);
+        let mut reader = reader_over(alloc, input)?;
+        return export_streamed(alloc, file, &mut reader, origin, output);
     }
     inputs.refuse_input(rt, out)?;
     let mut output = buffered_output(rt, inputs, out)?;
@@ -69,33 +81,86 @@ where
     output.get_ref().keep(out)
 }
 
+/// Exports a recording to standard output, where the blocks of each packet go out as one write.
+fn export_streamed<'a, I: Read, O: Write>(
+    alloc: Global,
+    file: &'a str,
+    reader: &mut Reader<I>,
+    origin: Option<u64>,
+    output: &mut O,
+) -> Result<(), CommandEnding<'a>>
+    ensures whole { OnOk result ((recording : List ℕ) → HasRead recording [] reader.old
+        → IsExported origin recording (O.contents output.old) (O.contents output.new)) }
+    ensures part { IfErr result (λ ending. IfReading ending (λ end.
+        (recording : List ℕ) → HasRead recording [] reader.old
+        → StopsExport origin recording end (O.contents output.old) (O.contents output.new))) }
+{
+    let mut exporter = Exporter::new(alloc, origin);
+    let mut blocks = Vec::new(alloc);
+    // memory takes all bytes, if there is some
+    exporter
+        .begin(&mut blocks)
+        .map_err(|_| CommandEnding::Memory)?;
+    'packets: for _ in 0..u64::MAX {
+        print_line(output, &mut blocks, Ok(()))?;
+        let Some(owned) = next_packet(file, reader)? else {
+            return Ok(());
+        };
+        exporter
+            .export_packet(&owned.packet(), &mut blocks)
+            .map_err(|_| CommandEnding::Memory)?;
+    }
+    // a recording of fewer than 2^64 bytes ends before
+    Err(CommandEnding::Memory)
+}
+
 /// Exports the recording that an input gives to an output, and flushes it, also behind a fault of the
 /// recording.
-fn export<'a, I: Read + Drop, W: Write>(
+fn export<'a, I: Read + Drop, W: Write + Drop>(
     alloc: Global,
     file: &'a str,
     input: I,
     origin: Option<u64>,
     out: &'a str,
-    output: &mut W,
+    output: &mut BufWriter<W>,
 ) -> Result<(), CommandEnding<'a>>
     ensures exported { OnOk result (IfSome (I.remaining input) (λ recording.
         length recording < 2 ^ 64 → IsExported origin recording
-        (W.contents output.old) (W.contents output.new))) }
+        (writer_contents W.contents output.old) (writer_contents W.contents output.new))) }
+    ensures part { IfErr result (λ ending. IfSome (I.remaining input) (λ recording.
+        length recording < 2 ^ 64 → LeavesExport origin recording
+        (writer_contents W.contents output.old) (writer_contents W.contents output.new) ending)) }
+    ensures flushed { OnOk result (writer_buffer output.new ≡ []) }
+    ensures flushed_part { IfErr result (λ ending. IfReading ending (λ end.
+        writer_buffer output.new ≡ [])) }
 {
     let mut reader = reader_over(alloc, input)?;
     let exported = export_recording(alloc, &mut reader, origin, output);
-    output.flush().map_err(|_| CommandEnding::File(out))?;
+    if output.flush().is_err() {
+        return Err(CommandEnding::File(out));
+    }
     match exported {
         Ok(()) => Ok(()),
-        Err(ExportEnd::Reading(end)) => Err(CommandEnding::of_reading(file, end)),
-        Err(ExportEnd::Output) => Err(CommandEnding::File(out)),
-        Err(ExportEnd::Memory) => Err(CommandEnding::Memory),
+        Err(end) => Err(ending_of(file, out, end)),
+    }
+}
+
+/// How the command ends where an export ended so.
+fn ending_of<'a>(file: &'a str, out: &'a str, end: ExportEnd) -> CommandEnding<'a>
+    ensures { result ≡ export_ending file.entry out.entry end }
+{
+    match end {
+        ExportEnd::Reading(end) => CommandEnding::of_reading(file, end),
+        ExportEnd::Output => CommandEnding::File(out),
+        ExportEnd::Memory => CommandEnding::Memory,
     }
 }
 
 /// The origin that a word names: a number of seconds, in decimal digits alone.
-fn origin_in<'a>(alloc: Global, word: Option<&str>) -> Result<Option<u64>, CommandEnding<'a>> {
+fn origin_in<'a>(alloc: Global, word: Option<&str>) -> Result<Option<u64>, CommandEnding<'a>>
+    ensures origin { IfOk result (λ origin. NamesOrigin word.entry origin) }
+    ensures refused { IfErr result (λ ending. RefusesOrigin word.entry ending) }
+{
     let Some(word) = word else {
         return Ok(None);
     };
@@ -109,9 +174,16 @@ fn origin_in<'a>(alloc: Global, word: Option<&str>) -> Result<Option<u64>, Comma
 }
 
 /// A number of seconds, in decimal digits alone.
-fn seconds_in(word: &str) -> Option<u64> {
+fn seconds_in(word: &str) -> Option<u64>
+    ensures { MatchOption result
+        ((number : ℕ) → SaysNumber word.now number → 2 ^ 63 ≤ number)
+        (λ seconds. SaysNumber word.now seconds × (seconds < 2 ^ 63)) }
+{
+    if word.starts_with('+') {
+        return None;
+    }
     match word.parse() {
-        Ok(seconds) if !word.starts_with('+') && seconds <= MAX_ORIGIN => Some(seconds),
+        Ok(seconds) if seconds <= MAX_ORIGIN => Some(seconds),
         _ => None,
     }
 }

@@ -1,8 +1,9 @@
 //! The command that extracts a channel's frames from a recording.
 
-ghost use Rattle.std.specs.Prelude.{OnOk};
+ghost use Rattle.std.specs.Prelude.{◌≡◌, ◌^◌, ◌<◌, codes, length, IfOk, IfSome, OnOk};
 ghost use Rattle.std.specs.Io.KnownBytes.{Appends};
-ghost use Rattle.cli_reading.specs.Lines.{extracted_line, TakesCounts};
+ghost use Rattle.cli_streams.specs.Digits.{SaysNumber};
+ghost use Rattle.cli_reading.specs.Lines.{extracted_line, CountsExtracted, PrintsExtracted, TakesCounts};
 
 use crate::written::{PerPacket, write_recording};
 use cli_streams::{CommandEnding, LockFile, channel_in, print_line};
@@ -46,7 +47,10 @@ pub fn extract_frames<'a, R: AllocGlobal + Files, I: Read, O: Write>(
 ) -> Result<(), CommandEnding<'a>>
 where
     R::File: LockFile,
-    ensures { OnOk result (TakesCounts (O.contents output.old) (O.contents output.new)) }
+    ensures line { OnOk result (TakesCounts (O.contents output.old) (O.contents output.new)) }
+    ensures streamed { file.now ≡ codes "-" → OnOk result (IfSome (I.remaining input.old)
+        (λ recording. length recording < 2 ^ 64 → PrintsExtracted channel.now recording
+        (O.contents output.old) (O.contents output.new))) }
 {
     let channel = channel_of(rt.alloc(), channel)?;
     let extracted = extract(rt, file, channel, out, input)?;
@@ -63,6 +67,9 @@ fn extract<'a, R: AllocGlobal + Files, I: Read>(
 ) -> Result<Extracted, CommandEnding<'a>>
 where
     R::File: LockFile,
+    ensures counted { file.now ≡ codes "-" → IfOk result (λ extracted.
+        IfSome (I.remaining input.old) (λ recording. length recording < 2 ^ 64
+        → CountsExtracted channel recording extracted)) }
 {
     let nothing = Extracted {
         frames: 0,
@@ -92,7 +99,9 @@ fn print_extracted<O: Write>(
 }
 
 /// The channel that a word names: a number from 0 to 65,535, in decimal digits alone.
-fn channel_of<'a>(alloc: Global, word: &str) -> Result<u16, CommandEnding<'a>> {
+fn channel_of<'a>(alloc: Global, word: &str) -> Result<u16, CommandEnding<'a>>
+    ensures named { IfOk result (λ channel. SaysNumber word.now channel) }
+{
     match channel_in(word) {
         Some(channel) => Ok(channel),
         None => Err(CommandEnding::Words(format!(in alloc;

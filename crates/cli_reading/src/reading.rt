@@ -1,9 +1,11 @@
 //! Recordings that commands read, packet by packet.
 
-ghost use Rattle.std.specs.Prelude.{ℕ, ◌^◌, ◌<◌, List, [], length, Some, IfOk, IfSome};
+ghost use Rattle.std.specs.Prelude.{ℕ, ◌≡◌, ◌^◌, ◌<◌, List, [], length, Some, IfErr, IfOk, IfSome};
 ghost use Rattle.rec_reader.specs.Readers.{HasRead};
 ghost use Rattle.cli_reading.specs.Counts.{CountsRecording};
-ghost use Rattle.cli_reading.specs.Written.{GivesNext};
+ghost use Rattle.cli_streams.specs.declared.ending.CommandEnding.TheVariants.{Memory};
+ghost use Rattle.cli_streams.specs.Endings.{IfReading};
+ghost use Rattle.cli_reading.specs.Written.{GivesNext, StopsBehind};
 
 use ch11_packet::What;
 use cli_streams::{CommandEnding, refuse_output_into};
@@ -79,6 +81,7 @@ pub(crate) fn next_packet<'a, R: Read>(
     reader: &mut Reader<R>,
 ) -> Result<Option<OwnedPacket>, CommandEnding<'a>>
     ensures gives { IfOk result (λ taken. GivesNext taken reader.old reader.new) }
+    ensures stops { IfErr result (λ ending. IfReading ending (λ end. StopsBehind end reader.old)) }
 {
     match reader.next() {
         Ok(taken) => Ok(taken),
@@ -116,6 +119,7 @@ pub(crate) fn reader_over<'a, I: Read + Drop>(
 ) -> Result<Reader<BufReader<I>>, CommandEnding<'a>>
     ensures begins { IfOk result (λ reader. IfSome (I.remaining input) (λ recording.
         length recording < 2 ^ 64 → HasRead recording [] reader)) }
+    ensures memory { IfErr result (λ ending. ending ≡ Memory) }
 {
     let input = BufReader::with_capacity(alloc, PIECE, input).map_err(|_| CommandEnding::Memory)?;
     Ok(Reader::new(alloc, input))

@@ -1,8 +1,8 @@
 //! The command that brings an old recording up to date.
 
-ghost use Rattle.std.specs.Prelude.{OnOk};
+ghost use Rattle.std.specs.Prelude.{◌≡◌, ◌^◌, ◌<◌, codes, length, IfOk, IfSome, OnOk};
 ghost use Rattle.std.specs.Io.KnownBytes.{Appends};
-ghost use Rattle.cli_reading.specs.Lines.{TakesUpgraded, upgraded_line};
+ghost use Rattle.cli_reading.specs.Lines.{upgraded_line, CountsUpgrade, PrintsUpgraded, TakesUpgraded};
 
 use crate::written::{PerPacket, write_recording};
 use cli_streams::{CommandEnding, LockFile, print_line};
@@ -35,7 +35,10 @@ pub fn upgrade_recording<'a, R: AllocGlobal + Files, I: Read, O: Write>(
 ) -> Result<(), CommandEnding<'a>>
 where
     R::File: LockFile,
-    ensures { OnOk result (TakesUpgraded (O.contents output.old) (O.contents output.new)) }
+    ensures line { OnOk result (TakesUpgraded (O.contents output.old) (O.contents output.new)) }
+    ensures streamed { file.now ≡ codes "-" → OnOk result (IfSome (I.remaining input.old)
+        (λ recording. length recording < 2 ^ 64 → PrintsUpgraded recording
+        (O.contents output.old) (O.contents output.new))) }
 {
     let upgraded = upgrade(rt, file, out, input)?;
     print_upgraded(rt.alloc(), output, upgraded)
@@ -50,6 +53,9 @@ fn upgrade<'a, R: AllocGlobal + Files, I: Read>(
 ) -> Result<Upgraded, CommandEnding<'a>>
 where
     R::File: LockFile,
+    ensures counted { file.now ≡ codes "-" → IfOk result (λ upgraded.
+        IfSome (I.remaining input.old) (λ recording. length recording < 2 ^ 64
+        → CountsUpgrade recording upgraded)) }
 {
     let mut upgraded = Upgraded {
         packets: 0,

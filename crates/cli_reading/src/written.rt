@@ -1,9 +1,9 @@
 //! What a command writes for a recording, packet by packet, into a file.
 
-ghost use Rattle.std.specs.Prelude.{ℕ, ◌≡◌, ◌^◌, ◌<◌, List, [], length, IfOk, IfSome, OnOk};
+ghost use Rattle.std.specs.Prelude.{ℕ, ◌≡◌, ◌^◌, ◌<◌, List, [], codes, length, IfOk, IfSome, OnOk};
 ghost use Rattle.std.specs.Io.Buffered.{writer_buffer, writer_contents};
 ghost use Rattle.rec_reader.specs.Readers.{HasRead};
-ghost use Rattle.cli_reading.specs.Written.{IsWritten, TakesWritten};
+ghost use Rattle.cli_reading.specs.Written.{IsCounted, IsWritten, TakesWritten};
 
 use crate::reading::{
     Counts, begin_again, counts_of, is_read_twice, next_packet, open, packet_again, reader_over,
@@ -50,6 +50,9 @@ pub(crate) fn write_recording<'a, R: AllocGlobal + Files, I: Read, P: PerPacket>
 ) -> Result<(), CommandEnding<'a>>
 where
     R::File: LockFile,
+    ensures counted { file.now ≡ codes "-" → OnOk result (IfSome (I.remaining input.old)
+        (λ recording. length recording < 2 ^ 64
+        → IsCounted P.counts recording written.old written.new)) }
 {
     let mut inputs = Inputs::new(rt.alloc());
     inputs.add_streams(rt)?;
@@ -130,6 +133,8 @@ fn write_once<'a, R: AllocGlobal + Files, I: Read, P: PerPacket>(
 ) -> Result<(), CommandEnding<'a>>
 where
     R::File: LockFile,
+    ensures counted { OnOk result (IfSome (I.remaining input.old) (λ recording.
+        length recording < 2 ^ 64 → IsCounted P.counts recording written.old written.new)) }
 {
     let held = held_for(rt.alloc(), file, input, written)?;
     write_held(rt, inputs, out, held.as_slice())

@@ -1,6 +1,8 @@
 //! How a command ends: its exit status, and the text of a fault.
 
-ghost use Rattle.std.specs.Prelude.{◌<◌};
+ghost use Rattle.std.specs.Prelude.{◌≡◌, ◌<◌, ◌⊎◌};
+ghost use Rattle.cli_streams.specs.declared.ending.CommandEnding.TheVariants.{File, Memory};
+ghost use Rattle.cli_streams.specs.Endings.{reading_ending};
 
 use crate::listed::ListedFault;
 use crate::output::print_line;
@@ -86,7 +88,9 @@ pub enum CommandEnding<'a> {
 
 impl<'a> CommandEnding<'a> {
     /// What a failed read, creation or write of a file comes to.
-    pub fn of_io(path: &'a str, error: &io::Error) -> CommandEnding<'a> {
+    pub fn of_io(path: &'a str, error: &io::Error) -> CommandEnding<'a>
+        ensures { (result ≡ Memory) ⊎ (result ≡ File path.entry) }
+    {
         match error.kind() {
             ErrorKind::OutOfMemory => CommandEnding::Memory,
             _ => CommandEnding::File(path),
@@ -114,7 +118,9 @@ impl<'a> CommandEnding<'a> {
     }
 
     /// What a fault of a recording comes to.
-    pub fn of_reading(path: &'a str, end: ReadEnd) -> CommandEnding<'a> {
+    pub fn of_reading(path: &'a str, end: ReadEnd) -> CommandEnding<'a>
+        ensures { result ≡ reading_ending path.entry end }
+    {
         match end.kind {
             ReadFaultKind::Memory => CommandEnding::Memory,
             ReadFaultKind::Device => CommandEnding::File(path),
@@ -191,12 +197,16 @@ impl<'a> From<AuditFault> for CommandEnding<'a> {
 }
 
 impl<'a> From<AllocError> for CommandEnding<'a> {
+    ghost from_gives = { λ _ ending. ending ≡ Memory };
+
     fn from(_error: AllocError) -> CommandEnding<'a> {
         CommandEnding::Memory
     }
 }
 
 impl<'a, T: Drop> From<AllocFailed<T>> for CommandEnding<'a> {
+    ghost from_gives = { λ _ ending. ending ≡ Memory };
+
     fn from(_error: AllocFailed<T>) -> CommandEnding<'a> {
         CommandEnding::Memory
     }

@@ -2,6 +2,7 @@
 
 ghost use Rattle.std.specs.Prelude.{◌≡◌, IfErr};
 ghost use Rattle.cli_streams.specs.declared.ending.CommandEnding.TheVariants.{File};
+ghost use Rattle.cli_streams.specs.Endings.{IsPrintingFault};
 
 use crate::ending::{CommandEnding, STREAM};
 use std::alloc::{AllocError, Global};
@@ -128,7 +129,9 @@ pub fn refuse_output_into<'a, R: Files, F: OpenFile>(
 }
 
 /// Refuses standard output if it is the file or the pipe that standard input is.
-pub fn refuse_output_into_input<'a, R: Files>(rt: &R) -> Result<(), CommandEnding<'a>> {
+pub fn refuse_output_into_input<'a, R: Files>(rt: &R) -> Result<(), CommandEnding<'a>>
+    ensures fault { IfErr result (λ ending. IsPrintingFault ending) }
+{
     refuse_one(rt.metadata(STANDARD_INPUT), rt.metadata(STANDARD_OUTPUT))
 }
 
@@ -137,7 +140,9 @@ pub fn refuse_output_into_input<'a, R: Files>(rt: &R) -> Result<(), CommandEndin
 fn refuse_one<'a>(
     read: io::Result<Metadata>,
     written: io::Result<Metadata>,
-) -> Result<(), CommandEnding<'a>> {
+) -> Result<(), CommandEnding<'a>>
+    ensures fault { IfErr result (λ ending. IsPrintingFault ending) }
+{
     let (Ok(read), Ok(written)) = (read, written) else {
         return Ok(());
     };

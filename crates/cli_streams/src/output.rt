@@ -1,7 +1,8 @@
 //! The one way to standard output: what was written is flushed, and its failure is a file's.
 
-ghost use Rattle.std.specs.Prelude.{◌≡◌, [], OnOk, IsOk};
+ghost use Rattle.std.specs.Prelude.{◌≡◌, [], IfErr, OnOk, IsOk};
 ghost use Rattle.std.specs.Io.KnownBytes.{Appends, Keeps};
+ghost use Rattle.cli_streams.specs.Endings.{IsPrintingFault};
 
 use crate::ending::{CommandEnding, STREAM};
 use std::io;
@@ -26,6 +27,7 @@ pub fn print_line<O: Write>(
     ensures printed { OnOk result
         (Appends (O.contents output.old) (O.contents output.new) line.old.items) }
     ensures emptied { OnOk result (line.new.items ≡ []) }
+    ensures fault { IfErr result (λ ending. IsPrintingFault ending) }
 {
     built.map_err(|error| CommandEnding::of_io(STREAM, &error))?;
     let written = output.write_all(line.as_slice());
@@ -41,6 +43,7 @@ pub fn finish<O: Write>(
 ) -> Result<(), CommandEnding<'static>>
     ensures written { OnOk result (IsOk written) }
     ensures kept { OnOk result (Keeps (O.contents output.old) (O.contents output.new)) }
+    ensures fault { IfErr result (λ ending. IsPrintingFault ending) }
 {
     if written.is_err() || output.flush().is_err() {
         return Err(CommandEnding::File(STREAM));

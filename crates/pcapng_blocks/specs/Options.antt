@@ -29,7 +29,7 @@ name_option name = option_of INTERFACE_NAME name
 abbrev pub resolution_option : (power : ℕ) → OptionData
 resolution_option power = option_of TIME_RESOLUTION (power ∷ [])
 
--- if_fcslen: the length of the check sequences
+-- if_fcslen: the length of the check sequences, in bytes, as readers take it
 abbrev pub fcs_len_option : (len : ℕ) → OptionData
 fcs_len_option len = option_of FCS_LEN (len ∷ [])
 

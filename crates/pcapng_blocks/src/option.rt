@@ -1,5 +1,8 @@
 //! The options of blocks.
 
+ghost use Rattle.std.specs.Prelude.{◌≡◌};
+ghost use Rattle.pcapng_blocks.specs.declared.option.BlockOption.TheVariants.{PacketFlags};
+
 /// The code of a comment, in any block (opt_comment).
 pub(crate) const COMMENT: u16 = 1;
 /// The code of a packet's flags (epb_flags).
@@ -8,7 +11,7 @@ pub(crate) const PACKET_FLAGS: u16 = 2;
 pub(crate) const INTERFACE_NAME: u16 = 2;
 /// The code of the unit of an interface's times (if_tsresol).
 pub(crate) const TIME_RESOLUTION: u16 = 9;
-/// The code of the length of an interface's check sequences (if_fcslen).
+/// The code of the length of an interface's check sequences, in bytes (if_fcslen).
 pub(crate) const FCS_LEN: u16 = 13;
 /// The code of what is added to an interface's times (if_tsoffset).
 pub(crate) const TIME_OFFSET: u16 = 14;
@@ -38,4 +41,13 @@ pub enum BlockOption<'a> {
     TimeOffset(u64),
     /// A packet's flags, as [`CRC_ERROR`].
     PacketFlags(u32),
+}
+
+impl Default for BlockOption<'_> {
+    /// The flags of a packet without an error: it stands in the free places of an `ArrayVec`.
+    fn default() -> Self
+        ensures { result ≡ PacketFlags 0 }
+    {
+        BlockOption::PacketFlags(0)
+    }
 }

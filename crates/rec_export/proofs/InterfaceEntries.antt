@@ -28,11 +28,11 @@ number_is channel (entry ∷ entries) =
     ∙ ap (λ n. cond (not (entry.0 == channel)) (1 + n) 0) (number_is channel entries)
 
 -- the later versions of the first interface, and of one behind it
-later_first : (channel : ℕ) (first : Interface) (interfaces : List Interface) → (first.channel == channel) ≡ true
+pub later_first : (channel : ℕ) (first : Interface) (interfaces : List Interface) → (first.channel == channel) ≡ true
     → later_of channel (first ∷ interfaces) ≡ first.later
 later_first channel first interfaces is = grind (arith, is)
 
-later_behind_first : (channel : ℕ) (first : Interface) (interfaces : List Interface) → (first.channel == channel) ≡ false
+pub later_behind_first : (channel : ℕ) (first : Interface) (interfaces : List Interface) → (first.channel == channel) ≡ false
     → later_of channel (first ∷ interfaces) ≡ later_of channel interfaces
 later_behind_first channel first interfaces isnt = grind (arith, isnt)
 
@@ -77,12 +77,12 @@ next_number test items found = by (nat_lt (position_or_len test items) (length i
 -- ---- an entry that is put
 
 -- in the place of the first one
-put_first : (channel : ℕ) (later : Option LaterVersions) (first : Interface) (interfaces : List Interface) → (first.channel == channel) ≡ true
+pub put_first : (channel : ℕ) (later : Option LaterVersions) (first : Interface) (interfaces : List Interface) → (first.channel == channel) ≡ true
     → with_interface channel later (first ∷ interfaces) ≡ record { channel = channel; later = later } ∷ interfaces
 put_first channel later first interfaces is = grind (arith, is)
 
 -- behind the first one
-put_behind : (channel : ℕ) (later : Option LaterVersions) (first : Interface) (interfaces : List Interface) → (first.channel == channel) ≡ false
+pub put_behind : (channel : ℕ) (later : Option LaterVersions) (first : Interface) (interfaces : List Interface) → (first.channel == channel) ≡ false
     → with_interface channel later (first ∷ interfaces) ≡ first ∷ with_interface channel later interfaces
 put_behind channel later first interfaces isnt = grind (arith, isnt)
 

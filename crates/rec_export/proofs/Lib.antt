@@ -8,3 +8,9 @@ pub mod Whole
 pub mod Widths
 pub mod ShownChannels
 mod InterfaceEntries
+mod FrameOptions
+mod LaterPut
+mod Order
+mod ShownComments
+mod Described
+pub mod Leaving

@@ -19,7 +19,7 @@ abbrev pub no_interface : Interface
 no_interface = record { channel = 0; later = None }
 
 -- the number is at most that of the next interface
-most : (channel : ℕ) (interfaces : List Interface) → number_of channel interfaces ≤ length interfaces
+pub most : (channel : ℕ) (interfaces : List Interface) → number_of channel interfaces ≤ length interfaces
 most channel interfaces = prefix_len-le-length _ interfaces
 
 -- a channel's interface stands at its number
@@ -50,7 +50,7 @@ length-put channel later interfaces = put (is_described channel interfaces) (cas
     put false is = let more = length-append interfaces (record { channel = channel; later = later } ∷ []) in omega (arith, more)
 
 -- the interface of a channel that has one is put in its place
-number_in_place : (channel other : ℕ) (later : Option LaterVersions) (interfaces : List Interface) → is_described other interfaces ≡ true
+pub number_in_place : (channel other : ℕ) (later : Option LaterVersions) (interfaces : List Interface) → is_described other interfaces ≡ true
     → number_of channel (with_interface other later interfaces) ≡ number_of channel interfaces
 number_in_place channel other later interfaces is =
     ap (number_of channel) (cond-true (is_described other interfaces) _ _ is)
@@ -58,7 +58,7 @@ number_in_place channel other later interfaces is =
     (ap (λ c. c == channel) (sym (stands_at other interfaces is)))
 
 -- the interface of one that has none is put behind all
-number_behind : (channel other : ℕ) (later : Option LaterVersions) (interfaces : List Interface) → is_described other interfaces ≡ false
+pub number_behind : (channel other : ℕ) (later : Option LaterVersions) (interfaces : List Interface) → is_described other interfaces ≡ false
     → number_of channel (with_interface other later interfaces)
     ≡ cond (number_of channel interfaces == length interfaces) (length interfaces + cond (other == channel) 0 1) (number_of channel interfaces)
 number_behind channel other later interfaces isnt =

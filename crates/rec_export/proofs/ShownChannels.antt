@@ -1,5 +1,5 @@
 -- What the interfaces of an export show: each the frames of its channel.
-use Rattle.std.proofs.Common.{◌≡◌, ℕ, ◌<◌, ◌≤◌, ◌⊎◌, inl, inr, true, false, List, [], ◌∷◌, ◌++◌, length, get_or, map, Option, None, Some, refl, sym, ap}
+use Rattle.std.proofs.Common.{◌≡◌, ℕ, ◌<◌, ◌≤◌, ◌⊎◌, inl, inr, true, false, List, [], ◌∷◌, ◌++◌, length, get_or, map, Option, None, Some, refl, sym, ap, subst}
 use Rattle.std.proofs.Common.{◌∙◌, arith}
 use Rattle.std.specs.Prelude.{◌==◌, slice_get}
 use Rattle.std.specs.Option.{option_map}
@@ -18,10 +18,14 @@ use Rattle.rec_export.specs.Frames.{frame_blocks}
 use Rattle.rec_export.specs.Interfaces.{Interface, channel_name, number_of, is_described, later_of}
 use Rattle.rec_export.specs.Export.{ExportState, description, later_behind, blocks_said, state_said, packet_blocks, state_behind, packets_blocks}
 use Rattle.rec_export.specs.Export.{state_behind_all, first_state, export_blocks}
-use Rattle.rec_export.specs.Shown.{frames_on, interface_name}
+use Rattle.rec_export.specs.Comments.{sayings_on, interface_comments}
+use Rattle.rec_export.specs.Shown.{frames_on, comments_on, interfaces_in, interface_name}
 use Rattle.rec_export.specs.Found.{ShowChannels}
 use Rattle.rec_export.proofs.Numbering.{no_interface, stands_at, takes_number, keeps_all}
 use Rattle.rec_export.proofs.ShownFrames.{frames_on-append, frames_elsewhere, no_frames_described, frames_shown, no_frames, names_shown}
+use Rattle.rec_export.proofs.Order.{one_section, described_ahead_of_packets}
+use Rattle.rec_export.proofs.ShownComments.{comments_shown}
+use Rattle.rec_export.proofs.Described.{StandsDescribed, found_there, described_shown}
 use Rattle.rec_export.proofs.Widths.{AreInterfaces, channel_of, export_fits}
 
 -- ---- no frame on an interface that isn't described
@@ -122,17 +126,27 @@ without interfaces channel absent = by_cases (cases_Bool (is_described channel i
 -- ---- the export
 
 pub shows_channels : (origin : Option ℕ) (packets : List PacketData) → BeginSomeBytes packets
-    → ShowChannels (map channel_of (state_behind_all (first_state origin) packets).interfaces) packets (export_blocks origin packets)
+    → ShowChannels origin (map channel_of (state_behind_all (first_state origin) packets).interfaces) packets (export_blocks origin packets)
 shows_channels origin packets begin =
     let state = first_state origin in
     let last = (state_behind_all state packets).interfaces in
     let are = (export_fits origin packets begin).1 in
     record {
+      section = one_section origin packets;
+      ahead = described_ahead_of_packets origin packets;
       names = names_shown state packets ∙ names_of last;
       once = are.once;
+      described = λ number channel at.
+          (let it = stands_there last channel number are at in
+          found_there origin channel number (interface_comments (sayings_on channel packets)) (interfaces_in (packets_blocks state packets))
+          (subst (λ n. StandsDescribed origin channel 0 n (interface_comments (sayings_on channel packets)) (interfaces_in (packets_blocks state packets)))
+          it.number_is (described_shown channel packets state refl it.described)));
       frames = λ number channel at.
           (let it = stands_there last channel number are at in
           ap (λ n. frames_on n (packets_blocks state packets)) (sym it.number_is) ∙ frames_shown state packets channel it.described);
+      comments = λ number channel at.
+          (let it = stands_there last channel number are at in
+          ap (λ n. comments_on n (packets_blocks state packets)) (sym it.number_is) ∙ comments_shown channel packets state refl it.described);
       beyond = λ number past. (let len = length-map last channel_of in frames_beyond number state packets (omega (arith, past, len)));
       others = λ channel absent. no_frames state packets channel (without last channel absent);
     }

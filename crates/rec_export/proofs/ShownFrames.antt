@@ -12,7 +12,7 @@ use Rattle.ch11_packet.specs.declared.class.What.TheVariants.{Frames, Program, E
 use Rattle.ch11_packet.specs.FramesRead.{ReadFrameData}
 use Rattle.ch11_packet.specs.Classes.{data_in}
 use Rattle.pcapng_blocks.specs.Options.{OptionData}
-use Rattle.pcapng_blocks.specs.Blocks.{CapturedData, BlockData}
+use Rattle.pcapng_blocks.specs.Blocks.{CapturedData, InterfaceData, BlockData}
 use Rattle.pcapng_blocks.specs.Blocks.BlockData.{OfSection, OfInterface, OfPacket}
 use Rattle.rec_reader.specs.Packets.{PacketData}
 use Rattle.rec_reader.specs.ChannelFrames.{channel_frames, packet_frames, frames_held}
@@ -20,13 +20,14 @@ use Rattle.rec_reader.specs.Channels.{Saying, saying_of, saying_in, stored_progr
 use Rattle.rec_reader.specs.Channels.Saying.{OfFrames, OfProgram, OfEnd}
 use Rattle.rec_export.specs.declared.version.FilterVersion.{FilterVersion}
 use Rattle.rec_export.specs.declared.version.LaterVersions.{LaterVersions}
-use Rattle.rec_export.specs.Frames.{comment_options, flag_options, frame_blocks}
-use Rattle.rec_export.specs.Versions.{version_text, later_text, filter_version}
-use Rattle.rec_export.specs.Interfaces.{Interface, interface_block, channel_name, description_options, number_of}
+use Rattle.rec_export.specs.Frames.{comment_options, flag_options, note_of, frame_options, frame_blocks}
+use Rattle.rec_export.specs.Versions.{later_text, filter_version}
+use Rattle.rec_export.specs.Interfaces.{Interface, interface_block, channel_name, number_of}
 use Rattle.rec_export.specs.Interfaces.{is_described, later_of, with_interface}
 use Rattle.rec_export.specs.Export.{ExportState, description, blocks_said, state_said, packet_blocks, state_behind, packets_blocks}
 use Rattle.rec_export.specs.Export.{state_behind_all, later_behind, later_with}
-use Rattle.rec_export.specs.Shown.{FrameShown, packets_on, uncommented, packet_shown, frame_shown, frames_on, name_in, names_in, interface_name}
+use Rattle.rec_export.specs.Shown.{FrameShown, packets_on, uncommented, packet_shown, frame_shown, frames_on, interfaces_in, name_in, names_in}
+use Rattle.rec_export.specs.Shown.{interface_name}
 use Rattle.rec_export.proofs.Numbering.{Keeps, no_interface, stands_at, one_channel, takes_number, keeps_all}
 
 -- ---- frames on an interface
@@ -36,7 +37,7 @@ one_first : (b : Bool) (packet : CapturedData) (all first rest : List CapturedDa
 one_first true packet all first rest e = ap (λ l. packet ∷ l) e
 one_first false packet all first rest e = e
 
-packets_on-append : (n : ℕ) (blocks more : List BlockData) → packets_on n (blocks ++ more) ≡ packets_on n blocks ++ packets_on n more
+pub packets_on-append : (n : ℕ) (blocks more : List BlockData) → packets_on n (blocks ++ more) ≡ packets_on n blocks ++ packets_on n more
 packets_on-append n [] more = refl
 packets_on-append n (OfSection ∷ blocks) more = packets_on-append n blocks more
 packets_on-append n (OfInterface i ∷ blocks) more = packets_on-append n blocks more
@@ -46,16 +47,38 @@ pub frames_on-append : (n : ℕ) (blocks more : List BlockData) → frames_on n 
 frames_on-append n blocks more =
     ap (map packet_shown) (packets_on-append n blocks more) ∙ map-append packet_shown (packets_on n blocks) (packets_on n more)
 
-marks_left : (comment : Option (List ℕ)) (crc_error frame_error : Bool)
-    → uncommented (comment_options comment ++ flag_options crc_error frame_error) ≡ flag_options crc_error frame_error
-marks_left None true true = refl
-marks_left None true false = refl
-marks_left None false true = refl
-marks_left None false false = refl
-marks_left (Some text) true true = refl
-marks_left (Some text) true false = refl
-marks_left (Some text) false true = refl
-marks_left (Some text) false false = refl
+-- ---- options
+
+first_kept : (b : Bool) (option : OptionData) (all first rest : List OptionData) → all ≡ first ++ rest
+    → cond b all (option ∷ all) ≡ cond b first (option ∷ first) ++ rest
+first_kept true option all first rest e = e
+first_kept false option all first rest e = ap (λ l. option ∷ l) e
+
+uncommented-append : (options more : List OptionData) → uncommented (options ++ more) ≡ uncommented options ++ uncommented more
+uncommented-append [] more = refl
+uncommented-append (option ∷ options) more = first_kept (option.code == 1) option _ _ _ (uncommented-append options more)
+
+flags_left : (crc_error frame_error : Bool) → uncommented (flag_options crc_error frame_error) ≡ flag_options crc_error frame_error
+flags_left true true = refl
+flags_left true false = refl
+flags_left false true = refl
+flags_left false false = refl
+
+none_left : (comment note : Option (List ℕ)) → uncommented (comment_options comment ++ comment_options note) ≡ []
+none_left None None = refl
+none_left None (Some said) = refl
+none_left (Some text) None = refl
+none_left (Some text) (Some said) = refl
+
+marks_left : (comment : Option (List ℕ)) (frame : ReadFrameData)
+    → uncommented (frame_options comment frame) ≡ flag_options frame.crc_error frame.frame_error
+marks_left comment frame =
+    uncommented-append (flag_options frame.crc_error frame.frame_error) (comment_options comment ++ comment_options (note_of frame))
+    ∙ ap (λ l. uncommented (flag_options frame.crc_error frame.frame_error) ++ l) (none_left comment (note_of frame))
+    ∙ append-nil (uncommented (flag_options frame.crc_error frame.frame_error))
+    ∙ flags_left frame.crc_error frame.frame_error
+
+-- ---- frames
 
 abbrev pub shown_of : (time : ℕ) (bytes : List ℕ) (marks : List OptionData) → FrameShown
 shown_of time bytes marks = record { time = time; bytes = bytes; marks = marks }
@@ -65,7 +88,7 @@ frames_there : (n : ℕ) (comment : Option (List ℕ)) (frames : List ReadFrameD
 frames_there n comment [] = refl
 frames_there n comment (frame ∷ frames) =
     ap (map packet_shown) (cond-true (n == n) _ _ (eq-eqb n n refl))
-    ∙ ap (λ marks. shown_of frame.counter frame.bytes marks ∷ frames_on n (frame_blocks n None frames)) (marks_left comment frame.crc_error frame.frame_error)
+    ∙ ap (λ marks. shown_of frame.counter frame.bytes marks ∷ frames_on n (frame_blocks n None frames)) (marks_left comment frame)
     ∙ ap (λ l. frame_shown frame ∷ l) (frames_there n None frames)
 
 -- and on no other
@@ -85,7 +108,7 @@ no_frames_described n state channel version = none_on n (is_described channel st
 -- ---- one packet
 
 -- the interface of number n is to be the channel's, of the channels that frames name
-record IsOwn (n channel : ℕ) (state : ExportState) (said : Option (ℕ × Saying)) : Type 0 where
+pub record IsOwn (n channel : ℕ) (state : ExportState) (said : Option (ℕ × Saying)) : Type 0 where
   pub own : (other : ℕ) (frames : List ReadFrameData) → said ≡ Some (other, OfFrames frames) → other ≡ channel → number_of other state.interfaces ≡ n
   pub others : (other : ℕ) (frames : List ReadFrameData) → said ≡ Some (other, OfFrames frames) → number_of other state.interfaces ≡ n → other ≡ channel
 
@@ -129,7 +152,7 @@ frames_of_packet n channel other state Other bytes is = sym (no_more (other == c
 -- ---- all packets
 
 -- the number that a channel has in the end is that of the frames that name it
-is_own : (channel : ℕ) (state : ExportState) (said : Option (ℕ × Saying)) (packets : List PacketData)
+pub is_own : (channel : ℕ) (state : ExportState) (said : Option (ℕ × Saying)) (packets : List PacketData)
     → is_described channel (state_behind_all (state_said state said) packets).interfaces ≡ true
     → IsOwn (number_of channel (state_behind_all (state_said state said) packets).interfaces) channel state said
 is_own channel state said packets is =
@@ -206,19 +229,25 @@ no_frames state (packet ∷ packets) channel isnt =
 
 -- ---- names
 
-names_in-append : (blocks more : List BlockData) → names_in (blocks ++ more) ≡ names_in blocks ++ names_in more
-names_in-append [] more = refl
-names_in-append (OfSection ∷ blocks) more = names_in-append blocks more
-names_in-append (OfInterface i ∷ blocks) more = ap (λ l. name_in i.options ∷ l) (names_in-append blocks more)
-names_in-append (OfPacket p ∷ blocks) more = names_in-append blocks more
+pub interfaces_in-append : (blocks more : List BlockData) → interfaces_in (blocks ++ more) ≡ interfaces_in blocks ++ interfaces_in more
+interfaces_in-append [] more = refl
+interfaces_in-append (OfSection ∷ blocks) more = interfaces_in-append blocks more
+interfaces_in-append (OfInterface i ∷ blocks) more = ap (λ l. i ∷ l) (interfaces_in-append blocks more)
+interfaces_in-append (OfPacket p ∷ blocks) more = interfaces_in-append blocks more
 
-name_there : (comment : Option (List ℕ)) (name : List ℕ) (origin : Option ℕ) → name_in (description_options comment name origin) ≡ Some name
-name_there None name origin = refl
-name_there (Some text) name origin = refl
+abbrev name_of : InterfaceData → Option (List ℕ)
+name_of interface = name_in interface.options
+
+names_in-append : (blocks more : List BlockData) → names_in (blocks ++ more) ≡ names_in blocks ++ names_in more
+names_in-append blocks more =
+    ap (map name_of) (interfaces_in-append blocks more) ∙ map-append name_of (interfaces_in blocks) (interfaces_in more)
+
+pub frames_have_no_interface : (n : ℕ) (comment : Option (List ℕ)) (frames : List ReadFrameData) → interfaces_in (frame_blocks n comment frames) ≡ []
+frames_have_no_interface n comment [] = refl
+frames_have_no_interface n comment (frame ∷ frames) = frames_have_no_interface n None frames
 
 frames_have_none : (n : ℕ) (comment : Option (List ℕ)) (frames : List ReadFrameData) → names_in (frame_blocks n comment frames) ≡ []
-frames_have_none n comment [] = refl
-frames_have_none n comment (frame ∷ frames) = frames_have_none n None frames
+frames_have_none n comment frames = ap (map name_of) (frames_have_no_interface n comment frames)
 
 -- the names so far, and that of the interface that is described
 names_described : (state : ExportState) (channel : ℕ) (version : Option FilterVersion) (later : Option LaterVersions)
@@ -237,11 +266,11 @@ names_described state channel version later = by_cases (cases_Bool (is_described
         ∙ ap (map interface_name) (sym (cond-true (is_described channel state.interfaces) _ _ is))
     by_cases (inr isnt) =
         ap (λ blocks. map interface_name state.interfaces ++ names_in blocks) (cond-false (is_described channel state.interfaces) _ _ isnt)
-        ∙ ap (λ name. map interface_name state.interfaces ++ name ∷ []) (name_there (option_map version_text version) (channel_name channel) state.origin)
+        ∙ ap (λ name. map interface_name state.interfaces ++ name ∷ []) refl
         ∙ sym (map-append interface_name state.interfaces (record { channel = channel; later = later } ∷ []))
         ∙ ap (map interface_name) (sym (cond-false (is_described channel state.interfaces) _ _ isnt))
 
-names_said : (state : ExportState) (said : Option (ℕ × Saying))
+pub names_said : (state : ExportState) (said : Option (ℕ × Saying))
     → map interface_name state.interfaces ++ names_in (blocks_said state said) ≡ map interface_name (state_said state said).interfaces
 names_said state (Some (channel, OfFrames frames)) =
     ap (λ l. map interface_name state.interfaces ++ l) (names_in-append (description state channel None) _

@@ -25,7 +25,8 @@ use Rattle.ch11_packet.specs.Header.{HeaderData}
 use Rattle.ch11_packet.specs.Classes.{HasClass}
 use Rattle.ch11_packet.proofs.Classing.{said_by_body}
 use Rattle.ch11_packet.proofs.StoredInsns.{length-stored_insns}
-use Rattle.pcapng_blocks.specs.Options.{OptionData, IsOption, AreOptions, option_of, option_bytes, options_bytes, end_of_options}
+use Rattle.pcapng_blocks.specs.Options.{OptionData, IsOption, AreOptions, option_of, name_option, resolution_option, fcs_len_option}
+use Rattle.pcapng_blocks.specs.Options.{option_bytes, options_bytes, end_of_options}
 use Rattle.pcapng_blocks.specs.Blocks.{BlockData, IsBlock, AreBlocks}
 use Rattle.pcapng_blocks.proofs.BlockParts.{length-option, length-packet_body}
 use Rattle.rec_reader.specs.Packets.{PacketData, BeginsPackets, BeginSomeBytes}
@@ -35,11 +36,12 @@ use Rattle.rec_export.specs.declared.version.FilterVersion.{FilterVersion}
 use Rattle.rec_export.specs.declared.version.LaterVersions.{LaterVersions}
 use Rattle.rec_export.specs.declared.version.LaterVersions.TheVariants.{One, Several}
 use Rattle.rec_export.specs.Versions.{filter_version, version_text, joined_by, later_text}
-use Rattle.rec_export.specs.Frames.{packet_flags, comment_options, flag_options, captured, frame_blocks}
+use Rattle.rec_export.specs.Frames.{packet_flags, comment_options, flag_options, note_of, frame_options, captured, frame_blocks}
 use Rattle.rec_export.specs.Interfaces.{Interface, channel_name, offset_options, description_options, interface_block, number_of, is_described, later_of}
 use Rattle.rec_export.specs.Interfaces.{with_interface}
 use Rattle.rec_export.specs.Export.{ExportState, description, later_behind, later_with, blocks_said, state_said, packets_blocks, state_behind}
 use Rattle.rec_export.specs.Export.{state_behind_all, first_state, export_blocks}
+use Rattle.rec_export.proofs.FrameOptions.{short_note}
 use Rattle.rec_export.proofs.Texts.{short_version, short_several, short_name}
 use Rattle.rec_export.proofs.Numbering.{no_interface, stands_at}
 
@@ -146,17 +148,22 @@ are_append (block ∷ blocks) more are also = (are.0, are_append blocks more are
 is_captured : (interface : ℕ) (comment : Option (List ℕ)) (frame : ReadFrameData) → interface < 2 ^ 32 → IsBrief comment → IsReadFrame frame
     → IsBlock (captured interface comment frame)
 is_captured interface comment frame fits brief is =
-    let options = comment_options comment ++ flag_options frame.crc_error frame.frame_error in
-    let small = small_append (comment_options comment) (flag_options frame.crc_error frame.frame_error) (small_comment comment brief)
-    (small_flags frame.crc_error frame.frame_error) in
-    let both = length-append (comment_options comment) (flag_options frame.crc_error frame.frame_error) in
-    let first = one_comment comment in
-    let second = one_flags frame.crc_error frame.frame_error in
+    let options = frame_options comment frame in
+    let flags = flag_options frame.crc_error frame.frame_error in
+    let texts = comment_options comment ++ comment_options (note_of frame) in
+    let note = short_note frame.content (length frame.bytes) is.content in
+    let small = small_append flags texts (small_flags frame.crc_error frame.frame_error)
+    (small_append (comment_options comment) (comment_options (note_of frame)) (small_comment comment brief) (small_comment (note_of frame) note)) in
+    let all_of = length-append flags texts in
+    let both = length-append (comment_options comment) (comment_options (note_of frame)) in
+    let first = one_flags frame.crc_error frame.frame_error in
+    let second = one_comment comment in
+    let third = one_comment (note_of frame) in
     let few = small_bytes options small in
     let all = length-packet_body (record { interface = interface; time = frame.counter; bytes = frame.bytes; options = options }) in
     let counter = is.counter in
     let longest = is.longest in
-    (fits, omega (arith, counter), small_options options small, omega (arith, both, first, second, few, all, longest))
+    (fits, omega (arith, counter), small_options options small, omega (arith, all_of, both, first, second, third, few, all, longest))
 
 are_frames : (interface : ℕ) (comment : Option (List ℕ)) (frames : List ReadFrameData) → interface < 2 ^ 32 → IsBrief comment
     → AllByRecursion IsReadFrame frames → AreBlocks (frame_blocks interface comment frames)
@@ -168,13 +175,14 @@ is_interface : (origin : Option ℕ) (channel : ℕ) (version : Option FilterVer
     → IsBlock (interface_block origin channel version)
 is_interface origin channel version fits is =
     let comment = option_map version_text version in
-    let others = is_small 2 (channel_name channel) (omega arith) (omega arith) (short_name channel fits) in
+    let its = resolution_option 7 ∷ name_option (channel_name channel) ∷ fcs_len_option 4 ∷ offset_options origin in
     let unit = is_small 9 (7 ∷ []) (omega arith) (omega arith) (omega arith) in
+    let name = is_small 2 (channel_name channel) (omega arith) (omega arith) (short_name channel fits) in
     let check = is_small 13 (4 ∷ []) (omega arith) (omega arith) (omega arith) in
     let options = description_options comment (channel_name channel) origin in
     let small : AllByRecursion IsSmall options =
-    small_append (comment_options comment) _ (small_comment comment (brief_version version is)) (others, (unit, (check, small_offset origin))) in
-    let both = length-append (comment_options comment) (description_options None (channel_name channel) origin) in
+    small_append its (comment_options comment) (unit, (name, (check, small_offset origin))) (small_comment comment (brief_version version is)) in
+    let both = length-append its (comment_options comment) in
     let first = one_comment comment in
     let last = one_offset origin in
     let few = small_bytes options small in

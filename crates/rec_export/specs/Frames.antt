@@ -1,7 +1,9 @@
 -- A channel's frames as the packets of an interface.
-use Rattle.std.specs.Prelude.{ℕ, ◌+◌, ◌*◌, ◌<◌, ◌^◌, ◌||◌, Bool, IfSome, length, if◌then◌else◌, List, [], ◌∷◌, ◌++◌, Option, None, Some}
+use Rattle.std.specs.Prelude.{ℕ, ◌+◌, ◌*◌, ◌<◌, ◌^◌, ◌==◌, ◌||◌, Bool, IfSome, codes, nat_lt, length, if◌then◌else◌, List, [], ◌∷◌, ◌++◌, Option, None, Some}
 use Rattle.std.specs.Borrow.{Bor}
 use Rattle.std.specs.Option.{option_map}
+use Rattle.std.specs.Fmt.{decimal}
+use Rattle.eth_frame.specs.declared.frame.TheConstants.{MIN_FRAME_LEN}
 use Rattle.ch11_packet.specs.FramesRead.{ReadFrameData}
 use Rattle.pcapng_blocks.specs.Options.{OptionData, comment_option, flags_option}
 use Rattle.pcapng_blocks.specs.Blocks.{BlockData}
@@ -42,12 +44,30 @@ packet_with interface frame options = OfPacket (record {
   options = options;
 })
 
+-- what is said of this many bytes of this content, if they are no Ethernet frame with its check
+-- sequence: their content isn't 0, or they are too few
+abbrev pub note_for : (content len : ℕ) → Option (List ℕ)
+note_for content len =
+    if content == 0
+    then (if nat_lt len MIN_FRAME_LEN
+    then Some (codes "too short for an Ethernet frame with its FCS") else None)
+    else Some (codes "content " ++ (decimal content
+    ++ codes ": no Ethernet frame with its FCS"))
+
+-- what is said of a frame that is none
+abbrev pub note_of : ReadFrameData → Option (List ℕ)
+note_of frame = note_for frame.content (length frame.bytes)
+
+-- the options of a frame: its flags, this comment, and what is said of bytes that are no frame
+abbrev pub frame_options : (comment : Option (List ℕ)) → ReadFrameData → List OptionData
+frame_options comment frame =
+    flag_options frame.crc_error frame.frame_error
+    ++ (comment_options comment ++ comment_options (note_of frame))
+
 -- a frame as a packet of an interface, with this comment: its counter is the time, and its bytes end
 -- with its check sequence
 abbrev pub captured : (interface : ℕ) (comment : Option (List ℕ)) → ReadFrameData → BlockData
-captured interface comment frame =
-    packet_with interface frame
-    (comment_options comment ++ flag_options frame.crc_error frame.frame_error)
+captured interface comment frame = packet_with interface frame (frame_options comment frame)
 
 -- frames as the packets of an interface: each of them in order, and the comment on the first
 abbrev pub frame_blocks :

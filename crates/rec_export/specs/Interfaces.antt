@@ -22,13 +22,13 @@ abbrev pub offset_options : (origin : Option ℕ) → List OptionData
 offset_options None = []
 offset_options (Some seconds) = offset_option seconds ∷ []
 
--- its options: a comment, if there is one; its name; times in units of 10^-7 seconds; check sequences
--- of 4 bytes; and the origin of times
+-- its options: times in units of 10^-7 seconds; its name; check sequences of 4 bytes; the origin of
+-- times; and a comment, if there is one, behind all that a reader needs
 abbrev pub description_options :
     (comment : Option (List ℕ)) (name : List ℕ) (origin : Option ℕ) → List OptionData
 description_options comment name origin =
-    comment_options comment
-    ++ (name_option name ∷ resolution_option 7 ∷ fcs_len_option 4 ∷ offset_options origin)
+    (resolution_option 7 ∷ name_option name ∷ fcs_len_option 4 ∷ offset_options origin)
+    ++ comment_options comment
 
 -- the interface of a channel, of Ethernet frames of any length: the filter's version is a comment, if
 -- it is known, and the channel the name

@@ -2,6 +2,7 @@ pub mod Frames
 pub mod Versions
 pub mod Interfaces
 pub mod Export
+pub mod Comments
 pub mod Shown
 pub mod Found
 pub mod Ends

@@ -2,7 +2,7 @@
 use Rattle.std.specs.Prelude.{ℕ, ◌==◌, if◌then◌else◌, List, [], ◌∷◌, map, Option, None, Some}
 use Rattle.ch11_packet.specs.FramesRead.{ReadFrameData}
 use Rattle.pcapng_blocks.specs.Options.{OptionData}
-use Rattle.pcapng_blocks.specs.Blocks.{CapturedData, BlockData}
+use Rattle.pcapng_blocks.specs.Blocks.{CapturedData, InterfaceData, BlockData}
 use Rattle.pcapng_blocks.specs.Blocks.BlockData.{OfSection, OfInterface, OfPacket}
 use Rattle.rec_export.specs.Frames.{flag_options}
 use Rattle.rec_export.specs.Interfaces.{Interface, channel_name}
@@ -19,7 +19,19 @@ packets_on interface (OfPacket packet ∷ blocks) =
     then packet ∷ packets_on interface blocks
     else packets_on interface blocks
 
--- options without the comments, whose code is 1
+-- the values of the options of a code, in order
+abbrev pub option_values : (code : ℕ) → List OptionData → List (List ℕ)
+option_values code [] = []
+option_values code (option ∷ options) =
+    if option.code == code
+    then option.value ∷ option_values code options
+    else option_values code options
+
+-- the comments in options, whose code is 1
+abbrev pub comments_in : List OptionData → List (List ℕ)
+comments_in options = option_values 1 options
+
+-- options without the comments
 abbrev pub uncommented : List OptionData → List OptionData
 uncommented [] = []
 uncommented (option ∷ options) =
@@ -51,6 +63,13 @@ frame_shown frame = record {
 abbrev pub frames_on : (interface : ℕ) → List BlockData → List FrameShown
 frames_on interface blocks = map packet_shown (packets_on interface blocks)
 
+-- the comments of a packet, and of each packet of an interface
+abbrev pub packet_comments : CapturedData → List (List ℕ)
+packet_comments packet = comments_in packet.options
+
+abbrev pub comments_on : (interface : ℕ) → List BlockData → List (List (List ℕ))
+comments_on interface blocks = map packet_comments (packets_on interface blocks)
+
 -- ---- interfaces
 
 -- the name in the options of an interface: the value of the first one of code 2
@@ -58,12 +77,16 @@ abbrev pub name_in : List OptionData → Option (List ℕ)
 name_in [] = None
 name_in (option ∷ options) = if option.code == 2 then Some option.value else name_in options
 
+-- the interfaces among blocks, in order
+abbrev pub interfaces_in : List BlockData → List InterfaceData
+interfaces_in [] = []
+interfaces_in (OfSection ∷ blocks) = interfaces_in blocks
+interfaces_in (OfInterface interface ∷ blocks) = interface ∷ interfaces_in blocks
+interfaces_in (OfPacket packet ∷ blocks) = interfaces_in blocks
+
 -- the names of the interfaces among blocks, in order
 abbrev pub names_in : List BlockData → List (Option (List ℕ))
-names_in [] = []
-names_in (OfSection ∷ blocks) = names_in blocks
-names_in (OfInterface interface ∷ blocks) = name_in interface.options ∷ names_in blocks
-names_in (OfPacket packet ∷ blocks) = names_in blocks
+names_in blocks = map (λ (interface : InterfaceData). name_in interface.options) (interfaces_in blocks)
 
 -- the name of a channel's interface
 abbrev pub interface_name : Interface → Option (List ℕ)

@@ -7,9 +7,11 @@ ghost use Rattle.pcapng_blocks.specs.Blocks.{block_bytes, blocks_bytes};
 ghost use Rattle.pcapng_blocks.specs.Outputs.{TakesStart};
 ghost use Rattle.pcapng_blocks.specs.Options.{AreOptions, options_bytes};
 ghost use Rattle.pcapng_blocks.specs.Views.{options_data};
-ghost use Rattle.rec_export.specs.Frames.{IsShort, captured, frame_blocks, packet_flags, packet_with, text_of};
+ghost use Rattle.rec_export.specs.Frames.{IsShort, captured, frame_blocks, frame_options, note_of, packet_flags, packet_with, text_of};
 
+use arrayvec::ArrayVec;
 use ch11_packet::{Frames, ReadFrame};
+use eth_frame::MIN_FRAME_LEN;
 use pcapng_blocks::{
     Block, BlockFault, BlockOption, CRC_ERROR, FLAGS_FCS_LEN_BIT, SYMBOL_ERROR, write_block,
 };
@@ -17,6 +19,18 @@ use std::io::Write;
 
 /// The number of bytes of a frame check sequence (FCS).
 pub(crate) const FCS_LEN: u8 = 4;
+
+/// How many options a packet may have.
+const MOST_OPTIONS: usize = 3;
+
+/// What is said of bytes that are too few for a frame.
+const TOO_SHORT: &[u8] = b"too short for an Ethernet frame with its FCS";
+/// What is said of bytes of each content but 0.
+const CONTENT_1: &[u8] = b"content 1: no Ethernet frame with its FCS";
+
+const CONTENT_2: &[u8] = b"content 2: no Ethernet frame with its FCS";
+
+const CONTENT_3: &[u8] = b"content 3: no Ethernet frame with its FCS";
 
 /// Writes frames as the packets of an interface, with a comment on the first.
 pub(crate) fn write_frames<W: Write>(
@@ -54,16 +68,42 @@ fn write_frame<W: Write>(
         (block_bytes (captured interface (text_of comment.entry)
         (read_frame_data frame.now)))) }
 {
-    match (comment, flags_of(frame)) {
-        (None, None) => write_captured(out, interface, frame, &[]),
-        (None, Some(flags)) => {
-            write_captured(out, interface, frame, &[BlockOption::PacketFlags(flags)])
-        }
-        (Some(text), None) => write_captured(out, interface, frame, &[BlockOption::Comment(text)]),
-        (Some(text), Some(flags)) => {
-            let options = [BlockOption::Comment(text), BlockOption::PacketFlags(flags)];
-            write_captured(out, interface, frame, &options)
-        }
+    let options = frame_options(comment, frame);
+    write_captured(out, interface, frame, options.as_slice())
+}
+
+/// The options of a frame: its flags, a comment, and what is said of bytes that are no frame.
+fn frame_options<'a>(
+    comment: Option<&'a [u8]>,
+    frame: &ReadFrame<'_>,
+) -> ArrayVec<BlockOption<'a>, MOST_OPTIONS>
+    ensures { options_data result.items
+        ≡ frame_options (text_of comment.entry) (read_frame_data frame.now) }
+{
+    let mut options = ArrayVec::new();
+    if let Some(flags) = flags_of(frame) {
+        options.push(BlockOption::PacketFlags(flags));
+    }
+    // behind the flags, since a reader may stop at it
+    if let Some(text) = comment {
+        options.push(BlockOption::Comment(text));
+    }
+    if let Some(text) = note_of(frame) {
+        options.push(BlockOption::Comment(text));
+    }
+    options
+}
+
+/// What is said of bytes that are no Ethernet frame with its check sequence.
+fn note_of(frame: &ReadFrame<'_>) -> Option<&'static [u8]>
+    ensures { text_of result ≡ note_of (read_frame_data frame.now) }
+{
+    match frame.content {
+        0 if frame.bytes.len() < MIN_FRAME_LEN => Some(TOO_SHORT),
+        0 => None,
+        1 => Some(CONTENT_1),
+        2 => Some(CONTENT_2),
+        _ => Some(CONTENT_3),
     }
 }
 

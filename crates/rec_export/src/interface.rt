@@ -159,14 +159,15 @@ fn description_options<'a>(
         ≡ description_options (text_of comment.entry) name.entry.now origin) }
 {
     let mut options = Vec::new(alloc);
-    if let Some(text) = comment {
-        options.push(BlockOption::Comment(text))?;
-    }
-    options.push(BlockOption::InterfaceName(name))?;
     options.push(BlockOption::TimeResolution(TIME_RESOLUTION))?;
+    options.push(BlockOption::InterfaceName(name))?;
     options.push(BlockOption::FcsLen(FCS_LEN))?;
     if let Some(seconds) = origin {
         options.push(BlockOption::TimeOffset(seconds))?;
+    }
+    // behind all others, since a reader may stop at it
+    if let Some(text) = comment {
+        options.push(BlockOption::Comment(text))?;
     }
     Ok(options)
 }

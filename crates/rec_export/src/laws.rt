@@ -43,11 +43,12 @@ pub fn an_export_is_read_as_its_blocks()
 /// and once each. Of a recording that isn't read to its end they show the frames before.
 pub fn an_export_shows_its_recording()
     ensures whole { (origin : Option ℕ) (recording : List ℕ) (old new : Option (List ℕ))
-        → (exported : IsExported origin recording old new) → ShowsPackets exported.packets old new }
+        → (exported : IsExported origin recording old new)
+        → ShowsPackets origin exported.packets old new }
     ensures part { (origin : Option ℕ) (recording : List ℕ) (end : ReadEnd)
         (old new : Option (List ℕ))
         → (stopped : StopsExport origin recording end old new)
-        → ShowsPackets stopped.packets old new }
+        → ShowsPackets origin stopped.packets old new }
 {
     an_export_is_read_as_its_blocks();
 }

@@ -7,6 +7,7 @@ from reading import ch11, packets_of
 from rows import Held, frames_in
 
 INSN_LEN = 8
+LEAST_FRAME_LEN = 18
 COMMENT, NAME, FLAGS, RESOLUTION, CHECK_SEQUENCE_LEN, OFFSET = 1, 2, 2, 9, 13, 14
 END = option("<", 0, b"")
 
@@ -19,7 +20,7 @@ class Shown(NamedTuple):
     counter: int
     bytes: bytes
     marks: int
-    comment: str
+    comments: list[str]
 
 
 class Version(NamedTuple):
@@ -37,6 +38,14 @@ def text_of(versions: list[Version]) -> str:
     if len(versions) == 1:
         return f"filter version {last.number}, {last.insns} instructions"
     return f"filter versions {versions[0].number} to {last.number}, the last of {last.insns} instructions"
+
+
+def notes_of(frame: Held) -> list[str]:
+    """What comments say of bytes that are no Ethernet frame with its check sequence."""
+    content = frame.word >> 28 & 3
+    if content:
+        return [f"content {content}: no Ethernet frame with its FCS"]
+    return [] if len(frame.bytes) >= LEAST_FRAME_LEN else ["too short for an Ethernet frame with its FCS"]
 
 
 class Export:
@@ -68,21 +77,23 @@ class Export:
         if channel in self.numbers:
             return False
         self.numbers[channel] = len(self.numbers)
-        options = [option("<", COMMENT, comment.encode())] if comment else []
-        options += [option("<", NAME, f"channel {channel}".encode()), option("<", RESOLUTION, b"\x07")]
+        options = [option("<", RESOLUTION, b"\x07"), option("<", NAME, f"channel {channel}".encode())]
         options.append(option("<", CHECK_SEQUENCE_LEN, b"\x04"))
         if self.origin is not None:
             options.append(option("<", OFFSET, self.origin.to_bytes(8, "little")))
+        options += [option("<", COMMENT, comment.encode())] if comment else []
         self.parts.append(interface("<", *options, END))
         return True
 
     def show(self, channel: int, frame: Held) -> None:
         marks, number, comment = frame.word >> 30, self.numbers[channel], text_of(self.later.pop(channel, []))
-        self.frames.append(Shown(number, channel, frame.counter, frame.bytes, marks, comment))
-        options = [option("<", COMMENT, comment.encode())] if comment else []
+        comments = [it for it in [comment, *notes_of(frame)] if it]
+        self.frames.append(Shown(number, channel, frame.counter, frame.bytes, marks, comments))
+        options = []
         if marks:
             value = 4 << 5 | (1 << 24 if marks & 2 else 0) | (1 << 31 if marks & 1 else 0)
             options.append(option("<", FLAGS, value.to_bytes(4, "little")))
+        options += [option("<", COMMENT, it.encode()) for it in comments]
         self.parts.append(packet("<", number, frame.counter, frame.bytes, *options, *[END][: len(options)]))
 
 

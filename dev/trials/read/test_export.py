@@ -1,5 +1,5 @@
-"""Tries `bpfrec export` by programs that nobody here wrote: tshark, capinfos, editcap, mergecap, reordercap and
-tcpdump."""
+"""Tries `bpfrec export` by programs that nobody here wrote: tshark, capinfos, editcap, mergecap, reordercap, tcpdump
+and scapy."""
 
 import hashlib
 import os
@@ -8,6 +8,7 @@ import re
 import resource
 import select
 import subprocess
+import sys
 from pathlib import Path
 
 import pytest
@@ -15,12 +16,27 @@ from captures import fields_of
 from damage import damaged
 from exports import Shown, wanted_of
 from frames import FRAMES, HEAD, body_of, packet_of, program_packet, with_check_sequence
+from pcapng import described
 from reading import SAMPLES, SEED, packets_of, recording_of_three
 from recorder import RECORDINGS, extracted
-from rows import AS_ROOT, drawn_recording, flight_of, seconds_of
+from rows import AS_ROOT, TICKS_A_SECOND, drawn_recording, flight_of, seconds_of
 from support import BPFREC, CONVERT, judge, judge_quietly, outcome, present, run
 
-WANTED = {"bin/bpfrec": "make build", "tshark": "tshark", "capinfos": "wireshark-common", "tcpdump": "tcpdump"}
+WANTED = {
+    "bin/bpfrec": "make build",
+    "tshark": "tshark",
+    "capinfos": "wireshark-common",
+    "tcpdump": "tcpdump",
+    "scapy": "python3-scapy",
+}
+# Prints the time of each packet of a capture in units, the units of a second, and its bytes.
+SCAPY = """
+import logging, sys
+logging.getLogger("scapy.runtime").setLevel(logging.ERROR)
+from scapy.utils import RawPcapReader
+for captured, about in RawPcapReader(sys.argv[1]):
+    print((about.tshigh << 32) + about.tslow, about.tsresol, captured.hex())
+"""
 FIELDS = [
     "frame.interface_id",
     "frame.interface_name",
@@ -54,7 +70,7 @@ def row_of(frame: Shown) -> list[str]:
     flags = ["", ""] if not frame.marks else [str(frame.marks >> 1), str(frame.marks & 1)]
     name, length = f"channel {frame.channel}", str(len(frame.bytes))
     moment, its_sum = seconds_of(frame.counter), hashlib.md5(frame.bytes).hexdigest()
-    return [str(frame.interface), name, moment, length, its_sum, *flags, frame.comment]
+    return [str(frame.interface), name, moment, length, its_sum, *flags, ",".join(frame.comments)]
 
 
 def judge_export(work: Path, recording: Path) -> int:
@@ -111,7 +127,7 @@ def test_a_comment_has_the_first_and_last_of_several_versions(work: Path) -> Non
         data = drawn_versions(draw)
         (work / "versions.ch11").write_bytes(data)
         judge_export(work, work / "versions.ch11")
-        comments |= {it.comment for it in wanted_of(data).frames}
+        comments |= {",".join(it.comments) for it in wanted_of(data).frames}
     several = [it for it in comments if re.fullmatch(r"filter versions \d+ to \d+, the last of [123] instructions", it)]
     one = [it for it in comments if re.fullmatch(r"filter version \d+, [123] instructions", it)]
     judge(f"{len(one)} comments on one version, {len(several)} on several", one and several and "" in comments)
@@ -205,6 +221,30 @@ def test_programs_that_read_captures_take_an_export(work: Path, three: Path) -> 
     judge("reordercap of one channel", outcome("reordercap", one, work / "one.pcapng").returncode == 0)
     lines = outcome("tcpdump", "-nr", exported(work, three))
     judge("tcpdump", lines.returncode == 0 and len(re.findall(r"^\d\d:", lines.stdout, re.MULTILINE)) == count, lines)
+
+
+def test_scapy_reads_the_times_of_an_export(work: Path, three: Path) -> None:
+    """scapy 2.5 passes over what stands behind a comment, and takes times for microseconds without their unit."""
+    wanted, texts = wanted_of(three.read_bytes()), [it.comment for it in described(exported(work, three).read_bytes())]
+    seen = run(sys.executable, "-c", SCAPY, work / "exported.pcapng").splitlines()
+    rows = [f"{it.counter} {TICKS_A_SECOND} {it.bytes.hex()}" for it in wanted.frames]
+    judge(f"{len(rows)} frames of interfaces with comments", seen == rows and any(texts), seen[:1])
+
+
+def test_what_is_no_frame_says_so(work: Path) -> None:
+    """A frame whose content isn't 0, or that is too short to be one, has a comment, also beside that of a filter."""
+    kinds = [(content, length) for content in range(4) for length in (0, 17, 18, 60)]
+    frames = [(at, content << 28, bytes(length)) for at, (content, length) in enumerate(kinds)]
+    recording = work / "kinds.ch11"
+    packets = [program_packet(1, number) for number in (0, 1)]
+    recording.write_bytes(b"".join([*packets, packet_of(1, body_of(frames), 0, FRAMES, 1, True)]))
+    judge_export(work, recording)
+    shown = [it.comments[-1:] for it in wanted_of(recording.read_bytes()).frames]
+    judge(
+        "each of them, and no other",
+        [bool(it) for it in shown] == [kind not in ((0, 18), (0, 60)) for kind in kinds],
+        shown,
+    )
 
 
 @pytest.mark.timed

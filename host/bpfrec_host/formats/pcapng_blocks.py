@@ -75,27 +75,29 @@ def block(kind: int, body: bytes) -> bytes:
 
 def section(program: str, texts: Iterable[str]) -> bytes:
     """The head of a section of any length, with the program that wrote it and comments."""
-    options = comments(texts) + text_option(OPTION_PROGRAM, program) + option(OPTION_END, b"")
+    # Comments are behind all other options in each block, since a reader may stop at one.
+    options = text_option(OPTION_PROGRAM, program) + comments(texts) + option(OPTION_END, b"")
     return block(SECTION_BLOCK, struct.pack("<IHHq", BYTE_ORDER_MAGIC, 1, 0, -1) + options)
 
 
 def interface(name: str, description: str, comment: str, last: str) -> bytes:
     """The description of an interface of Ethernet, whose times are in nanoseconds and whose frames end with their
     check sequences. Its comment has what is last in it also where the rest is too long."""
-    options = text_option(OPTION_COMMENT, comment, last)
+    options = option(OPTION_RESOLUTION, NANOSECONDS) + option(OPTION_CHECK_SEQUENCE_LEN, bytes([CHECK_SEQUENCE_LEN]))
     options += text_option(OPTION_NAME, name) + text_option(OPTION_DESCRIPTION, description)
-    options += option(OPTION_RESOLUTION, NANOSECONDS) + option(OPTION_CHECK_SEQUENCE_LEN, bytes([CHECK_SEQUENCE_LEN]))
+    options += text_option(OPTION_COMMENT, comment, last)
     return block(INTERFACE_BLOCK, struct.pack("<HHI", LINK_TYPE_ETHERNET, 0, 0) + options + option(OPTION_END, b""))
 
 
 def packet_options(marks: int, comment: Optional[str]) -> bytes:
     """The options of a frame with these marks, and a comment on it."""
-    options = b"" if comment is None else text_option(OPTION_COMMENT, comment)
+    options = b""
     if marks:
         flags = FLAGS_LENGTH
         flags |= FLAG_WRONG_CHECK_SEQUENCE if marks & MARK_CHECK_SEQUENCE else 0
         flags |= FLAG_OTHER_FAULT if marks & MARK_OTHER_FAULT else 0
         options += option(OPTION_PACKET_FLAGS, LENGTH.pack(flags))
+    options += b"" if comment is None else text_option(OPTION_COMMENT, comment)
     return options + option(OPTION_END, b"") if options else b""
 
 

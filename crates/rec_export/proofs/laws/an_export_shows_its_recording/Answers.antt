@@ -15,7 +15,7 @@ use Rattle.rec_export.proofs.laws.an_export_shows_its_recording.Goals as goal
 
 shows : (origin : Option ℕ) (packets : List PacketData) (old new : Option (List ℕ)) → BeginSomeBytes packets
     → Appends old new (blocks_bytes (export_blocks origin packets)) → AreReadAs (blocks_bytes (export_blocks origin packets)) (export_blocks origin packets)
-    → ShowsPackets packets old new
+    → ShowsPackets origin packets old new
 shows origin packets old new begin took read =
     record {
       bytes = blocks_bytes (export_blocks origin packets);
