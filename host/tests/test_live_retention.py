@@ -30,7 +30,11 @@ class Disk:
     def __init__(self, work: Path, monkeypatch: pytest.MonkeyPatch) -> None:
         self.work, self.room, self.err, self.let = work, FREE - 1, list[str](), threading.Event()
         self.let.set()
-        monkeypatch.setattr(retention, "remove", lambda path: self.let.wait(SECONDS) and remove(path))
+        monkeypatch.setattr(retention, "remove", self.remove)
+
+    def remove(self, path: str) -> None:
+        self.let.wait(SECONDS)
+        remove(path)
 
     def retention(self, count: int, keep: int | None = None, keep_free: int | None = None) -> Retention:
         """The retention of so many recordings."""
