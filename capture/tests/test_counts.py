@@ -107,6 +107,7 @@ def test_a_line_comes_once_a_second_and_late_ones_are_not_made_up(unit: Unit) ->
 
 
 LOST = {(0, 0, 0): "", (16_801, 0, 322): "16801 dropped 322 skipped", (0, 9, 0): "0 dropped 0 skipped 9 missed"}
+LOST |= {(1, 0, 0): "1 dropped 0 skipped", (0, 0, 7): "0 dropped 7 skipped"}
 
 
 @pytest.mark.parametrize("losses, lost", LOST.items())

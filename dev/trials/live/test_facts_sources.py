@@ -14,7 +14,7 @@ from typing import Any, NamedTuple
 
 import pytest
 from clock import STATUS, TRACKING, Clock, Kernel, Synchronisation, capture_with, play, played
-from frames import number_of, numbered, records
+from frames import numbered, records
 from namespace import long_frames, send, send_numbered, send_together
 from recordings import begin, extracted, facts_of, has_facts, process_of, settings_of
 from schemas import faults, schema_of
