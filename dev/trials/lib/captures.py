@@ -3,6 +3,9 @@
 import hashlib
 from pathlib import Path
 
+from bpfrec_host.formats.pcapng import Blocks
+from bpfrec_host.streams import Input, Refused
+from corners import Read
 from frames import records
 from support import CONVERT, run
 
@@ -30,3 +33,15 @@ def is_as_tshark_reads(capture: Path, feed: Path, chosen: str = "") -> bool:
     kept = [(ticks(it[1]), it[4]) for it in read if it[2] == it[3]]
     got = [(it.counter, hashlib.md5(it.frame[:-4]).hexdigest()) for it in records(feed.read_bytes())]
     return got == kept and len(kept) > 0 and told == f"frames {len(kept)} skipped {len(read) - len(kept)}\n"
+
+
+def read_by_python(capture: Path) -> tuple[list[Read], str]:
+    """The frames that the reader of pcapng in Python finds, and what is wrong with a capture."""
+    found: list[Read] = []
+    try:
+        for moment, is_whole, has_check_sequence, marks, data in Blocks(Input(str(capture)), None).frames():
+            counter = None if moment is None else moment // 100 % 2**48
+            found.append(Read(counter, data, is_whole, has_check_sequence, marks))
+    except Refused as fault:
+        return found, str(fault).replace(f"{capture}: ", "")
+    return found, ""
