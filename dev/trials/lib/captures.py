@@ -3,7 +3,8 @@
 import hashlib
 from pathlib import Path
 
-from bpfrec_host.formats.pcapng import Blocks
+from bpfrec_host.formats import pcap
+from bpfrec_host.formats.pcapng import Blocks, begins_pcapng
 from bpfrec_host.streams import Input, Refused
 from corners import Read
 from frames import records
@@ -36,10 +37,13 @@ def is_as_tshark_reads(capture: Path, feed: Path, chosen: str = "") -> bool:
 
 
 def read_by_python(capture: Path) -> tuple[list[Read], str]:
-    """The frames that the reader of pcapng in Python finds, and what is wrong with a capture."""
+    """The frames that the readers of captures in Python find, and what is wrong with one."""
     found: list[Read] = []
     try:
-        for moment, is_whole, has_check_sequence, marks, data in Blocks(Input(str(capture)), None).frames():
+        given = Input(str(capture))
+        is_pcapng = given.has(4) and begins_pcapng(given.data[:4])
+        read = Blocks(given, None).frames() if is_pcapng else pcap.frames(given, None)
+        for moment, is_whole, has_check_sequence, marks, data in read:
             counter = None if moment is None else moment // 100 % 2**48
             found.append(Read(counter, data, is_whole, has_check_sequence, marks))
     except Refused as fault:

@@ -123,6 +123,53 @@ CAPTURES: dict[str, Capture] = {
     "carry": Capture(units_of(9, 1, 1_999_999_999), [Read(29_999_999)]),
 }
 
+# ---- classic captures, by the words of their heads
+
+MICROSECONDS, NANOSECONDS = 0xA1B2C3D4, 0xA1B23C4D
+# The link type of Ethernet says by a bit that it has check sequences, and of how many words of 16 bits.
+HAS_CHECK_SEQUENCE, WORDS = 1 << 26, 1 << 28
+
+
+class Classic(NamedTuple):
+    """A classic capture: its magic number and link type, its frames' heads, and what is to be read in it."""
+
+    magic: int
+    link: int
+    heads: list[tuple[int, int, int]]
+    frames: list[Read]
+    fault: str = ""
+
+    def bytes(self, order: str) -> bytes:
+        head = struct.pack(order + "IHHiIII", self.magic, 2, 4, 0, 0, 65_535, self.link)
+        return head + b"".join(struct.pack(order + "IIII", *it[:2], len(FRAME), it[2]) + FRAME for it in self.heads)
+
+
+def classic_link(link: int, length: int, fault: str = "") -> Classic:
+    """A frame under a link type, by which its check sequence has a length."""
+    return Classic(NANOSECONDS, link, [(0, 100, 60)], [Read(1, has_check_sequence=length == 4)] * (not fault), fault)
+
+
+def lacks_four(length: int) -> str:
+    return f"check sequences of {length} bytes, where Ethernet has 4"
+
+
+LAST = 2**32 - 1
+CLASSIC: dict[str, Classic] = {
+    "check_sequence": classic_link(1 | HAS_CHECK_SEQUENCE | 2 * WORDS, 4),
+    "words_without_their_bit": classic_link(1 | 2 * WORDS, 0),
+    "bit_without_words": classic_link(1 | HAS_CHECK_SEQUENCE, 0),
+    "check_sequence_of_2_bytes": classic_link(1 | HAS_CHECK_SEQUENCE | WORDS, 2, lacks_four(2)),
+    "check_sequence_of_30_bytes": classic_link(1 | HAS_CHECK_SEQUENCE | 15 * WORDS, 30, lacks_four(30)),
+    "other_bits_of_the_link": classic_link(0x03FF_0001, 0),
+    "link_of_17_bits": classic_link(0x0001_0000, 0, "link type 0 of interface 0, where Ethernet is 1"),
+    "last_microsecond": Classic(MICROSECONDS, 1, [(LAST, 999_999, 60)], [Read((LAST * TICKS + 9_999_990) % 2**48)]),
+    "last_nanosecond": Classic(NANOSECONDS, 1, [(LAST, 999_999_999, 60)], [Read((LAST * TICKS + 9_999_999) % 2**48)]),
+    "units_over_a_second": Classic(MICROSECONDS, 1, [(1, LAST, 60)], [Read(TICKS + LAST * 10)]),
+    "cut_and_longer": Classic(
+        NANOSECONDS, 1, [(0, 100, 61), (0, 200, 59)], [Read(1, is_whole=False), Read(2, is_whole=True)]
+    ),
+}
+
 # ---- recordings: frames of channel 1, each of a counter, its word without the length, and its bytes
 
 WRONG_CHECK_SEQUENCE, OTHER_ERROR = 1 << 31, 1 << 30
