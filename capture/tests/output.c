@@ -1,4 +1,5 @@
-/* An output into a pipe, whose reader takes all that is in it when the test says so. Waits take the time of the script. */
+/* An output into a pipe, whose reader takes all that is in it when the test says so. Waits take the time of the script.
+ */
 #define _GNU_SOURCE
 #include "output.h"
 #include "script.h"
