@@ -35,6 +35,17 @@ static void begin(void) {
     begin_counts(&counts);
 }
 
+/* Loses a frame each so long, so often. */
+static void lose(void) {
+    int64_t count = next_number(), pause = next_number();
+    for (; count > 0; count--) {
+        stats[QUIET_RING].ps_drop++;
+        steady += pause;
+        wall += pause;
+        report_in_time(&counts);
+    }
+}
+
 static void answer(const char *call) {
     if (is(call, "name")) {
         counts.interface = strdup(next_word());
@@ -57,6 +68,8 @@ static void answer(const char *call) {
         report_last(&counts);
     } else if (is(call, "turn")) {
         report_in_time(&counts);
+    } else if (is(call, "lose")) {
+        lose();
     } else if (is(call, "note")) {
         note_counts(&counts);
     } else if (is(call, "end")) {

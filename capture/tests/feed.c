@@ -44,6 +44,8 @@ static void answer(const char *call) {
         put_drawn();
     else if (is(call, "flush"))
         printf("%d", flush_feed(&feed));
+    else if (is(call, "old"))
+        printf("%d", flush_old(&feed));
     else if (is(call, "switch"))
         printf("%d", switch_feed(&feed));
     else if (is(call, "unwritten"))

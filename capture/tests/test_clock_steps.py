@@ -105,6 +105,19 @@ def test_a_frame_that_waited_for_longer_than_the_clock_was_set_back_has_its_mome
     assert unit.frame(waiting) == moment
 
 
+@pytest.mark.parametrize("step", [3600 * SECOND, -3600 * SECOND], ids=str)
+@pytest.mark.parametrize("count", [1, 4, 5, 17, 100, 1_022])
+def test_a_frame_that_waited_while_the_clock_was_set_often_has_its_moment(unit: Clocks, count: int, step: int) -> None:
+    """As frames do while a pipe is full; so have those that came between the settings."""
+    unit.start()
+    waiting = []
+    for _ in range(count):
+        unit.wait(10 * MILLISECOND)
+        waiting.append((unit.wall(), unit.real()))
+        unit.look(10 * MILLISECOND, step)
+    assert [unit.frame(stamp) for stamp, _ in waiting] == [moment for _, moment in waiting]
+
+
 def test_each_interface_goes_by_its_own_frames(unit: Clocks) -> None:
     """One has taken frames of after a setting, and the other still has one of before."""
     unit.start()

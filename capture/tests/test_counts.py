@@ -10,7 +10,7 @@ from typing import Any
 
 import pytest
 from c_units import Script
-from support import MILLISECOND
+from support import MILLISECOND, SECOND
 
 QUIET, BURST = 0, 1
 
@@ -107,6 +107,7 @@ def test_a_line_comes_once_a_second_and_late_ones_are_not_made_up(unit: Unit) ->
 
 
 LOST = {(0, 0, 0): "", (16_801, 0, 322): "16801 dropped 322 skipped", (0, 9, 0): "0 dropped 0 skipped 9 missed"}
+LOST |= {(1, 0, 0): "1 dropped 0 skipped", (0, 0, 7): "0 dropped 7 skipped"}
 
 
 @pytest.mark.parametrize("losses, lost", LOST.items())
@@ -197,6 +198,24 @@ def test_losses_that_go_on_are_noted_half_as_often_after_each_thousand_and_none_
     assert [it["to"] for it in losses[:-1]] == [it["from"] for it in losses[1:]]
     seconds = [(it["to"] - it["from"]) // 10**7 for it in losses]
     assert (seconds[999], seconds[1_001], seconds[1_999], seconds[2_001]) == (1, 2, 2, 4)
+
+
+def test_losses_that_never_end_are_noted_each_18_hours_at_last_and_none_is_left_out(unit: Unit) -> None:
+    """After 16,000 notes, and never more seldom: the facts stay short, and have losses within a day."""
+    unit.begin(is_quiet=True, has_events=True)
+    longest = 2**16
+    unit.ask("lose", 16_001, longest * SECOND)
+    # A note that comes late is the first of a row.
+    unit.ask("lose", 1, 2 * longest * SECOND)
+    for count in (16_002, 40_002):
+        assert len(unit.events()) == count
+        unit.ask("lose", longest - 1, SECOND)
+        assert len(unit.events()) == count
+        unit.ask("lose", 1, SECOND)
+        assert [it["dropped"] for it in unit.events()[count:]] == [longest]
+        unit.ask("lose", 23_999, longest * SECOND)
+    unit.ask("note")
+    assert sum(it["dropped"] for it in unit.events() if "lost" in it) == 16_002 + 2 * (longest + 23_999)
 
 
 @pytest.mark.parametrize("name", ['a"b\\c', "\x01\x7f", "\xfc\u4e2d", '"' * 15], ids=repr)

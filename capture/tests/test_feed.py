@@ -10,7 +10,7 @@ import threading
 import pytest
 from c_units import Script
 from frames import Record, records, with_check_sequence
-from support import pipe_at, wait_for
+from support import MILLISECOND, pipe_at, wait_for
 
 HEAD_LEN, FCS_LEN = 9, 4
 SET_PIPE_SIZE = 1031
@@ -143,3 +143,27 @@ def test_a_feed_goes_over_between_two_records_and_the_file_before_stays_as_it_is
     unit.put(60, 2)
     assert [it.counter for it in unit.records()] == [2]
     assert [it.counter for it in records(old.read_bytes())] == [1]
+
+
+def test_a_file_that_is_there_is_emptied_before_a_feed_goes_over_to_it(unit: Unit) -> None:
+    unit.open()
+    unit.put(60, 1)
+    unit.path.rename(unit.path.with_name("old"))
+    unit.path.write_bytes(b"older and longer" * 1_000)
+    assert unit.ask("switch") == "0"
+    unit.put(60, 2)
+    assert [it.counter for it in unit.records()] == [2]
+
+
+def test_a_record_waits_for_a_millisecond_at_most_while_others_come(unit: Unit) -> None:
+    """Since the first that waits came."""
+    unit.wait(0)
+    unit.open()
+    for first in (1, 4):
+        for number in range(first, first + 3):
+            unit.put(60, number)
+            unit.wait(MILLISECOND // 3)
+        unit.wait(MILLISECOND - 3 * (MILLISECOND // 3))
+        assert unit.ask("old") == "1" and len(records(unit.path.read_bytes())) == first - 1
+        unit.wait(1)
+        assert unit.ask("old") == "1" and len(records(unit.path.read_bytes())) == first + 2

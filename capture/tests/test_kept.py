@@ -76,6 +76,11 @@ def test_by_a_listing_that_is_no_program_or_is_missing_all_frames_count_until_on
         unit.wait(wait * MILLISECOND)
         unit.frames(4)
         assert unit.counts() == [count]
+    unit.replace(path, KEEPS_ALL)
+    for wait, count in ((99, 9), (1, 14)):
+        unit.wait(wait * MILLISECOND)
+        unit.frames(4)
+        assert unit.counts() == [count]
 
 
 def test_a_listing_that_is_written_in_place_or_removed_is_replaced(unit: Unit) -> None:
@@ -83,10 +88,13 @@ def test_a_listing_that_is_written_in_place_or_removed_is_replaced(unit: Unit) -
     path = unit.open(DROPS_ALL)
     os.utime(path, ns=(1, 1))
     assert unit.counts_later() == [1]
-    unit.replace(path, KEEPS_ALL, time=1)
-    assert unit.counts_later() == [4]
+    # Of the same second.
+    os.utime(path, ns=(2, 2))
+    assert unit.counts_later() == [2]
+    unit.replace(path, KEEPS_ALL, time=2)
+    assert unit.counts_later() == [5]
     path.unlink()
-    assert unit.counts_later() == [7]
+    assert unit.counts_later() == [8]
 
 
 def test_counts_are_written_every_100_ms_at_most_and_at_the_end(unit: Unit) -> None:

@@ -1,12 +1,13 @@
 """Tries how right a clock is by what the kernel, chrony and PTP say, and the watch that says it."""
 
 import argparse
+import ctypes
 import time
 from typing import Any
 
 import pytest
 from bpfrec_host.formats.clock_state import ClockState, state_in
-from bpfrec_host.live import arguments, clock_watch
+from bpfrec_host.live import arguments, clock_watch, synchronisation, system
 from bpfrec_host.live.loop import Loop, Signals
 from support import judge, judge_quietly
 
@@ -75,6 +76,56 @@ def test_an_error_of_a_clock_is_taken_with_its_unit() -> None:
         with pytest.raises(argparse.ArgumentTypeError):
             arguments.clock_error(word)
     judge("and nothing else is one", True)
+
+
+LONG, INT = ctypes.c_long, ctypes.c_int
+# The kernel's state of its clock, as adjtimex(2) has it.
+FIELDS: list[tuple[str, Any]] = [
+    ("modes", ctypes.c_uint),
+    *((name, LONG) for name in ("offset", "freq", "maxerror", "esterror")),
+    ("status", INT),
+    *((name, LONG) for name in ("constant", "precision", "tolerance", "seconds", "parts", "tick", "ppsfreq", "jitter")),
+    ("shift", INT),
+    *((name, LONG) for name in ("stabil", "jitcnt", "calcnt", "errcnt", "stbcnt")),
+    ("tai", INT),
+    ("room", INT * 11),
+]
+
+
+class Timex(ctypes.Structure):
+    """That state, by its names."""
+
+    _fields_ = FIELDS
+
+
+# The offset is in nanoseconds by STA_NANO, and errors are in microseconds always; STA_UNSYNC is 0x40.
+KERNELS = [
+    (Timex(offset=1_250, status=0x2000), "0.000001250", True),
+    (Timex(offset=-1_250, status=0), "-0.001250000", True),
+    (Timex(offset=500_000_000, status=0x2041), "0.500000000", False),
+    (Timex(offset=-500_000, status=0x40), "-0.500000000", False),
+]
+
+
+@pytest.mark.parametrize("told, offset, is_synchronised", KERNELS, ids=["nano", "micro", "unheld_nano", "unheld_micro"])
+def test_what_the_kernel_says_is_read_in_its_units(
+    monkeypatch: pytest.MonkeyPatch, told: Timex, offset: str, is_synchronised: bool
+) -> None:
+    told.maxerror, told.esterror, told.tai = 16_000_001, 123, 37
+
+    def adjust(state: bytearray) -> int:
+        state[:] = bytes(told)
+        return 0
+
+    monkeypatch.setattr(system, "adjust", adjust)
+    wanted: dict[str, Any] = {
+        "offset": offset,
+        "estimated_error": "0.000123",
+        "maximum_error": "16.000001",
+        "tai_offset": 37,
+    }
+    found = synchronisation.by_kernel()
+    judge("each is as it has to be", found == {"is_synchronised": is_synchronised, **wanted}, found)
 
 
 @pytest.fixture

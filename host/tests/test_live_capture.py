@@ -22,7 +22,7 @@ ORIGIN = '{"origin": "1764590400.250000000", "counter": 0, "scale": "UTC"}'
 SET = '{"origin": "1764586800.250000123", "counter": 7, "set_by": "-3600.000000000", "scale": "UTC"}'
 TAI = '{"origin": "1764590437.250000000", "counter": 0, "scale": "TAI", "tai_offset": 37}'
 NOBODY_KNOWS = '{"origin": "1764590437.250000000", "counter": 0, "scale": null}'
-LOST = '{"lost": "e0", "from": 0, "to": 9, "dropped": 1, "missed": 2, "skipped": 3, "feed": 4}'
+LOST = '{"lost": "e0", "from": 5, "to": 9, "dropped": 1, "missed": 2, "skipped": 3, "feed": 4}'
 COUNTS = '{"counts": "e0", "counter": 9, "frames": 1, "bytes": 2, "dropped": 3, "missed": 4, "skipped": 5, "waited": 6, "feed": 7}'
 IN_ALL = '{"lost_in_all": "e0", "dropped": 1, "skipped": 2, "missed": 3}'
 EVENTS: dict[str, Event] = {
@@ -30,7 +30,7 @@ EVENTS: dict[str, Event] = {
     SET: Origin("1764586800.250000123", 7, "-3600.000000000", "UTC", None),
     TAI: Origin("1764590437.250000000", 0, None, "TAI", 37),
     NOBODY_KNOWS: Origin("1764590437.250000000", 0, None, None, None),
-    LOST: Loss("e0", 0, 9, 1, 2, 3, 4),
+    LOST: Loss("e0", 5, 9, 1, 2, 3, 4),
     COUNTS: Counted("e0", 9, Counts(1, 2, 3, 4, 5, 6), 7),
     IN_ALL: LostInAll("e0", 1, 2, 3),
 }

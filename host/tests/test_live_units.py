@@ -193,6 +193,29 @@ def test_a_file_is_forced_to_its_disk_each_second_with_its_facts(work: Path, mon
     os.close(descriptor)
 
 
+def test_a_file_is_on_its_disk_up_to_the_moment_before_it_is_forced(
+    work: Path, monkeypatch: pytest.MonkeyPatch
+) -> None:
+    """What comes while that goes on may not be there."""
+    begun: list[float] = []
+
+    def takes_long(_: int) -> None:
+        begun.append(time.monotonic())
+        time.sleep(0.05)
+
+    told = Heard()
+    monkeypatch.setattr(os, "fdatasync", takes_long)
+    descriptor = os.open(work / "out", os.O_RDWR | os.O_CREAT)
+    keeper = Keeper(descriptor, str(work), 1, told)
+    keeper.start()
+    wait_for("it was forced", lambda: told.moments, 3)
+    keeper.end()
+    keeper.join(5)
+    os.close(descriptor)
+    pairs = list(zip(told.moments, begun))
+    judge("that is what is told", len(pairs) == 2 and all(moment <= it for moment, it in pairs), pairs)
+
+
 def test_a_folder_that_cannot_be_forced_stops_nothing(work: Path) -> None:
     """A folder that can't be forced keeps it from nothing."""
     told = Heard()

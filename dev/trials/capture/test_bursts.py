@@ -12,6 +12,7 @@ from collections.abc import Iterator
 from pathlib import Path
 
 import pytest
+from accounts import judge_fed
 from frames import numbered, numbers
 from namespace import make_many_pairs, make_pair, send_numbered, set_link, socket_into, take_away, wait_until_up
 from support import CAPTURE, LIBRARY, Reader, Running, judge, judge_quietly, pipe_at, present, run, wait_for
@@ -166,6 +167,27 @@ def test_frames_of_a_removed_interface_are_recorded(work: Path) -> None:
         found = numbers(reader.all())
         judge(f"all frames before: {turn}", status == 1 and found == list(range(first + 3_000)), (len(found), told))
         make_pair(0)
+
+
+def test_frames_that_were_dropped_before_an_interface_was_removed_are_counted(work: Path) -> None:
+    """Those that the kernel dropped while nobody took any, of an interface that is gone by then, and comes back."""
+    reader = Reader(pipe_at(work, "one.pipe"))
+    running = Running(work, CAPTURE, "--buffer", 1, f"rx0={reader.path}")
+    running.wait_until_told("origin")
+    os.kill(running.process.pid, signal.SIGSTOP)
+    send_numbered("tx0", 0, 4_000, 1_500)
+    take_away("rx0")
+    os.kill(running.process.pid, signal.SIGCONT)
+    running.wait_until_told("the interface is gone")
+    make_pair(0)
+    running.wait_until_told("rx0: it is back")
+    send_numbered("tx0", 4_000, 4_100)
+    time.sleep(0.1)
+    running.interrupt()
+    status, told = running.ended()[0], running.told()
+    counts = judge_fed(told, 4_100, len(numbers(reader.all())))
+    judge("some were dropped, and all is told", status == 0 and counts.dropped > 0, told)
+    judge("at last too", f"capture: rx0 LOST {counts.dropped} dropped 0 skipped\n" in told, told)
 
 
 def waits_of(process: int) -> int:

@@ -12,6 +12,7 @@ from collections.abc import Iterator
 from pathlib import Path
 
 import pytest
+from accounts import counted, judge_fed
 from frames import numbers
 from namespace import send_numbered
 from pcapng import capture_head, captured, frame_of
@@ -20,13 +21,6 @@ from support import CAPTURE, Reader, Running, judge, judge_quietly, outcome, pip
 WANTED = {"bin/bpfrec": "make build", "bin/capture": "make build", "ip": "iproute2"}
 pytestmark = [pytest.mark.timed, pytest.mark.usefixtures("namespace")]
 SENT = 2_000
-COUNTS = re.compile(r"rx0 frames (\d+) bytes (\d+) dropped (\d+)")
-
-
-def last_counts(told: str) -> tuple[int, int, int]:
-    """The frames, bytes and drops of the last line of counts."""
-    frames, length, dropped = map(int, COUNTS.findall(told)[-1])
-    return frames, length, dropped
 
 
 def capture_file(path: Path, many: int = 3) -> Path:
@@ -171,10 +165,9 @@ def test_a_run_that_is_ended_at_once_counts_what_it_leaves(work: Path) -> None:
         running.interrupt()
         status = running.ended()[0]
         read = b"".join(iter(lambda: reader.read(1 << 16), b""))
-    frames, length, dropped = last_counts(running.told())
     whole = len(read) // 1_513
-    judge("each frame is written or counted as dropped", status == 1 and frames + dropped == SENT, running.told())
-    judge("and the frames that are counted are those of the feed", (frames, length) == (whole, 1_504 * whole))
+    counts = judge_fed(running.told(), SENT, whole)
+    judge("and their bytes", (status, counts.bytes) == (1, 1_504 * whole), running.told())
 
 
 def test_counts_of_reader_that_left(work: Path) -> None:
@@ -186,10 +179,10 @@ def test_counts_of_reader_that_left(work: Path) -> None:
         send_numbered("tx0", 0, 500, 1_500)
         time.sleep(0.5)
     status, told = running.ended()[0], running.told()
-    frames, _, dropped = last_counts(told)
+    counts = counted(told)
     unwritten = int(present(re.search(r"its reader has left, which (\d+) frames were for\n", told))[1])
-    judge("each frame was for the reader", status == 0 and dropped == 0 and 0 < frames < 500, told)
-    judge("those that it can't have got are told", 0 < unwritten <= 500 - frames, told)
+    judge("each frame was for the reader", status == 0 and counts.lost() == 0 and 0 < counts.frames < 500, told)
+    judge("those that it can't have got are told", 0 < unwritten <= 500 - counts.frames, told)
 
 
 def next_feed(work: Path, running: Running) -> Reader:
@@ -215,11 +208,10 @@ def test_a_burst_without_a_reader_is_kept_for_the_next_feed(work: Path) -> None:
     running.interrupt()
     status, told = running.ended()[0], running.told()
     found = numbers(reader.all())
-    dropped = last_counts(told)[2]
     judge("the next feed has frames once and in order", status == 0 and found == sorted(set(found)), told)
-    judge("each frame is there or counted", len(found) + dropped == 15_000, (len(found), told))
+    counts = judge_fed(told, 15_000, len(found))
     # On a machine with other work some may come before the rings change; one ring alone drops thousands.
-    judge("and nearly all are there", dropped < 1_500, told)
+    judge("and nearly all are there", counts.dropped < 1_500, told)
 
 
 def test_frames_past_the_memory_that_waits_are_counted(work: Path) -> None:
@@ -241,7 +233,7 @@ def test_frames_past_the_memory_that_waits_are_counted(work: Path) -> None:
     wait_for("the next feed has frames", lambda: len(other.data) > 0)
     running.interrupt()
     status, told = running.ended()[0], running.told()
-    frames, _, dropped = last_counts(told)
-    judge("each frame is of a feed or counted", status == 0 and frames + dropped == sent, told)
+    counts = counted(told)
+    judge("each frame is of a feed or counted", status == 0 and counts.frames + counts.lost() == sent, told)
     found = numbers(other.all())
     judge("and the other feed is whole and in order", len(found) > 0 and found == sorted(set(found)), told)

@@ -10,6 +10,7 @@ from collections.abc import Callable
 from pathlib import Path
 
 import pytest
+from accounts import judge_fed
 from captures import fields_of, is_as_tshark_reads
 from frames import numbered, numbers, records, with_check_sequence
 from namespace import long_frames, make_pair, send, send_numbered, send_together, set_link, socket_into, take_away
@@ -132,13 +133,10 @@ def test_a_reader_that_does_not_read_makes_the_kernel_drop_and_count(work: Path)
         while part := reader.read(1 << 20):
             data += part
     status = running.ended()[0]
-    frames, dropped = map(int, re.findall(r"rx0 frames (\d+) bytes \d+ dropped (\d+)", running.told())[-1])
     found = numbers(data)
-    judge(
-        "a full pipe is waited for, and what the kernel drops meanwhile is counted",
-        dropped > 0 and frames + dropped == sent,
-    )
-    judge("what was kept is whole and in order", status == 0 and len(found) == frames and found == sorted(set(found)))
+    counts = judge_fed(running.told(), sent, len(found))
+    judge("a full pipe is waited for, and what the kernel drops meanwhile is counted", counts.dropped > 0)
+    judge("what was kept is whole and in order", status == 0 and found == sorted(set(found)))
 
 
 def test_a_second_signal_waits_for_no_reader(work: Path) -> None:

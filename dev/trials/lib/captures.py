@@ -3,6 +3,10 @@
 import hashlib
 from pathlib import Path
 
+from bpfrec_host.formats import pcap
+from bpfrec_host.formats.pcapng import Blocks, begins_pcapng
+from bpfrec_host.streams import Input, Refused
+from corners import Read
 from frames import records
 from support import CONVERT, run
 
@@ -30,3 +34,18 @@ def is_as_tshark_reads(capture: Path, feed: Path, chosen: str = "") -> bool:
     kept = [(ticks(it[1]), it[4]) for it in read if it[2] == it[3]]
     got = [(it.counter, hashlib.md5(it.frame[:-4]).hexdigest()) for it in records(feed.read_bytes())]
     return got == kept and len(kept) > 0 and told == f"frames {len(kept)} skipped {len(read) - len(kept)}\n"
+
+
+def read_by_python(capture: Path) -> tuple[list[Read], str]:
+    """The frames that the readers of captures in Python find, and what is wrong with one."""
+    found: list[Read] = []
+    try:
+        given = Input(str(capture))
+        is_pcapng = given.has(4) and begins_pcapng(given.data[:4])
+        read = Blocks(given, None).frames() if is_pcapng else pcap.frames(given, None)
+        for moment, is_whole, has_check_sequence, marks, data in read:
+            counter = None if moment is None else moment // 100 % 2**48
+            found.append(Read(counter, data, is_whole, has_check_sequence, marks))
+    except Refused as fault:
+        return found, str(fault).replace(f"{capture}: ", "")
+    return found, ""

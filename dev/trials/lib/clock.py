@@ -8,6 +8,7 @@ import struct
 import tempfile
 import time
 from pathlib import Path
+from typing import NamedTuple
 
 from frames import Record, numbered, numbers_in
 from namespace import socket_into
@@ -59,20 +60,35 @@ class Clock:
         self.write()
 
 
+class Kernel(NamedTuple):
+    """What a kernel says of its clock: whether it is synchronised, by how many microseconds it is off at most and
+    probably, how far it is slewed yet, in nanoseconds or microseconds, and how many seconds TAI is ahead of UTC."""
+
+    is_synchronised: bool = True
+    maximum_error: int = 500
+    estimated_error: int = 10
+    offset: int = 0
+    is_nano: bool = True
+    tai_offset: int = 37
+
+
 class Synchronisation:
-    """Whether the clock is synchronised, and by how many microseconds it is off at most, for those programs alone that
-    run with `adds`."""
+    """What the kernel says of its clock, for those programs alone that run with `adds`."""
 
     def __init__(self, work: Path, is_synchronised: bool = True, maximum_error: int = 500) -> None:
         self.path = work / "synchronisation"
-        self.path.write_bytes(bytes(16))
+        self.path.write_bytes(bytes(8 * len(Kernel._fields)))
         self.set(is_synchronised, maximum_error)
         self.adds = {"LD_PRELOAD": str(preloaded("set_synchronisation")), "SET_SYNCHRONISATION": str(self.path)}
 
     def set(self, is_synchronised: bool, maximum_error: int = 500) -> None:
-        """Changes what the kernel says, for those that run too."""
+        """Changes whether it is synchronised and how far it is off, for those that run too."""
+        self.say(Kernel(is_synchronised, maximum_error))
+
+    def say(self, kernel: Kernel) -> None:
+        """Changes all that it says, for those that run too."""
         with open(self.path, "r+b", buffering=0) as file:
-            file.write(struct.pack("<qq", is_synchronised, maximum_error))
+            file.write(struct.pack("<6q", *kernel))
 
 
 @functools.cache
@@ -116,13 +132,18 @@ STATUS = """sending: GET TIME_STATUS_NP
 """
 
 
+def play(program: Path, answer: str) -> None:
+    """Makes a program that prints this, or has it print this from now on."""
+    program.write_text(f"#!/bin/sh\ncat << 'END'\n{answer}\nEND\n")
+    program.chmod(0o755)
+
+
 def played(work: Path, **answers: str) -> dict[str, str]:
     """Programs of these names that print so, ahead of all others."""
     place = work / "played"
     place.mkdir()
     for name, answer in answers.items():
-        (place / name).write_text(f"#!/bin/sh\ncat << 'END'\n{answer}\nEND\n")
-        (place / name).chmod(0o755)
+        play(place / name, answer)
     return {"PATH": f"{place}:{os.environ['PATH']}"}
 
 

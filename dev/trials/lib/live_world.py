@@ -50,6 +50,8 @@ class World:
         self.plan, self.can_follow = plan, can_follow
         self.time = 0.0
         self.said: list[str] = []
+        # All that is done and said, in its order.
+        self.effects: list[str] = []
         self.consequences: list[Callable[[], None]] = []
         self.is_capturing = self.is_capture_ready = False
         self.asked_to_end = self.held = 0
@@ -63,7 +65,11 @@ class World:
 
     # ---- deeds
 
+    def note(self, effect: str, recording: Recording) -> None:
+        self.effects.append(f"{effect} {recording.number}")
+
     def perform(self, deed: Deed, recording: Recording) -> None:
+        self.note(deed.name.lower(), recording)
         played = self.played.get(recording.number, Played(recording))
         deeds: dict[Deed, Callable[[Played], None]] = {
             Deed.START_CAPTURE: lambda _: self.start_capture(),
@@ -84,6 +90,7 @@ class World:
         deeds[deed](played)
 
     def start_recorder(self, recording: Recording) -> bool:
+        self.note("start_recorder", recording)
         played = self.played[recording.number]
         if not self.can_start:
             del self.played[recording.number]
@@ -97,6 +104,7 @@ class World:
         self.is_capturing = True
 
     def create(self, recording: Recording) -> bool:
+        self.note("create", recording)
         self.played[recording.number].is_created = self.has_space
         return self.has_space
 
@@ -111,6 +119,7 @@ class World:
             self.err("it can't be begun")
             return None
         recording = self.made(len(self.played) + 1)
+        self.note("create", recording)
         self.played[recording.number].is_created = True
         return recording
 
@@ -154,12 +163,14 @@ class World:
         played.told += 1
 
     def audit(self, recording: Recording) -> bool:
+        self.note("audit", recording)
         self.played[recording.number].audits += 1
         self.consequences.append(lambda: self.machine.audited(recording, 0))
         return True
 
     def err(self, line: str) -> None:
         self.said.append(line)
+        self.effects.append(line)
 
     def has_room(self, recording: Recording) -> bool:
         return self.has_space

@@ -95,8 +95,8 @@ def packet(order: str, number: int, units: int, frame: bytes, *options: bytes, l
     return block(order, 6, head + frame + bytes(-len(frame) % 4) + b"".join(options))
 
 
-def old_packet(order: str, number: int, units: int, frame: bytes) -> bytes:
-    head = struct.pack(order + "HHIIII", number, 0, units >> 32, units & 0xFFFFFFFF, len(frame), len(frame))
+def old_packet(order: str, number: int, units: int, frame: bytes, drops: int = 0) -> bytes:
+    head = struct.pack(order + "HHIIII", number, drops, units >> 32, units & 0xFFFFFFFF, len(frame), len(frame))
     return block(order, 2, head + frame)
 
 

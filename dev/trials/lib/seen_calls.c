@@ -112,6 +112,20 @@ int fsync(int file) {
     return real_fsync(file);
 }
 
+int fdatasync(int file) {
+    int (*real_fdatasync)(int) = dlsym(RTLD_NEXT, "fdatasync");
+
+    tell_of("force_data", file, 0);
+    return real_fdatasync(file);
+}
+
+int rename(const char *from, const char *to) {
+    int (*real_rename)(const char *, const char *) = dlsym(RTLD_NEXT, "rename");
+
+    tell("rename", to, 0);
+    return real_rename(from, to);
+}
+
 static int is_failing(int file) {
     const char *failing = getenv("FAILING");
     char name[4096];

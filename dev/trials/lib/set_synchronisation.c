@@ -13,9 +13,10 @@
 #include <sys/timex.h>
 #include <unistd.h>
 
-/* Whether the clock is synchronised, and by how many microseconds it is off at most. */
+/* Whether the clock is synchronised, by how many microseconds it is off at most and probably, how far it is slewed yet
+ * in nanoseconds or microseconds, and how many seconds TAI is ahead of UTC. */
 struct settings {
-    _Atomic int64_t is_synchronised, maximum_error;
+    _Atomic int64_t is_synchronised, maximum_error, estimated_error, offset, is_nano, tai_offset;
 };
 
 static struct settings *settings;
@@ -37,6 +38,10 @@ int adjtimex(struct timex *times) {
         return state;
     int is_synchronised = atomic_load(&settings->is_synchronised) != 0;
     times->status = is_synchronised ? times->status & ~STA_UNSYNC : times->status | STA_UNSYNC;
+    times->status = atomic_load(&settings->is_nano) ? times->status | STA_NANO : times->status & ~STA_NANO;
     times->maxerror = atomic_load(&settings->maximum_error);
+    times->esterror = atomic_load(&settings->estimated_error);
+    times->offset = atomic_load(&settings->offset);
+    times->tai = (int)atomic_load(&settings->tai_offset);
     return is_synchronised ? TIME_OK : TIME_ERROR;
 }

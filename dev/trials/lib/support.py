@@ -4,6 +4,7 @@ A trial is a test of pytest in a file test_*.py. The other modules beside this o
 namespace.py, recordings.py, clock.py and disks.py.
 """
 
+import contextlib
 import os
 import re
 import shutil
@@ -166,6 +167,16 @@ def pipe_at(work: Path, name: str) -> Path:
     path.unlink(missing_ok=True)
     os.mkfifo(path)
     return path
+
+
+def fill_pipe(descriptor: int) -> None:
+    """Fills a pipe to the brim."""
+    os.set_blocking(descriptor, False)
+    for part in (b"x" * 1_000, b"x"):
+        with contextlib.suppress(BlockingIOError):
+            while True:
+                os.write(descriptor, part)
+    os.set_blocking(descriptor, True)
 
 
 def nanoseconds(seconds: str, rest: str) -> int:

@@ -29,7 +29,7 @@ from recordings import (
     recordings,
     settings_of,
 )
-from support import LIVE, Running, judge, judge_quietly, present, wait_for
+from support import LIVE, Running, fill_pipe, judge, judge_quietly, present, wait_for
 
 WANTED = {"bin/bpfrec": "make build", "bin/capture": "make build", "ip": "iproute2", "cc": "gcc"}
 pytestmark = [pytest.mark.timed, pytest.mark.usefixtures("namespace")]
@@ -38,16 +38,6 @@ F_SETPIPE_SZ = 1031
 CTRL_S, CTRL_Q = b"\x13", b"\x11"
 
 # ---- a terminal that stands still
-
-
-def fill(descriptor: int) -> None:
-    """Fills a pipe to the brim."""
-    os.set_blocking(descriptor, False)
-    for part in (b"x" * 1_000, b"x"):
-        with contextlib.suppress(BlockingIOError):
-            while True:
-                os.write(descriptor, part)
-    os.set_blocking(descriptor, True)
 
 
 def judge_all_recorded(what: str, work: Path, running: Running, out: Path) -> None:
@@ -63,7 +53,7 @@ def test_standard_error_that_nobody_reads_holds_up_nothing(work: Path) -> None:
     """Standard error is a pipe that nobody reads."""
     reads, writes = os.pipe()
     fcntl.fcntl(writes, F_SETPIPE_SZ, 4096)
-    fill(writes)
+    fill_pipe(writes)
     out = work / "full_error.ch11"
     running = Running(work, LIVE, settings_of(work), out, "rx0=1", "rx1=2", stderr=writes)
     wait_for("it records though standard error is full", out.exists, 10)

@@ -4,6 +4,7 @@ import time
 from pathlib import Path
 
 import pytest
+from accounts import judge_fed, judge_recorded
 from disks import memory_disk
 from namespace import long_frames, send_numbered, send_together
 from recordings import YES, begin, facts_of, nothing_left, process_of, settings_of
@@ -41,9 +42,10 @@ def test_report_audit_and_losses_survive_a_full_tmpdir(work: Path) -> None:
         left = nothing_left(work)
     told = running.told()
     judge("losses are told", told.endswith("live: rx0 LOST 0 dropped 7 skipped\n") and status == 5, (status, told))
+    judge_recorded(work, (printed, told), [out], 107)
     judge("so are the report and the audit", " offered 100 kept 100 " in printed and YES in printed, printed)
     facts = facts_of(out)
-    judge("the facts have them", facts["losses"][0]["skipped"] == 7 and facts["report"] and facts["audit"], facts)
+    judge("the facts have them", facts["report"] and facts["audit"], facts)
     judge("and nothing is left", left)
 
 
@@ -59,4 +61,5 @@ def test_events_that_cannot_be_written_are_told(work: Path) -> None:
         status, told = running.ended()[0], running.told()
     judge("it ends", status == 0, (status, told))
     judge("that they fail", told.count("capture: events can't be written") == 1, told)
+    judge_fed(told, 7, len(reader.all()))
     judge("and what is lost", "capture: rx0 LOST 0 dropped 7 skipped\n" in told, told)

@@ -5,13 +5,10 @@ import json
 import os
 import re
 import signal
-import time
 from pathlib import Path
 
 import pytest
-from bpfrec_host.formats import facts as facts_reader
-from clock import STATUS, TRACKING, played
-from namespace import send_together
+from clock import played
 from recordings import begin, facts_of, has_facts, processes_of, settings_of
 from schemas import FORMATS, faults, schema_of
 from support import judge, judge_quietly, present, wait_for
@@ -22,49 +19,6 @@ WANTED = {"bin/bpfrec": "make build", "bin/capture": "make build", "ip": "iprout
 def judge_schema(what: str, facts: dict) -> None:
     found = faults(facts, schema_of("facts"))
     judge(f"{what}: the facts are as the schema says", found == [], found)
-
-
-@pytest.mark.timed
-def test_the_facts_are_as_their_schema_says(work: Path, namespace: None) -> None:
-    """From the beginning on, at the end, and what chrony and PTP say."""
-    out = work / "facts.ch11"
-    running = begin(work, out, "--quiet", adds=played(work, chronyc=TRACKING, pmc=STATUS))
-    wait_for("facts from the beginning on", lambda: has_facts(out), 5)
-    early = facts_of(out)
-    judge_schema("at the beginning", early)
-    send_together(0, 100)
-    time.sleep(0.2)
-    running.interrupt()
-    judge_quietly("it records", running.ended()[0] == 0)
-    facts = facts_of(out)
-    judge_schema("at the end", facts)
-    judge("the end's synchronisation comes at the end", early["synchronisation"]["end"] is None)
-    for moment in ("begin", "end"):
-        told = facts["synchronisation"][moment]
-        wanted = {
-            "reference": "192.0.2.1",
-            "stratum": 2,
-            "offset": "-0.000012345",
-            "root_delay": "0.000350000",
-            "root_dispersion": "0.000120000",
-            "state": "Normal",
-        }
-        judge(f"what chrony says at the {moment}", told["chrony"] == wanted, told)
-        wanted = {"offset_nanoseconds": -27, "has_grandmaster": True, "grandmaster": "001122.fffe.334455"}
-        judge(f"what PTP says at the {moment}", told["ptp"] == wanted, told)
-    judge_adapters(facts)
-
-
-def judge_adapters(facts: dict) -> None:
-    adapters = {it["interface"]: it for it in facts["adapters"]}
-    judge("each interface's adapter", sorted(adapters) == ["rx0", "rx1"], adapters)
-    for name, adapter in adapters.items():
-        judge_quietly(f"the driver of {name}", (adapter["driver"], adapter["clock"]) == ("veth", "host"), adapter)
-        judge_quietly(
-            f"the address of {name}", re.fullmatch(r"([0-9a-f]{2}:){5}[0-9a-f]{2}", adapter["address"]), adapter
-        )
-    moment = facts_reader.Facts(facts).moment_of(0)
-    judge("the origin as UTC", facts["origin_utc"] == facts_reader.utc_of(moment or 0))
 
 
 @pytest.mark.timed

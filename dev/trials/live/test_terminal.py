@@ -23,7 +23,7 @@ from recordings import (
     processes_of,
     settings_of,
 )
-from support import BPFREC, CAPTURE, LIVE, Running, judge, judge_quietly, wait_for
+from support import BPFREC, CAPTURE, LIVE, Running, fill_pipe, judge, judge_quietly, wait_for
 from terminal import Terminal
 
 WANTED = {"bin/bpfrec": "make build", "bin/capture": "make build", "ip": "iproute2"}
@@ -98,15 +98,24 @@ def test_a_terminal_that_is_closed_leaves_facts_with_the_report_and_the_audit(wo
     judge("nothing is left", nothing_left(work) and not processes_of(out))
 
 
-def test_a_report_that_nobody_reads_is_in_facts_with_the_audit(work: Path) -> None:
+@pytest.mark.parametrize("is_late", [False, True], ids=["at_once", "at_the_end"])
+def test_a_report_that_nobody_reads_is_in_facts_with_the_audit(work: Path, is_late: bool) -> None:
+    """Its reader leaves before it comes, or reads nothing and leaves once all else is done."""
     out = work / "unread.ch11"
     reader, writer = os.pipe()
-    os.close(reader)
+    if is_late:
+        fill_pipe(writer)
+    else:
+        os.close(reader)
     running = Running(work, LIVE, "--quiet", settings_of(work), out, "rx0=1", "rx1=2", stdout=writer)
     os.close(writer)
     wait_for("it records", lambda: has_facts(out), 10)
     running.interrupt()
+    wait_for("all else is done", lambda: facts_of(out)["state"] == "ended", 10)
+    if is_late:
+        time.sleep(0.3)
+        os.close(reader)
     status, told = running.process.wait(20), running.told()
     facts = facts_of(out)
-    judge("the status is that of the output", status == 3 and told.count("file -\n") == 1, told)
+    judge("the status is that of the output", status == 3 and told.count("file -\n") == 1, (status, told))
     judge("the facts have the audit", (facts["status"], (facts["audit"] or [""])[-1]) == (0, YES), facts["audit"])

@@ -9,7 +9,6 @@ from typing import Any
 
 import pytest
 from expected_facts import (
-    BEFORE_1970,
     TAI_37,
     THREE_ORIGINS,
     UNKNOWN_SCALE,
@@ -46,9 +45,7 @@ def counters_in(recording: Path) -> list[int]:
     return [int(it["counter"]) for it in expected_rows(recording) if "number" in it]
 
 
-@pytest.mark.parametrize(
-    "origins", [THREE_ORIGINS, BEFORE_1970, TAI_37], ids=["three_origins", "before_1970", "tai_37"]
-)
+@pytest.mark.parametrize("origins", [THREE_ORIGINS, TAI_37], ids=["three_origins", "tai_37"])
 def test_times_are_those_of_the_facts(work: Path, three: Path, origins: list) -> None:
     """Times are those of the facts beside the recording, or of those that the preference names."""
     recording, counters = work / "x.ch11", counters_in(three)

@@ -67,10 +67,10 @@ class Retention:
 
     def tick(self, now: float) -> None:
         """Removes recordings where the disk has too little room."""
-        if self.keep_free is None or now < self.next_look or self.is_removing():
+        if self.keep_free is None or now < self.next_look:
             return
         self.next_look = now + PAUSE
-        if self.kept and self.free() < self.keep_free:
+        if self.kept and not self.is_removing() and self.free() < self.keep_free:
             self.remove_oldest(f"--keep-free {self.keep_free}")
 
     def is_removing(self) -> bool:

@@ -153,9 +153,9 @@ class Run:
         while not self.machine.is_done():
             self.turn()
         self.finish_recordings()
-        status = self.status()
+        has_lost = self.report_losses()
         self.finish()
-        return status
+        return self.status(has_lost)
 
     def turn(self) -> None:
         """Waits for what comes next, and has the machine do what is due."""
@@ -362,9 +362,9 @@ class Run:
             self.err(f"live: {lost.sentence()}")
         return bool(self.events.lost_in_all)
 
-    def status(self) -> int:
-        """The status of the run, once all is recorded and made."""
-        status = self.machine.status(self.report_losses())
+    def status(self, has_lost: bool) -> int:
+        """The status of the run, once all is recorded, made and printed."""
+        status = self.machine.status(has_lost)
         return self.whole_files.status if self.whole_files.status and status in (0, LOST) else status
 
     def marked(self, recorder: Recorder, mark: Entry) -> None:

@@ -1,0 +1,201 @@
+"""Tries all that the machine of host/bin/live does and says in a run, in its order: none is left out, and none is more."""
+
+from __future__ import annotations
+
+import pytest
+from live_events import FILES, ROTATING, SINGLE, disk_is_full, recorder_dies, while_going, while_handing_over
+from live_world import Plan, World
+from support import judge
+
+# What begins each run that has interfaces, and how the second recording takes over.
+BEGIN = "start_recorder 1, start_capture 1, create 1, point_to 1"
+SECOND = "create 2, start_recorder 2, end_lines 1, point_to 2, switch_capture 2"
+
+
+def begun(plan: Plan) -> World:
+    world = World(plan)
+    world.machine.begin(world.time)
+    return world
+
+
+def end(world: World) -> None:
+    """Ends a run by a signal."""
+    world.machine.told_to_end(world.time)
+    world.finish()
+
+
+def single() -> World:
+    world = begun(SINGLE)
+    while_going(world)
+    end(world)
+    return world
+
+
+def of_feeds() -> World:
+    world = begun(FILES)
+    world.settle()
+    end(world)
+    return world
+
+
+def handed_over() -> World:
+    world = begun(ROTATING)
+    while_handing_over(world)
+    world.settle()
+    end(world)
+    return world
+
+
+def without_a_next() -> World:
+    """The next recorder can't be started once, and is then."""
+    world = begun(ROTATING)
+    while_going(world)
+    world.can_start = False
+    world.wait(10)
+    world.can_start = True
+    end(world)
+    return world
+
+
+def full_disk(plan: Plan) -> World:
+    world = begun(plan)
+    while_going(world)
+    disk_is_full(world)
+    world.settle()
+    world.wait(1)
+    world.settle()
+    end(world)
+    return world
+
+
+def killed_recorder() -> World:
+    world = begun(ROTATING)
+    while_going(world)
+    recorder_dies(world)
+    world.wait(0)
+    world.settle()
+    end(world)
+    return world
+
+
+def dead_capture() -> World:
+    world = begun(SINGLE)
+    while_going(world)
+    world.end_capture(137)
+    world.finish()
+    return world
+
+
+def dead_capture_at_the_start() -> World:
+    """The recorder waits for its pipes, which are opened in the capture's place."""
+    world = begun(SINGLE)
+    world.current().pipes_left = 1
+    world.end_capture(137)
+    world.finish()
+    return world
+
+
+def refused_capture() -> World:
+    world = begun(SINGLE)
+    world.end_capture(3)
+    world.finish()
+    return world
+
+
+def refused_out() -> World:
+    world = begun(SINGLE)
+    world.has_space = False
+    world.ready()
+    world.finish()
+    return world
+
+
+def hurried() -> World:
+    """Nothing ends by itself, and a second signal comes two seconds later."""
+    world = begun(SINGLE)
+    while_going(world)
+    world.is_hanging = True
+    world.machine.told_to_end(world.time)
+    world.settle()
+    world.wait(2)
+    world.machine.told_to_end(world.time)
+    world.finish()
+    return world
+
+
+def unprinted() -> World:
+    """The report can't be printed."""
+    world = begun(SINGLE)
+    while_going(world)
+    world.machine.printing_failed()
+    end(world)
+    return world
+
+
+WAS_KILLED = "was ended by signal 9"
+CUT = "out_1 has the packets that were written until then, which salvage copies"
+FULL = "live: out_1 can't be written any more"
+END = "end_capture {0}, end_lines {0}, print_report {0}, audit {0}, conclude {0}"
+LAST, LAST_OF_TWO = END.format(1), END.format(2)
+RUNS = {
+    "single": (single, f"{BEGIN}, {LAST}", 0),
+    # They are ended once more with their recorder.
+    "of_feeds": (
+        of_feeds,
+        "create 1, start_recorder 1, end_lines 1, end_lines 1, print_report 1, audit 1, conclude 1",
+        0,
+    ),
+    "handed_over": (
+        handed_over,
+        f"{BEGIN}, {SECOND}, print_report 1, audit 1, conclude 1, {LAST_OF_TWO}",
+        0,
+    ),
+    "without_a_next": (without_a_next, f"{BEGIN}, create 2, start_recorder 2, {LAST}", 0),
+    "full_disk": (
+        lambda: full_disk(ROTATING),
+        f"{BEGIN}, {FULL}: the next recording begins once there is room, hold_capture 1, end_lines 1, "
+        f"kill_recorder 1, forget_out 1, {SECOND}, print_report 1, conclude 1, {LAST_OF_TWO}",
+        1,
+    ),
+    "full_disk_of_one": (
+        lambda: full_disk(SINGLE),
+        f"{BEGIN}, {FULL}: the recording ends, end_capture 1, end_lines 1, print_report 1, conclude 1",
+        1,
+    ),
+    "killed_recorder": (
+        killed_recorder,
+        f"{BEGIN}, live: bpfrec record {WAS_KILLED}: {CUT}, live: the next recording begins, hold_capture 1, "
+        f"end_lines 1, {SECOND}, print_report 1, conclude 1, {LAST_OF_TWO}",
+        137,
+    ),
+    "dead_capture": (
+        dead_capture,
+        f"{BEGIN}, live: capture {WAS_KILLED}, and its interfaces with it, end_lines 1, print_report 1, audit 1, "
+        "conclude 1",
+        1,
+    ),
+    "dead_capture_at_the_start": (
+        dead_capture_at_the_start,
+        f"start_recorder 1, start_capture 1, live: capture {WAS_KILLED}, and its interfaces with it, create 1, "
+        "point_to 1, end_lines 1, open_pipes 1, print_report 1, audit 1, conclude 1",
+        1,
+    ),
+    "refused_capture": (refused_capture, "start_recorder 1, start_capture 1, kill_recorder 1", 3),
+    "refused_out": (refused_out, "start_recorder 1, start_capture 1, create 1, kill_capture 1, kill_recorder 1", 3),
+    "hurried": (
+        hurried,
+        f"{BEGIN}, end_capture 1, end_capture 1, kill_capture 1, live: capture {WAS_KILLED}, and its interfaces with "
+        f"it, end_lines 1, kill_recorder 1, kill_audit 1, live: bpfrec record {WAS_KILLED}: {CUT}, print_report 1, "
+        "conclude 1",
+        137,
+    ),
+    "unprinted": (unprinted, f"{BEGIN}, {LAST}", 3),
+}
+
+
+@pytest.mark.parametrize("name", RUNS)
+def test_all_that_a_run_does_and_says_comes_in_this_order(name: str) -> None:
+    run, wanted, status = RUNS[name]
+    world = run()
+    judge("all comes in its order", ", ".join(world.effects) == wanted, world.effects)
+    judge("and the run has its status", world.machine.status(False) == status, world.machine.status(False))

@@ -1,0 +1,169 @@
+"""Tries what host/bin/live makes, keeps and removes of recordings by themselves, without a run."""
+
+from __future__ import annotations
+
+import json
+import os
+import tempfile
+from pathlib import Path
+from types import SimpleNamespace
+from typing import Any, cast
+
+import pytest
+from bpfrec_host.live import outputs
+from bpfrec_host.live.facts import KILLED_STATUS, About, Writer
+from bpfrec_host.live.guard import Guard, write_facts
+from bpfrec_host.live.loop import Loop
+from bpfrec_host.live.model import Recording
+from bpfrec_host.live.names import Files, Names
+from bpfrec_host.live.recorder import Recorder
+from bpfrec_host.live.recordings import ROOM, Recordings
+from bpfrec_host.live.retention import Kept, approved
+from bpfrec_host.live.run import Run
+from bpfrec_host.live.whole_files import Job, WholeFiles
+from support import judge
+
+YES, NO = "channel 1 programs 1 frames 1 offered 1\nyes other 0\n", "no 5 NoEnd 1\n"
+
+
+def recorder_of(work: Path, audit: str = YES) -> Recorder:
+    """A recorder of OUT, which is created, and its audit."""
+    made = work / "1"
+    made.mkdir()
+    os.mkfifo(made / "answers")
+    (made / "audit").write_text(audit)
+    recorder = Recorder(Recording(1, str(work / "out")), made, About(1, str(work / "out"), 0, "2025-12-01T12:00:00Z"))
+    recorder.take_output(Files().create(recorder.about.out))
+    return recorder
+
+
+# ---- which recordings may be removed, and which files
+
+
+@pytest.mark.parametrize(
+    "status, audit, is_approved",
+    [(0, YES, True), (3, YES, False), (137, YES, False), (0, NO, False), (0, "", False)],
+)
+def test_a_recording_may_be_removed_whose_status_is_0_and_whose_audit_says_yes(
+    work: Path, status: int, audit: str, is_approved: bool
+) -> None:
+    recorder = recorder_of(work, audit)
+    found, out = os.stat(recorder.about.out), recorder.about.out
+    wanted = Kept(out, found.st_dev, found.st_ino) if is_approved else None
+    judge("it is that file", approved(recorder, status) == wanted, approved(recorder, status))
+    recorder.close()
+
+
+def test_another_file_that_has_the_name_of_out_is_no_recording_of_the_run_and_stays(work: Path) -> None:
+    """It isn't removed later either, nor with an OUT that is discarded."""
+    recorder, out = recorder_of(work), work / "out"
+    out.rename(work / "moved")
+    out.write_text("another")
+    judge("it is not approved", approved(recorder, 0) is None)
+    outputs.discard(recorder)
+    judge("it stays", out.read_text() == "another" and not recorder.is_created)
+    recorder.close()
+
+
+def test_an_out_that_is_discarded_is_removed_where_it_is_still_there(work: Path) -> None:
+    recorder = recorder_of(work)
+    outputs.discard(recorder)
+    judge("it is", not (work / "out").exists())
+    outputs.discard(recorder)
+    recorder.close()
+
+
+@pytest.mark.parametrize("is_new", [True, False], ids=["new", "there"])
+def test_a_whole_file_that_was_there_stays_where_its_making_fails(work: Path, is_new: bool) -> None:
+    made: list[Kept] = []
+    err: list[str] = []
+    files = WholeFiles(True, Files(), cast(Loop, None), cast(Guard, None), made.append, err.append)
+    out, kept = work / "x.ch11.ch10", Kept(str(work / "x.ch11"), 0, 0)
+    out.write_text("another's")
+    with tempfile.TemporaryFile() as told:
+        told.write(b"chapter11: why\n")
+        files.end(Job(kept, str(out), is_new, told), 1)
+    judge("what was there stays alone", out.exists() != is_new)
+    line = f"live: {out} isn't made: chapter11: why"
+    judge("it is said, and goes with no recording", (made, err, files.status) == ([kept], [line], 1), (made, err))
+
+
+# ---- the next recording
+
+
+def test_an_out_whose_recording_can_not_be_made_is_closed_and_gone(work: Path) -> None:
+    """So its name is tried again."""
+    removed: list[int] = []
+
+    def fails(_: str) -> Recording:
+        raise OSError(28, "full")
+
+    folder = SimpleNamespace(remove=removed.append)
+    played = SimpleNamespace(files=Files(), prepare=fails, folder=folder, count=4)
+    before = len(os.listdir("/proc/self/fd"))
+    with pytest.raises(OSError):
+        Recordings.created(cast(Recordings, played), str(work / "out"))
+    judge("nothing is left", not (work / "out").exists() and removed == [5], removed)
+    judge("nor open", len(os.listdir("/proc/self/fd")) == before)
+
+
+@pytest.mark.parametrize("room, has_room", [(ROOM - 1, False), (ROOM, True)])
+def test_a_next_recording_has_room_from_a_mebibyte_on(
+    work: Path, monkeypatch: pytest.MonkeyPatch, room: int, has_room: bool
+) -> None:
+    monkeypatch.setattr(outputs, "room_beside", lambda _: room)
+    found = Recordings.has_room(cast(Recordings, None), Recording(1, "out"))
+    judge("it has", found == has_room and ROOM == 1 << 20)
+
+
+@pytest.mark.parametrize("ending", ["", ".json", ".ch10"], ids=["out", "facts", "whole"])
+def test_a_number_is_skipped_that_a_file_of_a_recording_has(work: Path, ending: str) -> None:
+    """Also where that is a link that leads nowhere."""
+    (work / f"f_00001.ch11{ending}").write_text("kept")
+    (work / f"f_00002.ch11{ending}").symlink_to("nowhere")
+    names = Names(str(work / "f.ch11"))
+    judge("the next one is taken", names.next() == (3, f"{work}/f_00003.ch11"))
+
+
+def test_a_recording_that_went_before_is_no_sync_of_the_one_that_goes_on() -> None:
+    """Its keeper forces it to its disk a last time while the next one goes on."""
+    synced: list[float] = []
+    current, before = Recording(2, "b"), Recording(1, "a")
+    played: Any = SimpleNamespace(
+        machine=SimpleNamespace(current=current), observers=SimpleNamespace(synced=synced.append)
+    )
+    for recording, moment in ((before, 1.0), (current, 2.0), (before, 3.0)):
+        Run.synced(played, cast(Recorder, SimpleNamespace(recording=recording)), moment)
+    judge("that one alone is told", synced == [2.0], synced)
+
+
+# ---- what the guard writes of a run that was killed
+
+
+ORIGIN = '{"origin": "1764590400.250000000", "counter": 0, "scale": "UTC"}\n'
+
+
+@pytest.mark.parametrize(
+    "earlier, wanted",
+    [
+        (None, [(None, KILLED_STATUS)]),
+        ({"state": "recording", "sync_fault": None}, [(None, KILLED_STATUS)]),
+        ({"state": "recording", "sync_fault": "EIO"}, [("EIO", KILLED_STATUS)]),
+        ({"state": "ended", "sync_fault": None}, []),
+    ],
+    ids=["none", "recording", "unforced", "ended"],
+)
+def test_the_guard_writes_the_last_facts_of_what_has_none(work: Path, earlier: dict | None, wanted: list) -> None:
+    """With why it couldn't be forced to its disk, as it stood there; of what has ended they stay as they are."""
+    written: list[tuple[Any, Any]] = []
+    played = SimpleNamespace(
+        folder=SimpleNamespace(events=work / "events"),
+        write=lambda about, noted, status: written.append((noted["sync_fault"], status)),
+    )
+    (work / "events").write_text(ORIGIN)
+    (work / "out").write_bytes(b"")
+    (work / "about.json").write_text(json.dumps(About(1, str(work / "out"), 0, "2025-12-01T12:00:00Z")))
+    if earlier:
+        (work / "out.json").write_text(json.dumps(earlier))
+    write_facts(cast(Writer, played), work)
+    judge("they are those", written == wanted, written)

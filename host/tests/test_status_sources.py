@@ -1,0 +1,190 @@
+"""Tries each number of the status and of its metrics beside the one that it stands for: no two are alike."""
+
+from __future__ import annotations
+
+import json
+import re
+from typing import Any
+
+import pytest
+from bpfrec_host.formats.ch11.packet import Header
+from bpfrec_host.formats.clock_state import ClockState
+from bpfrec_host.live.ports import Counts, Setup
+from bpfrec_host.live.status import as_json, metrics
+from bpfrec_host.live.status.growth import Kept, kept_by
+from bpfrec_host.live.status.model import Model
+from bpfrec_host.live.status.view import (
+    Audits,
+    ChannelView,
+    ClockView,
+    DiskView,
+    EndedView,
+    FilterView,
+    MarkView,
+    RecordingView,
+    Second,
+    SyncView,
+    View,
+)
+from support import judge, judge_quietly
+
+COUNTS = Counts(201, 202, 203, 204, 205, 206)
+SECONDS = [
+    Second(11.0, 12.0, 13.0, 14.0, 15, 16, 17, 18, 19, 20.0),
+    Second(21.0, 22.0, 33.0, 54.0, 25, 26, 27, 28, 29, 30.0),
+]
+CHANNEL = ChannelView(
+    channel=7,
+    interface="eth0",
+    version=5,
+    same_since=4,
+    counts=COUNTS,
+    counts_age=0.5,
+    frame_age=1.5,
+    lost_age=2.5,
+    kept_frames=207,
+    kept_bytes=208,
+    seconds=62.0,
+    has_ended=True,
+    unkept=None,
+    history=tuple(SECONDS),
+    filter=FilterView("udp", 6),
+)
+VIEW = View(
+    now=1_000.0,
+    state="recording",
+    uptime=71.5,
+    recording=RecordingView(3, "f.ch11", 72.5, 301, 302.0, 303, "a fault"),
+    disk=DiskView(304, 305.0),
+    sync=SyncView(2.0, 3.5, 306),
+    channels=(CHANNEL,),
+    recordings=(EndedView(2, "e.ch11", 307, 3, "yes other 0"),),
+    audits=Audits(308, 309, 310),
+    marks=(MarkView("f.ch11", 311, "2025-12-01T12:00:00.2500000Z", "text", 4.5),),
+    host="fc1",
+    # Times are of the millisecond that has begun.
+    utc=1_764_590_400.9876,
+    clock=ClockView(ClockState(True, 0.000125, "chrony (a)"), 0.25),
+)
+STATUS: dict[str, Any] = {
+    "age": 0.8,
+    "status": 1,
+    "state": "recording",
+    "level": "ok",
+    "uptime": 71.5,
+    "alarms": [],
+    "recording": {
+        "number": 3,
+        "name": "f.ch11",
+        "seconds": 72.5,
+        "bytes": 301,
+        "bytes_per_second": 302,
+        "unread": 303,
+        "fault": "a fault",
+    },
+    "disk": {"free": 304, "seconds_left": 305},
+    "sync": {"interval": 2.0, "age": 3.5},
+    "clock": {"is_synchronised": True, "maximum_error": 0.000125, "source": "chrony (a)", "required": 0.25},
+    "channels": [
+        {
+            "channel": 7,
+            "interface": "eth0",
+            "level": "ok",
+            "words": [],
+            "version": 5,
+            "same_since": 4,
+            "filter": "udp",
+            "changes": 6,
+            "offered": {"frames": 201, "bytes": 202, "frames_per_second": 21.0, "bytes_per_second": 22.0},
+            # Of all seconds that are shown.
+            "kept": {"frames": 207, "bytes": 208, "frames_per_second": 23.0, "bytes_per_second": 34.0},
+            "dropped": 203,
+            "missed": 204,
+            "skipped": 205,
+            "waited": 206,
+            "frame_age": 1.5,
+            "has_ended": True,
+            "history": {name: [one, two] for name, one, two in zip(Second._fields, *SECONDS)},
+        }
+    ],
+    "recordings": [{"number": 2, "name": "e.ch11", "bytes": 307, "status": 3, "audit": "yes other 0"}],
+    "audits": {"yes": 308, "no": 309, "none": 310},
+    "marks": [{"name": "f.ch11", "counter": 311, "time": "2025-12-01T12:00:00.2500000Z", "text": "text", "age": 4.5}],
+    "host": "fc1",
+    "utc": "2025-12-01T12:00:00.987Z",
+}
+OF_RUN = {
+    "status_age_seconds": 0.75,
+    "uptime_seconds": 71.5,
+    "recording": 1,
+    "recording_number": 3,
+    "recording_seconds": 72.5,
+    "recording_bytes": 301,
+    "disk_free_bytes": 304,
+    "disk_seconds_left": 305,
+    "sync_age_seconds": 3.5,
+    "sync_faults_total": 306,
+    "clock_synchronised": 1,
+    "clock_max_error_seconds": 0.000125,
+    'audits_total{answer="yes"}': 308,
+    'audits_total{answer="no"}': 309,
+    'audits_total{answer="none"}': 310,
+}
+OF_CHANNEL = {
+    "offered_frames_total": 201,
+    "offered_bytes_total": 202,
+    "kept_frames_total": 207,
+    "kept_bytes_total": 208,
+    "dropped_frames_total": 203,
+    "missed_frames_total": 204,
+    "skipped_frames_total": 205,
+    "waited_seconds_total": 0.206,
+    "filter_version": 5,
+    "filter_changes_total": 6,
+    "filters_left": 1_018,
+    "last_frame_age_seconds": 1.5,
+}
+
+
+def test_each_value_of_the_status_is_the_one_that_it_stands_for() -> None:
+    found = json.loads(as_json.with_age(as_json.text_of(VIEW, ()), 0.75))
+    for key in STATUS:
+        judge_quietly(f"{key}: {found.get(key)}", found.get(key) == STATUS[key])
+    judge("and nothing else is told", set(found) == set(STATUS))
+
+
+def test_each_metric_is_the_one_that_it_stands_for() -> None:
+    text = metrics.with_age(metrics.text_of(VIEW, ()), 0.75)
+    found = {name: float(value) for name, value in re.findall(r"^bpfrec_(\S+) (\S+)$", text, re.MULTILINE)}
+    labels = 'channel="7",interface="eth0"'
+    wanted: dict[str, float] = {**OF_RUN, f'channel_filter_info{{{labels},filter="udp"}}': 1}
+    wanted |= {f"channel_{name}{{{labels}}}": value for name, value in OF_CHANNEL.items()}
+    wanted |= {f'alarms{{name="{name}"}}': 0 for name in metrics.ALARMS}
+    judge("all and nothing else", found == wanted, set(found.items()) ^ set(wanted.items()))
+
+
+# ---- how numbers come there
+
+
+def counted(model: Model, at: float, *counts: int) -> None:
+    model.capture_counted("eth0", Counts(*counts), at)
+    model.pass_time(at)
+
+
+@pytest.mark.parametrize("passed", [1, 3])
+def test_what_was_lost_and_waited_is_told_once_each_by_its_own_count(passed: int) -> None:
+    """Also behind a pause of several seconds, in whose last one it is."""
+    model = Model(0.0, 1.0)
+    model.recording_begun(1, "f.ch11", [Setup(7, "eth0")], 0.0)
+    counted(model, 1.0, 100, 6_000, 1, 2, 3, 4)
+    counted(model, 1.0 + passed, 200, 12_000, 11, 22, 33, 44)
+    (channel,) = model.view(1.0 + passed).channels
+    found = [(it.dropped, it.missed, it.skipped, it.waited) for it in channel.history]
+    judge("each", found == [(1, 2, 3, 4), *[(0, 0, 0, 0)] * (passed - 1), (10, 20, 30, 40)], found)
+
+
+@pytest.mark.parametrize("count", [0, 1, 255, 256, 4_095, 4_096, 43_690, 65_535])
+def test_a_packet_has_as_many_frames_and_bytes_as_it_says(count: int) -> None:
+    header = Header(7, 0, 4 + 12 * count + 61, 0, 0, 0, 0x68, 0)
+    found = kept_by(header, count.to_bytes(4, "little"))
+    judge("these", found == Kept(7, count, 61), found)
