@@ -53,6 +53,6 @@ abbrev pub packet_line : (at : ℕ) → Header → What → List ℕ
 packet_line at header what = header_text at header ++ what_text what
 
 -- how many packets there are, and how many hold something else
-abbrev pub counts_line : (packets others : ℕ) → List ℕ
-counts_line packets others =
+abbrev pub packets_line : (packets others : ℕ) → List ℕ
+packets_line packets others =
     codes "packets " ++ (decimal packets ++ (codes " other " ++ (decimal others ++ (10 ∷ []))))

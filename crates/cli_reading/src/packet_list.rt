@@ -4,7 +4,7 @@ ghost use Rattle.std.specs.Prelude.{◌≡◌, OnOk};
 ghost use Rattle.std.specs.Io.KnownBytes.{Appends};
 ghost use Rattle.rec_reader.specs.Views.{packet_data};
 ghost use Rattle.cli_reading.specs.Counts.{counts_with};
-ghost use Rattle.cli_reading.specs.Printed.{counts_line, header_text, kind_text, numbers_text, packet_line, what_text};
+ghost use Rattle.cli_reading.specs.Printed.{packets_line, header_text, kind_text, numbers_text, packet_line, what_text};
 
 use crate::reading::{
     Counts, begin_again, counts_of, is_read_twice, next_packet, open, packet_again, reader_over,
@@ -110,7 +110,7 @@ fn add_line<W: Write>(
 /// Prints how many packets there are.
 fn print_counts<W: Write>(lines: &mut W, counts: Counts) -> io::Result<()>
     ensures { OnOk result (Appends (W.contents lines.old) (W.contents lines.new)
-        (counts_line counts.packets counts.others)) }
+        (packets_line counts.packets counts.others)) }
 {
     writeln!(lines, "packets {} other {}", counts.packets, counts.others)
 }
