@@ -18,7 +18,7 @@ import time
 from pathlib import Path
 from typing import NamedTuple
 
-from wire import BUFFER_MIB, INSIDE, LENGTHS, LIVE, PATIENCE, SENDER, missing, namespace, run
+from wire import BUFFER_MIB, INSIDE, LENGTHS, LIVE, PATIENCE, SENDER, make_pairs, missing, run
 
 FIRST_RATE, STEPS = 20_000, 5
 
@@ -82,10 +82,7 @@ def greatest_rate(work: Path, words: argparse.Namespace, length: int) -> tuple[f
 
 
 def measure(words: argparse.Namespace) -> None:
-    run("ip", "link", "set", "lo", "up")
-    for at in range(words.senders):
-        namespace.make_pair(at)
-    time.sleep(0.5)
+    make_pairs(words.senders)
     print("| Bytes | Frames a second in all, none lost | MB/s | Ended by |\n|---|---|---|---|")
     with tempfile.TemporaryDirectory() as folder:
         for length in LENGTHS:

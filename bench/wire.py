@@ -78,9 +78,10 @@ def run(*words: object) -> str:
     return subprocess.run([str(it) for it in words], check=True, capture_output=True, text=True).stdout
 
 
-def make_pair() -> None:
+def make_pairs(count: int = 1) -> None:
     run("ip", "link", "set", "lo", "up")
-    namespace.make_pair(0)
+    for at in range(count):
+        namespace.make_pair(at)
     time.sleep(0.5)
 
 
@@ -367,13 +368,13 @@ def main() -> int:
         go_ahead()
     with tempfile.TemporaryDirectory() as folder:
         if words.part in (None, "wire"):
-            make_pair()
+            make_pairs()
             time_wire(Path(folder), words, commands(Path(folder), words.buffer, words.before))
         if words.part == "syncs":
-            make_pair()
+            make_pairs()
             time_wire(Path(folder), words, with_and_without_syncs(Path(folder), words.buffer))
         if words.part == "follow":
-            make_pair()
+            make_pairs()
             time_wire(Path(folder), words, with_and_without_follower(Path(folder), words.buffer))
         if words.part in (None, "files") and not words.before:
             time_files(Path(folder), words.frames, words.least)

@@ -6,7 +6,19 @@ import pytest
 from reading import SAMPLES
 from support import ROOT, judge, outcome
 
-TOOLS = ("chapter11", "check_sums", "check_ch10", "control", "convert", "follow", "info", "live", "pcapng", "preflight", "salvage")
+TOOLS = (
+    "chapter11",
+    "check_sums",
+    "check_ch10",
+    "control",
+    "convert",
+    "follow",
+    "info",
+    "live",
+    "pcapng",
+    "preflight",
+    "salvage",
+)
 OLD = next(iter(sorted(Path.home().glob(".pyenv/versions/3.[78].*/bin/python"))), None)
 
 each_tool = pytest.mark.parametrize("tool", TOOLS)

@@ -220,7 +220,8 @@ point_near rule (next ∷ rules) start moment tick counter ascending point fits 
         as (λ _. next.counter ≤ tick + 10_000_000) [
           | inl early ↦
               let e : (second_behind rule moment tick point.has.is point.has.begun).its < next.counter = grind (arith, nat_tests) in
-              let far = second_missing rule (next ∷ rules) start moment tick counter (second_behind rule moment tick point.has.is point.has.begun) point none e in
+              let far = second_missing rule (next ∷ rules) start moment tick counter
+              (second_behind rule moment tick point.has.is point.has.begun) point none e in
               absurd (omega (arith, far, e, ge))
           | inr late ↦
               let e : next.counter ≤ (second_behind rule moment tick point.has.is point.has.begun).its = grind (arith, nat_tests) in
@@ -234,7 +235,8 @@ point_near rule (next ∷ rules) start moment tick counter ascending point fits 
         as (λ _. IsNear (rule ∷ next ∷ rules) tick counter) [
           | inl early ↦
               let e : (second_behind rule moment tick point.has.is point.has.begun).its < next.counter = grind (arith, nat_tests) in
-              let far = second_missing rule (next ∷ rules) start moment tick counter (second_behind rule moment tick point.has.is point.has.begun) point none e in
+              let far = second_missing rule (next ∷ rules) start moment tick counter
+              (second_behind rule moment tick point.has.is point.has.begun) point none e in
               omega (arith, near, far)
           | inr late ↦
               let e : next.counter ≤ (second_behind rule moment tick point.has.is point.has.begun).its = grind (arith, nat_tests) in

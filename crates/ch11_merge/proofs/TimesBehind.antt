@@ -8,7 +8,8 @@ use Rattle.std.proofs.lemmas.Option.{same_Some}
 use Rattle.ch11_packet.specs.FramesRead.{ReadFrameData}
 use Rattle.ch11_merge.specs.declared.source.Head.{Head}
 use Rattle.ch11_merge.specs.declared.source.Head.TheVariants.{At, Uncounted, End}
-use Rattle.ch11_merge.specs.Merging.{FilePiece, ChannelLeft, Merged, Merges, TakesPart, channel_with, frames_from, head_of, is_ahead, is_due, part_from, piece_of}
+use Rattle.ch11_merge.specs.Merging.{FilePiece, ChannelLeft, Merged, Merges, TakesPart, channel_with, frames_from, head_of, is_ahead, is_due}
+use Rattle.ch11_merge.specs.Merging.{part_from, piece_of}
 use Rattle.ch11_merge.specs.Merging.FilePiece.{OfFrames, OfRecord}
 use Rattle.ch11_merge.specs.Merging.Merged.{OfTime, OfPiece}
 use Rattle.ch11_merge.specs.Kept.{Held, held_in, held_of, AreNamedApart, HasNoCounter, IsSteady, LieBehindTimes, LiesFrom, NeverStepBack}

@@ -47,7 +47,8 @@ what_text Other = codes "other\n"
 -- its place, its channel, data type, sequence number, length, data length and counter
 abbrev pub header_text : (at : ℕ) → Header → List ℕ
 header_text at header =
-    numbers_text (at ∷ header.channel ∷ []) ++ (kind_text header.kind ++ numbers_text (header.sequence ∷ header.packet_len ∷ header.data_len ∷ header.counter ∷ []))
+    numbers_text (at ∷ header.channel ∷ []) ++ (kind_text header.kind
+    ++ numbers_text (header.sequence ∷ header.packet_len ∷ header.data_len ∷ header.counter ∷ []))
 
 abbrev pub packet_line : (at : ℕ) → Header → What → List ℕ
 packet_line at header what = header_text at header ++ what_text what

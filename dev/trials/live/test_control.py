@@ -6,6 +6,7 @@ import socket
 import stat
 import subprocess
 from pathlib import Path
+from typing import Any
 
 import pytest
 from frames import numbers_in, records
@@ -23,7 +24,7 @@ def run_with_a_socket(work: Path, namespace: None) -> Running:
     return begin(work, work / "flight.ch11", "--quiet", "--control", work / "control")
 
 
-def ask(work: Path, *words: object, **more: object) -> subprocess.CompletedProcess:
+def ask(work: Path, *words: object, **more: Any) -> subprocess.CompletedProcess:
     return outcome(CONTROL, "--wait", 20, work / "control", *words, **more)
 
 

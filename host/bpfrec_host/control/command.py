@@ -18,7 +18,7 @@ Sends lines to a recording of bpfrec-live --control PATH, and waits for what eac
   bpfrec-control /run/bpfrec/control mark gear up
 
 A LINE is one that bpfrec-live takes on standard input: `set CHANNEL FILTER`, `mark TEXT`, `status`, `next`, `stop` or
-`help`. Its words are joined by blanks. Without one, lines are read from standard input, each once the one before it is
+`help`; its arguments are joined by blanks. Without one, lines are read from standard input, each once the one before it is
 answered. A path in a line is looked for from where bpfrec-live runs.
 """
 MORE = """\

@@ -12,6 +12,7 @@ pub returns-in-Some-clause-record : goal.returns-in-Some-clause-record
 returns-in-Some-clause-record g c =
     let rested = c.fill_buf.follows.lender-at-none in
     let filled = subst (FillKeeps _ (g.R.Read.remaining rested) (g.R.BufRead.consumable_len rested)) c.in-Ok.is c.fill_buf.follows.holds-at-none in
-    TakesRecord-shown (g.R.Read.remaining c.args.reader.now) (g.R.Read.remaining rested) (g.R.Read.remaining c.consume.new.self) (g.R.BufRead.consumable_len rested)
+    TakesRecord-shown (g.R.Read.remaining c.args.reader.now) (g.R.Read.remaining rested) (g.R.Read.remaining c.consume.new.self)
+    (g.R.BufRead.consumable_len rested)
     c.in-Ok.bytes.now c.in-Some.taken c.put_record.new.buffer c.in-Some.ensures.count c.in-Ok.ensures.front c.in-Ok.ensures.end filled.0 filled.1
     c.consume.ensures.bytes c.in-Some.ensures.record
