@@ -1,1 +1,3 @@
+pub mod StandingKinds
 pub mod StandingMoves
+pub mod StandingDone
