@@ -159,7 +159,8 @@ def test_network_identifiers_are_those_of_frames(recording: Path) -> None:
     }
     packets = [packet_of(it, body_of(each), 0, FRAMES, 0, it != 5) for it, each in frames.items()]
     other = packet_of(4, b"another's data, of no Ethernet", 0, 0x40, 0, True)
-    recording.write_bytes(recording.read_bytes() + other + b"".join(packets))
+    later = packet_of(3, body_of([(2, 9 << 16, bytes(60))]), 1, FRAMES, 5, True)
+    recording.write_bytes(recording.read_bytes() + other + b"".join(packets) + later)
     with_facts(recording, ONE, interfaces=[{"interface": "eth0", "channel": 3}, {"interface": "eth1", "channel": 8}])
     due = [{"id": 3, "name": "eth0", "net": 7}, {"id": 8, "name": "eth1"}, {"id": 65_535, "net": 255}]
     judge("with facts", setup_by(recording)["channel"] == due, setup_by(recording))

@@ -7,12 +7,12 @@ from pathlib import Path
 
 import pytest
 from captures import read_by_python
-from corners import ORIGINS, RECORDINGS, frame_of, of_frames
+from corners import ORIGINS, RECORDINGS, end_of, frame_of, of_frames
 from expected_facts import facts_of_run, moments_by, time_by
 from exports import wanted_of
 from frames import Record, records
 from reading import facts_of
-from rows import rows_of
+from rows import printed, rows_of
 from support import BPFREC, CAPTURE, INFO, PCAPNG, judge, judge_quietly, outcome, run
 
 WANTED = {"bin/bpfrec": "make build", "bin/capture": "make build", "tshark": "tshark"}
@@ -87,6 +87,16 @@ def test_corners_of_recordings_are_read_alike(work: Path, name: str) -> None:
 def mark_of(word: int) -> int:
     """The marks of a feed for the highest bits of a frame's word."""
     return (word >> 31) + (word >> 30 & 1) * 2
+
+
+def test_headers_and_ends_are_shown_with_their_own_numbers(work: Path) -> None:
+    """In the plugin, of a packet that has no frames, where no two are alike."""
+    (work / "x.ch11").write_bytes(end_of(7, 2**33 + 3, 5))
+    shown = "\n".join(printed(work, "-r", work / "x.ch11", "-V"))
+    wanted = ["Packet length: 56", "Data length: 28", "Data type version: 8", "Sequence number: 1"]
+    lacking = [it for it in wanted if f"{it}\n" not in shown]
+    judge("of its header", lacking == [], (lacking, shown))
+    judge("and in a line", "end of channel 7, frames offered 8589934595, kept 5\n" in shown, shown)
 
 
 # ---- times
