@@ -45,7 +45,7 @@ IsTimePoint least (rule ∷ rules) moment tick =
     × IsPointFrom (rule ∷ rules) start moment tick)
     ⊎ ((rule_end rules ≤ least) × IsTimePoint least rules moment tick)
 
--- the clock's time of a tick isn't ahead of a moment, and less than 100 ns behind it
+-- the clock's time of a tick isn't earlier than a moment, and less than 100 ns later
 abbrev pub AgreesWithClock : List Origin → (moment : ℤ) (tick : ℕ) → Type 0
 AgreesWithClock rules moment tick =
     (nanos_of moment ≤ℤ clock_time rules tick)

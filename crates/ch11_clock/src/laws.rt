@@ -32,8 +32,8 @@ pub fn held_origins_are_the_clock()
         → clock_time (held_origins (started origins)) counter ≡ clock_time origins counter }
 {}
 
-/// Law: the clock gives a time packet's tick a time that isn't ahead of what the packet says, and
-/// less than 100 ns behind it.
+/// Law: the clock gives a time packet's tick a time that isn't earlier than what the packet says, and
+/// less than 100 ns later.
 pub fn time_points_have_the_clocks_time()
     ensures { (least : ℕ) (rules : List Origin) (moment : ℤ) (tick : ℕ) → IsClock rules
         → IsTimePoint least rules moment tick → AgreesWithClock rules moment tick }

@@ -74,7 +74,7 @@ pub record TimeStandsSecond (blocks : List FileBlock) : Type 0 where
 
 -- ---- times
 
--- what a time packet tells isn't ahead of the clock's time of its counter, and less than 100 ns behind it
+-- what a time packet tells isn't later than the clock's time of its counter, and less than 100 ns earlier
 abbrev pub TellsClock : List Origin → BlockContent → (counter : ℕ) → Type 0
 TellsClock rules (SetupBlock text) counter = Unit {0}
 TellsClock rules (TimeBlock is_external time) counter =

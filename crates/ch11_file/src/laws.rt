@@ -124,8 +124,8 @@ pub fn headers_never_lie_far_behind()
         → NeverFarBehind 0 blocks }
 {}
 
-/// Law: the clock gives the counter of each time packet of a whole file a time that isn't ahead of what the
-/// packet tells, and less than 100 ns behind it.
+/// Law: the clock gives the counter of each time packet of a whole file a time that isn't earlier than what
+/// the packet tells, and less than 100 ns later.
 pub fn times_of_a_whole_file_are_the_clocks()
     ensures { (facts : FileFacts) (blocks : List FileBlock) → IsClock facts.rules
         → IsWholeFile facts blocks → AllByRecursion

@@ -175,9 +175,7 @@ def parser() -> Parser:
     made.add_argument("--require-clock", metavar="SECONDS", dest="clock_error", type=clock_error, help=asked)
     ran = "runs a program when an alarm begins or ends"
     made.add_argument("--on-alarm", metavar="COMMAND", type=command_words, help=ran)
-    made.add_argument(
-        "--control", metavar="PATH", help="takes lines by a Unix socket too, as bpfrec-control sends them"
-    )
+    made.add_argument("--control", metavar="PATH", help="takes lines by a Unix socket too: bpfrec-control sends them")
     made.add_argument("--prefilter", action="store_true", help="has the kernel run the filters too")
     whole = "makes OUT.ch10, a whole Chapter 11 file, after each recording"
     made.add_argument("--chapter11", action="store_true", help=whole)

@@ -14,11 +14,9 @@ from bpfrec_host.live.audits import Audits
 from bpfrec_host.live.capture import Capture
 from bpfrec_host.live.clock_watch import ClockWatch
 from bpfrec_host.live.console import Console
-from bpfrec_host.live.control.asking import Asker, answer
 from bpfrec_host.live.control.changes import Change, Changes
 from bpfrec_host.live.control.lines import ControlLines, ControlPorts
 from bpfrec_host.live.control.maker import Maker
-from bpfrec_host.live.control.words import Word
 from bpfrec_host.live.durability import Durability
 from bpfrec_host.live.end_of_run import EndOfRun
 from bpfrec_host.live.engine import LOST
@@ -96,7 +94,7 @@ class Run:
         """What takes the lines that are typed."""
         maker = Maker(self.loop, self.programs.bpfrec, self.guard.all)
         changes = Changes(self.folder, self.given.keeps_filters(), maker.make)
-        ports = ControlPorts(self.obey, self.marks.take, self.err, terminal)
+        ports = ControlPorts(self.end, self.next, self.observers.report, self.marks.take, self.err, terminal)
         return ControlLines(self.loop, self.given, changes, self.current, ports)
 
     def made_whole_files(self) -> WholeFiles:
@@ -215,18 +213,9 @@ class Run:
         if not self.machine.is_ending():
             self.machine.told_to_end(time.monotonic())
 
-    def obey(self, word: Word, asker: Asker) -> None:
-        """Does what a line says that is a word alone."""
-        if word is Word.STOP:
-            answer(asker, "the recording ends", True)
-            self.end()
-        elif word is Word.STATUS:
-            self.control.say(asker, "\n".join(self.observers.report()), True)
-        elif self.given.is_rotating():
-            answer(asker, "the next recording begins", True)
-            self.machine.used_up(self.machine.current)
-        else:
-            self.control.say(asker, "live: next: recordings follow one another with --every or --size alone", False)
+    def next(self) -> None:
+        """Begins the next recording: a line says so."""
+        self.machine.used_up(self.machine.current)
 
     def end_guard(self, status: int) -> None:
         """The guard has ended, which it does by itself only once live has."""

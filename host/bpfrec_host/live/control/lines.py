@@ -4,7 +4,7 @@ from __future__ import annotations
 
 import os
 from collections import deque
-from typing import Callable, NamedTuple, Optional
+from typing import Callable, NamedTuple, Optional, Sequence
 
 from bpfrec_host.formats.answers import Answer
 from bpfrec_host.live.arguments import Arguments
@@ -23,10 +23,12 @@ MOST_HELD = 16
 
 
 class ControlPorts(NamedTuple):
-    """What lines have beside the recorder: what does a word, what notes a mark, what prints a line, and the terminal on
-    which it is shown."""
+    """What lines have beside the recorder: what ends the run, begins the next recording, says how it goes, notes a mark
+    and prints a line, and the terminal on which it is shown."""
 
-    perform: Callable[[Word, Asker], None]
+    stop: Callable[[], None]
+    next: Callable[[], None]
+    report: Callable[[], Sequence[str]]
     mark: Callable[[bytes, Asker], None]
     err: Callable[[str], None]
     terminal: Terminal
@@ -39,7 +41,7 @@ class ControlLines:
         self, loop: Loop, given: Arguments, changes: Changes, current: Callable[[], Recorder], ports: ControlPorts
     ) -> None:
         self.loop, self.given, self.changes, self.current = loop, given, changes, current
-        self.perform, self.mark, self.err, self.terminal = ports
+        self.ports, self.mark, self.err, self.terminal = ports, ports.mark, ports.err, ports.terminal
         self.input = Input()
         self.socket: Optional[ControlSocket] = None
         if given.control is not None:
@@ -102,8 +104,9 @@ class ControlLines:
         """Answers who asked; what was asked on standard input is answered on standard error."""
         if asker:
             asker(text, is_done)
-        else:
-            self.err(text)
+            return
+        for line in text.split("\n"):
+            self.err(line)
 
     def hand_on(self) -> None:
         """Hands on the lines that the recorder takes."""
@@ -142,11 +145,24 @@ class ControlLines:
         elif held.word is Word.HELP:
             self.say(asker, HELP, True)
         elif held.word:
-            self.perform(held.word, asker)
+            self.obey(held.word, asker)
         elif recorder.lines.is_ending:
             answer(asker, too_late, False)
         else:
             recorder.lines.put(*held.asked())
+
+    def obey(self, word: Word, asker: Asker) -> None:
+        """Does what a line says that is a word alone."""
+        if word is Word.STOP:
+            answer(asker, "the recording ends", True)
+            self.ports.stop()
+        elif word is Word.STATUS:
+            self.say(asker, "\n".join(self.ports.report()), True)
+        elif self.given.is_rotating():
+            answer(asker, "the next recording begins", True)
+            self.ports.next()
+        else:
+            self.say(asker, "live: next: recordings follow one another with --every or --size alone", False)
 
     def close(self, recorder: Recorder) -> None:
         """Ends the lines of a recorder that has ended."""
