@@ -107,8 +107,8 @@ class Shell(NamedTuple):
     left_out: dict[str, str]
 
 
-def run_all(wanted: dict[int, Command], kernel: dict[str, str]) -> dict[int, str]:
-    """What each printed, one after the other, beside a kernel whose clock is synchronised."""
+def run_all(wanted: dict[int, Command], adds: dict[str, str]) -> dict[int, str]:
+    """What each printed, one after the other, beside a kernel whose clock is synchronised, with a folder of its own."""
     script = "".join(f"{it.words}\necho '{MARK}'\n" for it in wanted.values())
     done = subprocess.run(
         ["bash"],
@@ -118,7 +118,7 @@ def run_all(wanted: dict[int, Command], kernel: dict[str, str]) -> dict[int, str
         timeout=PATIENCE,
         stdout=subprocess.PIPE,
         stderr=subprocess.STDOUT,
-        env={**os.environ, **kernel},
+        env={**os.environ, **adds},
     )
     parts = done.stdout.split(MARK + "\n")
     judge_quietly("each command is run", len(parts) == len(wanted) + 1, done.stdout[-2000:])
@@ -147,7 +147,8 @@ def shell(entering: Callable, place: Path) -> Shell:
         except pytest.skip.Exception as why:
             left_out["live"] = str(why)
         chosen = {at: it for at, it in enumerate(COMMANDS) if it.kind not in left_out}
-        ran = run_all(chosen, Synchronisation(place).adds)
+        # Folders that killed runs left elsewhere would be named.
+        ran = run_all(chosen, {**Synchronisation(place).adds, "TMPDIR": str(place / "private")})
     return Shell(ran, left_out)
 
 
