@@ -210,15 +210,19 @@ def test_an_out_may_be_a_file_a_device_a_pipe_or_a_stream(work: Path, own: Path)
     ],
     ids=["written", "appended", "read", "told", "told_by_name"],
 )
-@pytest.mark.parametrize("command", ["record", "extract", "upgrade"])
+@pytest.mark.parametrize("command", ["record", "extract", "upgrade", "export", "export_from", "chapter11"])
 def test_a_file_that_a_standard_stream_is_is_no_out(work: Path, own: Path, command: str, how: str, out: str) -> None:
     """A file that a standard stream is, is no OUT: what is printed would be written over it."""
     lines, sample = work / "stream.lines", RECORDINGS / "two_versions.ch11"
     lines.write_text("set 9 nowhere\n")
+    (work / "setup.toml").write_text('origin = "1764590400"\n')
     words = {
         "record": f"record {own} {out}",
         "extract": f"extract {sample} 1 {out}",
         "upgrade": f"upgrade {sample} {out}",
+        "export": f"export {sample} {out}",
+        "export_from": f"export {sample} {out} 1764590400",
+        "chapter11": f"chapter11 {sample} setup.toml {out}",
     }
     kept, refusal = b"" if how.startswith("> ") else lines.read_bytes(), f"file {out}\n"
     told = outcome("sh", "-c", f"{BPFREC} {words[command]} {how}", cwd=work, stdin=subprocess.DEVNULL)
@@ -227,18 +231,25 @@ def test_a_file_that_a_standard_stream_is_is_no_out(work: Path, own: Path, comma
 
 
 @pytest.mark.parametrize("out", ["/dev/stdin", "/dev/fd/0", "/proc/self/fd/0"])
-@pytest.mark.parametrize("command", ["extract - 1", "upgrade -", "export -"])
+@pytest.mark.parametrize("command", ["extract - 1 {}", "upgrade - {}", "export - {}", "export - {} 1764590400"])
 def test_a_pipe_that_is_read_is_no_out(command: str, out: str) -> None:
     """What went into it would come out of it again: an export had no end, and an extraction kept nothing."""
-    piped = f"cat {RECORDINGS / 'two_versions.ch11'} | timeout 5 {BPFREC} {command} {out}"
+    piped = f"cat {RECORDINGS / 'two_versions.ch11'} | timeout 5 {BPFREC} {command.format(out)}"
     done = outcome("sh", "-c", piped)
     judge(f"{command} {out}", (done.returncode, done.stdout, done.stderr) == (3, "", f"file {out}\n"), done)
 
 
 @pytest.mark.parametrize("by", ["{} >> own.ch11", "- < own.ch11 >> own.ch11"], ids=["by_name", "by_input"])
-@pytest.mark.parametrize(
-    "command", ["list {}", "audit {}", "export {} -", "export {} other", "extract {} 1 other", "upgrade {} other"]
-)
+@pytest.mark.parametrize("command", [
+    "list {}",
+    "audit {}",
+    "export {} -",
+    "export {} - 1764590400",
+    "export {} other",
+    "export {} other 1764590400",
+    "extract {} 1 other",
+    "upgrade {} other",
+])  # fmt: skip
 def test_standard_output_is_not_the_recording_that_is_read(work: Path, command: str, by: str) -> None:
     """What is printed would go into the recording, and an export of it would never end."""
     own, (file, streams) = work / "own.ch11", by.split(" ", 1)
