@@ -142,7 +142,7 @@ def program_packet(
     return packet_of(0, data, sequence, COMPUTER, 0, is_summed)
 
 
-def end_packet(channel: int, count: int, sequence: int = 1, is_summed: bool = True) -> bytes:
+def end_packet(channel: int, count: int, sequence: int = 1, is_summed: bool = True, counter: int = 9) -> bytes:
     """The packet of the end of a channel, of whose frames all were kept."""
     data = struct.pack("<I4sHHQQ", 0, b"CBPR", 2, channel, count, count)
-    return packet_of(0, data, sequence, COMPUTER, 9, is_summed)
+    return packet_of(0, data, sequence, COMPUTER, counter, is_summed)

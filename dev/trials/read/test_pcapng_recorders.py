@@ -1,33 +1,17 @@
 """Tries host/bin/pcapng on recordings of several recorders, and of many channels."""
 
-import json
 import resource
 from pathlib import Path
 
 import pytest
-from expected_facts import facts_of_run
-from frames import FRAMES, body_of, end_packet, numbered, packet_of, program_packet, with_check_sequence
+from frames import FRAMES, body_of, numbered, packet_of, with_check_sequence
 from seen_frames import seen_in
+from several_recorders import facts_by, recording_at
 from support import INFO, PCAPNG, judge, outcome, run
 
 WANTED = {"bin/bpfrec": "make build", "tshark": "tshark", "capinfos": "wireshark-common"}
 # On a quiet machine that many channels take five seconds.
 CHANNELS, PATIENCE = 65_535, 40
-
-
-def recording_at(path: Path, counters: list[int], mark: int, facts: dict | None = None, channel: int = 1) -> Path:
-    """A recording of a channel, whose frames have a mark, with its facts."""
-    frames = [(it, 0, with_check_sequence(numbered(mark * 1_000 + at))) for at, it in enumerate(counters)]
-    packets = [packet_of(channel, body_of([it]), at, FRAMES, it[0], True) for at, it in enumerate(frames)]
-    path.write_bytes(b"".join([program_packet(channel, 0), *packets, end_packet(channel, len(frames))]))
-    if facts:
-        Path(f"{path}.json").write_text(json.dumps(facts))
-    return path
-
-
-def facts_by(host: str, interface: str, origins: list | None = None) -> dict:
-    made = facts_of_run(origins or [("1764590400.000000000", 0, None)])
-    return {**made, "host": host, "interfaces": [{"interface": interface, "channel": 1}]}
 
 
 def captured(work: Path, *recordings: Path) -> tuple[list[str], list[tuple[int, int]]]:

@@ -5,18 +5,22 @@ from __future__ import annotations
 import argparse
 import os
 import re
+import tempfile
 from typing import NoReturn, Optional
 
 from bpfrec_host import printing, program
 from bpfrec_host.arguments import Parser, full_name, natural, short_name
+from bpfrec_host.chapter11.joining import Joined
 from bpfrec_host.chapter11.networks import networks_of
-from bpfrec_host.chapter11.setup import Asked, setup_text
+from bpfrec_host.chapter11.setup import Asked, setup_text, told_by
+from bpfrec_host.chapter11.several import Recorded, channels_of
 from bpfrec_host.formats import facts
 from bpfrec_host.formats.limits import MAX_TAI_OFFSET
 from bpfrec_host.streams import STREAM, Refused, Taken, Unreadable, input_at, refuse_overwriting
 
 ABOUT = """\
-Makes a whole Chapter 11 file of a recording: with a setup record (TMATS), time packets and an index.
+Makes a whole Chapter 11 file of a recording: with a setup record (TMATS), time packets and an index. Or one file of the
+recordings of several recorders, by the clock of each.
 
 OUT has all frames, programs and ends of RECORDING, merged by their counters and cut into packets of 100 ms at most.
 Times are UTC by the facts beside the recording, RECORDING.json. From these the setup record has the host, the
@@ -24,6 +28,11 @@ recorder and the names of interfaces. The network identifier of a channel is tha
 
 It writes what is set into SETUP, a text in TOML, and becomes `bpfrec chapter11 RECORDING SETUP OUT`, which makes the
 file and prints its counts. An OUT that exists and isn't empty is refused unless --force is given.
+
+Of several recordings each needs its facts, and no two may be of one interface. The first that has a channel ID keeps
+it. Another gets the least ID that no recording has and no other got, and a line is printed: `channel 1 of tap2.ch11 is
+3`. Counters are those since the earliest origin, so that each frame has the time of its own recorder's clock. They are
+joined in an unnamed file in the folder of OUT first, by whose places the program names what it refuses.
 """
 MORE = """\
 An adapter's clock may have run UTC or atomic time (TAI). If the facts don't know which, RECORDING is refused unless
@@ -49,7 +58,7 @@ class Unusable(Refused):
 def parser() -> Parser:
     """The arguments of bpfrec-chapter11."""
     name = full_name("chapter11")
-    usage = f"{name} [OPTION..] RECORDING OUT\n       {name} --print-setup [OPTION..] RECORDING"
+    usage = f"{name} [OPTION..] RECORDING.. OUT\n       {name} --print-setup [OPTION..] RECORDING"
     made = Parser(prog=name, usage=usage, description=ABOUT, epilog=MORE)
     times = made.add_mutually_exclusive_group()
     times.add_argument("--facts", metavar="FILE", help="the facts of the recording, if they aren't RECORDING.json")
@@ -76,9 +85,12 @@ def parser() -> Parser:
         help="a further line of the setup record; several times",
     )
     made.add_argument("--force", action="store_true", help="overwrites an OUT that exists")
-    made.add_argument("--print-setup", action="store_true", help="prints SETUP, and makes no file")
-    made.add_argument("recording", metavar="RECORDING")
-    made.add_argument("out", metavar="OUT", nargs="?")
+    made.add_argument(
+        "--print-setup",
+        action="store_true",
+        help="prints SETUP, and makes no file; of one recording OUT may be left out",
+    )
+    made.add_argument("paths", metavar="RECORDING.. OUT", nargs="+")
     return made
 
 
@@ -105,8 +117,9 @@ def attribute_of(word: str) -> str:
 
 
 def facts_path(given: argparse.Namespace) -> Optional[str]:
-    """The file of the facts; None where there is none, and the origin is given."""
-    beside = f"{given.recording}.json"
+    """The file of a recording's facts; None where there is none, and the origin is given."""
+    recording = given.recordings[0]
+    beside = f"{recording}.json"
     if given.facts is not None:
         return str(given.facts)
     if os.path.exists(beside):
@@ -114,7 +127,7 @@ def facts_path(given: argparse.Namespace) -> Optional[str]:
             raise Unusable(f"{beside} has the origins, and --origin is for a recording without facts")
         return beside
     if given.origin is None:
-        raise Unusable(f"{given.recording}: no facts beside it: --facts or --origin says when it was recorded")
+        raise Unusable(f"{recording}: no facts beside it: --facts or --origin says when it was recorded")
     return None
 
 
@@ -143,18 +156,30 @@ def judge_overwriting(out: str, is_forced: bool) -> None:
         refuse_overwriting(out, is_forced)
 
 
+def asked_of(given: argparse.Namespace) -> Asked:
+    """What the command line says of the file."""
+    return Asked(given.origin, given.ahead, given.external, tuple(given.attribute))
+
+
 def setup_of(given: argparse.Namespace) -> str:
-    """SETUP of the recording."""
-    if given.recording == STREAM:
-        raise Unusable(f"{STREAM}: it is standard input, and chapter11 reads a file twice")
+    """SETUP of one recording."""
+    recording = given.recordings[0]
     path = facts_path(given)
-    judge_outputs(given.out, [given.recording, *([path] if path else [])])
+    judge_outputs(given.out, [recording, *([path] if path else [])])
     known = facts_at(path) if path else None
-    asked = Asked(given.origin, given.ahead, given.external, tuple(given.attribute))
     try:
-        return setup_text(asked, known, networks_of(given.recording))
+        return setup_text(asked_of(given), told_by(known) if known else None, networks_of(recording))
     except Refused as refused:
         raise Refused(f"{path}: {refused}") from None
+
+
+def joined_of(given: argparse.Namespace) -> Joined:
+    """Several recordings as one."""
+    if given.facts is not None or given.origin is not None:
+        raise Unusable("--facts and --origin are for one recording: several have their facts beside them")
+    beside = [f"{it}.json" for it in given.recordings]
+    judge_outputs(given.out, [*given.recordings, *beside])
+    return Joined([Recorded(it, facts_at(f"{it}.json"), channels_of(it)) for it in given.recordings], asked_of(given))
 
 
 def as_operand(path: str) -> str:
@@ -169,22 +194,61 @@ def make(recording: str, setup: str, out: str) -> NoReturn:
     with open(descriptor, "wb", closefd=False) as file:
         file.write(setup.encode())
     os.set_inheritable(descriptor, True)
-    os.execv(bpfrec, [bpfrec, "chapter11", as_operand(recording), f"/proc/self/fd/{descriptor}", as_operand(out)])
+    os.execv(bpfrec, [bpfrec, "chapter11", as_operand(recording), at_descriptor(descriptor), as_operand(out)])
+
+
+def at_descriptor(descriptor: int) -> str:
+    """The path of an open file, which has no other."""
+    return f"/proc/self/fd/{descriptor}"
+
+
+def make_of_one(given: argparse.Namespace) -> None:
+    """Makes the file of one recording, or prints SETUP."""
+    setup = setup_of(given)
+    if given.print_setup:
+        printing.out(setup)
+        return
+    judge_overwriting(given.out, given.force)
+    make(given.recordings[0], setup, given.out)
+
+
+def make_of_several(given: argparse.Namespace) -> None:
+    """Makes the file of several recordings, or prints SETUP."""
+    joined = joined_of(given)
+    setup = joined.setup_text()
+    if given.print_setup:
+        printing.out(setup)
+        return
+    judge_overwriting(given.out, given.force)
+    with tempfile.TemporaryFile(dir=os.path.dirname(os.path.realpath(given.out))) as file:
+        joined.write(file)
+        printing.out("".join(joined.lines()))
+        os.set_inheritable(file.fileno(), True)
+        make(at_descriptor(file.fileno()), setup, given.out)
+
+
+def arguments_of(arguments: list[str]) -> argparse.Namespace:
+    """The arguments, the last of which is OUT; it may be left out where SETUP of one recording is printed."""
+    made = parser()
+    given = made.parse_args(arguments)
+    has_out = len(given.paths) > 1
+    if not has_out and not given.print_setup:
+        made.error("the following arguments are required: OUT")
+    given.recordings, given.out = (given.paths[:-1], given.paths[-1]) if has_out else (given.paths, None)
+    return given
 
 
 def run(arguments: list[str]) -> int:
-    """Makes the whole Chapter 11 file of a recording: the status."""
-    made = parser()
-    given = made.parse_args(arguments)
-    if given.out is None and not given.print_setup:
-        made.error("the following arguments are required: OUT")
+    """Makes the whole Chapter 11 file of recordings: the status."""
+    given = arguments_of(arguments)
     try:
-        setup = setup_of(given)
-        if given.print_setup:
-            printing.out(setup)
-            return 0
-        judge_overwriting(given.out, given.force)
-        make(given.recording, setup, given.out)
+        if STREAM in given.recordings:
+            raise Unusable(f"{STREAM}: it is standard input, and chapter11 reads a file twice")
+        if len(given.recordings) > 1:
+            make_of_several(given)
+        else:
+            make_of_one(given)
+        return 0
     except Refused as refused:
         printing.err(f"{short_name('chapter11')}: {refused}")
         return refused.status

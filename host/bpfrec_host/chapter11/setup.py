@@ -3,7 +3,7 @@
 from __future__ import annotations
 
 import re
-from typing import Any, NamedTuple, Optional
+from typing import Any, NamedTuple, Optional, Union
 
 from bpfrec_host.formats import facts
 from bpfrec_host.formats.facts import Facts, Origin
@@ -13,6 +13,15 @@ from bpfrec_host.streams import Refused
 
 # What no text in UTF-8 has.
 SURROGATE, REPLACEMENT = re.compile("[\ud800-\udfff]"), "\ufffd"
+
+
+class Told(NamedTuple):
+    """What facts say for a setup record: the host, the recorder, the origins and the names of interfaces."""
+
+    host: str
+    program: str
+    origins: list[Origin]
+    interfaces: dict[int, str]
 
 
 class Asked(NamedTuple):
@@ -25,7 +34,12 @@ class Asked(NamedTuple):
     attributes: tuple[str, ...] = ()
 
 
-def setup_text(asked: Asked, known: Optional[Facts], networks: dict[int, int]) -> str:
+def told_by(known: Facts) -> Told:
+    """The same of one recording."""
+    return Told(known.host, known.program, known.origins, known.interfaces)
+
+
+def setup_text(asked: Asked, known: Optional[Told], networks: dict[int, int]) -> str:
     """SETUP of a recording, by the facts and the network identifiers of its channels."""
     found: dict[str, Any] = {"origins": origins_of(known, asked.ahead)} if known else {"origin": asked.origin}
     if known:
@@ -40,11 +54,16 @@ def setup_text(asked: Asked, known: Optional[Facts], networks: dict[int, int]) -
     return text_of({key: value for key, value in found.items() if value != []})
 
 
-def origins_of(known: Facts, ahead: Optional[int]) -> list[dict[str, Any]]:
-    """The origins that hold for some counter, in UTC. The first holds from counter 0 on."""
+def origins_of(known: Told, ahead: Optional[int]) -> list[dict[str, Any]]:
+    """The origins that hold for some counter, in UTC."""
+    found = moments_of(known, ahead)
+    return [{"counter": counter, "origin": seconds_of(moment)} for counter, moment in found]
+
+
+def moments_of(known: Union[Told, Facts], ahead: Optional[int]) -> list[tuple[int, int]]:
+    """The counters from which on origins hold, and their moments in UTC. The first holds from counter 0 on."""
     first, *others = known.origins
-    holding = facts.holding([first._replace(counter=0), *others])
-    return [{"counter": it.counter, "origin": seconds_of(utc_moment(it, ahead))} for it in holding]
+    return [(it.counter, utc_moment(it, ahead)) for it in facts.holding([first._replace(counter=0), *others])]
 
 
 def utc_moment(origin: Origin, ahead: Optional[int]) -> int:

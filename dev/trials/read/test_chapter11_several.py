@@ -1,0 +1,219 @@
+"""Tries host/bin/chapter11 on recordings of several recorders: one file, with a channel for each of theirs."""
+
+from __future__ import annotations
+
+import json
+import os
+import random
+import subprocess
+from pathlib import Path
+from typing import NamedTuple
+
+import pytest
+import tomllib
+from frames import FRAMES, HEADER_LENGTH, body_of, numbered, packet_of, program_packet, records, with_check_sequence
+from recorder import extracted
+from several_recorders import facts_by, recording_at
+from support import BPFREC, CHECK_SUMS, ROOT, judge, judge_quietly, outcome
+from whole_file_parts import recorded
+
+WANTED = {"bin/bpfrec": "make build"}
+CHAPTER11 = ROOT / "host/bin/chapter11"
+# A second, in ticks of the counter, and the moment of counter 0 of most recorders.
+SECOND, MOMENT = 10_000_000, 1_764_590_400
+
+
+class Taken(NamedTuple):
+    """A frame as a channel of the file has it: its counter and its bytes."""
+
+    counter: int
+    bytes: bytes
+
+
+def origin(ticks: int = 0) -> list[tuple]:
+    seconds, rest = divmod(ticks, SECOND)
+    return [(f"{MOMENT + seconds}.{rest * 100:09}", 0, None)]
+
+
+def made(work: Path, *words: object) -> subprocess.CompletedProcess:
+    return outcome(CHAPTER11, *words, cwd=work, seconds=120)
+
+
+def frames_in(recording: Path, channel: int) -> list[Taken]:
+    feed = extracted(recording, channel, recording.with_name("one.feed"))
+    return [Taken(it.counter, it.frame) for it in records(feed)]
+
+
+def judge_whole(out: Path, count: int) -> None:
+    """Judges a file by the audit, and by the check of whole files that shares no code with the program."""
+    audit = outcome(BPFREC, "audit", out)
+    judge_quietly("the audit says yes", audit.returncode == 0 and audit.stdout.count("channel ") == count, audit)
+    done = outcome(CHECK_SUMS, out)
+    judge_quietly("it is a whole file", done.returncode == 0, done)
+
+
+@pytest.fixture(name="two")
+def two_recorders(work: Path) -> list[Path]:
+    """Recordings of two hosts that have one origin, and channel 1 both."""
+    one = recording_at(work / "one.ch11", [SECOND * at + 1 for at in range(5)], 1, facts_by("tap1", "eth0", origin()))
+    two = recording_at(work / "two.ch11", [SECOND * at + 2 for at in range(5)], 2, facts_by("tap2", "eth0", origin()))
+    return [one, two]
+
+
+def test_two_recorders_become_one_file(work: Path, two: list[Path]) -> None:
+    done = made(work, "one.ch11", "two.ch11", "all.ch10")
+    lines = done.stdout.splitlines()
+    judge("the new ID is printed", (done.returncode, lines[:1]) == (0, ["channel 1 of two.ch11 is 2"]), done)
+    judge("and the program's counts", len(lines) == 2 and lines[1].startswith("times 5 packets 10 "), done)
+    judge_whole(work / "all.ch10", 2)
+    for channel, recording in enumerate(two, 1):
+        judge(f"channel {channel}", frames_in(work / "all.ch10", channel) == frames_in(recording, 1))
+    setup = (work / "all.ch10").read_bytes()
+    for line in (b"R-1\\ID:tap1 tap2;", b"R-1\\ENAM-2-1:eth0 of tap1;", b"R-1\\ENAM-3-1:eth0 of tap2;"):
+        judge(line.decode(), line in setup)
+    left = sorted(it for it in os.listdir(work) if not it.endswith((".json", ".feed", "private")))
+    judge("nothing else is left", left == ["all.ch10", "one.ch11", "two.ch11"], left)
+
+
+def test_channels_that_do_not_meet_keep_their_ids(work: Path) -> None:
+    """Each name stands alone too, where no other has it."""
+    for number, interface in ((1, "eth0"), (2, "eth1")):
+        facts = facts_by("tap", interface, origin())
+        facts["interfaces"] = [{"interface": interface, "channel": number}]
+        recording_at(work / f"{number}.ch11", [SECOND], number, facts, channel=number)
+    done = made(work, "1.ch11", "2.ch11", "all.ch10")
+    judge("nothing is renumbered", done.returncode == 0 and done.stdout.startswith("times "), done)
+    setup = (work / "all.ch10").read_bytes()
+    judge("their names", b"ENAM-2-1:eth0;" in setup and b"ENAM-3-1:eth1;" in setup and b"R-1\\ID:tap;" in setup)
+    # The sums stay as well, since no byte of a body changes.
+    judge_whole(work / "all.ch10", 2)
+
+
+def test_ids_that_meet_get_the_least_that_nobody_has(work: Path) -> None:
+    """Three recorders of channel 1, one of channel 2: those that come later get 3 and 4."""
+    for at, channel in enumerate((1, 1, 2, 1)):
+        facts = facts_by(f"tap{at}", "eth0", origin())
+        recording_at(work / f"{at}.ch11", [SECOND], at, facts, channel=channel)
+    done = made(work, *(f"{at}.ch11" for at in range(4)), "all.ch10")
+    wanted = ["channel 1 of 1.ch11 is 3", "channel 1 of 3.ch11 is 4"]
+    judge("by the order of the arguments", done.stdout.splitlines()[:2] == wanted, done)
+    judge_whole(work / "all.ch10", 4)
+
+
+@pytest.mark.parametrize("moved", [SECOND // 2, -SECOND // 2, SECOND, 3_600 * SECOND + 1])
+def test_each_frame_has_the_time_of_its_own_clock(work: Path, moved: int) -> None:
+    """Counters are those since the earlier origin."""
+    late, early = max(moved, 0), max(-moved, 0)
+    counters = [SECOND, SECOND + 1, 3 * SECOND]
+    recording_at(work / "one.ch11", [it + late for it in counters], 1, facts_by("tap1", "eth0", origin()))
+    recording_at(work / "two.ch11", [it + early for it in counters], 2, facts_by("tap2", "eth0", origin(moved)))
+    done = made(work, "one.ch11", "two.ch11", "all.ch10")
+    judge_quietly("it is made", done.returncode == 0, done)
+    judge_whole(work / "all.ch10", 2)
+    one, two = (frames_in(work / "all.ch10", channel) for channel in (1, 2))
+    judge("at one time", [it.counter for it in one] == [it.counter for it in two], (one, two))
+    judge("and nothing else changed", [it.bytes for it in two] == [it.bytes for it in frames_in(work / "two.ch11", 1)])
+
+
+def test_a_clock_that_was_set_counts_from_there_on(work: Path) -> None:
+    """A quarter of a second on, from the third frame."""
+    set_on = [*origin(), (f"{MOMENT}.250000000", 20, "0.250000000")]
+    recording_at(work / "one.ch11", [0, 10, 20, 30], 1, facts_by("tap1", "eth0", set_on))
+    recording_at(work / "two.ch11", [0, 10, 20, 30], 2, facts_by("tap2", "eth0", origin()))
+    judge_quietly("it is made", made(work, "one.ch11", "two.ch11", "all.ch10").returncode == 0)
+    judge_whole(work / "all.ch10", 2)
+    counters = [[it.counter for it in frames_in(work / "all.ch10", channel)] for channel in (1, 2)]
+    judge("counters", counters == [[0, 10, 2_500_020, 2_500_030], [0, 10, 20, 30]], counters)
+
+
+def test_a_clock_in_tai_is_beside_one_in_utc(work: Path) -> None:
+    by_tai = [(f"{MOMENT + 37}.000000000", 0, None, "TAI", 37)]
+    recording_at(work / "one.ch11", [SECOND], 1, facts_by("tap1", "eth0", by_tai))
+    recording_at(work / "two.ch11", [SECOND], 2, facts_by("tap2", "eth0", origin()))
+    judge_quietly("it is made", made(work, "one.ch11", "two.ch11", "all.ch10").returncode == 0)
+    judge("at one time", [frames_in(work / "all.ch10", it)[0].counter for it in (1, 2)] == [SECOND, SECOND])
+
+
+def test_drawn_recordings_become_one_file(work: Path) -> None:
+    """Of frames of all lengths, with marks, of recorders that began at other times; channel 3 has both."""
+    draw = random.Random(1)
+    for turn in range(5):
+        for at, channels in enumerate(([1, 3], [2, 3, 4])):
+            path = work / f"{at}.ch11"
+            path.write_bytes(recorded(draw, channels, 1_000, 3).data)
+            facts: dict = {**facts_by(f"tap{at}", "eth0", origin(at * turn * SECOND)), "interfaces": []}
+            Path(f"{path}.json").write_text(json.dumps(facts))
+        done = made(work, "--force", "0.ch11", "1.ch11", "all.ch10")
+        judge_quietly("it is made", done.returncode == 0 and "channel 3 of 1.ch11 is 5\n" in done.stdout, done)
+        judge_quietly("it is a whole file", outcome(CHECK_SUMS, work / "all.ch10").returncode == 0)
+        for at, channel, new in ((0, 1, 1), (0, 3, 3), (1, 2, 2), (1, 3, 5), (1, 4, 4)):
+            moved = SECOND * turn * at
+            wanted = [it._replace(counter=it.counter + moved) for it in frames_in(work / f"{at}.ch11", channel)]
+            judge_quietly(f"channel {new}", frames_in(work / "all.ch10", new) == wanted, (turn, at, channel))
+    judge("drawn ones", True)
+
+
+# ---- what is refused
+
+
+def refused(work: Path, status: int, line: str, *words: object) -> None:
+    before = sorted(os.listdir(work))
+    done = made(work, *words, "all.ch10")
+    judge(line, (done.returncode, done.stdout, done.stderr) == (status, "", f"chapter11: {line}\n"), done)
+    judge("nothing is made", sorted(os.listdir(work)) == before)
+
+
+def test_what_can_not_be_one_file_is_refused(work: Path, two: list[Path]) -> None:
+    one, other = two
+    recording_at(work / "same.ch11", [SECOND], 3, facts_by("tap1", "eth0", origin()))
+    recording_at(work / "plain.ch11", [SECOND], 4)
+    whose = "one.ch11 and same.ch11 are both of eth0 of tap1: each gets a file of its own"
+    refused(work, 1, whose, "one.ch11", "same.ch11")
+    refused(work, 3, "plain.ch11.json: No such file or directory", "one.ch11", "plain.ch11")
+    several = "--facts and --origin are for one recording: several have their facts beside them"
+    refused(work, 2, several, "--origin", "0", "one.ch11", "two.ch11")
+    refused(work, 2, several, "--facts", "one.ch11.json", "one.ch11", "two.ch11")
+    refused(work, 2, "-: it is standard input, and chapter11 reads a file twice", "one.ch11", "-")
+    other.write_bytes(other.read_bytes()[:-10])
+    refused(work, 1, f"two.ch11: read 1 Truncated {len(other.read_bytes()) - 46}", *ORDERED)
+    other.write_bytes(one.read_bytes()[:-4] + b"\1\2\3\4")
+    Path(f"{other}.json").write_text(json.dumps(facts_by("tap2", "eth0", origin())))
+
+
+ORDERED = ("one.ch11", "two.ch11")
+
+
+def test_an_out_that_is_an_input_of_several_is_refused(work: Path, two: list[Path]) -> None:
+    for path in (*two, *(Path(f"{it}.json") for it in two)):
+        before = path.read_bytes()
+        done = made(work, "--force", *ORDERED, path.name)
+        line = f"chapter11: {path.name}: it is {path.name} itself\n"
+        judge(path.name, (done.returncode, done.stderr) == (3, line) and path.read_bytes() == before, done)
+
+
+def test_a_packet_of_another_recorder_is_refused_by_its_place(work: Path, two: list[Path]) -> None:
+    whole = two[1].read_bytes()
+    two[1].write_bytes(whole + packet_of(9, b"1234", 0, 0x40, 0, True))
+    refused(work, 1, f"two.ch11: refused 1 Other {len(whole)}", *ORDERED)
+
+
+def test_a_body_with_a_wrong_sum_is_refused_by_its_place(work: Path, two: list[Path]) -> None:
+    whole = bytearray(two[1].read_bytes())
+    whole[HEADER_LENGTH + 12] ^= 1
+    two[1].write_bytes(whole)
+    done = made(work, *ORDERED, "all.ch10")
+    judge("refused", done.returncode == 1 and "two.ch11: read 8 DataChecksum 0" in done.stderr, done)
+
+
+def test_setup_of_several_is_printed(work: Path, two: list[Path]) -> None:
+    done = made(work, "--print-setup", *ORDERED, "all.ch10")
+    judge("it is printed", done.returncode == 0 and 'name = "eth0 of tap2"' in done.stdout, done)
+    judge("and no file made", not (work / "all.ch10").exists())
+
+
+def test_networks_of_several_are_those_of_their_channels(work: Path, two: list[Path]) -> None:
+    frame = (SECOND, 7 << 16, with_check_sequence(numbered(0)))
+    two[1].write_bytes(program_packet(1, 0) + packet_of(1, body_of([frame]), 0, FRAMES, SECOND, True))
+    done = made(work, "--print-setup", *ORDERED, "all.ch10")
+    found = {it["id"]: it.get("net", 0) for it in tomllib.loads(done.stdout)["channel"]}
+    judge("by the new ID", found == {1: 0, 2: 7}, done)

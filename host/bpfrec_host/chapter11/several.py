@@ -1,0 +1,102 @@
+"""Recordings of several recorders that become one Chapter 11 file: whose they are, and the channel IDs that they get."""
+
+from __future__ import annotations
+
+from collections import Counter
+from typing import NamedTuple, Optional
+
+from bpfrec_host import printing
+from bpfrec_host.chapter11.setup import Told, moments_of
+from bpfrec_host.formats.ch11 import Fault
+from bpfrec_host.formats.facts import Facts, Origin
+from bpfrec_host.formats.limits import MAX_CHANNEL_ID
+from bpfrec_host.pcapng.index import Index
+from bpfrec_host.streams import Refused
+
+
+class Recorded(NamedTuple):
+    """A recording of one recorder: its path, its facts, and its channel IDs, ascending."""
+
+    path: str
+    facts: Facts
+    channels: list[int]
+
+    def name_of(self, channel: int) -> str:
+        """The interface that was a channel, or what a channel without one is called."""
+        return self.facts.interfaces.get(channel) or f"channel {channel}"
+
+
+class Numbered(NamedTuple):
+    """A recording with the IDs that its channels get, by those that they have."""
+
+    recorded: Recorded
+    numbers: dict[int, int]
+
+    def renumbered(self) -> list[str]:
+        """A line for each channel that gets another ID."""
+        path = self.recorded.path
+        return [f"channel {old} of {path} is {new}\n" for old, new in self.numbers.items() if old != new]
+
+
+class WholeIndex(Index):
+    """What a recording has, which is refused where a place is damaged."""
+
+    def __init__(self, path: str) -> None:
+        super().__init__(path, printing.err)
+
+    def tell_fault(self, fault: Fault, length: int) -> None:
+        """Refuses the recording."""
+        raise Refused(f"{self.path}: {fault}")
+
+
+def channels_of(path: str) -> list[int]:
+    """The channel IDs of a recording."""
+    index = WholeIndex(path)
+    index.read()
+    return sorted(index.channels)
+
+
+def judge_recorders(recordings: list[Recorded]) -> None:
+    """Refuses two recordings of one recorder, whose channels would end within the file and begin again."""
+    known: dict[tuple[str, str], str] = {}
+    for recorded in recordings:
+        for interface in recorded.facts.interfaces.values():
+            taken = known.setdefault((recorded.facts.host, interface), recorded.path)
+            if taken != recorded.path:
+                whose = f"{interface} of {recorded.facts.host}"
+                raise Refused(f"{taken} and {recorded.path} are both of {whose}: each gets a file of its own")
+
+
+def numbered(recordings: list[Recorded]) -> list[Numbered]:
+    """The recordings with the IDs of their channels: the first that has an ID keeps it, and each other gets the least
+    that no recording has and no other got."""
+    named = {channel for recorded in recordings for channel in recorded.channels}
+    free = (it for it in range(1, MAX_CHANNEL_ID + 1) if it not in named)
+    taken: set[int] = set()
+    found = []
+    for recorded in recordings:
+        numbers = {it: next(free, 0) if it in taken else it for it in recorded.channels}
+        if 0 in numbers.values():
+            raise Refused(f"{recorded.path}: no channel ID up to {MAX_CHANNEL_ID} is free")
+        taken.update(numbers.values())
+        found.append(Numbered(recorded, numbers))
+    return found
+
+
+def first_origin(recordings: list[Recorded], ahead: Optional[int]) -> Origin:
+    """The clock of the file: the earliest moment in UTC that any counter 0 had."""
+    moments = [moment for it in recordings for _, moment in moments_of(it.facts, ahead)]
+    return Origin("", min(moments), 0, None)
+
+
+def told_of(joined: list[Numbered], origin: Origin) -> Told:
+    """What the setup record says of all: each name with its host, where another channel has it too."""
+    recordings = [it.recorded for it in joined]
+    names = Counter(it.name_of(channel) for it in recordings for channel in it.channels)
+    interfaces = {}
+    for recorded, numbers in joined:
+        for old, new in numbers.items():
+            name = recorded.name_of(old)
+            interfaces[new] = name if names[name] == 1 else f"{name} of {recorded.facts.host}"
+    hosts = " ".join(dict.fromkeys(it.facts.host for it in recordings))
+    return Told(hosts, recordings[0].facts.program, [origin], interfaces)
