@@ -43,6 +43,7 @@ fn audit_packets<'a, R: Read>(
         };
         // the auditor keeps its fault, and answers it at the end
         let _ = auditor.take(&packet.packet());
+        reader.give_back(packet);
     }
     Ok(auditor.end()?)
 }

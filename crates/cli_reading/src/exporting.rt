@@ -109,6 +109,7 @@ fn export_streamed<'a, I: Read, O: Write>(
         exporter
             .export_packet(&owned.packet(), &mut blocks)
             .map_err(|_| CommandEnding::Memory)?;
+        reader.give_back(owned);
     }
     // a recording of fewer than 2^64 bytes ends before
     Err(CommandEnding::Memory)

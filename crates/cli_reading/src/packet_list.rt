@@ -66,6 +66,7 @@ fn list_again<'a, R: Read, O: Write>(
             .write_all(line.as_slice())
             .map_err(|_| CommandEnding::File(STREAM))?;
         line.clear();
+        reader.give_back(owned);
     }
     if counts != judged {
         return Err(CommandEnding::File(file));
@@ -88,6 +89,7 @@ fn list_held<'a, R: Read, O: Write>(
             break 'packets;
         };
         add_line(&mut lines, &owned.packet(), &mut counts)?;
+        reader.give_back(owned);
     }
     let built = print_counts(&mut lines, counts);
     print_line(output, &mut lines, built)

@@ -70,6 +70,7 @@ pub(crate) fn counts_of<'a, R: Read>(
             return Ok(counts);
         };
         counts.count(&owned.packet());
+        reader.give_back(owned);
     }
     // a recording of fewer than 2^64 bytes ends before
     Err(CommandEnding::Memory)

@@ -114,6 +114,7 @@ fn write_again<'a, I: Read, W: Write + Drop, P: PerPacket>(
         if !written.write_packet(&packet, output) {
             return Err(CommandEnding::File(out));
         }
+        reader.give_back(owned);
     }
     if counts != judged {
         return Err(CommandEnding::File(file));
@@ -161,6 +162,7 @@ fn held_for<'a, I: Read + Drop, P: PerPacket>(
         if !written.write_packet(&owned.packet(), &mut held) {
             return Err(CommandEnding::Memory);
         }
+        reader.give_back(owned);
     }
     // a recording of fewer than 2^64 bytes ends before
     Err(CommandEnding::Memory)

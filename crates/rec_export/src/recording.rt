@@ -41,6 +41,7 @@ pub fn export_recording<R: Read, W: Write>(
             return Ok(());
         };
         exporter.export_packet(&owned.packet(), out)?;
+        reader.give_back(owned);
     }
     // a recording of fewer than 2^64 bytes ends before
     Err(ExportEnd::Memory)

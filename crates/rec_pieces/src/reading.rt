@@ -64,6 +64,7 @@ pub fn list_recording<R: Read>(
             return Ok(listing);
         };
         listing.add(alloc, &owned.packet())?;
+        reader.give_back(owned);
     }
     // a recording of fewer than 2^64 bytes ends before
     Err(ListingEnd::Memory)

@@ -53,6 +53,11 @@ impl OwnedPacket {
         }
     }
 
+    /// Its memory, with whatever bytes.
+    pub(crate) fn into_body(self) -> Vec<u8> {
+        self.body
+    }
+
     /// The number of its bytes.
     pub(crate) fn len(&self) -> u32
         ensures { result ≡ self.now.header.packet_len }

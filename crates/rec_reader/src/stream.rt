@@ -15,6 +15,7 @@ use eth_frame::fill;
 use std::alloc::Global;
 use std::io::Read;
 use std::marker::Model;
+use std::mem;
 
 /// The most bytes for which room is taken before they have come.
 const STEP: usize = 65_536;
@@ -24,13 +25,16 @@ const STEP: usize = 65_536;
 ///
 /// It reads a packet's header and its body apart, so give it a buffered input over a file or a
 /// device. Memory is taken for the packet that is read, and follows the bytes that have come: there
-/// is never room for more than 65,536 bytes beyond them, whatever length a header says.
+/// is never room for more than 65,536 bytes beyond them, whatever length a header says. A packet that
+/// is given back has room for the next one.
 #[derive(Debug, Drop)]
 pub struct Reader<R: Read> {
     alloc: Global,
     input: R,
     at: u64,
     ended: Option<Result<(), ReadEnd>>,
+    /// The body that was given back last, or no room.
+    spare: Vec<u8>,
 }
 
 impl<R: Read> Model for Reader<R> {
@@ -59,7 +63,15 @@ impl<R: Read> Reader<R> {
             input,
             at: 0,
             ended: None,
+            spare: Vec::new(alloc),
         }
+    }
+
+    /// Takes a packet back, whose memory the next one may have.
+    pub fn give_back(&mut self, packet: OwnedPacket)
+        ensures same { self.new ≡ self.old }
+    {
+        self.spare = packet.into_body();
     }
 
     /// The next packet: `None` at the recording's end, and from then on.
@@ -94,7 +106,8 @@ impl<R: Read> Reader<R> {
             Some(Ok(())) => return Ok(None),
             Some(Err(end)) => return Err(end),
         }
-        match take_packet(self.alloc, self.at, &mut self.input) {
+        let spare = mem::replace(&mut self.spare, Vec::new(self.alloc));
+        match take_packet(spare, self.at, &mut self.input) {
             Ok(Some(packet)) => {
                 self.at = self.at.saturating_add(u64::from(packet.len()));
                 Ok(Some(packet))
@@ -113,9 +126,9 @@ impl<R: Read> Reader<R> {
 }
 
 /// Takes the packet that stands first in what the input has left, of which the first byte has this
-/// place in the recording: `None` if nothing is left.
+/// place in the recording, into the memory of another: `None` if nothing is left.
 fn take_packet<R: Read>(
-    alloc: Global,
+    spare: Vec<u8>,
     at: u64,
     input: &mut R,
 ) -> Result<Option<OwnedPacket>, ReadFaultKind>
@@ -127,7 +140,7 @@ fn take_packet<R: Read>(
     let Some(header) = take_header(input)? else {
         return Ok(None);
     };
-    match take_rest(alloc, at, header, input) {
+    match take_rest(spare, at, header, input) {
         Ok(packet) => Ok(Some(packet)),
         Err(kind) => Err(kind),
     }
@@ -153,9 +166,9 @@ fn take_header<R: Read>(input: &mut R) -> Result<Option<Header>, ReadFaultKind>
 }
 
 /// Takes the rest of the packet that has this place in the recording and this header, which was
-/// taken before.
+/// taken before, into the memory of another.
 fn take_rest<R: Read>(
-    alloc: Global,
+    spare: Vec<u8>,
     at: u64,
     header: Header,
     input: &mut R,
@@ -165,13 +178,13 @@ fn take_rest<R: Read>(
     ensures fault { IfErr result (λ kind. IfSome (R.remaining input.old) (λ behind.
         (bytes : List ℕ) → HasHeader (header_data header) bytes behind → StopsOn bytes kind)) }
 {
-    let body = read_body(alloc, header.packet_len as usize - HEADER_LEN, input)?;
+    let body = read_body(spare, header.packet_len as usize - HEADER_LEN, input)?;
     let what = classify(&header, body.as_slice())?;
     Ok(OwnedPacket::of(at, header, body, what))
 }
 
-/// Reads a body of this length.
-fn read_body<R: Read>(alloc: Global, len: usize, input: &mut R) -> Result<Vec<u8>, ReadFaultKind>
+/// Reads a body of this length, over the bytes of another and behind them.
+fn read_body<R: Read>(spare: Vec<u8>, len: usize, input: &mut R) -> Result<Vec<u8>, ReadFaultKind>
     ensures len { IfOk result (λ body. length body.items ≡ len) }
     ensures taken { IfOk result (λ body.
         Consumes (R.remaining input.old) (R.remaining input.new) body.items) }
@@ -180,12 +193,47 @@ fn read_body<R: Read>(alloc: Global, len: usize, input: &mut R) -> Result<Vec<u8
         ⊎ ((kind ≡ ReadFaultKind.Truncated)
         × IfSome (R.remaining input.old) (λ bytes. length bytes < len))) }
 {
-    let mut body = Vec::new(alloc);
+    let mut body = spare;
+    body.truncate(len);
+    read_over(input, &mut body)?;
+    read_behind(len, input, &mut body)?;
+    Ok(body)
+}
+
+/// Reads as many bytes as are there, over these.
+fn read_over<R: Read>(input: &mut R, body: &mut Vec<u8>) -> Result<(), ReadFaultKind>
+    ensures len { OnOk result (length body.new.items ≡ length body.old.items) }
+    ensures taken { OnOk result
+        (Consumes (R.remaining input.old) (R.remaining input.new) body.new.items) }
+    ensures fault { IfErr result (λ kind. (kind ≡ ReadFaultKind.Device)
+        ⊎ (kind ≡ ReadFaultKind.Memory)
+        ⊎ ((kind ≡ ReadFaultKind.Truncated)
+        × IfSome (R.remaining input.old) (λ bytes. length bytes < length body.old.items))) }
+{
+    let len = body.len();
+    let filled = fill(input, body.as_mut_slice())?;
+    if filled < len {
+        return Err(ReadFaultKind::Truncated);
+    }
+    Ok(())
+}
+
+/// Reads behind these bytes of a body, until it has this length.
+fn read_behind<R: Read>(len: usize, input: &mut R, body: &mut Vec<u8>) -> Result<(), ReadFaultKind>
+    requires { length body.old.items ≤ len }
+    ensures len { OnOk result (length body.new.items ≡ len) }
+    ensures taken { OnOk result ((part : List ℕ) × (body.new.items ≡ body.old.items ++ part)
+        × Consumes (R.remaining input.old) (R.remaining input.new) part) }
+    ensures fault { IfErr result (λ kind. (kind ≡ ReadFaultKind.Device)
+        ⊎ (kind ≡ ReadFaultKind.Memory)
+        ⊎ ((kind ≡ ReadFaultKind.Truncated)
+        × IfSome (R.remaining input.old) (λ bytes. length body.old.items + length bytes < len))) }
+{
     'steps: while body.len() < len {
         let step = (len - body.len()).min(STEP);
-        read_step(step, input, &mut body)?;
+        read_step(step, input, body)?;
     }
-    Ok(body)
+    Ok(())
 }
 
 /// Reads this many bytes more of a body.

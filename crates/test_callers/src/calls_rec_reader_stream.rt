@@ -16,6 +16,7 @@ pub fn audited<R: Read + Drop>(
             break;
         };
         let _ = auditor.take(&packet.packet());
+        reader.give_back(packet);
     }
     Ok(auditor.end())
 }

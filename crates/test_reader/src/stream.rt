@@ -183,6 +183,39 @@ fn recordings_read_the_same_in_any_pieces(rt: HostRuntime) -> Result<(), Fail> {
     Ok(())
 }
 
+/// Stops unless a stream whose packets are each given back gives the packets of a recording.
+fn compare_given_back(
+    rt: &impl Abort,
+    alloc: Global,
+    bytes: &[u8],
+    most: usize,
+) -> Result<(), Fail> {
+    let recording = read_recording(alloc, bytes)?;
+    let mut reader = Reader::new(alloc, Stream::of(bytes, most));
+    for packet in recording.packets() {
+        let Some(owned) = reader.next()? else {
+            return Err("a packet")?;
+        };
+        assert_same!(rt; owned.packet(), *packet);
+        reader.give_back(owned);
+    }
+    Ok(())
+}
+
+/// Long ones before short ones, and the other way round.
+#[test]
+fn packets_that_are_given_back_leave_the_next_as_they_are(rt: HostRuntime) -> Result<(), Fail> {
+    let alloc = rt.alloc();
+    let mut bytes = joined_bytes(alloc, &TWO_VERSIONS)?;
+    for len in [60_000, 1_000, 28, 24, 40_000] {
+        bytes.extend_from_slice(with_packet(alloc, len)?.as_slice())?;
+    }
+    for most in [1, 7, 24, 4_096, usize::MAX] {
+        compare_given_back(&rt, alloc, bytes.as_slice(), most)?;
+    }
+    Ok(())
+}
+
 /// An input that gives all that is left once it has failed is not asked for it.
 #[test]
 fn a_failing_input_is_a_fault_of_the_device(rt: HostRuntime) -> Result<(), Fail> {

@@ -1,4 +1,4 @@
-use Rattle.std.proofs.Common.{subst}
+use Rattle.std.proofs.Common.{Some, subst, sym}
 use Rattle.std.specs.Io.KnownBytes.{Appends}
 use Rattle.rec_export.proofs.Whole.{begun, goes_on}
 use Rattle.cli_reading.specs.Written.{GivesNext}
@@ -27,12 +27,13 @@ returns-in_default-clause-whole g c = λ recording begins.
 pub packets-preserved : goal.packets-preserved
 packets-preserved g c = λ recording begins later took.
     (let had = c.packets.invariant recording begins _ c.in_ok-print_line.ensures.printed in
-    let gives = subst (λ taken. GivesNext taken c.packets.reader c.next_packet.new.reader) c.in-Some.is c.in_ok-owned.ensures.gives in
+    let gives = subst (GivesNext (Some c.in-Some.owned) c.packets.reader) (sym c.give_back.ensures.same)
+    (subst (λ taken. GivesNext taken c.packets.reader c.next_packet.new.reader) c.in-Some.is c.in_ok-owned.ensures.gives) in
     let went = ok_part c.export_packet.result c.map_err-in-packets.result c.in_ok-map_err-2.field-0 _ c.in_ok-map_err-2.was c.map_err-in-packets.ensures.variant
     c.export_packet.ensures.whole in
     let state = ok_part c.export_packet.result c.map_err-in-packets.result c.in_ok-map_err-2.field-0 _ c.in_ok-map_err-2.was
     c.map_err-in-packets.ensures.variant c.export_packet.ensures.state in
-    goes_on c.args.origin recording c.packets.reader c.next_packet.new.reader c.packets.exporter c.export_packet.new.self _ _ later _ _ had
+    goes_on c.args.origin recording c.packets.reader c.give_back.new.self c.packets.exporter c.export_packet.new.self _ _ later _ _ had
     (gives recording had.packets had.given).0 c.packet.ensures.same
     (subst (λ bytes. Appends (g.O.Write.contents c.print_line.new.output) later bytes)
     (alone c.print_line.new.line.items _ _ c.in_ok-print_line.ensures.emptied went) took) state)

@@ -26,10 +26,11 @@ returns-in_default g c =
 
 pub packets-preserved : goal.packets-preserved
 packets-preserved g c =
-    let gives = subst (λ taken. GivesNext taken c.packets.reader c.next_packet.new.reader) c.in-Some.is c.in_ok-owned.ensures.gives in (
+    let gives = subst (GivesNext (Some c.in-Some.owned) c.packets.reader) (sym c.give_back.ensures.same)
+    (subst (λ taken. GivesNext taken c.packets.reader c.next_packet.new.reader) c.in-Some.is c.in_ok-owned.ensures.gives) in (
       c.write_packet.ensures.same c.if-not-write_packet.false ∙ c.packets.invariant.0,
       λ recording begins. (let so_far = c.packets.invariant.1 recording begins in (
-        one_more_given c.next_packet.new.reader _ so_far.0 gives,
+        one_more_given c.give_back.new.self _ so_far.0 gives,
         one_more_went_out (g.P.PerPacket.bytes_for c.args.written.now) (g.P.PerPacket.bytes_for c.packets.written) so_far.0.packets _ _ (Some [])
             (Some c.packets.held.items)
             (Some c.write_packet.new.out.items) so_far.1 c.packets.invariant.0 c.packet.ensures.same

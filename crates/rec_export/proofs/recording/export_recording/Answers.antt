@@ -1,4 +1,4 @@
-use Rattle.std.proofs.Common.{◌++◌, Ok, subst}
+use Rattle.std.proofs.Common.{◌++◌, Ok, subst, sym}
 use Rattle.rec_reader.specs.Readers.{HasRead, Tells, given_by}
 use Rattle.rec_export.specs.declared.fault.ExportEnd.TheVariants.{Reading}
 use Rattle.rec_export.specs.Ends.{end_of}
@@ -42,9 +42,10 @@ returns-in_err-export_packet-clause-part g c =
 pub packets-preserved : goal.packets-preserved
 packets-preserved g c = λ recording begins. (let had = kept c.args.origin recording c.packets.reader c.packets.exporter _ _ _
     (c.packets.invariant recording begins) c.hand_on.ensures.kept in
-    goes_on c.args.origin recording c.packets.reader c.next.new.self c.packets.exporter c.export_packet.new.self _ _ _ _ _ had
+    goes_on c.args.origin recording c.packets.reader c.give_back.new.self c.packets.exporter c.export_packet.new.self _ _ _ _ _ had
+    (subst (HasRead recording _) (sym c.give_back.ensures.same)
     (subst (λ taken. HasRead recording (had.packets ++ given_by (Ok taken)) c.next.new.self) c.in-Some.is
-    (c.in_ok-owned.ensures.stands recording had.packets had.given))
+    (c.in_ok-owned.ensures.stands recording had.packets had.given)))
     c.packet.ensures.same c.in_ok-export_packet.ensures.whole c.in_ok-export_packet.ensures.state)
 
 pub returns-clause-part : goal.returns-clause-part

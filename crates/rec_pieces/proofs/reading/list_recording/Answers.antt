@@ -1,4 +1,4 @@
-use Rattle.std.proofs.Common.{◌++◌, ◌∷◌, [], Ok, subst}
+use Rattle.std.proofs.Common.{◌++◌, ◌∷◌, [], Ok, subst, sym}
 use Rattle.rec_reader.specs.Packets.{PacketData}
 use Rattle.rec_reader.specs.Readers.{HasRead, Tells, given_by}
 use Rattle.rec_pieces.specs.PieceListings.{ListsPackets}
@@ -24,7 +24,8 @@ pub packets-preserved : goal.packets-preserved
 packets-preserved g c = λ recording begins. (let had = c.packets.invariant recording begins in
     record {
       packets = had.packets ++ c.in-Some.owned ∷ [];
-      given = subst (λ taken. HasRead recording (had.packets ++ given_by (Ok taken)) c.next.new.self) c.in-Some.is
-          (c.in_ok-owned.ensures.stands recording had.packets had.given);
+      given = subst (HasRead recording (had.packets ++ c.in-Some.owned ∷ [])) (sym c.give_back.ensures.same)
+          (subst (λ taken. HasRead recording (had.packets ++ given_by (Ok taken)) c.next.new.self) c.in-Some.is
+          (c.in_ok-owned.ensures.stands recording had.packets had.given));
       lists = subst (λ (p : PacketData). ListsPackets (had.packets ++ p ∷ []) c.add.new.self) c.packet.ensures.same (c.in_ok-add.ensures had.packets had.lists);
     })
