@@ -153,8 +153,7 @@ class Recording:
     def _merged(self, parts: list[Part]) -> Iterator[Frame]:
         """The frames of parts of recordings by time."""
         self._skipped = 0
-        for source in self._sources:
-            source.contents.refuse_before()
+        self._refuse_damaged()
         moments = last_moments([it.recording for it in self._sources])
         streams = []
         for number, part in enumerate(parts):
@@ -162,6 +161,11 @@ class Recording:
             streams.append(self._placed(number, part, Order(recording, moments[recording.run()])))
         for _, _, frame in heapq.merge(*streams):
             yield frame
+
+    def _refuse_damaged(self) -> None:
+        """Refuses recordings of which a damaged place is known."""
+        for source in self._sources:
+            source.contents.refuse_before()
 
     def _placed(self, number: int, part: Part, order: Order) -> Iterator[tuple[int, int, Frame]]:
         """The frames of a part, each with its place among those of all parts; of equal ones the part's number decides."""
@@ -208,7 +212,7 @@ def open(path: Path, *more: Path, facts: Given = None, skip_damage: bool = False
     must have facts, or none. Where channels of several recorders have the same ID, that of the recording given first
     keeps it, and each other one gets the lowest ID that no recording has; `recorded_as` of a channel is the one that it
     has in its recordings."""
-    paths = [os.fspath(it) for it in (path, *more)]
+    paths = [os.fsdecode(it) for it in (path, *more)]
     if more and facts not in (None, False, True):
         raise TypeError("facts names the facts of one recording; of several those beside each are taken")
     sources: list[Source] = []

@@ -54,6 +54,14 @@ def test_by_time_a_damaged_header_is_reported_ahead_of_all_frames(work: Path) ->
     judge("and all others can be read", len(counters(opened.frames(by_time=True))) == 7 and len(opened.faults) == 1)
 
 
+def test_by_time_damage_of_data_is_reported_when_they_are_read(work: Path) -> None:
+    """Of the last packet too, behind which none is read."""
+    at = recording().index(packet(*PACKETS[3]))
+    opened = bpfrec.open(written(work, damaged(lambda it: it.__setitem__(at + 60, 1))))
+    with pytest.raises(bpfrec.Damaged, match=f"DataChecksum at byte {at}$"):
+        list(opened.frames(channels=2, by_time=True))
+
+
 def test_damage_behind_the_last_frame_is_no_silent_end(work: Path) -> None:
     path = written(work, recording()[:-1])
     opened = bpfrec.open(path)
@@ -141,13 +149,12 @@ def test_packets_of_other_kinds_are_left_alone(work: Path) -> None:
 # ---- files, memory, and what is promised
 
 
-def test_files_are_closed(work: Path, monkeypatch: pytest.MonkeyPatch) -> None:
+def test_files_are_closed(work: Path) -> None:
     """By `close`, by `with`, and where nothing refers to a recording any more, without a warning."""
     path = written(work, recording())
     before = len(os.listdir("/proc/self/fd"))
-    with warnings.catch_warnings():
-        warnings.simplefilter("error")
-        monkeypatch.setattr("sys.unraisablehook", lambda it: pytest.fail(str(it)))
+    with warnings.catch_warnings(record=True) as said:
+        warnings.simplefilter("always")
         with bpfrec.open(path) as opened:
             list(opened)
         for _ in bpfrec.open(path):
@@ -157,6 +164,7 @@ def test_files_are_closed(work: Path, monkeypatch: pytest.MonkeyPatch) -> None:
             frames_until_damage(written(work, data), True)
         gc.collect()
     judge("all are", len(os.listdir("/proc/self/fd")) == before)
+    judge("and Python warns of none", not said, [str(it.message) for it in said])
     with pytest.raises(ValueError):
         list(opened)
 

@@ -80,15 +80,16 @@ def judge_frames(work: Path, recording: Path, origins: Optional[list[tuple]]) ->
         )
         flags = [it.fcs_wrong + 2 * it.has_frame_error for it in found]
         judge_quietly(f"flags of {channel}", flags == [it.marks for it in feed])
-        wanted = [moments_by(origins, [it.counter])[0] if knows(origins, it.counter) else None for it in feed]
+        wanted = [moment_by(origins, it.counter) for it in feed]
         judge_quietly(f"times of {channel}", [it.time for it in found] == wanted)
         count += len(feed)
     judge_quietly("all of them", len(list(opened)) == count)
     return count
 
 
-def knows(origins: Optional[list[tuple]], counter: int) -> bool:
-    return origins is not None and is_utc(origins, counter)
+def moment_by(origins: Optional[list[tuple]], counter: int) -> Optional[int]:
+    """The moment of a counter by origins; None where nobody knows it."""
+    return moments_by(origins, [counter])[0] if origins is not None and is_utc(origins, counter) else None
 
 
 def judge_capture(work: Path, recording: Path) -> None:
