@@ -67,7 +67,7 @@ def read(path: str, given: Given) -> Optional[facts.Facts]:
     if given is None or given is True:
         beside = f"{path}.json"
         return read_file(beside) if given or os.path.exists(beside) else None
-    return None if given is False else read_file(os.fspath(given))
+    return None if given is False else read_file(os.fsdecode(given))
 
 
 def read_file(path: str) -> facts.Facts:

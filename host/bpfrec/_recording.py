@@ -200,7 +200,7 @@ def open(path: Path, *more: Path, facts: Given = None, skip_damage: bool = False
     of its frames nothing yet.
 
     Times come from the facts beside it, RECORDING.json, or from the file that `facts` names; with `facts=False` there
-    are none. A whole file has its own times, in its time packets.
+    are none. A whole file has its own times, in its time packets, unless `facts` is given.
     A damaged place raises `bpfrec.Damaged` when the reading comes to it, behind the frames ahead of it; with `by_time`
     at once, and at the end of a slice, of which frames may have stood there. With `skip_damage` the reading goes on
     behind such places, and `faults` of the recording lists them.

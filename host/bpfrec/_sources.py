@@ -24,7 +24,7 @@ class Source:
         self.number, self.path = number, path
         self.contents = Contents(path, is_strict)
         try:
-            self.facts = self.own_facts() if self.contents.whole else read(path, given)
+            self.facts = self.own_facts() if self.contents.whole and given is None else read(path, given)
         except BaseException:
             self.contents.file.close()
             raise

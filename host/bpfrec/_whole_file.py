@@ -6,7 +6,7 @@ from typing import Any, Optional
 
 from bpfrec_host.formats.ch11.follow import Front
 from bpfrec_host.formats.facts import Facts
-from bpfrec_host.formats.limits import NANOSECONDS_A_SECOND, NANOSECONDS_A_TICK
+from bpfrec_host.formats.limits import MAX_HOST_LEN, NANOSECONDS_A_SECOND, NANOSECONDS_A_TICK
 from bpfrec_host.formats.whole_file import HEADER, SETUP, TIME, Clock, Setup, Unread, Wrong, clock_in
 from bpfrec_host.formats.whole_file.packets import FRAMES, lengths_in, packet_of
 
@@ -54,7 +54,7 @@ class WholeFile:
         interfaces = [{"channel": number, "interface": name} for number, name in self.names().items()]
         said: dict[str, Any] = {"facts": 1, "origins": origins, "losses": [], "interfaces": interfaces}
         host, program = (self.setup.host(), self.setup.program()) if self.setup else (None, None)
-        return Facts({**said, "host": host or "", "program": program or ""})
+        return Facts({**said, "host": (host or "")[:MAX_HOST_LEN], "program": program or ""})
 
 
 def zero_of(clock: Clock) -> str:

@@ -45,6 +45,14 @@ def test_a_whole_file_has_its_names_and_times(work: Path) -> None:
     judge("its filters and ends too", [it[:6] for it in opened.ends] != [] and len(opened.filters) == len(slow.filters))
 
 
+def test_a_whole_file_can_be_read_by_other_facts_or_without_times(work: Path) -> None:
+    path = written(work / "x.ch10", sample())
+    (work / "facts").write_text(json.dumps(facts_of_run([("1.000000000", 0, None)])))
+    times = [it.time for it in bpfrec.open(path, facts=work / "facts")]
+    judge("by those that are given", times == [10**9 + it.counter * 100 for it in bpfrec.open(path)], times)
+    judge("without", {it.time for it in bpfrec.open(path, facts=False)} == {None})
+
+
 @pytest.mark.parametrize("seed", range(8))
 def test_times_of_drawn_whole_files_are_those_of_their_origins(work: Path, seed: int) -> None:
     """Of clocks that were set: from the first time packet of an origin on, up to 10 ms behind it."""

@@ -4,6 +4,7 @@ drawn recordings: each frame, its time, its flags, programs, ends and damaged pl
 from __future__ import annotations
 
 import json
+import os
 import random
 import struct
 from pathlib import Path
@@ -15,6 +16,7 @@ import rows
 from drawn_recording import DrawnRecording, drawn_recording
 from expected_facts import drawn_origins, facts_of_run, is_utc, moments_by
 from frames import COMPUTER, FRAMES, packet_of, records
+from pythons import PROMISED, interpreter
 from reading import SEED, recording_of_three
 from recorder import extracted
 from rows import flight_of
@@ -202,6 +204,34 @@ def test_times_of_whole_files_are_those_of_check_ch10(work: Path, turn: int) -> 
         text = (frame.datetime or pytest.fail("a frame has no time")).strftime("%Y-%m-%dT%H:%M:%S")
         found.append((frame.channel, f"{text}.{rest // 100:07}Z", len(frame.bytes)))
     judge(f"{len(found)} frames", found == wanted, (found[:3], wanted[:3]))
+
+
+READ_ALL = """
+import sys
+import bpfrec
+for path in sys.argv[1:]:
+    recording = bpfrec.open(path, skip_damage=True)
+    for by_time in (False, True):
+        for frame in recording.frames(by_time=by_time):
+            print(frame, frame.datetime, frame.fcs)
+    print(recording.channels, recording.filters, recording.ends, recording.facts, recording.faults)
+"""
+
+
+def test_each_python_reads_the_same(work: Path) -> None:
+    """Python 3.9 what 3.11 does, without a warning."""
+    found = {it: interpreter(it) for it in PROMISED}
+    lacking = [it for it, path in found.items() if path is None]
+    if lacking:
+        pytest.skip(f"{', '.join(lacking)} isn't here")
+    for turn in range(DRAWN):
+        draw = random.Random(SEED + turn)
+        (work / str(turn)).write_bytes(drawn_recording(draw).data)
+        (work / f"{turn}.json").write_text(json.dumps(facts_of_run(drawn_origins(draw, 2**41))))
+    env = {**os.environ, "PYTHONPATH": str(ROOT / "host"), "PYTHONDONTWRITEBYTECODE": "1"}
+    words = ["-W", "error", "-c", READ_ALL, *(work / str(it) for it in range(DRAWN))]
+    told = [run(path, *words, env=env, seconds=120) for path in found.values()]
+    judge(f"{len(told[0].splitlines())} lines", told[0] == told[1] and len(told[0]) > 10_000)
 
 
 def test_many_filters_and_headers_that_claim_much_take_no_time(work: Path) -> None:
