@@ -11,8 +11,8 @@ and documents in share/doc/bpfrec/, a unit for systemd in lib/systemd/system/, a
 share/bpfrec/, with a link in the folder of plugins that tshark names, or else in Debian'"'"'s. The Python package bpfrec
 goes into the folder below PREFIX in which the system'"'"'s Python looks, or else into lib/python3/dist-packages. What
 stands in DESTDIR, if it is set, is put ahead of PREFIX. With --uninstall all of it is removed, and the folders that
-only it has. ZSH names another folder than share/zsh/site-functions, WIRESHARK another folder of plugins, and PYTHON
-another one of Python'"'"'s packages, below PREFIX.
+only it has. ZSH names another folder than share/zsh/site-functions, WIRESHARK another folder of plugins, and
+PYTHON_PACKAGES another one of Python'"'"'s packages, below PREFIX.
 
 Status: 0 done, 2 wrong arguments, 3 something to install is missing or not proved, else that of the command that
 failed.'
@@ -28,7 +28,7 @@ names=(capture "${tools[@]}")
 
 # The folder below PREFIX in which Python looks for packages.
 python_folder() {
-    local found=${PYTHON:-}
+    local found=${PYTHON_PACKAGES:-}
     [[ -n $found ]] || found=$(/usr/bin/python3 -I - "$PREFIX" 2> /dev/null << 'END'
 import site, sys
 prefix = sys.argv[1].rstrip("/") + "/"

@@ -103,7 +103,7 @@ END
 }
 
 mkdir -p "$root/bpfrec" "$root/bpfrec-tools/usr"
-DESTDIR=$root/bpfrec PREFIX=/usr ZSH=share/zsh/vendor-completions PYTHON=lib/python3/dist-packages \
+DESTDIR=$root/bpfrec PREFIX=/usr ZSH=share/zsh/vendor-completions PYTHON_PACKAGES=lib/python3/dist-packages \
     dev/package/install.sh
 gzip -9n "$root/bpfrec/usr/share/man/man1/bpfrec.1"
 for link in "$root"/bpfrec/usr/share/man/man1/bpfrec-*.1; do

@@ -5,8 +5,9 @@ from __future__ import annotations
 import heapq
 import os
 from datetime import datetime
+from itertools import repeat
 from types import TracebackType
-from typing import Iterable, Iterator, NamedTuple, Optional, Union
+from typing import Iterable, Iterator, Optional, Union
 
 from bpfrec._channels import Channels
 from bpfrec._decode import Owner, frames_in
@@ -23,15 +24,6 @@ from bpfrec_host.pcapng.merging import last_moments
 Path = Union[str, "os.PathLike[str]"]
 Moment = Union[int, datetime, None]
 Asked = Union[int, str, Iterable[Union[int, str]], None]
-
-
-class Chosen(NamedTuple):
-    """A packet of frames that is to be read, by its place in the recording of its part."""
-
-    at: int
-    number: int
-    part: Part
-    place: Place
 
 
 class Recording:
@@ -145,9 +137,10 @@ class Recording:
         self._skipped = 0
         for number, source in enumerate(self._sources):
             mine = [it for it in parts if it.number == number]
-            chosen = [Chosen(place.at, at, it, place) for at, it in enumerate(mine) for place in it.places]
-            for packet in sorted(chosen, key=lambda it: it.at):
-                yield from self._frames_at(packet.part, packet.place)
+            # Sorted by their places, of which no two are equal.
+            streams = [zip((place.at for place in it.places), repeat(at), it.places) for at, it in enumerate(mine)]
+            for _, at, place in heapq.merge(*streams):
+                yield from self._frames_at(mine[at], place)
             source.contents.refuse_before()
 
     def _merged(self, parts: list[Part]) -> Iterator[Frame]:

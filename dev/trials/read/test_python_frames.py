@@ -64,8 +64,8 @@ def frames_of(capture: bytes) -> list[Seen]:
     return found
 
 
-def captured(work: Path, recording: Path) -> list[Seen]:
-    done = outcome(PCAPNG, "--force", work / "made.pcapng", recording)
+def captured(work: Path, *recordings: Path) -> list[Seen]:
+    done = outcome(PCAPNG, "--force", work / "made.pcapng", *recordings)
     judge_quietly("pcapng makes a capture", done.returncode in (0, 1) and "Traceback" not in done.stderr, done)
     return frames_of((work / "made.pcapng").read_bytes())
 
@@ -94,20 +94,24 @@ def moment_by(origins: Optional[list[tuple]], counter: int) -> Optional[int]:
     return moments_by(origins, [counter])[0] if origins is not None and is_utc(origins, counter) else None
 
 
-def judge_capture(work: Path, recording: Path) -> None:
-    """By time the frames are those of pcapng, in its order, with its times and flags."""
-    opened, seen = bpfrec.open(recording, skip_damage=True), captured(work, recording)
-    number = {channel.id: at for at, channel in enumerate(opened.channels)}
-    found = [
-        Seen(
-            number[it.channel],
-            it.counter * 100 if it.time is None else it.time,
-            it.bytes,
-            (4 << 5 | it.fcs_wrong << 24 | it.has_frame_error << 31) if it.fcs_wrong or it.has_frame_error else 0,
-        )
-        for it in opened.frames(by_time=True)
-    ]
+def seen_by_time(opened: bpfrec.Recording) -> list[Seen]:
+    """The frames of recordings by time, as pcapng has them: without facts they have their counters for times."""
+    in_order = sorted(opened.channels, key=lambda it: (it.recorded_as, opened.paths.index(it.paths[0])))
+    number = {channel.id: at for at, channel in enumerate(in_order)}
+    found = []
+    for frame in opened.frames(by_time=True):
+        flags = 4 << 5 | frame.fcs_wrong << 24 | frame.has_frame_error << 31
+        moment = frame.counter * 100 if frame.time is None else frame.time
+        is_marked = frame.fcs_wrong or frame.has_frame_error
+        found.append(Seen(number[frame.channel], moment, frame.bytes, flags if is_marked else 0))
+    return found
+
+
+def judge_capture(work: Path, *recordings: Path) -> int:
+    """By time the frames are those of pcapng, in its order, with its times and flags; how many there are."""
+    found, seen = seen_by_time(bpfrec.open(*recordings, skip_damage=True)), captured(work, *recordings)
     judge_quietly(f"{len(seen)} frames as in the capture", found == seen, (len(found), len(seen)))
+    return len(seen)
 
 
 def judge_list(recording: Path) -> None:
@@ -204,6 +208,25 @@ def test_times_of_whole_files_are_those_of_check_ch10(work: Path, turn: int) -> 
         text = (frame.datetime or pytest.fail("a frame has no time")).strftime("%Y-%m-%dT%H:%M:%S")
         found.append((frame.channel, f"{text}.{rest // 100:07}Z", len(frame.bytes)))
     judge(f"{len(found)} frames", found == wanted, (found[:3], wanted[:3]))
+
+
+@pytest.mark.parametrize("turn", range(DRAWN))
+def test_several_recordings_are_merged_as_by_pcapng(work: Path, turn: int) -> None:
+    """Of two hosts with the same channels, whose clocks were set, and of one host two that follow one another; in any
+    order, with facts and without."""
+    draw = random.Random(SEED + turn)
+    paths, start = [], draw.randrange(2**40)
+    for at, host in enumerate(("fc1", "fc2", "fc1")):
+        path = work / f"{at}.ch11"
+        path.write_bytes(recorded(draw, [2, 7 + at % 2], start + 300_000_000 * at * (host == "fc1"), 30).data)
+        origins = [("1764590400.250000000", 0, None), ("1764590399.750000123", start + 150_000_000, None)]
+        interfaces = [{"interface": f"eth{it}", "channel": it} for it in (2, 7, 8)]
+        said = {**facts_of_run(origins), "host": host, "interfaces": interfaces}
+        if turn % 4 != 3:
+            Path(f"{path}.json").write_text(json.dumps(said))
+        paths.append(path)
+    draw.shuffle(paths)
+    judge(f"{judge_capture(work, *paths)} frames", True)
 
 
 READ_ALL = """
