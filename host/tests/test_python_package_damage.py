@@ -146,6 +146,21 @@ def test_packets_of_other_kinds_are_left_alone(work: Path) -> None:
     judge("one frame is left", counters(bpfrec.open(path)) == [(1, 5)])
 
 
+def test_a_recording_that_changes_meanwhile_is_read_as_it_was_or_is_damaged(work: Path) -> None:
+    """What is added later isn't read; what is cut off is damaged when the reading comes to it."""
+    path = written(work, recording())
+    opened = bpfrec.open(path)
+    with open(path, "ab") as file:
+        file.write(packet(1, [99]))
+    judge("as it was", counters(opened) == IN_ORDER)
+    os.truncate(path, recording().index(packet(*PACKETS[2])) + 40)
+    found: list[bpfrec.Frame] = []
+    with pytest.raises(bpfrec.Damaged, match="Truncated"):
+        for frame in opened:
+            found.append(frame)
+    judge("the frames before are read", counters(found) == IN_ORDER[:5], found)
+
+
 # ---- files, memory, and what is promised
 
 
