@@ -59,7 +59,7 @@ install: ## installs what make build has made, with the tools and the page: PREF
 uninstall: ## removes what make install has installed
 	@dev/package/install.sh --uninstall
 
-deb: ## Debian packages of the same: bin/bpfrec_<version>_<architecture>.deb, and bpfrec-tools
+deb: ## Debian packages of the same: bin/bpfrec_<version>_<architecture>.deb, bpfrec-tools and python3-bpfrec
 	@dev/package/make_deb.sh
 
 refused-growth: build ## refuses each growth of memory of each command, in turn

@@ -8,9 +8,11 @@ Installs bin/bpfrec and what else make build makes there, and bin/capture, where
 by default): programs in bin/, the tools in libexec/bpfrec/ with links in bin/ (bpfrec-convert, bpfrec-info and so on;
 those in Python are one file, bpfrec-host.pyz), the page bpfrec(1), completions for bash, zsh and fish, examples
 and documents in share/doc/bpfrec/, a unit for systemd in lib/systemd/system/, and the plugin for Wireshark in
-share/bpfrec/, with a link in the folder of plugins that tshark names, or else in Debian'"'"'s. What stands in DESTDIR,
-if it is set, is put ahead of PREFIX. With --uninstall all of it is removed, and the folders that only it has. ZSH
-names another folder than share/zsh/site-functions, and WIRESHARK another folder of plugins.
+share/bpfrec/, with a link in the folder of plugins that tshark names, or else in Debian'"'"'s. The Python package bpfrec
+goes into the folder below PREFIX in which the system'"'"'s Python looks, or else into lib/python3/dist-packages. What
+stands in DESTDIR, if it is set, is put ahead of PREFIX. With --uninstall all of it is removed, and the folders that
+only it has. ZSH names another folder than share/zsh/site-functions, WIRESHARK another folder of plugins, and
+PYTHON_PACKAGES another one of Python'"'"'s packages, below PREFIX.
 
 Status: 0 done, 2 wrong arguments, 3 something to install is missing or not proved, else that of the command that
 failed.'
@@ -24,6 +26,19 @@ to=$DESTDIR$PREFIX
 tools=(live chapter11 control convert follow info pcapng preflight salvage)
 names=(capture "${tools[@]}")
 
+# The folder below PREFIX in which Python looks for packages.
+python_folder() {
+    local found=${PYTHON_PACKAGES:-}
+    [[ -n $found ]] || found=$(/usr/bin/python3 -I - "$PREFIX" 2> /dev/null << 'END'
+import site, sys
+prefix = sys.argv[1].rstrip("/") + "/"
+print(next((it[len(prefix):] for it in site.getsitepackages() if it.startswith(prefix + "lib/")), ""))
+END
+    ) || true
+    echo "${found:-lib/python3/dist-packages}"
+}
+python_packages=$(python_folder)
+
 # Each file, as its mode, where it stands here or what it is made of, and where it goes.
 files() {
     local file at
@@ -35,6 +50,9 @@ files() {
     echo "644 bin/completions/_bpfrec $ZSH/_bpfrec"
     echo "644 bin/completions/bpfrec.fish share/fish/vendor_completions.d/bpfrec.fish"
     echo "644 bin/bpfrec.lua share/bpfrec/bpfrec.lua"
+    python_files | while read -r file; do
+        echo "644 host/$file $python_packages/$file"
+    done
     find docs/user -type f | sort | while read -r file; do
         at=${file#docs/user/}
         echo "644 $file share/doc/bpfrec/${at/INSTALLED/README}"
@@ -43,6 +61,11 @@ files() {
         echo "644 $file share/doc/bpfrec/$file"
     done
     echo "644 examples/bpfrec.service lib/systemd/system/bpfrec.service"
+}
+
+# The files of the Python package, which need Python to be found.
+python_files() {
+    [[ ! -x /usr/bin/python3 ]] || /usr/bin/python3 -I dev/package/python_files.py
 }
 
 # file_of NAME: the file that is a tool
@@ -88,6 +111,8 @@ remove_old() {
         share/fish/vendor_completions.d/bpfrec-feed.fish; do
         rm -f "$to/$name"
     done
+    # Modules that it had once, and what Python compiled of others.
+    rm -rf "$to/$python_packages/bpfrec" "$to/$python_packages/bpfrec_host"
 }
 
 # Whether a program was built from its proof, which the compiler notes in the section .comment.
@@ -98,7 +123,7 @@ is_proved() {
 # install_host MODE FILE: makes the file of the tools in Python
 install_host() {
     if [[ ! -x /usr/bin/python3 ]]; then
-        echo "/usr/bin/python3 is missing, so ${tools[*]/#/bpfrec-} aren't installed"
+        echo "/usr/bin/python3 is missing, so ${tools[*]/#/bpfrec-} and the package bpfrec aren't installed"
         return
     fi
     install -d "$(dirname "$2")"

@@ -1,13 +1,14 @@
 #!/usr/bin/env bash
-# Makes two Debian packages of the program and of what stands around it; `make deb` calls it.
+# Makes three Debian packages of the program and of what stands around it; `make deb` calls it.
 set -euo pipefail
 
 usage='usage: dev/package/make_deb.sh
 
-Makes bin/bpfrec_<version>_<architecture>.deb and bin/bpfrec-tools_<version>_<architecture>.deb by dpkg-deb, of what
-dev/package/install.sh installs. The first has the program, which needs the C library alone, with its page, completions
-and documents. The second has bpfrec-capture, the tools in Python, the unit for systemd and the plugin for Wireshark,
-and depends on what these need. It needs bin/bpfrec (make build), bin/capture (make capture), and Debian'"'"'s dpkg and
+Makes bin/bpfrec_<version>_<architecture>.deb, bin/bpfrec-tools_<version>_<architecture>.deb and
+bin/python3-bpfrec_<version>_all.deb by dpkg-deb, of what dev/package/install.sh installs. The first has the program,
+which needs the C library alone, with its page, completions and documents. The second has bpfrec-capture, the tools in
+Python, the unit for systemd and the plugin for Wireshark, and depends on what these need. The third has the Python
+package bpfrec, which needs Python alone. It needs bin/bpfrec (make build), bin/capture (make capture), and Debian'"'"'s dpkg and
 binutils. Programs are stripped. The same sources and programs make the same bytes: all times are SOURCE_DATE_EPOCH, by
 default that of the last commit. MAINTAINER names another maintainer.
 
@@ -35,6 +36,12 @@ version=$(sed -n 's/^pub const VERSION: &str = "\(.*\)";$/\1/p' crates/rec_words
 architecture=$(dpkg --print-architecture)
 root=$(mktemp -d)
 trap 'rm -rf "$root"' EXIT
+
+# Moves the Python package of an installation into the folder of its Debian package.
+move_python() {
+    mkdir -p "$root/python3-bpfrec/usr/lib"
+    mv "$root/bpfrec/usr/lib/python3" "$root/python3-bpfrec/usr/lib"
+}
 
 # Moves what of an installation is the tools' into the folder of their package.
 move_tools() {
@@ -73,19 +80,21 @@ $1 ($version) unstable; urgency=medium
 END
 }
 
-# packed NAME: makes the package of what stands in its folder; its own fields come from standard input
+# packed NAME ARCHITECTURE SECTION: makes the package of what stands in its folder; its own fields come from standard
+# input, and what dpkg runs from the folder of its name, if there is one
 packed() {
-    local folder=$root/$1 made=bin/${1}_${version}_$architecture.deb
+    local folder=$root/$1 made=bin/${1}_${version}_$2.deb
     documented "$1"
     find "$folder" -exec touch -hd "@$SOURCE_DATE_EPOCH" {} +
     mkdir "$folder/DEBIAN"
+    [[ ! -d dev/package/$1 ]] || install -m 755 "dev/package/$1"/* "$folder/DEBIAN"
     cat > "$folder/DEBIAN/control" << END
 Package: $1
 Version: $version
-Architecture: $architecture
+Architecture: $2
 Maintainer: $maintainer
 Installed-Size: $(du -sk --apparent-size --exclude DEBIAN "$folder" | cut -f 1)
-Section: net
+Section: $3
 Priority: optional
 $(cat)
 END
@@ -94,16 +103,18 @@ END
 }
 
 mkdir -p "$root/bpfrec" "$root/bpfrec-tools/usr"
-DESTDIR=$root/bpfrec PREFIX=/usr ZSH=share/zsh/vendor-completions dev/package/install.sh
+DESTDIR=$root/bpfrec PREFIX=/usr ZSH=share/zsh/vendor-completions PYTHON_PACKAGES=lib/python3/dist-packages \
+    dev/package/install.sh
 gzip -9n "$root/bpfrec/usr/share/man/man1/bpfrec.1"
 for link in "$root"/bpfrec/usr/share/man/man1/bpfrec-*.1; do
     rm "$link"
     ln -s bpfrec.1.gz "$link.gz"
 done
 strip --strip-unneeded "$root/bpfrec/usr/bin/bpfrec" "$root/bpfrec/usr/libexec/bpfrec/bpfrec-capture"
+move_python
 (move_tools)
 install -m 644 CHANGELOG.md "$root/bpfrec/usr/share/doc/bpfrec/CHANGELOG.md"
-packed bpfrec << END
+packed bpfrec "$architecture" net << END
 Depends: libc6 (>= $(libc_version bin/bpfrec))
 Suggests: bpfrec-tools
 Description: recorder of Ethernet channels with classic BPF filters
@@ -112,7 +123,7 @@ Description: recorder of Ethernet channels with classic BPF filters
 END
 # What reads settings.
 toml='python3 (>= 3.11) | python3-tomli'
-packed bpfrec-tools << END
+packed bpfrec-tools "$architecture" net << END
 Depends: bpfrec (= $version), libc6 (>= $(libc_version bin/capture)), python3 (>= 3.9), $toml$(capture_packages)
 Recommends: ethtool, libcap2-bin, tcpdump
 Suggests: wireshark
@@ -120,4 +131,11 @@ Description: capture from interfaces and tools around the recorder bpfrec
  Takes frames of network interfaces for bpfrec, looks after a recording of
  them with a status page, and converts, describes and repairs recordings.
  Wireshark opens recordings by a plugin.
+END
+packed python3-bpfrec all python << END
+Depends: python3 (>= 3.9)
+Suggests: bpfrec, python3-scapy, python3-pandas
+Description: frames of bpfrec's recordings in Python
+ Reads recordings and whole Chapter 11 files of the recorder bpfrec: frames by
+ channel and time, filters and their changes, ends, facts and damaged places.
 END

@@ -233,7 +233,7 @@ def made_packages() -> dict[str, Path]:
     """The packages that `make deb` makes, by their names."""
     status, told = ran("make", "-s", "-C", ROOT, "deb")
     found = {it.name.split("_")[0]: it for it in map(ROOT.joinpath, told.split())}
-    judge_quietly("make deb", status == 0 and list(found) == ["bpfrec", "bpfrec-tools"], told)
+    judge_quietly("make deb", status == 0 and list(found) == ["bpfrec", "bpfrec-tools", "python3-bpfrec"], told)
     return found
 
 
@@ -244,7 +244,7 @@ def packages() -> dict[str, Path]:
 
 @pytest.fixture(scope="module")
 def unpacked(packages: dict[str, Path], place: Path) -> Path:
-    """A folder into which both are unpacked."""
+    """A folder into which all are unpacked."""
     for package in packages.values():
         done = ran("dpkg-deb", "-x", package, place / "root")
         judge_quietly(f"{package.name} unpacks into an empty folder", done[0] == 0, done)
@@ -280,9 +280,10 @@ def test_the_package_of_the_tools_depends_on_what_they_need(packages: dict[str, 
         judge(f"on {name}", name in depends.split(", "), depends)
 
 
-def test_no_path_is_in_both_packages(packages: dict[str, Path]) -> None:
-    first, second = (paths_in(it) for it in packages.values())
-    judge("none is", first and second and not first & second, first & second)
+def test_no_path_is_in_two_packages(packages: dict[str, Path]) -> None:
+    found = [path for it in packages.values() for path in paths_in(it)]
+    twice = {it for it in found if found.count(it) > 1}
+    judge("none is", all(map(paths_in, packages.values())) and not twice, twice)
 
 
 def test_packages_have_documents_maintainer_and_copyright(packages: dict[str, Path]) -> None:
@@ -293,28 +294,6 @@ def test_packages_have_documents_maintainer_and_copyright(packages: dict[str, Pa
         judge(f"{name} has a copyright file and a changelog", not lacking, lacking)
     documents = {f"./usr/share/doc/bpfrec/{it}" for it in ("README.md", "USING.md", "CHANGELOG.md", "GLOSSARY.md")}
     judge("and the documents", documents <= paths_in(packages["bpfrec"]))
-
-
-def test_each_linked_library_is_named_with_its_licence() -> None:
-    text = (ROOT / "dev/package/copyright").read_text()
-    for name in set(re.findall(r"^\s*lib(pcap|deflate|z|seccomp)\.", ran("ldd", ROOT / "bin/capture")[1], re.M)):
-        known = "zlib" if name == "z" else f"lib{name}"
-        judge(f"the licence of {known} is named", re.search(rf"\b{known}\s+\([-\w.]+\)", text), text)
-
-
-def test_each_crate_that_is_linked_into_the_program_is_named() -> None:
-    """Those of the toolchain that the program stands on, with whose they are."""
-    rows = [it.split(":") for it in (ROOT / "crates.txt").read_text().splitlines() if not it.startswith("#")]
-    own = {name.split()[0]: used.split() for name, used in rows}
-    reached, left = set(), ["bpfrec"]
-    while left:
-        name = left.pop()
-        left += own.get(name, []) if name not in reached else []
-        reached.add(name)
-    shipped = reached - set(own)
-    paragraph = (ROOT / "dev/package/copyright").read_text().split("Files: usr/bin/bpfrec")[1].split("\n\n")[0]
-    lacking = {it for it in shipped if len(re.findall(rf"\b{it}\b", paragraph)) < 2}
-    judge(f"{len(shipped)} crates are named twice", shipped and not lacking, lacking)
 
 
 @pytest.mark.parametrize("mask", [0o077, 0o002])

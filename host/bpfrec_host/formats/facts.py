@@ -55,6 +55,14 @@ class Origin(NamedTuple):
     tai_offset: int = 0
 
 
+class Expression(NamedTuple):
+    """That of which a channel's first listing was made."""
+
+    channel: int
+    listing: str
+    text: str
+
+
 class Facts:
     """What the facts say of times, losses and marks."""
 
@@ -71,6 +79,7 @@ class Facts:
         self.losses = losses_in(told.get("losses"))
         self.interfaces = interfaces_in(told.get("interfaces"))
         self.marks = marks_in(told.get("marks"))
+        self.expressions = expressions_in(told.get("filters"))
         self.begun = begun_in(told.get("begun"))
         # What is said of the clock at the beginning and at the end, which `clock_state` judges.
         self.synchronisation: Any = told.get("synchronisation")
@@ -191,6 +200,17 @@ def interfaces_in(told: Any) -> dict[int, str]:
         name, channel = (entry.get("interface"), entry.get("channel")) if isinstance(entry, dict) else (None, None)
         if isinstance(name, str) and is_number(channel, 1, MAX_CHANNEL_ID):
             found[int(channel or 0)] = name
+    return found
+
+
+def expressions_in(told: Any) -> list[Expression]:
+    """The expressions of filters. Nothing stands on them, so what has another form is left out."""
+    found: list[Expression] = []
+    for entry in told if isinstance(told, list) else []:
+        known: dict[str, Any] = entry if isinstance(entry, dict) else {}
+        channel, listing, text = (known.get(it) for it in ("channel", "listing", "expression"))
+        if is_number(channel, 1, MAX_CHANNEL_ID) and isinstance(listing, str) and isinstance(text, str):
+            found.append(Expression(int(channel or 0), listing, text))
     return found
 
 
