@@ -2,11 +2,11 @@
 
 from __future__ import annotations
 
-from itertools import count
 from typing import Iterable, Iterator, Union
 
 from bpfrec._records import Channel
 from bpfrec._sources import Part, Source
+from bpfrec_host.formats.channel_ids import unique_ids
 from bpfrec_host.pcapng.recordings import Recorder
 
 # A channel of a recorder, by its ID there.
@@ -22,7 +22,7 @@ class Channels:
         for source in sources:
             for number in sorted(source.contents.channels):
                 found.setdefault((number, source.recording.recorder_of(number)), []).append(source)
-        self.ids = ids_of(list(found))
+        self.ids = dict(zip(found, unique_ids(number for number, _ in found)))
         self.ids_in = {(it.number, key[0]): self.ids[key] for key, members in found.items() for it in members}
         self.all = tuple(sorted(self.channel(*it) for it in found.items()))
         # As `pcapng` merges them: by the IDs in the recordings, then as these were given.
@@ -56,15 +56,3 @@ class Channels:
                 raise ValueError(f"{' '.join(it.path for it in self.sources)}: no channel {asked}")
             found |= ids
         return found
-
-
-def ids_of(keys: list[Key]) -> dict[Key, int]:
-    """The IDs of channels, as they stand in the recordings: the first of an ID keeps it, and each other one gets the
-    lowest ID that no recording has."""
-    used, kept = {number for number, _ in keys}, set()
-    free = (it for it in count(1) if it not in used)
-    found: dict[Key, int] = {}
-    for key in keys:
-        found[key] = next(free) if key[0] in kept else key[0]
-        kept.add(key[0])
-    return found

@@ -7,6 +7,7 @@ import time
 from pathlib import Path
 from typing import NamedTuple
 
+import bpfrec
 import pytest
 from frames import number_of, numbered, records
 from namespace import make_pair, socket_into
@@ -102,6 +103,7 @@ def test_a_campaign_of_four_recorders(work: Path, campaign: Campaign) -> None:
     """One after the other, since the recordings are made once."""
     judge_capture(work, campaign)
     judge_whole_file(work, campaign)
+    judge_package(campaign)
 
 
 def judge_capture(work: Path, campaign: Campaign) -> None:
@@ -131,3 +133,14 @@ def judge_whole_file(work: Path, campaign: Campaign) -> None:
     for tap in taps:
         judge_quietly("each frame once", [number_of(it.frame) for it in tap] == list(range(EVENTS)), tap[:3])
     judge_events("file", [[origin + it.counter * TICK for it in tap] for tap in taps], campaign.events)
+
+
+def judge_package(campaign: Campaign) -> None:
+    """Judges the Python package: the channels of the file, in one order by time."""
+    frames = list(bpfrec.open(*campaign.recordings))
+    taps = [[it for it in frames if it.channel == channel] for channel in range(1, TAPS + 1)]
+    for tap in taps:
+        judge_quietly("each frame once", [number_of(it.bytes) for it in tap] == list(range(EVENTS)), tap[:3])
+    moments = [[it.time or 0 for it in tap] for tap in taps]
+    judge("one order by time", [it.time for it in frames] == sorted(it.time or 0 for it in frames))
+    judge_events("package", moments, campaign.events)

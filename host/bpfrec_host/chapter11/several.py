@@ -8,6 +8,7 @@ from typing import NamedTuple, Optional
 from bpfrec_host import printing
 from bpfrec_host.chapter11.setup import Told, moments_of
 from bpfrec_host.formats.ch11 import Fault
+from bpfrec_host.formats.channel_ids import unique_ids
 from bpfrec_host.formats.facts import Facts, Origin
 from bpfrec_host.formats.limits import MAX_CHANNEL_ID
 from bpfrec_host.pcapng.index import Index
@@ -68,19 +69,12 @@ def judge_recorders(recordings: list[Recorded]) -> None:
 
 
 def numbered(recordings: list[Recorded]) -> list[Numbered]:
-    """The recordings with the IDs of their channels: the first that has an ID keeps it, and each other gets the least
-    that no recording has and no other got."""
-    named = {channel for recorded in recordings for channel in recorded.channels}
-    free = (it for it in range(1, MAX_CHANNEL_ID + 1) if it not in named)
-    taken: set[int] = set()
-    found = []
-    for recorded in recordings:
-        numbers = {it: next(free, 0) if it in taken else it for it in recorded.channels}
-        if 0 in numbers.values():
-            raise Refused(f"{recorded.path}: no channel ID up to {MAX_CHANNEL_ID} is free")
-        taken.update(numbers.values())
-        found.append(Numbered(recorded, numbers))
-    return found
+    """The recordings with the IDs of their channels, those that meet numbered anew."""
+    ids = unique_ids(channel for recorded in recordings for channel in recorded.channels)
+    if max(ids, default=0) > MAX_CHANNEL_ID:
+        raise Refused(f"their channels are more than the {MAX_CHANNEL_ID} IDs that a file has")
+    following = iter(ids)
+    return [Numbered(it, dict(zip(it.channels, following))) for it in recordings]
 
 
 def first_origin(recordings: list[Recorded], ahead: Optional[int]) -> Origin:
