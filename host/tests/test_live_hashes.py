@@ -43,7 +43,10 @@ class Played:
         self.is_given_up = False
         loop = cast(Loop, SimpleNamespace(call_soon=self.calls.append))
         signer = cast(Signer, SimpleNamespace(sign=sign, kill=self.kill)) if sign else None
-        self.hashes = Hashes(loop, Files(), signer, lambda *told: self.unsigned.append(told), self.err.append)
+        self.hashes = Hashes(loop, Files(), signer, self.take_unsigned, self.err.append)
+
+    def take_unsigned(self, path: str, why: str) -> None:
+        self.unsigned.append((path, why))
 
     def kill(self) -> None:
         self.kills += 1
@@ -81,13 +84,24 @@ def why_unhashed(ended: Ended, played: Optional[Played] = None) -> str:
     return str(refused.value)
 
 
-def test_a_file_that_was_changed_since_it_ended_has_none(work: Path) -> None:
+def change_bytes(path: Path) -> None:
+    path.write_bytes(b"other")
+
+
+def shorten(path: Path) -> None:
+    os.truncate(path, 4)
+
+
+def change_time(path: Path) -> None:
+    os.utime(path, (2, 2))
+
+
+@pytest.mark.parametrize("change", [change_bytes, shorten, change_time])
+def test_a_file_that_was_changed_since_it_ended_has_none(work: Path, change: Callable[[Path], None]) -> None:
     """Also where its length is the same, and where only its time is another."""
-    path = work / "out"
-    for change in (lambda: path.write_bytes(b"other"), lambda: os.truncate(path, 4), lambda: os.utime(path, (2, 2))):
-        ended = made(path, b"bytes")
-        change()
-        judge("it is said", why_unhashed(ended) == CHANGED)
+    ended = made(work / "out", b"bytes")
+    change(work / "out")
+    judge("it is said", why_unhashed(ended) == CHANGED)
 
 
 def test_a_file_that_changes_while_it_is_read_has_none(work: Path, monkeypatch: pytest.MonkeyPatch) -> None:
@@ -99,7 +113,7 @@ def test_a_file_that_changes_while_it_is_read_has_none(work: Path, monkeypatch: 
         def update(self, _: memoryview) -> None:
             (work / "out").write_bytes(b"BYTES")
 
-    monkeypatch.setattr(hashes.hashlib, "sha256", Changing)
+    monkeypatch.setattr(hashlib, "sha256", Changing)
     judge("it is said", why_unhashed(ended) == CHANGED)
 
 
@@ -129,8 +143,8 @@ def test_each_recording_names_the_one_before(work: Path) -> None:
     played, before = Played(), None
     for name in ("a", "b"):
         ended = made(work / name, name.encode())
-        played.add(ended)
         played.add(None)
+        played.add(ended)
         played.finish()
         found = facts_of(ended)
         digest = hashlib.sha256(name.encode()).hexdigest()
@@ -232,7 +246,7 @@ def test_a_run_that_is_given_up_hashes_and_signs_no_more(work: Path) -> None:
     let = threading.Event()
 
     def sign(_: bytes) -> bytes:
-        let.wait(30)
+        let.wait(300)
         raise Unsigned("it was ended by signal 9")
 
     played = Played(sign)

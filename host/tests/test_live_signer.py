@@ -4,6 +4,7 @@ from __future__ import annotations
 
 import os
 import threading
+import time
 from pathlib import Path
 
 import pytest
@@ -66,7 +67,9 @@ def test_it_signs_what_it_reads_in_the_namespace_of_recordings(played: Path, mon
 def test_one_that_takes_too_long_is_ended(played: Path, work: Path, monkeypatch: pytest.MonkeyPatch) -> None:
     write(played, f"echo $$ > {work}/pid; exec sleep 600")
     monkeypatch.setattr(signer, "LONGEST", 1.0)
+    begun = time.monotonic()
     judge("it is said", why_unsigned(Signer("k")) == "ssh-keygen took over 1 s")
+    judge("in time", time.monotonic() < begun + 30)
     judge("nothing runs on", not Path(f"/proc/{(work / 'pid').read_text().strip()}").exists())
 
 
@@ -74,7 +77,12 @@ def test_one_that_is_ended_signs_nothing(played: Path, work: Path) -> None:
     """Also where that comes before it is started."""
     write(played, f"touch {work}/begun; exec sleep 600")
     made = Signer("k")
-    thread = threading.Thread(target=lambda: (wait_for("it has begun", (work / "begun").exists), made.kill()))
+
+    def kill_once_it_has_begun() -> None:
+        wait_for("it has begun", (work / "begun").exists)
+        made.kill()
+
+    thread = threading.Thread(target=kill_once_it_has_begun)
     thread.start()
     judge("while it signs", why_unsigned(made) == "ssh-keygen was ended by signal 9")
     thread.join()

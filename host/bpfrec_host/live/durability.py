@@ -13,6 +13,9 @@ from bpfrec_host.live.loop import Loop
 from bpfrec_host.live.names import facts_path, remove
 from bpfrec_host.live.recorder import Recorder
 
+# Why a recording isn't on its disk of which the recorder alone was told so.
+UNFORCED = "the recorder's fsync failed"
+
 
 class KeeperReports:
     """What a recording's keeper tells, brought to the loop."""

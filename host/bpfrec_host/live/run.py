@@ -18,7 +18,7 @@ from bpfrec_host.live.console import Console
 from bpfrec_host.live.control.changes import Change, Changes
 from bpfrec_host.live.control.lines import ControlLines, ControlPorts
 from bpfrec_host.live.control.maker import Maker
-from bpfrec_host.live.durability import Durability
+from bpfrec_host.live.durability import UNFORCED, Durability
 from bpfrec_host.live.end_of_run import EndOfRun
 from bpfrec_host.live.engine import LOST
 from bpfrec_host.live.events import Events
@@ -45,9 +45,6 @@ from bpfrec_host.live.status import Terminal
 from bpfrec_host.live.versions import Versions
 from bpfrec_host.live.watches import Watches
 from bpfrec_host.live.whole_files import WholeFiles
-
-# Why a recording isn't on its disk of which the recorder alone was told so.
-UNFORCED = "the recorder's fsync failed"
 
 
 class Run:
