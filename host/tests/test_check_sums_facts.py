@@ -179,6 +179,19 @@ def test_a_pipe_has_no_hash(work: Path) -> None:
     judge("so", lines == ["hash none: it is no regular file"], lines)
 
 
+def test_facts_and_signatures_that_are_pipes_are_not_waited_for(work: Path) -> None:
+    judged = Judged(work, cast(Verifier, PlayedVerifier("fc1")))
+    os.mkfifo(work / "a.json.sig")
+    found = judged.of("a", b"a")
+    lines = ["hash right", "before none", "signature wrong: it is no regular file"]
+    judge("a signature", found == (False, lines), found)
+    (work / "a.json").unlink()
+    os.mkfifo(work / "a.json")
+    judged.lines.clear()
+    found = judged.judge.judge(str(work / "a")), judged.lines
+    judge("facts", found == (False, ["facts wrong: they are no regular file"]), found)
+
+
 # ---- who signed
 
 

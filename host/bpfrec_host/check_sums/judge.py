@@ -36,9 +36,14 @@ def facts_path(recording: str) -> str:
     return f"{recording}.json"
 
 
+def is_regular(path: str) -> bool:
+    """Whether a file is no pipe, device or folder, for which a reader might wait."""
+    return stat.S_ISREG(os.stat(path).st_mode)
+
+
 def content_of(path: str) -> Optional[Content]:
     """What a file has; None of a pipe or a device, which can't be read twice."""
-    if not stat.S_ISREG(os.stat(path).st_mode):
+    if not is_regular(path):
         return None
     digest, length = hashlib.sha256(), 0
     with open(path, "rb", buffering=0) as file:
@@ -93,6 +98,9 @@ class Judge:
     def facts_of(self, path: str) -> Optional[bytes]:
         """The bytes of the facts beside a recording; None where there are none."""
         try:
+            if not is_regular(facts_path(path)):
+                self.wrong("facts wrong: they are no regular file")
+                return None
             with open(facts_path(path), "rb") as file:
                 return file.read(MAX_LEN + 1)
         except FileNotFoundError:
@@ -146,10 +154,11 @@ class Judge:
 
     def judge_signature(self, verifier: Verifier, facts: bytes, path: str) -> None:
         """Whether somebody signed the facts who may."""
-        if not os.path.lexists(path):
-            self.wrong("signature none")
-            return
         try:
+            if not is_regular(path):
+                raise Unsigned("it is no regular file")
             self.out(f"signature right: {shown(verifier.signer_of(facts, path))}")
+        except FileNotFoundError:
+            self.wrong("signature none")
         except Unsigned as why:
             self.wrong(f"signature wrong: {why}")
