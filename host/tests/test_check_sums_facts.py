@@ -15,7 +15,7 @@ from bpfrec_host.check_sums.claims import Before, Claims, NoClaims, claims_in
 from bpfrec_host.check_sums.judge import PIECE, Judge, content_of, in_order
 from bpfrec_host.check_sums.verifier import Verifier, verifier_of
 from bpfrec_host.formats.signatures import Unsigned
-from support import judge, judge_quietly
+from support import CHECK_SUMS, judge, judge_quietly, outcome
 
 DIGEST = "0123456789abcdef" * 4
 FACTS: dict[str, Any] = {"recording": "b.ch11", "sha256": DIGEST, "bytes": 5, "before": None}
@@ -124,6 +124,22 @@ def test_the_one_before_is_the_one_that_is_given_before(work: Path) -> None:
     )
     found = judged.of("g", b"g", before={"recording": "f", "sha256": None})
     judge("nobody knew it", found == (True, ["hash right", "before unknown: f had no hash"]), found)
+
+
+def test_a_name_that_is_no_utf8_is_that_of_its_facts(work: Path) -> None:
+    """They lack what isn't UTF-8; and it is printed."""
+    for number in ("1", "2"):
+        path = os.fsencode(work) + b"/\xff" + number.encode()
+        Path(os.fsdecode(path)).write_bytes(b"")
+        digest = hashlib.sha256(b"").hexdigest()
+        before = None if number == "1" else {"recording": "1", "sha256": digest}
+        facts = {"recording": number, "sha256": digest, "bytes": 0, "before": before}
+        Path(os.fsdecode(path + b".json")).write_text(json.dumps(facts))
+    paths = [os.fsencode(work) + b"/\xff" + number for number in (b"1", b"2")]
+    done = outcome(CHECK_SUMS, *paths, env={**os.environ, "LC_ALL": "C.UTF-8"})
+    lines = [f"recording {work}/?1", "hash right", "before none", "packets 0 data checksums 0 without 0 wrong 0"]
+    lines += [f"recording {work}/?2", "hash right", "before right: 1", "packets 0 data checksums 0 without 0 wrong 0"]
+    judge("each is right", (done.returncode, done.stdout.splitlines()) == (0, lines), done)
 
 
 def test_each_claim_is_judged(work: Path) -> None:

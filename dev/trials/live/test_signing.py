@@ -2,7 +2,9 @@
 signal, and files that were changed."""
 
 import contextlib
+import functools
 import os
+import resource
 import shutil
 import signal
 import subprocess
@@ -66,6 +68,37 @@ def test_a_key_that_can_not_sign_is_refused_at_the_start(work: Path) -> None:
 def test_a_run_without_interfaces_has_no_facts_to_sign(work: Path) -> None:
     running = Running(work, LIVE, "--sign", made_key(work, "fc1"), settings_of(work), work / "no.ch11")
     judge("refused", (running.ended()[0], running.told()) == (2, "live: --sign needs an interface\n"), running.told())
+
+
+def test_a_name_that_has_no_room_for_a_signature_is_refused(work: Path, namespace: None) -> None:
+    """`.json.sig.new` goes behind it while that is written."""
+    key = made_key(work, "fc1")
+    out = work / ("x" * 243)
+    running = Running(work, LIVE, "--sign", key, settings_of(work), out, "rx0=1", "rx1=2")
+    line = f"live: {out}: its name has 243 bytes, and may have 242 with its facts beside it\n"
+    judge("a byte too long", (running.ended()[0], running.told()) == (3, line), running.told())
+    done = outcome(PREFLIGHT, "--live", "--sign", key, settings_of(work), out, "rx0=1", "rx1=2")
+    judge("preflight says so", "may have 242" in done.stdout, done)
+    out = work / ("x" * 242)
+    running = begin(work, out, "--quiet", "--sign", key)
+    running.interrupt()
+    judge("a byte shorter", running.ended()[0] == 0 and signature_of(out).exists(), running.told())
+
+
+def test_signing_takes_no_more_descriptors_than_it_asks_for(work: Path, namespace: None) -> None:
+    key = made_key(work, "fc1")
+    for limit in (39, 40):
+        out = work / f"{limit}.ch11"
+        words = [LIVE, "--quiet", "--sign", key, settings_of(work), out, "rx0=1", "rx1=2"]
+        set_limit = functools.partial(resource.setrlimit, resource.RLIMIT_NOFILE, (limit, limit))
+        running = Running(work, "/usr/bin/python3", *words, preexec_fn=set_limit)
+        if limit < 40:
+            line = f"live: it needs 40 descriptors, and may have {limit}: ulimit -n 40\n"
+            judge("one too few", (running.ended()[0], running.told()) == (3, line), running.told())
+            continue
+        running.wait_until_told("capture: origin")
+        running.interrupt()
+        judge("enough", running.ended()[0] == 0 and signature_of(out).exists(), running.told())
 
 
 @pytest.fixture(name="agent")

@@ -58,6 +58,11 @@ def in_order(paths: list[str]) -> list[str]:
     return sorted(paths, key=lambda path: [int(it) if at % 2 else it for at, it in enumerate(NUMBER.split(path))])
 
 
+def name_of(path: str) -> str:
+    """The name of a recording as facts have it, without bytes that are no UTF-8."""
+    return os.path.basename(path).encode(errors="ignore").decode()
+
+
 def shown(name: str) -> str:
     """A name that others wrote, with a question mark for what isn't to be seen on a line."""
     return "".join(it if it.isprintable() else "?" for it in name)
@@ -82,7 +87,7 @@ class Judge:
         facts = self.facts_of(path)
         if facts is not None:
             self.judge_facts(path, facts, content)
-        self.given = Given(os.path.basename(path), content.digest)
+        self.given = Given(name_of(path), content.digest)
         return self.is_right
 
     def wrong(self, line: str) -> None:
@@ -115,7 +120,7 @@ class Judge:
             self.wrong(f"facts wrong: {why}")
         else:
             self.judge_content(claims, content)
-            self.judge_name(claims, os.path.basename(path))
+            self.judge_name(claims, name_of(path))
             self.judge_before(claims)
         if self.verifier:
             self.judge_signature(self.verifier, facts, signature_path(facts_path(path)))
