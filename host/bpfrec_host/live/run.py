@@ -178,6 +178,7 @@ class Run:
 
     def finish_recordings(self) -> None:
         """Ends what is still made of recordings: facts, hashes, whole files, and what is removed."""
+        self.control.leave_input()
         for recorder in self.recordings.all.values():
             if self.machine.is_refused() and outputs.is_empty(recorder):
                 outputs.discard(recorder)
