@@ -2,12 +2,13 @@
 
 from __future__ import annotations
 
+import contextlib
 import hashlib
 import json
 import os
 import threading
 from collections import deque
-from collections.abc import Callable
+from collections.abc import Callable, Iterator
 from pathlib import Path
 from types import SimpleNamespace
 from typing import Any, Optional, cast
@@ -117,6 +118,23 @@ def test_a_file_that_changes_while_it_is_read_has_none(work: Path, monkeypatch: 
     judge("it is said", why_unhashed(ended) == CHANGED)
 
 
+@contextlib.contextmanager
+def opened_late(pipe: Path) -> Iterator[threading.Event]:
+    """Opens a pipe after 20 seconds, so that nobody waits for a writer longer: whether it did."""
+    is_opened = threading.Event()
+
+    def open_it() -> None:
+        is_opened.set()
+        os.close(os.open(pipe, os.O_RDWR))
+
+    timer = threading.Timer(20, open_it)
+    timer.start()
+    try:
+        yield is_opened
+    finally:
+        timer.cancel()
+
+
 def test_a_file_that_has_gone_has_none(work: Path) -> None:
     """Also where another file, a link to it or a pipe has its name, for whose writer nobody waits."""
     path = work / "out"
@@ -127,7 +145,8 @@ def test_a_file_that_has_gone_has_none(work: Path) -> None:
     judge("another has its name", why_unhashed(ended) == GONE)
     path.unlink()
     os.mkfifo(path)
-    judge("a pipe has", why_unhashed(ended) == GONE)
+    with opened_late(path) as is_opened:
+        judge("a pipe has", why_unhashed(ended) == GONE and not is_opened.is_set())
     path.unlink()
     path.symlink_to(work / "moved")
     with pytest.raises(OSError):

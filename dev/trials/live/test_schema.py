@@ -6,6 +6,7 @@ import os
 import re
 import signal
 from pathlib import Path
+from typing import Any
 
 import pytest
 from clock import played
@@ -92,16 +93,18 @@ def test_a_hash_of_the_facts_has_one_form() -> None:
     """Null where there is none; 64 hexadecimal digits in lower case else, also of the recording before."""
     example = example_of_the_page()
     digest = "0123456789abcdef" * 4
-    for hashed in (
+    right: list[dict[str, Any]] = [
         {"sha256": None, "bytes": None, "before": None},
         {"sha256": digest, "bytes": 0, "before": None},
         {"sha256": digest, "bytes": 1 << 40, "before": {"recording": "a.ch11", "sha256": digest}},
         {"sha256": digest, "bytes": 1, "before": {"recording": "a.ch11", "sha256": None}},
-    ):
+    ]
+    for hashed in right:
         judge_schema(f"{hashed}", {**example, **hashed})
     for wrong in (digest[1:], f"{digest}0", digest.upper(), "", 1):
         judge_quietly(f"sha256 {wrong!r}", faults({**example, "sha256": wrong}, schema_of("facts")))
         before = {"recording": "a.ch11", "sha256": wrong}
         judge_quietly(f"before {wrong!r}", faults({**example, "before": before}, schema_of("facts")))
-    for change in ({"bytes": -1}, {"bytes": "1"}, {"before": {"sha256": digest}}, {"before": "a.ch11"}):
+    changes: list[dict[str, Any]] = [{"bytes": -1}, {"bytes": "1"}, {"before": {"sha256": digest}}, {"before": "a"}]
+    for change in changes:
         judge_quietly(f"{change}", faults({**example, **change}, schema_of("facts")))
