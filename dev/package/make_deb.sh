@@ -126,7 +126,7 @@ toml='python3 (>= 3.11) | python3-tomli'
 packed bpfrec-tools "$architecture" net << END
 Depends: bpfrec (= $version), libc6 (>= $(libc_version bin/capture)), python3 (>= 3.9), $toml$(capture_packages)
 Recommends: ethtool, libcap2-bin, tcpdump
-Suggests: wireshark
+Suggests: openssh-client, wireshark
 Description: capture from interfaces and tools around the recorder bpfrec
  Takes frames of network interfaces for bpfrec, looks after a recording of
  them with a status page, and converts, describes and repairs recordings.

@@ -116,7 +116,7 @@ def test_a_next_recording_has_room_from_a_mebibyte_on(
     judge("it has", found == has_room and ROOM == 1 << 20)
 
 
-@pytest.mark.parametrize("ending", ["", ".json", ".ch10"], ids=["out", "facts", "whole"])
+@pytest.mark.parametrize("ending", ["", ".json", ".json.sig", ".ch10"], ids=["out", "facts", "signature", "whole"])
 def test_a_number_is_skipped_that_a_file_of_a_recording_has(work: Path, ending: str) -> None:
     """Also where that is a link that leads nowhere."""
     (work / f"f_00001.ch11{ending}").write_text("kept")

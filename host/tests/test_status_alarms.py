@@ -138,6 +138,12 @@ CASES = {
         "sync_fault",
         "alarm",
     ),
+    "facts couldn't be signed": (
+        VIEW,
+        VIEW._replace(unsigned="a.ch11.json isn't signed: the key is missing"),
+        "unsigned",
+        "alarm",
+    ),
     "the clock is off by more than is allowed": (
         VIEW._replace(clock=ClockView(ClockState(True, 0.001), 0.001)),
         VIEW._replace(clock=ClockView(ClockState(True, 0.001001), 0.001)),
@@ -230,7 +236,7 @@ def ended(views: Iterable[View]) -> Iterable[View]:
 
 def test_an_ended_run_keeps_its_losses_and_no_other_alarm() -> None:
     """What has ended is silent, and needs no disk; what was lost stays."""
-    past = [case for case in CASES if CASES[case][2] not in ("lost", "was_lost", "audit", "sync_fault")]
+    past = [case for case in CASES if CASES[case][2] not in ("lost", "was_lost", "audit", "sync_fault", "unsigned")]
     told = {case: names(view) for case, view in zip(past, ended(CASES[it][1] for it in past)) if names(view)}
     judge("a run that has ended has none of its channels", not told, told)
     lost = VIEW._replace(state="ended", recording=None, channels=of_channel(counts=LOST, lost_age=5.0).channels)

@@ -28,7 +28,7 @@ from support import ROOT, judge_quietly
 
 WANTED = {"bin/bpfrec": "make build"}
 WANTED_BY = {
-    "live": {"bin/capture": "make build", "ip": "iproute2"},
+    "live": {"bin/capture": "make build", "ip": "iproute2", "ssh-keygen": "openssh-client"},
     "tcpdump": {"tcpdump": "tcpdump"},
     "tshark": {"tshark": "tshark"},
 }

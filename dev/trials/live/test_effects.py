@@ -9,9 +9,15 @@ import pytest
 from clock import capture_with
 from namespace import send_together
 from recordings import begin, nothing_left
-from support import judge, judge_quietly, wait_for
+from support import judge, judge_quietly, run, wait_for
 
-WANTED = {"bin/bpfrec": "make build", "bin/capture": "make build", "ip": "iproute2", "cc": "gcc"}
+WANTED = {
+    "bin/bpfrec": "make build",
+    "bin/capture": "make build",
+    "ip": "iproute2",
+    "cc": "gcc",
+    "ssh-keygen": "openssh-client",
+}
 pytestmark = pytest.mark.usefixtures("namespace")
 
 # Facts take the place of earlier ones: the new ones are on the disk before, and the name is behind.
@@ -22,14 +28,16 @@ FILES = {
     "facts": rf"open_folder force_folder ({FACTS}){{2,}}",
     "whole": r"open_whole open_whole lock_whole empty_whole open_folder force_folder (write_whole )+force_whole ",
 }
-# Of the last facts OUT is on its disk before, and the whole file is made of both.
-END = r"force_data_out open_new (write_new )+force_data_new rename_facts open_folder force_folder open_whole "
+# Of the last facts OUT is on its disk before. Then they get its hash, their signature is made of them, and the whole
+# file of OUT and facts.
+SIGNATURE = r"open_newsignature write_newsignature force_data_newsignature rename_signature open_folder force_folder "
+END = rf"force_data_out ({FACTS}){{2}}{SIGNATURE}open_whole "
 
 
 def calls_of(work: Path, out: Path) -> list[str]:
     """The calls on the files that are made, and on their folder; not those that only read a file."""
     names = {str(out): "out", f"{out}.json.new": "new", f"{out}.json": "facts", f"{out}.ch10": "whole"}
-    names[str(work)] = "folder"
+    names |= {f"{out}.json.sig.new": "newsignature", f"{out}.json.sig": "signature", str(work): "folder"}
     found = []
     for line in (work / "calls").read_text().splitlines():
         what, name, number = line.rsplit(" ", 1)[0].split(" ", 1) + [line.rsplit(" ", 1)[1]]
@@ -48,7 +56,8 @@ def test_each_file_of_a_run_is_forced_to_its_disk_with_its_name(work: Path, seen
     # The capture may not write the calls.
     adds = {"LD_PRELOAD": str(seen_calls), "CALLS": str(work / "calls")}
     adds["CAPTURE"] = str(capture_with(work, {"LD_PRELOAD": ""}))
-    running = begin(work, out, "--quiet", "--chapter11", adds=adds)
+    run("ssh-keygen", "-q", "-t", "ed25519", "-N", "", "-f", work / "key")
+    running = begin(work, out, "--quiet", "--chapter11", "--sign", work / "key", adds=adds)
     wait_for("facts are there", Path(f"{out}.json").exists)
     send_together(0, 100)
     time.sleep(1.2)
@@ -59,9 +68,9 @@ def test_each_file_of_a_run_is_forced_to_its_disk_with_its_name(work: Path, seen
     whole = calls.index("open_whole")
     parts = {
         "out": of_files(calls, "out"),
-        "facts": of_files(calls[:whole], "new", "facts", "folder"),
+        "facts": of_files(calls[: calls.index("open_newsignature")], "new", "facts", "folder"),
         "whole": of_files(calls[whole:], "whole", "folder", "new", "facts"),
     }
     for name, wanted in FILES.items():
         judge(f"the calls on {name}", re.fullmatch(wanted, parts[name]), parts[name])
-    judge("all in their order", re.search(END, of_files(calls, "out", "new", "facts", "folder", "whole")), calls)
+    judge("all in their order", re.search(END, "".join(f"{it} " for it in calls)), calls)

@@ -6,6 +6,7 @@ import os
 import re
 import signal
 from pathlib import Path
+from typing import Any
 
 import pytest
 from clock import played
@@ -47,10 +48,14 @@ def test_facts_without_settings_are_so_too(work: Path, namespace: None) -> None:
     judge_schema("without settings", facts_of(out))
 
 
+def example_of_the_page() -> dict:
+    section = (FORMATS / "live.md").read_text().split("Facts in which the clock was set back by an hour")[1]
+    return json.loads(present(re.search(r"^```\n(.*?)^```$", section, re.MULTILINE | re.DOTALL))[1])
+
+
 def test_the_example_of_the_page_is_as_its_schema_says() -> None:
     """And a schema that says nothing would be found out."""
-    section = (FORMATS / "live.md").read_text().split("Facts in which the clock was set back by an hour")[1]
-    example = json.loads(present(re.search(r"^```\n(.*?)^```$", section, re.MULTILINE | re.DOTALL))[1])
+    example = example_of_the_page()
     judge_schema("the example", example)
     for key in example:
         wrong = {name: it for name, it in example.items() if name != key}
@@ -82,3 +87,24 @@ def test_settings_are_written_anew_with_each_value(work: Path) -> None:
     inline = 'channel = [{id = 1, filter = "x"}, {id = 2}]\nring = 7\n'
     document = read("s.toml", inline).document
     judge("tables in braces too", read("s.toml", text_of(document)).document == document)
+
+
+def test_a_hash_of_the_facts_has_one_form() -> None:
+    """Null where there is none; 64 hexadecimal digits in lower case else, also of the recording before."""
+    example = example_of_the_page()
+    digest = "0123456789abcdef" * 4
+    right: list[dict[str, Any]] = [
+        {"sha256": None, "bytes": None, "before": None},
+        {"sha256": digest, "bytes": 0, "before": None},
+        {"sha256": digest, "bytes": 1 << 40, "before": {"recording": "a.ch11", "sha256": digest}},
+        {"sha256": digest, "bytes": 1, "before": {"recording": "a.ch11", "sha256": None}},
+    ]
+    for hashed in right:
+        judge_schema(f"{hashed}", {**example, **hashed})
+    for wrong in (digest[1:], f"{digest}0", digest.upper(), "", 1):
+        judge_quietly(f"sha256 {wrong!r}", faults({**example, "sha256": wrong}, schema_of("facts")))
+        before = {"recording": "a.ch11", "sha256": wrong}
+        judge_quietly(f"before {wrong!r}", faults({**example, "before": before}, schema_of("facts")))
+    changes: list[dict[str, Any]] = [{"bytes": -1}, {"bytes": "1"}, {"before": {"sha256": digest}}, {"before": "a"}]
+    for change in changes:
+        judge_quietly(f"{change}", faults({**example, **change}, schema_of("facts")))

@@ -7,17 +7,23 @@ import resource
 import shutil
 
 from bpfrec_host.formats.settings import Settings
+from bpfrec_host.formats.signatures import Unsigned
 from bpfrec_host.live.arguments import Arguments
 from bpfrec_host.live.clock_watch import by_the_kernel
 from bpfrec_host.live.control.sockets import judge_path
 from bpfrec_host.live.names import Refusal
+from bpfrec_host.live.signer import Signer
 
 # How many descriptors live has open at most: while it records, while recordings follow one another, and for browsers.
 RECORDING, ROTATING, SERVING = 32, 48, 40
 # And for the program that is run for alarms.
 ALARMING = 8
+# And for ssh-keygen, while it signs.
+SIGNING = 8
 # How many the capture and the recorder have open, and how many more for each channel.
 CAPTURING, FOR_A_CHANNEL = 24, 4
+# What is signed to see whether a key can.
+PROBE = b"bpfrec: can this key sign?\n"
 # The standard streams, and what signals are read from.
 OPEN_BY_NOW = 5
 
@@ -26,7 +32,7 @@ def refuse_few_descriptors(given: Arguments, channels: int) -> None:
     """Takes as many descriptors as are allowed where the usual number is too small, and refuses where that is too."""
     soft, hard = resource.getrlimit(resource.RLIMIT_NOFILE)
     own = (ROTATING if given.is_rotating() else RECORDING) + (SERVING if given.status is not None else 0)
-    own += ALARMING if given.on_alarm else 0
+    own += (ALARMING if given.on_alarm else 0) + (SIGNING if given.sign else 0)
     needed = max(own, CAPTURING + FOR_A_CHANNEL * channels) + inherited()
     if is_under(soft, needed) and not is_under(hard, needed):
         resource.setrlimit(resource.RLIMIT_NOFILE, (hard, hard))
@@ -82,6 +88,15 @@ def refuse_control(given: Arguments) -> None:
         judge_path(given.control)
 
 
+def refuse_signing(given: Arguments) -> None:
+    """Refuses a key that can't sign, also where that is known by a text that is signed for a trial alone."""
+    try:
+        if given.sign is not None:
+            Signer(given.sign).sign(PROBE)
+    except Unsigned as why:
+        raise Refusal(3, f"live: --sign {given.sign}: {why}") from None
+
+
 def refuse_together(given: Arguments) -> None:
     """Refuses options that don't go together."""
     is_ring = given.keep is not None or given.keep_free is not None
@@ -95,5 +110,7 @@ def refuse_together(given: Arguments) -> None:
         raise Refusal(2, "live: --chapter11 needs an interface")
     if given.status_names and given.status is None:
         raise Refusal(2, "live: --status-name needs --status")
+    if given.sign is not None and not given.routes:
+        raise Refusal(2, "live: --sign needs an interface")
     if given.flush is not None and not given.routes:
         raise Refusal(2, "live: --flush needs an interface")

@@ -64,6 +64,8 @@ class Arguments(NamedTuple):
     control: Optional[str]
     # Whether a whole Chapter 11 file is made of each recording.
     makes_whole_files: bool
+    # The key that signs facts.
+    sign: Optional[str]
 
     def is_rotating(self) -> bool:
         """Whether recordings follow one another."""
@@ -177,13 +179,20 @@ def parser() -> Parser:
     made.add_argument("--on-alarm", metavar="COMMAND", type=command_words, help=ran)
     made.add_argument("--control", metavar="PATH", help="takes lines by a Unix socket too: bpfrec-control sends them")
     made.add_argument("--prefilter", action="store_true", help="has the kernel run the filters too")
-    whole = "makes OUT.ch10, a whole Chapter 11 file, after each recording"
-    made.add_argument("--chapter11", action="store_true", help=whole)
-    made.add_argument("--no-audit", action="store_true", help="leaves the audit out")
+    add_options_of_the_end(made)
     made.add_argument("--strict", action="store_true", help="exit status 5 if an interface lost frames")
     add_capture_options(made)
     made.add_argument("operands", nargs="*", help=argparse.SUPPRESS)
     return made
+
+
+def add_options_of_the_end(made: Parser) -> None:
+    """What is done with each recording that has ended."""
+    whole = "makes OUT.ch10, a whole Chapter 11 file, after each recording"
+    made.add_argument("--chapter11", action="store_true", help=whole)
+    key = "signs the facts of each recording by ssh-keygen, with a key without a passphrase or of an agent"
+    made.add_argument("--sign", metavar="KEY", help=key)
+    made.add_argument("--no-audit", action="store_true", help="leaves the audit out")
 
 
 def read(arguments: list[str]) -> Arguments:
@@ -214,4 +223,5 @@ def read(arguments: list[str]) -> Arguments:
         on_alarm=given.on_alarm,
         control=given.control,
         makes_whole_files=given.chapter11,
+        sign=given.sign,
     )

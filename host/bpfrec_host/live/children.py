@@ -69,9 +69,12 @@ def opened(process: int) -> Optional[int]:
 
 
 def start(
-    arguments: Sequence[str], streams: tuple[Stream, Optional[Stream], Optional[Stream]], manner: Manner
+    arguments: Sequence[str],
+    streams: tuple[Stream, Optional[Stream], Optional[Stream]],
+    manner: Manner,
+    environment: Optional[dict[str, str]] = None,
 ) -> Child:
-    """Starts a program with these three streams; None is the stream of live."""
+    """Starts a program with these three streams; None is the stream of live, and its environment."""
     kept = [*manner.kept, *([] if manner.ends_with is None else [manner.ends_with])]
     before = signal.pthread_sigmask(signal.SIG_SETMASK, () if manner.takes_signals else HELD)
     try:
@@ -85,6 +88,7 @@ def start(
                 pass_fds=kept,
                 restore_signals=manner.takes_signals,
                 start_new_session=True,
+                env=environment,
             )
         if manner.ends_with is not None:
             system.end_at_hangup(process.pid, manner.ends_with)

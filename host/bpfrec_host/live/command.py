@@ -15,6 +15,7 @@ from bpfrec_host.live.ahead import (
     refuse_few_descriptors,
     refuse_holder,
     refuse_many_channels,
+    refuse_signing,
     refuse_together,
 )
 from bpfrec_host.live.arguments import Arguments, parser, read
@@ -121,16 +122,17 @@ def look_ahead(given: Arguments) -> None:
     refuse_alarm_command(given)
     refuse_control(given)
     refuse_clock(given)
+    refuse_signing(given)
     if not given.is_rotating():
         beside = (whole_path(given.out),) if given.makes_whole_files else ()
         Files(given.mode, given.is_forced).refuse_overwriting(given.out, *beside)
         if not is_special(given.out):
             refuse_folder(given.out)
-            refuse_long(given.out, bool(given.routes))
+            refuse_long(given.out, bool(given.routes), given.sign is not None)
         return
     if not given.routes:
         raise Refusal(2, "live: --every and --size need an interface")
     if os.path.exists(given.out) and not os.path.isfile(given.out):
         raise Refusal(2, f"live: --every and --size make files, and {given.out} is not a file")
     refuse_folder(given.out)
-    refuse_long(Names(given.out).next()[1], True)
+    refuse_long(Names(given.out).next()[1], True, given.sign is not None)

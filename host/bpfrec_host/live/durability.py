@@ -3,14 +3,18 @@
 from __future__ import annotations
 
 import os
-from typing import Callable
+from typing import Callable, Optional
 
+from bpfrec_host.formats.signatures import signature_path
 from bpfrec_host.live.events import Events
-from bpfrec_host.live.facts import Writer
+from bpfrec_host.live.facts import Entry, Writer
 from bpfrec_host.live.keeper import Keeper
 from bpfrec_host.live.loop import Loop
 from bpfrec_host.live.names import facts_path, remove
 from bpfrec_host.live.recorder import Recorder
+
+# Why a recording isn't on its disk of which the recorder alone was told so.
+UNFORCED = "the recorder's fsync failed"
 
 
 class KeeperReports:
@@ -55,7 +59,8 @@ class Durability:
             return
         if self.writer.files.is_forced:
             # Those that are there are of what was overwritten.
-            remove(facts_path(recorder.about.out))
+            for path in (facts_path(recorder.about.out), signature_path(facts_path(recorder.about.out))):
+                remove(path)
         folder, pause = os.path.dirname(recorder.about.out), self.writer.given.sync
         try:
             recorder.keeper = Keeper(recorder.descriptor, folder, pause, KeeperReports(self, recorder))
@@ -73,20 +78,21 @@ class Durability:
             about, noted, keeper = recorder.about, self.events.facts(recorder.about.feed), recorder.keeper
             keeper.write(lambda: self.writer.write(about, {**noted, "sync_fault": keeper.sync_fault}, None))
 
-    def end(self, recorder: Recorder, status: int, ended: Callable[[], None]) -> None:
+    def end(self, recorder: Recorder, status: int, ended: Callable[[Optional[Entry]], None]) -> None:
         """Has the last facts of a recording written, and its folder removed; `ended` is called behind that, and once it
-        was forced to its disk a last time."""
+        was forced to its disk a last time, with the facts that were written."""
         self.events.read()
         about, noted, keeper = recorder.about, self.events.facts(recorder.about.feed), recorder.keeper
         is_written = bool(self.events.origins) and recorder.is_created
 
         def last() -> None:
+            facts = None
             try:
                 if is_written and keeper:
-                    self.writer.write(about, {**noted, "sync_fault": keeper.sync_fault}, status)
+                    facts = self.writer.write(about, {**noted, "sync_fault": keeper.sync_fault}, status)
             finally:
                 self.writer.folder.remove(about.number)
-                self.loop.call_soon(ended)
+                self.loop.call_soon(lambda: ended(facts))
 
         self.events.forget(about.feed)
         if keeper:
@@ -94,7 +100,7 @@ class Durability:
             keeper.end()
         else:
             self.writer.folder.remove(about.number)
-            ended()
+            ended(None)
 
     def join(self) -> None:
         """Waits until all is written."""

@@ -100,26 +100,29 @@ class Writer:
             return ""
         return done.stdout.decode(errors="ignore")
 
-    def write(self, about: About, noted: Entry, status: Optional[int]) -> None:
-        """Writes the facts by what was noted; the status is None while the recording goes on. An OSError says that
-        they can't be written; then those of before stay."""
+    def write(self, about: About, noted: Entry, status: Optional[int]) -> Entry:
+        """Writes the facts by what was noted, and returns them; the status is None while the recording goes on. An
+        OSError says that they can't be written; then those of before stay."""
         facts = {**self.beginning(about), **noted, **self.ending(about, status)}
         facts["marks"] = marks_of(self.folder.of(about.number), noted["origins"])
         facts["origin_utc"] = utc_of_origin(noted["origins"])
         if status is not None:
             facts["synchronisation"] = {**facts["synchronisation"], "end": synchronisation()}
         replace(facts_path(about.out), self.files, encoded(facts))
+        return facts
 
     def ending(self, about: About, status: Optional[int]) -> Entry:
-        """What is known of a recording's end."""
+        """What is known of a recording's end; its hash and the recording before come once it is hashed."""
+        unhashed = {"sha256": None, "bytes": None, "before": None}
         if status is None:
-            return {"state": "recording", "report": None, "audit": None, "status": None}
+            return {"state": "recording", "report": None, "audit": None, "status": None, **unhashed}
         made = self.folder.of(about.number)
         return {
             "state": "ended",
             "report": lines_of(made / "report"),
             "audit": lines_of(made / "audit"),
             "status": status,
+            **unhashed,
         }
 
 

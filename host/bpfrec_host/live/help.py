@@ -69,6 +69,11 @@ With --chapter11 it makes OUT.ch10 after each recording whose audit says yes: a 
 packets and an index, by the standard as we know it, as `chapter11` makes it of the facts. A line says what it has, or
 why it couldn't be made, which leaves the recording as it is. --keep and --keep-free remove it with its recording.
 
+When a recording has ended its facts get its SHA-256, and that of the recording before. With --sign KEY they are signed
+then by ssh-keygen, as OUT.json.sig: KEY is a private key without a passphrase, or a public key whose private half an
+agent holds. A key that can't sign is refused before anything is begun; facts that can't be signed at the end are said,
+with an alarm, and the recording stays. `ssh-keygen -Y verify -n bpfrec` verifies them.
+
 With --no-audit nothing is audited. With --strict the exit status is 5 if an interface lost frames; either way the last
 lines say how many.
 
@@ -80,7 +85,7 @@ counted.
 It needs bin/bpfrec (make build) and, for interfaces, bin/capture (make build with libpcap-dev) with the permission to
 capture. BPFREC and CAPTURE name other programs.
 
-Status: that of the first `bpfrec record` that failed, else of the first `bpfrec audit`, else 1 if capturing failed,
-else that of the first `chapter11`, else 5 if frames were lost and --strict says so. It is 1 if OUT couldn't be forced to its disk, 2 of wrong arguments, 3
-if nothing was begun.
+Status: that of the first `bpfrec record` that failed, else of the first `bpfrec audit`, else 1 if capturing failed or
+facts couldn't be signed, else that of the first `chapter11`, else 5 if frames were lost and --strict says so. It is 1 if
+OUT couldn't be forced to its disk, 2 of wrong arguments, 3 if nothing was begun.
 """

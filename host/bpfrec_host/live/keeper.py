@@ -35,13 +35,13 @@ class Keeper(threading.Thread):
         super().__init__(daemon=True, name="keeper")
         self.descriptor, self.folder, self.pause, self.told = os.dup(descriptor), folder, pause, told
         self.changed = threading.Condition()
-        self.facts: Optional[Callable[[], None]] = None
+        self.facts: Optional[Callable[[], object]] = None
         # Why the file couldn't be forced to its disk, first.
         self.sync_fault: Optional[str] = None
         self.is_ending = self.is_released = False
         self.next_sync = self.next_write = time.monotonic()
 
-    def write(self, facts: Callable[[], None]) -> None:
+    def write(self, facts: Callable[[], object]) -> None:
         """Has facts written soon, in place of those that wait; once it ends none any more."""
         with self.changed:
             if not self.is_ending:
@@ -103,7 +103,7 @@ class Keeper(threading.Thread):
         """Whether the file is forced to its disk, now and then."""
         return self.pause > 0 and self.descriptor >= 0
 
-    def try_to_write(self, facts: Callable[[], None]) -> None:
+    def try_to_write(self, facts: Callable[[], object]) -> None:
         """Writes facts, and tells where that can't be done."""
         self.next_write = time.monotonic() + FACTS_PAUSE
         try:

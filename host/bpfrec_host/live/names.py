@@ -6,6 +6,8 @@ import os
 import stat
 from typing import NamedTuple, Optional
 
+from bpfrec_host.formats.signatures import signature_path
+
 # Who may read a recording and its facts, but for what umask takes away.
 USUAL_MODE = 0o640
 # What a file's name ends with that is to take the place of facts.
@@ -41,6 +43,11 @@ def facts_path(out: str) -> str:
 def whole_path(out: str) -> str:
     """The whole Chapter 11 file of a recording."""
     return f"{out}.ch10"
+
+
+def files_beside(out: str) -> tuple[str, str, str]:
+    """What may be made beside a recording: its facts, their signature, and its whole Chapter 11 file."""
+    return facts_path(out), signature_path(facts_path(out)), whole_path(out)
 
 
 def remove(path: str) -> None:
@@ -89,7 +96,7 @@ class Files(NamedTuple):
         it."""
         if is_special(out):
             return
-        for path in (out, facts_path(out), *beside):
+        for path in (out, facts_path(out), signature_path(facts_path(out)), *beside):
             if os.path.lexists(path) and (not self.is_forced or os.path.islink(path)):
                 raise Refusal(3, f"live: {path} is there: {advice(path, self.is_forced)}")
         if os.path.isdir(out):
@@ -118,10 +125,12 @@ def refuse_folder(out: str) -> None:
         raise Refusal(3, f"live: {out}: nothing can be created in its folder")
 
 
-def refuse_long(out: str, has_facts: bool) -> None:
-    """Refuses an OUT whose name is longer than its disk takes, with what is behind it in the names of its facts."""
+def refuse_long(out: str, has_facts: bool, is_signed: bool = False) -> None:
+    """Refuses an OUT whose name is longer than its disk takes, with what is behind it in the names of its facts and of
+    their signature."""
     length = len(os.fsencode(os.path.basename(out)))
-    most = os.pathconf(os.path.dirname(out) or ".", "PC_NAME_MAX") - (len(facts_path(FOLLOWING)) if has_facts else 0)
+    longest = signature_path(facts_path(FOLLOWING)) if is_signed else facts_path(FOLLOWING)
+    most = os.pathconf(os.path.dirname(out) or ".", "PC_NAME_MAX") - (len(longest) if has_facts else 0)
     if length > most:
         beside = " with its facts beside it" if has_facts else ""
         raise Refusal(3, f"live: {out}: its name has {length} bytes, and may have {most}{beside}")
@@ -143,7 +152,7 @@ class Names:
         while True:
             self.number += 1
             out = f"{self.stem}_{self.number:05}{self.ending}"
-            if not any(os.path.lexists(it) for it in (out, facts_path(out), whole_path(out))):
+            if not any(os.path.lexists(it) for it in (out, *files_beside(out))):
                 return self.number, out
 
     def give_back(self, number: int) -> None:

@@ -69,6 +69,11 @@ class Observers:
         if self.observer:
             self.observer.sync_failed(recorder.about.out, why)
 
+    def signing_failed(self, path: str, why: str) -> None:
+        """The facts of a recording couldn't be signed."""
+        if self.observer:
+            self.observer.signing_failed(path, why)
+
     def clock_seen(self, state: ClockState, most: Optional[float]) -> None:
         """How right the clock is."""
         if self.observer:

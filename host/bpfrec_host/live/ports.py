@@ -129,6 +129,9 @@ class Observer(Protocol):
     def sync_failed(self, path: str, why: str) -> None:
         """A recording couldn't be forced to its disk; it is told once of each."""
 
+    def signing_failed(self, path: str, why: str) -> None:
+        """The facts of a recording that has ended couldn't be signed."""
+
     def clock_seen(self, state: ClockState, most: Optional[float]) -> None:
         """How right the clock is, each second, and by how many seconds it may be off, where somebody asks for that."""
 

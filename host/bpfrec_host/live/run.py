@@ -4,6 +4,7 @@ from __future__ import annotations
 
 import signal
 import time
+from functools import partial
 from typing import Callable, Optional
 
 from bpfrec_host.formats.answers import Answer, file_fault, is_output_fault
@@ -17,7 +18,7 @@ from bpfrec_host.live.console import Console
 from bpfrec_host.live.control.changes import Change, Changes
 from bpfrec_host.live.control.lines import ControlLines, ControlPorts
 from bpfrec_host.live.control.maker import Maker
-from bpfrec_host.live.durability import Durability
+from bpfrec_host.live.durability import UNFORCED, Durability
 from bpfrec_host.live.end_of_run import EndOfRun
 from bpfrec_host.live.engine import LOST
 from bpfrec_host.live.events import Events
@@ -25,6 +26,7 @@ from bpfrec_host.live.facts import Writer
 from bpfrec_host.live.flush import Flush
 from bpfrec_host.live.folder import Folder
 from bpfrec_host.live.guard import Guard, open_and_close
+from bpfrec_host.live.hashes import Hashes, ended_of
 from bpfrec_host.live.loop import Loop, Signals
 from bpfrec_host.live.machine import Machine
 from bpfrec_host.live.marks import Marks
@@ -38,13 +40,11 @@ from bpfrec_host.live.programs import Programs, Timed
 from bpfrec_host.live.recorder import Recorder
 from bpfrec_host.live.recordings import Recordings
 from bpfrec_host.live.retention import Kept, Retention, approved
+from bpfrec_host.live.signer import Signer
 from bpfrec_host.live.status import Terminal
 from bpfrec_host.live.versions import Versions
 from bpfrec_host.live.watches import Watches
 from bpfrec_host.live.whole_files import WholeFiles
-
-# Why a recording isn't on its disk of which the recorder alone was told so.
-UNFORCED = "the recorder's fsync failed"
 
 
 class Run:
@@ -80,7 +80,7 @@ class Run:
         self.durability = Durability(self.loop, self.writer, self.events, self.synced, self.sync_failed, self.err)
         self.recordings = Recordings(self.writer, self.outputs, self.err)
         self.audits = Audits(self.loop, programs.bpfrec, self.guard, self.audited, self.err)
-        self.whole_files = self.made_whole_files()
+        self.hashes, self.whole_files = self.made_hashes(), self.made_whole_files()
         self.end_of_run = EndOfRun(given.seconds, self.end)
         self.alarm_command = AlarmCommand(given.on_alarm, self.loop, self.console)
         self.clock = ClockWatch(self.loop, given.clock_error, self.err, self.observers.clock_seen)
@@ -96,6 +96,11 @@ class Run:
         changes = Changes(self.folder, self.given.keeps_filters(), maker.make)
         ports = ControlPorts(self.end, self.next, self.observers.report, self.marks.take, self.err, terminal)
         return ControlLines(self.loop, self.given, changes, self.current, ports)
+
+    def made_hashes(self) -> Hashes:
+        """What brings each recording's hash into its facts, and signs them."""
+        signer = Signer(self.given.sign, self.guard) if self.given.sign is not None else None
+        return Hashes(self.loop, self.writer.files, signer, self.observers.signing_failed, self.err)
 
     def made_whole_files(self) -> WholeFiles:
         """What makes a whole file of each recording, before it may be removed."""
@@ -172,13 +177,15 @@ class Run:
         self.console.write_on()
 
     def finish_recordings(self) -> None:
-        """Ends what is still made of recordings: facts, whole files, and what is removed."""
+        """Ends what is still made of recordings: facts, hashes, whole files, and what is removed."""
+        self.control.leave_input()
         for recorder in self.recordings.all.values():
             if self.machine.is_refused() and outputs.is_empty(recorder):
                 outputs.discard(recorder)
             recorder.close()
         self.durability.join()
         came = self.signals_came
+        self.hashes.finish(self.turn_at_end, lambda: self.signals_came > max(came, 1))
         self.whole_files.finish(self.turn_at_end, lambda: self.signals_came > max(came, 1))
         self.retention.join()
 
@@ -353,8 +360,8 @@ class Run:
 
     def status(self, has_lost: bool) -> int:
         """The status of the run, once all is recorded, made and printed."""
-        status = self.machine.status(has_lost)
-        return self.whole_files.status if self.whole_files.status and status in (0, LOST) else status
+        status, made = self.machine.status(has_lost), self.hashes.status or self.whole_files.status
+        return made if made and status in (0, LOST) else status
 
     def marked(self, recorder: Recorder, mark: Entry) -> None:
         """A recording has one more mark."""
@@ -379,12 +386,13 @@ class Run:
         self.outputs.end(recorder)
         self.marks.concluded(recorder)
         self.observers.ended(recorder, status)
-        kept = approved(recorder, status)
-        self.durability.end(recorder, status, lambda: self.keep(recording, kept))
+        kept, ended = approved(recorder, status), ended_of(recorder)
+        finished = partial(self.keep, recording, kept)
+        self.durability.end(recorder, status, lambda facts: self.hashes.add(ended, facts, finished))
         if recording is not self.machine.current:
             self.recordings.forget(recording)
 
-    def keep(self, recording: Recording, kept: Optional[Kept]) -> None:
-        """A recording that was approved has been forced to its disk a last time."""
+    def keep(self, recording: Recording, kept: Optional[Kept], beside: tuple[str, ...]) -> None:
+        """A recording that was approved has been forced to its disk a last time, and hashed."""
         if kept and not recording.is_unforced:
-            self.whole_files.add(kept)
+            self.whole_files.add(kept._replace(beside=beside))

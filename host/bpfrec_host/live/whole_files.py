@@ -118,7 +118,7 @@ class WholeFiles:
             self.made(job.kept)
         else:
             self.err(f"live: {job.out}: {lines[-1] if lines else 'made'}")
-            self.made(job.kept._replace(beside=(job.out,)))
+            self.made(job.kept._replace(beside=(*job.kept.beside, job.out)))
         self.begin_next()
 
     def fail(self, out: str, why: str, status: int) -> None:

@@ -31,6 +31,7 @@ from bpfrec_host.live.ahead import (
     refuse_control,
     refuse_few_descriptors,
     refuse_holder,
+    refuse_signing,
     refuse_together,
 )
 from bpfrec_host.live.arguments import Arguments, read
@@ -74,6 +75,7 @@ def judge_live(arguments: list[str], judge: Judge, report: Report) -> None:
         refuse_holder()
         refuse_alarm_command(given)
         refuse_control(given)
+        refuse_signing(given)
         settings = read_settings(given.settings, report) if given.settings is not None else None
         if settings:
             with_pipes(settings, given)
@@ -137,7 +139,7 @@ def judge_live_out(given: Arguments, settings: Optional[Settings], report: Repor
     try:
         Files(given.mode, given.is_forced).refuse_overwriting(out)
         if os.path.isdir(os.path.dirname(out) or ".") and not is_special(out):
-            refuse_long(out, bool(given.routes))
+            refuse_long(out, bool(given.routes), given.sign is not None)
     except Refusal as refusal:
         report.fault(out, without_name(refusal))
         return

@@ -171,6 +171,11 @@ class ControlLines:
             recorder.lines.close()
         recorder.lines.forget()
 
+    def leave_input(self) -> None:
+        """All recordings have ended: what is typed from now on is read by who comes next, as a shell."""
+        if self.input.descriptor is not None:
+            self.loop.on_read(self.input.descriptor, None)
+
     def finish(self) -> None:
         """The run has ended: lines that nobody took are answered, and none comes any more."""
         for held in self.held:

@@ -66,6 +66,8 @@ def of_whole(view: View) -> Iterator[Alarm]:
     yield from of_disk(view)
     yield from of_sync(view)
     yield from of_clock(view)
+    if view.unsigned:
+        yield Alarm("unsigned", ALARM, None, "not signed", view.unsigned)
     if view.recording and view.recording.fault:
         text = f"{view.recording.name}: {view.recording.fault}: the recording's file isn't what the recorder writes"
         yield Alarm("damaged", ALARM, None, "damaged", text)

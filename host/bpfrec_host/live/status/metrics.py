@@ -25,6 +25,7 @@ ALARMS = (
     "sync",
     "sync_fault",
     "unread",
+    "unsigned",
     "waiting",
     "waits",
     "was_lost",

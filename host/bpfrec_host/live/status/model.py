@@ -54,6 +54,8 @@ class Model:
         self.synced_at: Optional[float] = None
         # How many recordings couldn't be forced to their disk, and what is said of the last.
         self.sync_faults, self.sync_fault = 0, ""
+        # What is said of the last facts that couldn't be signed.
+        self.unsigned = ""
         self.channels: dict[int, Channel] = {}
         self.going: dict[int, Going] = {}
         self.current: Optional[int] = None
@@ -195,6 +197,7 @@ class Model:
             marks=tuple(mark._replace(age=now - moment) for moment, mark in self.marks),
             clock=self.clock,
             is_ending=self.is_ending,
+            unsigned=self.unsigned,
         )
 
     def channel_views(self, now: float) -> tuple[ChannelView, ...]:

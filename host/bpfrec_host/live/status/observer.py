@@ -96,6 +96,10 @@ class Status(Observer):
         """A recording couldn't be forced to its disk; it is told once of each."""
         self.model.sync_failed(os.path.basename(path), why)
 
+    def signing_failed(self, path: str, why: str) -> None:
+        """The facts of a recording that has ended couldn't be signed."""
+        self.model.unsigned = f"{os.path.basename(path)} isn't signed: {why}"
+
     def clock_seen(self, state: ClockState, most: Optional[float]) -> None:
         """How right the clock is, and by how many seconds it may be off, where somebody asks for that."""
         self.model.clock = ClockView(state, most)

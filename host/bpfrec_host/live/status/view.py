@@ -152,7 +152,7 @@ class View(NamedTuple):
     """A run at the moment `now`. `state` is `waiting` where no recording goes on, `recording`, or `ended`; `uptime` is
     how long it has gone on, and `recordings` are the last that ended. `marks` are the last of the run; `host` is the
     name of the host, and `utc` the moment by its clock, in seconds since 1970. `is_ending` says that no other recording
-    will begin."""
+    will begin, and `unsigned` what is said of the last facts that couldn't be signed."""
 
     now: float
     state: str
@@ -168,6 +168,7 @@ class View(NamedTuple):
     utc: Optional[float] = None
     clock: ClockView = ClockView(ClockState())
     is_ending: bool = False
+    unsigned: str = ""
 
 
 def current(channel: ChannelView) -> Optional[Second]:

@@ -1,0 +1,1 @@
+"""What check_sums judges beside sums: the facts of recordings, with their hashes, their order and their signatures."""

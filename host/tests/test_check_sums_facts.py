@@ -1,0 +1,232 @@
+"""Tries what host/bin/check_sums judges beside sums: what facts claim, recordings that follow one another, and who
+signed."""
+
+from __future__ import annotations
+
+import hashlib
+import json
+import os
+from pathlib import Path
+from typing import Any, Optional, cast
+
+import pytest
+from bpfrec_host.check_sums import claims
+from bpfrec_host.check_sums.claims import Before, Claims, NoClaims, claims_in
+from bpfrec_host.check_sums.judge import PIECE, Judge, content_of, in_order
+from bpfrec_host.check_sums.verifier import Verifier, verifier_of
+from bpfrec_host.formats.signatures import Unsigned
+from support import CHECK_SUMS, judge, judge_quietly, outcome
+
+DIGEST = "0123456789abcdef" * 4
+FACTS: dict[str, Any] = {"recording": "b.ch11", "sha256": DIGEST, "bytes": 5, "before": None}
+
+
+# ---- what facts claim
+
+
+def test_claims_are_read(work: Path) -> None:
+    before = {"recording": "a.ch11", "sha256": DIGEST}
+    cases: list[tuple[dict, Claims]] = [
+        (FACTS, Claims("b.ch11", DIGEST, 5, None)),
+        ({**FACTS, "before": before}, Claims("b.ch11", DIGEST, 5, Before("a.ch11", DIGEST))),
+        ({**FACTS, "before": {**before, "sha256": None}}, Claims("b.ch11", DIGEST, 5, Before("a.ch11", None))),
+        ({"recording": "b.ch11"}, Claims("b.ch11", None, None, None)),
+    ]
+    for told, wanted in cases:
+        found = claims_in(json.dumps(told).encode())
+        judge(str(wanted), found == wanted, found)
+
+
+@pytest.mark.parametrize("wrong", ["", "x" * 64, DIGEST.upper(), f"{DIGEST}\n", DIGEST[1:], 1, True, [], {}])
+def test_what_is_no_hash_claims_nothing(wrong: object) -> None:
+    for told in ({**FACTS, "sha256": wrong}, {**FACTS, "before": {"recording": "a.ch11", "sha256": wrong}}):
+        with pytest.raises(NoClaims, match="sha256 is no hash"):
+            claims_in(json.dumps(told).encode())
+
+
+@pytest.mark.parametrize(
+    "told, why",
+    [
+        ({"bytes": -1}, "bytes is no length"),
+        ({"bytes": True}, "bytes is no length"),
+        ({"bytes": 1.0}, "bytes is no length"),
+        ({"recording": 1}, "they name no recording"),
+        ({"before": 1}, "before names no recording"),
+        ({"before": {"recording": None, "sha256": DIGEST}}, "before names no recording"),
+    ],
+)
+def test_values_of_another_form_claim_nothing(told: dict, why: str) -> None:
+    with pytest.raises(NoClaims, match=why):
+        claims_in(json.dumps({**FACTS, **told}).encode())
+
+
+@pytest.mark.parametrize("data", [b"", b"[]", b"1", b"{", b"[" * 100_000, b'{"recording": "\xff"}'])
+def test_what_is_no_object_of_json_claims_nothing(data: bytes, monkeypatch: pytest.MonkeyPatch) -> None:
+    with pytest.raises(NoClaims):
+        claims_in(data)
+    monkeypatch.setattr(claims, "MAX_LEN", 4)
+    with pytest.raises(NoClaims, match="more than 0 MiB"):
+        claims_in(json.dumps(FACTS).encode())
+
+
+# ---- recordings
+
+
+@pytest.mark.parametrize("length", [0, PIECE - 1, PIECE, PIECE + 1])
+def test_the_hash_is_that_of_all_bytes(work: Path, length: int) -> None:
+    data = os.urandom(length)
+    (work / "x").write_bytes(data)
+    found = content_of(str(work / "x"))
+    judge(f"{length} bytes", found == (hashlib.sha256(data).hexdigest(), length), found)
+
+
+def test_recordings_follow_one_another_by_their_numbers() -> None:
+    """Also past five digits, and of several runs."""
+    names = ["f/9_99999.ch11", "f/9_100000.ch11", "f/10_00001.ch11", "f\u00b2/1", "g/1"]
+    judge("in this order", in_order(names[::-1]) == names, in_order(names[::-1]))
+
+
+class Judged:
+    """Recordings that are judged, one after another."""
+
+    def __init__(self, work: Path, verifier: Optional[Verifier] = None) -> None:
+        self.work, self.lines = work, list[str]()
+        self.judge = Judge(verifier, self.lines.append)
+
+    def of(self, name: str, data: bytes, **changes: object) -> tuple[bool, list[str]]:
+        """A recording with right facts, but for these keys."""
+        path = self.work / name
+        path.write_bytes(data)
+        digest = hashlib.sha256(data).hexdigest()
+        facts = {"recording": name, "sha256": digest, "bytes": len(data), "before": None, **changes}
+        Path(f"{path}.json").write_text(json.dumps(facts))
+        self.lines.clear()
+        return self.judge.judge(str(path)), self.lines
+
+
+def named(name: str, data: bytes) -> dict[str, str]:
+    return {"recording": name, "sha256": hashlib.sha256(data).hexdigest()}
+
+
+def test_the_one_before_is_the_one_that_is_given_before(work: Path) -> None:
+    judged = Judged(work)
+    found = judged.of("b", b"b", before=named("a", b"a"))
+    judge("of the first it isn't asked for", found == (True, ["hash right", "before not given: a"]), found)
+    found = judged.of("c", b"c", before=named("b", b"b"))
+    judge("it is", found == (True, ["hash right", "before right: b"]), found)
+    found = judged.of("d", b"d")
+    judge("another run begins", found == (True, ["hash right", "before none"]), found)
+    found = judged.of("e", b"e", before=named("c", b"c"))
+    judge("another", found == (False, ["hash right", "before wrong: d, the facts say c"]), found)
+    found = judged.of("f", b"f", before=named("e", b"x"))
+    judge(
+        "another hash", found == (False, ["hash right", "before wrong: e has another hash than the facts say"]), found
+    )
+    found = judged.of("g", b"g", before={"recording": "f", "sha256": None})
+    judge("nobody knew it", found == (True, ["hash right", "before unknown: f had no hash"]), found)
+
+
+def test_a_name_that_is_no_utf8_is_that_of_its_facts(work: Path) -> None:
+    """They lack what isn't UTF-8; and it is printed."""
+    for number in ("1", "2"):
+        path = os.fsencode(work) + b"/\xff" + number.encode()
+        Path(os.fsdecode(path)).write_bytes(b"")
+        digest = hashlib.sha256(b"").hexdigest()
+        before = None if number == "1" else {"recording": "1", "sha256": digest}
+        facts = {"recording": number, "sha256": digest, "bytes": 0, "before": before}
+        Path(os.fsdecode(path + b".json")).write_text(json.dumps(facts))
+    paths = [os.fsencode(work) + b"/\xff" + number for number in (b"1", b"2")]
+    done = outcome(CHECK_SUMS, *paths, env={**os.environ, "LC_ALL": "C.UTF-8"})
+    lines = [f"recording {work}/?1", "hash right", "before none", "packets 0 data checksums 0 without 0 wrong 0"]
+    lines += [f"recording {work}/?2", "hash right", "before right: 1", "packets 0 data checksums 0 without 0 wrong 0"]
+    judge("each is right", (done.returncode, done.stdout.splitlines()) == (0, lines), done)
+
+
+def test_each_claim_is_judged(work: Path) -> None:
+    digest = hashlib.sha256(b"a").hexdigest()
+    cases: list[tuple[dict[str, Any], bool, list[str]]] = [
+        ({"sha256": None, "bytes": None}, True, ["hash none: the facts have none", "before none"]),
+        ({"sha256": DIGEST}, False, [f"hash wrong: {digest}, the facts say {DIGEST}", "before none"]),
+        ({"bytes": 2}, False, ["length wrong: 1, the facts say 2", "hash right", "before none"]),
+        ({"bytes": 0}, False, ["length wrong: 1, the facts say 0", "hash right", "before none"]),
+        ({"recording": "\x1b[2J\n"}, False, ["hash right", "name wrong: the facts are of ?[2J?", "before none"]),
+        ({"sha256": 1}, False, ["facts wrong: sha256 is no hash"]),
+    ]
+    for changes, is_right, lines in cases:
+        found = Judged(work).of("a", b"a", **changes)
+        judge(f"{changes}", found == (is_right, lines), found)
+
+
+class PlayedVerifier:
+    """Says who signed, or why nobody did."""
+
+    def __init__(self, answer: object) -> None:
+        self.answer = answer
+
+    def signer_of(self, facts: bytes, signature: str) -> str:
+        judge_quietly("these facts are asked for", facts == Path(signature.removesuffix(".sig")).read_bytes())
+        if isinstance(self.answer, Exception):
+            raise self.answer
+        return str(self.answer)
+
+
+def test_where_signatures_are_asked_for_all_has_to_be_there(work: Path) -> None:
+    judged = Judged(work, cast(Verifier, PlayedVerifier("fc1")))
+    judge("none", judged.of("a", b"a") == (False, ["hash right", "before none", "signature none"]), judged.lines)
+    (work / "a.json.sig").write_text("signature")
+    judge("it is right", judged.of("a", b"a") == (True, ["hash right", "before none", "signature right: fc1"]))
+    found = judged.of("a", b"a", sha256=None)
+    judge("no hash", found == (False, ["hash none: the facts have none", "before none", "signature right: fc1"]), found)
+    found = judged.of("a", b"a", before={"recording": "a", "sha256": None})
+    judge("nobody knew the one before", found[0] is False, found)
+    (work / "a.json").unlink()
+    judged.lines.clear()
+    found = judged.judge.judge(str(work / "a")), judged.lines
+    judge("no facts", found == (False, ["hash none: there are no facts"]), found)
+    judged = Judged(work, cast(Verifier, PlayedVerifier(Unsigned("why"))))
+    found = judged.of("a", b"a")
+    judge("a wrong one", found == (False, ["hash right", "before none", "signature wrong: why"]), found)
+
+
+def test_a_pipe_has_no_hash(work: Path) -> None:
+    os.mkfifo(work / "pipe")
+    lines: list[str] = []
+    judge("it is said", Judge(None, lines.append).judge(str(work / "pipe")) and lines, lines)
+    judge("so", lines == ["hash none: it is no regular file"], lines)
+
+
+def test_facts_and_signatures_that_are_pipes_are_not_waited_for(work: Path) -> None:
+    judged = Judged(work, cast(Verifier, PlayedVerifier("fc1")))
+    os.mkfifo(work / "a.json.sig")
+    found = judged.of("a", b"a")
+    lines = ["hash right", "before none", "signature wrong: it is no regular file"]
+    judge("a signature", found == (False, lines), found)
+    (work / "a.json").unlink()
+    os.mkfifo(work / "a.json")
+    judged.lines.clear()
+    found = judged.judge.judge(str(work / "a")), judged.lines
+    judge("facts", found == (False, ["facts wrong: they are no regular file"]), found)
+
+
+# ---- who signed
+
+
+def played(work: Path, monkeypatch: pytest.MonkeyPatch, text: str) -> Verifier:
+    """What verifies by a program that is played."""
+    program = work / "ssh-keygen"
+    program.write_text(f"#!/bin/sh\n{text}\n")
+    program.chmod(0o755)
+    (work / "signers").write_text("")
+    monkeypatch.setenv("PATH", f"{work}:{os.environ['PATH']}")
+    return verifier_of(str(work / "signers"), None)
+
+
+def test_each_whom_the_key_belongs_to_may_have_signed(work: Path, monkeypatch: pytest.MonkeyPatch) -> None:
+    """As whom ssh-keygen verifies it first; what it says last where it does for nobody."""
+    text = 'case "$2$6" in find*) echo a; echo b; echo c ;; verifyb|verifyc) cat > /dev/null ;; *) echo no $6 >&2; exit 1 ;; esac'
+    verifier = played(work, monkeypatch, text)
+    judge("the first that may", verifier.signer_of(b"facts", "sig") == "b")
+    with pytest.raises(Unsigned, match="no d"):
+        Verifier(verifier.signers, "d").signer_of(b"facts", "sig")
+    with pytest.raises(Unsigned, match="nobody may sign"):
+        played(work, monkeypatch, "exit 0").signer_of(b"facts", "sig")

@@ -1,0 +1,102 @@
+"""Tries how live has ssh-keygen sign: what it says of faults, how long it may take, and that it asks nobody."""
+
+from __future__ import annotations
+
+import os
+import threading
+import time
+from pathlib import Path
+
+import pytest
+from bpfrec_host.formats.signatures import Unsigned, reason_in
+from bpfrec_host.live import signer
+from bpfrec_host.live.signer import Signer
+from support import judge, wait_for
+
+LOCKED = b'Enter passphrase: Load key "k": incorrect passphrase supplied to decrypt private key\r\n'
+OPEN = (
+    b"@@@@@@@@@@@@@@\n@         WARNING: UNPROTECTED PRIVATE KEY FILE!          @\n@@@@@@@@@@@@@@\n"
+    b"Permissions 0644 for 'k' are too open.\nThis private key will be ignored.\n"
+)
+
+
+@pytest.fixture(name="played")
+def played_program(work: Path, monkeypatch: pytest.MonkeyPatch) -> Path:
+    """ssh-keygen, to be written."""
+    monkeypatch.setenv("PATH", f"{work}:{os.environ['PATH']}")
+    return work / "ssh-keygen"
+
+
+def write(program: Path, text: str) -> None:
+    program.write_text(f"#!/bin/sh\n{text}\n")
+    program.chmod(0o755)
+
+
+def why_unsigned(made: Signer) -> str:
+    with pytest.raises(Unsigned) as refused:
+        made.sign(b"facts")
+    return str(refused.value)
+
+
+@pytest.mark.parametrize(
+    "printed, code, reason",
+    [
+        (LOCKED, 255, 'Load key "k": incorrect passphrase supplied to decrypt private key'),
+        (OPEN, 255, "Permissions 0644 for 'k' are too open. This private key will be ignored."),
+        (b"Signing data on standard input\nagent refused operation\n", 255, "agent refused operation"),
+        (b"\x1b[2J\xff\n", 1, "?[2J\ufffd"),
+        (b"Signing data on standard input\n", 7, "ssh-keygen ended with status 7"),
+        (b"", -9, "ssh-keygen was ended by signal 9"),
+    ],
+)
+def test_a_fault_is_said_in_the_words_of_ssh_keygen(printed: bytes, code: int, reason: str) -> None:
+    """On one line, without what it prints around them."""
+    judge(reason, reason_in(printed, code) == reason, reason_in(printed, code))
+
+
+def test_it_signs_what_it_reads_in_the_namespace_of_recordings(played: Path, monkeypatch: pytest.MonkeyPatch) -> None:
+    """And gets nothing by which it could ask a person."""
+    names = "DISPLAY SSH_ASKPASS WAYLAND_DISPLAY"
+    write(played, f'echo "$@"; cat; for it in {names}; do printenv $it; done; echo $SSH_ASKPASS_REQUIRE; tty; true')
+    for name in names.split():
+        monkeypatch.setenv(name, "asks")
+    found = Signer("the key").sign(b"facts\n").decode()
+    judge("these", found == "-Y sign -f the key -n bpfrec\nfacts\nnever\nnot a tty\n", found)
+
+
+def test_one_that_takes_too_long_is_ended(played: Path, work: Path, monkeypatch: pytest.MonkeyPatch) -> None:
+    write(played, f"echo $$ > {work}/pid; exec sleep 600")
+    monkeypatch.setattr(signer, "LONGEST", 1.0)
+    begun = time.monotonic()
+    judge("it is said", why_unsigned(Signer("k")) == "ssh-keygen took over 1 s")
+    judge("in time", time.monotonic() < begun + 30)
+    judge("nothing runs on", not Path(f"/proc/{(work / 'pid').read_text().strip()}").exists())
+
+
+def test_one_that_is_ended_signs_nothing(played: Path, work: Path) -> None:
+    """Also where that comes before it is started."""
+    write(played, f"touch {work}/begun; exec sleep 600")
+    made = Signer("k")
+
+    def kill_once_it_has_begun() -> None:
+        wait_for("it has begun", (work / "begun").exists)
+        made.kill()
+
+    thread = threading.Thread(target=kill_once_it_has_begun)
+    thread.start()
+    judge("while it signs", why_unsigned(made) == "ssh-keygen was ended by signal 9")
+    thread.join()
+    judge("ahead of it", why_unsigned(made) == "ssh-keygen was ended by signal 9")
+
+
+def test_no_signature_and_no_fault_is_none(played: Path) -> None:
+    write(played, "exit 0")
+    judge("it is said", why_unsigned(Signer("k")) == "ssh-keygen ended with status 0")
+
+
+def test_a_program_that_can_not_be_had_is_said(work: Path, monkeypatch: pytest.MonkeyPatch) -> None:
+    monkeypatch.setenv("PATH", str(work))
+    judge("it is missing", why_unsigned(Signer("k")) == "ssh-keygen is missing: it is in Debian's openssh-client")
+    (work / "ssh-keygen").write_text("no program")
+    (work / "ssh-keygen").chmod(0o755)
+    judge("it is no program", why_unsigned(Signer("k")) == "ssh-keygen: Exec format error")
