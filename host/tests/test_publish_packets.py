@@ -1,0 +1,165 @@
+"""Tries the packets that host/bin/publish makes beside those of the second writer of whole Chapter 11 files."""
+
+from __future__ import annotations
+
+import hashlib
+import json
+import random
+from pathlib import Path
+from typing import Any
+
+import pytest
+from bpfrec_host.chapter11.setup import Asked
+from bpfrec_host.publish.recording import Recording
+from bpfrec_host.publish.setup_record import cleaned
+from bpfrec_host.publish.stream import MOST_GAP
+from bpfrec_host.streams import Refused
+from drawn_recording import DrawnRecording, drawn_insns
+from reading import SAMPLES
+from support import judge, judge_quietly
+from whole_file import INDEX, SECOND, SETUP, TIME, Origin, Setup
+from whole_file import cleaned as plainly_cleaned
+from whole_file import whole_file
+from whole_file_parts import ORIGIN, SAMPLE_SETUP, Part, parts_of, recorded, sample_recording
+
+WANTED: dict[str, str] = {}
+TICKS = 10_000_000
+SEEDS = range(40)
+# The sum of the whole file of the recording of 248 bytes with this origin, and its time packet.
+ONE_SUM = "bc7788fb6bd5a9b95dc6af282ea8a3d1a4b274476766c991a927b7373ea32e74"
+TIME_PACKET = "25eb0200280000000c000000080003119f86010000000683 30020000 2600 0012 0112 2520 57142532"
+
+
+def write(work: Path, data: bytes, setup: Setup, **more: Any) -> Path:
+    """A recording that has ended, with the facts that say this."""
+    path = work / "flight.ch11"
+    path.write_bytes(data)
+    facts: dict[str, Any] = {"facts": 1, "host": setup.host, "program": setup.program, "losses": []}
+    origins = [(it.counter, divmod(it.nanoseconds, SECOND)) for it in setup.origins]
+    facts["origins"] = [{"counter": counter, "origin": f"{it[0]}.{it[1]:09}"} for counter, it in origins]
+    facts["interfaces"] = [{"interface": name, "channel": it} for it, (name, _) in setup.channels.items()]
+    facts.update(begun="2025-12-01T12:00:00Z", state="ended", **more)
+    Path(f"{path}.json").write_text(json.dumps(facts))
+    return path
+
+
+def published(path: Path, setup: Setup, asked: Asked = Asked()) -> tuple[list[Part], Recording]:
+    """The packets that are published of a recording."""
+    packets: list[bytes] = []
+    asked = asked._replace(is_external=setup.is_external, attributes=setup.attributes)
+    recording = Recording(str(path), lambda line: judge("nothing is wrong", False, line), asked, packets.append)
+    recording.begin(False, lambda: False)
+    recording.read_rest()
+    recording.put_out(True, lambda _: None)
+    recording.close()
+    return parts_of(b"".join(packets)), recording
+
+
+def without_repeats(parts: list[Part]) -> list[Part]:
+    """The packets of a whole file: but the first, setup records are left out, and channel 0 is numbered anew."""
+    kept = [it for at, it in enumerate(parts) if not at or it.kind != SETUP]
+    numbers = iter(range(len(kept)))
+    return [it if it.channel else it._replace(sequence=next(numbers) % 256) for it in kept]
+
+
+def wanted_of(data: bytes, setup: Setup) -> list[Part]:
+    """Those of the second writer, but for the index."""
+    return [it for it in parts_of(bytes(whole_file(data, setup).data)) if it.kind != INDEX]
+
+
+def with_networks(setup: Setup) -> Setup:
+    """The same setup with the network identifiers that frames have: 0 in drawn recordings."""
+    return setup._replace(channels={it: (name, 0) for it, (name, _) in setup.channels.items()})
+
+
+def test_the_worked_row_has_its_bytes(work: Path) -> None:
+    """The recording of 248 bytes: with the index of its whole file it has that file's sum."""
+    path = work / "flight.ch11"
+    path.write_bytes(SAMPLES[1].read_bytes())
+    parts, _ = published(path, Setup(()), Asked(origin="1764590400.250000123"))
+    lengths = [len(it.bytes()) for it in parts]
+    judge("its packets", lengths == [688, 40, 64, 64, 64, 56], lengths)
+    judge("the time packet", parts[1].bytes() == bytes.fromhex(TIME_PACKET), parts[1].bytes().hex())
+    index = bytes(whole_file(path.read_bytes(), Setup((Origin(0, ORIGIN),))).data)[sum(lengths) :]
+    data = b"".join(it.bytes() for it in parts) + index
+    judge("with the index the file's sum", hashlib.sha256(data).hexdigest() == ONE_SUM)
+
+
+@pytest.mark.parametrize("seed", SEEDS)
+def test_packets_are_those_of_a_whole_file(work: Path, seed: int) -> None:
+    draw = random.Random(seed)
+    channels = sorted(draw.sample(range(1, 12), draw.randrange(1, 5)))
+    made = recorded(draw, channels, draw.randrange(2**44), draw.choice([1, 4, 25]))
+    names = {it: (draw.choice(["eth0", " a;b:c\\d ", "x" * 40, "é", ""]), 0) for it in channels if draw.random() < 0.8}
+    setup = Setup(
+        (Origin(0, ORIGIN + draw.randrange(10**12)),), "höst;", "p" * 40, draw.random() < 0.5, ("G\\SC:U",), names
+    )
+    data = bytes(made.data)
+    parts, _ = published(write(work, data, setup), setup)
+    wanted = wanted_of(data, setup)
+    judge("each packet", without_repeats(parts) == wanted, (len(parts), len(wanted)))
+
+
+def test_the_sample_has_its_packets_and_its_network(work: Path) -> None:
+    setup = with_networks(SAMPLE_SETUP)
+    parts, recording = published(write(work, sample_recording(), setup), setup)
+    judge("each packet", without_repeats(parts) == wanted_of(sample_recording(), setup))
+    judge("none is late", (recording.stream.late, recording.others) == (0, 0))
+
+
+def test_origins_that_begin_later_have_their_own_time(work: Path) -> None:
+    for seed in range(20):
+        draw = random.Random(seed)
+        data = bytes(recorded(draw, [3, 4], 5_000, 6).data)
+        later = sorted(draw.randrange(6 * TICKS) for _ in range(3))
+        origins = [Origin(0, ORIGIN), *(Origin(it, ORIGIN + draw.randrange(-(10**9), 10**9)) for it in later)]
+        setup = Setup(tuple(origins), channels={})
+        parts, _ = published(write(work, data, setup), setup)
+        judge_quietly(f"seed {seed}", without_repeats(parts) == wanted_of(data, setup))
+
+
+def test_the_setup_record_goes_out_again_each_ten_seconds_ahead_of_a_time_packet(work: Path) -> None:
+    made = DrawnRecording()
+    made.add_program(1, 0, 0, drawn_insns(random.Random(1)))
+    for second in range(35):
+        made.add_frames(1, [(second * TICKS, 0, 60)])
+    made.add_end(1, 0, 34 * TICKS)
+    setup = Setup((Origin(0, ORIGIN),), channels={1: ("eth0", 0)})
+    parts, _ = published(write(work, bytes(made.data), setup), setup)
+    at = [number for number, it in enumerate(parts) if it.kind == SETUP]
+    judge("each has the same text", len({parts[it].data for it in at}) == 1)
+    judge(
+        "each stands ahead of a time packet of its counter",
+        all((parts[it + 1].kind, parts[it + 1].counter) == (TIME, parts[it].counter) for it in at),
+    )
+    seconds = [parts[it].counter // TICKS for it in at]
+    judge("ten seconds apart", seconds == [0, 10, 20, 30], seconds)
+
+
+def test_names_are_those_of_a_setup_record() -> None:
+    for name in ("", " ", "eth0", "a;b:c\\d", "x" * 31 + " y", " \tü ", "~", "\x7f", "\U0001f600" * 3):
+        judge_quietly(repr(name), cleaned(name) == plainly_cleaned(name), cleaned(name))
+
+
+def test_a_long_gap_is_not_filled_second_by_second(work: Path) -> None:
+    made = DrawnRecording()
+    made.add_program(1, 0, 0, drawn_insns(random.Random(1)))
+    for counter in (5, 2 * MOST_GAP):
+        made.add_frames(1, [(counter, 0, 60)])
+    setup = Setup((Origin(0, ORIGIN),), channels={})
+    parts, _ = published(write(work, bytes(made.data), setup), setup)
+    times = [it.counter for it in parts if it.kind == TIME]
+    judge("a time packet at each end", len(times) == 2 and 2 * MOST_GAP - times[1] < 100_000, times)
+
+
+def test_what_nobody_knows_the_time_of_is_refused(work: Path) -> None:
+    setup = Setup((Origin(0, ORIGIN),), channels={})
+    path = write(work, sample_recording(), setup)
+    with pytest.raises(Refused, match="has the origins"):
+        published(path, setup, Asked(origin="5"))
+    Path(f"{path}.json").unlink()
+    with pytest.raises(Refused, match="no facts beside it"):
+        published(path, setup)
+    parts, _ = published(path, setup, Asked(origin="1764590400.250000123"))
+    wanted = wanted_of(sample_recording(), setup._replace(host="bpfrec"))
+    judge("with --origin it isn't", without_repeats(parts) == wanted)
