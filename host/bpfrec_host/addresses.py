@@ -1,4 +1,4 @@
-"""Addresses of UDP as users write them: 192.0.2.1:50000, or [fe80::1%eth0]:50000."""
+"""Addresses of UDP as users write them, as 192.0.2.1:50000 or [fe80::1%eth0]:50000, and what datagrams there have."""
 
 from __future__ import annotations
 
@@ -7,6 +7,10 @@ import ipaddress
 import re
 import socket
 from typing import Any, NamedTuple, Optional, Union
+
+from bpfrec_host.arguments import natural
+from bpfrec_host.formats.limits import MAX_BYTE
+from bpfrec_host.formats.transfer import MAX_DATAGRAM_LEN, MIN_DATAGRAM_LEN
 
 WORD = re.compile(
     r"(?:(?P<plain>[0-9.]{7,15})|\[(?P<bracketed>[0-9a-fA-F:.]{2,45})(?:%(?P<zone>[^\]\s/%]{1,15}))?\])"
@@ -53,3 +57,19 @@ def udp_address(word: str) -> UdpAddress:
     if not found or not 1 <= int(found["port"]) <= MAX_PORT:
         raise argparse.ArgumentTypeError(f"{word}: needs ADDRESS:PORT or [ADDRESS]:PORT, as 239.1.2.3:50000")
     return UdpAddress(address, int(found["port"]), found["zone"])
+
+
+def ttl_of(word: str) -> int:
+    """The number of routers that a word says."""
+    number = natural(word)
+    if number > MAX_BYTE:
+        raise argparse.ArgumentTypeError(f"{word} is no number from 0 to {MAX_BYTE}")
+    return number
+
+
+def length_of(word: str) -> int:
+    """The length of a datagram that a word says."""
+    number = natural(word)
+    if not MIN_DATAGRAM_LEN <= number <= MAX_DATAGRAM_LEN:
+        raise argparse.ArgumentTypeError(f"{word} is no number from {MIN_DATAGRAM_LEN} to {MAX_DATAGRAM_LEN}")
+    return number

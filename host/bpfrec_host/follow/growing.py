@@ -89,7 +89,9 @@ class Growing:
         return self.known.has_ended if self.known else not is_written(self.path)
 
 
-def next_of(recording: Growing, is_given_up: Callable[[], bool] = lambda: False) -> Optional[str]:
+def next_of(
+    recording: Growing, patience: float = PATIENCE, is_given_up: Callable[[], bool] = lambda: False
+) -> Optional[str]:
     """The recording that follows one, which is waited for until that has ended by its facts, and a little longer."""
     ends = None
     while recording.known and not is_given_up():
@@ -97,7 +99,7 @@ def next_of(recording: Growing, is_given_up: Callable[[], bool] = lambda: False)
         if next_path or ends is not None and time.monotonic() > ends:
             return next_path
         if recording.has_ended() and ends is None:
-            ends = time.monotonic() + PATIENCE
+            ends = time.monotonic() + patience
         time.sleep(PAUSE)
         recording.look_at_facts()
     return None

@@ -13,6 +13,7 @@ from bpfrec_host.live.capture_options import add_capture_options
 from bpfrec_host.live.help import ABOUT, MORE
 from bpfrec_host.live.model import are_rotating
 from bpfrec_host.live.operands import Route, operands_of
+from bpfrec_host.live.targets import Target, target_of
 
 # The recorder opens OUT anew, to write it.
 OWNERS = 0o600
@@ -64,6 +65,8 @@ class Arguments(NamedTuple):
     control: Optional[str]
     # Whether a whole Chapter 11 file is made of each recording.
     makes_whole_files: bool
+    # Where the run is published.
+    targets: list[Target]
 
     def is_rotating(self) -> bool:
         """Whether recordings follow one another."""
@@ -176,6 +179,9 @@ def parser() -> Parser:
     ran = "runs a program when an alarm begins or ends"
     made.add_argument("--on-alarm", metavar="COMMAND", type=command_words, help=ran)
     made.add_argument("--control", metavar="PATH", help="takes lines by a Unix socket too: bpfrec-control sends them")
+    sent = "sends what is recorded there by UDP; may be given again"
+    form = "ADDRESS:PORT[,ttl=N][,interface=NAME][,datagram=BYTES]"
+    made.add_argument("--publish", metavar=form, type=target_of, action="append", default=[], help=sent)
     made.add_argument("--prefilter", action="store_true", help="has the kernel run the filters too")
     whole = "makes OUT.ch10, a whole Chapter 11 file, after each recording"
     made.add_argument("--chapter11", action="store_true", help=whole)
@@ -214,4 +220,5 @@ def read(arguments: list[str]) -> Arguments:
         on_alarm=given.on_alarm,
         control=given.control,
         makes_whole_files=given.chapter11,
+        targets=given.publish,
     )

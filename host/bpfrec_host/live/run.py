@@ -35,6 +35,7 @@ from bpfrec_host.live.notify import Notifier
 from bpfrec_host.live.observers import Observers
 from bpfrec_host.live.ports import Deed, Observer, Ports
 from bpfrec_host.live.programs import Programs, Timed
+from bpfrec_host.live.publishers import Publishers
 from bpfrec_host.live.recorder import Recorder
 from bpfrec_host.live.recordings import Recordings
 from bpfrec_host.live.retention import Kept, Retention, approved
@@ -81,6 +82,7 @@ class Run:
         self.recordings = Recordings(self.writer, self.outputs, self.err)
         self.audits = Audits(self.loop, programs.bpfrec, self.guard, self.audited, self.err)
         self.whole_files = self.made_whole_files()
+        self.publishers = Publishers(given.targets, self.loop, self.guard, self.err)
         self.end_of_run = EndOfRun(given.seconds, self.end)
         self.alarm_command = AlarmCommand(given.on_alarm, self.loop, self.console)
         self.clock = ClockWatch(self.loop, given.clock_error, self.err, self.observers.clock_seen)
@@ -111,7 +113,8 @@ class Run:
     def made_timed(self) -> list[Timed]:
         """What has something to do at moments of its own."""
         made: list[Timed] = [self.watches, self.outputs, self.observers, self.retention, self.notifier]
-        return [*made, self.end_of_run, self.alarm_command, self.clock, *([self.flush] if self.flush else [])]
+        made += [self.end_of_run, self.alarm_command, self.clock, self.publishers]
+        return [*made, *([self.flush] if self.flush else [])]
 
     def made_deeds(self) -> dict[Deed, Callable[[Recorder], object]]:
         """What is done for each deed of the machine."""
@@ -187,6 +190,7 @@ class Run:
         self.marks.finish()
         self.control.finish()
         came = self.signals_came
+        self.publishers.finish(lambda: self.signals_came > max(came, 1))
         self.console.finish(lambda: self.signals_came > max(came, 1))
         self.observers.all_ended()
         self.alarm_command.finish(lambda: self.signals_came > max(came, 1))
@@ -254,6 +258,7 @@ class Run:
         self.notifier.ready(recorder.about.out)
         self.durability.begin(recorder)
         self.marks.begun(recorder)
+        self.publishers.begin(recorder.about.out)
         if self.flush and recorder.is_created:
             self.flush.begin(recorder, time.monotonic())
 

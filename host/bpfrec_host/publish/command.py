@@ -3,6 +3,7 @@
 from __future__ import annotations
 
 import argparse
+import math
 import os
 import signal
 import stat
@@ -11,13 +12,12 @@ from types import FrameType
 from typing import Optional
 
 from bpfrec_host import printing
-from bpfrec_host.addresses import udp_address
-from bpfrec_host.arguments import Parser, full_name, natural, short_name
+from bpfrec_host.addresses import length_of, ttl_of, udp_address
+from bpfrec_host.arguments import Parser, full_name, short_name
 from bpfrec_host.chapter11.command import ahead_of, attribute_of, origin_of
 from bpfrec_host.chapter11.setup import Asked
-from bpfrec_host.follow.growing import PAUSE, next_of
+from bpfrec_host.follow.growing import PATIENCE, PAUSE, next_of
 from bpfrec_host.follow.runs import first_of
-from bpfrec_host.formats.limits import MAX_BYTE
 from bpfrec_host.formats.transfer import MAX_DATAGRAM_LEN, MIN_DATAGRAM_LEN, USUAL_DATAGRAM_LEN
 from bpfrec_host.publish.datagrams import Datagrams
 from bpfrec_host.publish.recording import Recording
@@ -59,6 +59,8 @@ def parser() -> Parser:
     made = Parser(prog=full_name("publish"), description=ABOUT, epilog=MORE)
     made.add_argument("--now", action="store_true", help="leaves out the frames that are in the recording already")
     made.add_argument("--fast", action="store_true", help="sends one that has ended as fast as the socket takes it")
+    stay = "waits for the next recording of a run until TERM comes"
+    made.add_argument("--stay", action="store_true", help=stay)
     ttl = "over how many routers a group's datagrams go, 0 to 255; 1 by default"
     made.add_argument("--ttl", metavar="N", type=ttl_of, default=1, help=ttl)
     made.add_argument("--interface", metavar="NAME", help="the interface by which a group's datagrams go")
@@ -77,22 +79,6 @@ def parser() -> Parser:
     made.add_argument("recording", metavar="RECORDING")
     made.add_argument("address", metavar="ADDRESS:PORT", type=udp_address)
     return made
-
-
-def ttl_of(word: str) -> int:
-    """The number of routers that a word says."""
-    number = natural(word)
-    if number > MAX_BYTE:
-        raise argparse.ArgumentTypeError(f"{word} is no number from 0 to {MAX_BYTE}")
-    return number
-
-
-def length_of(word: str) -> int:
-    """The length of a datagram that a word says."""
-    number = natural(word)
-    if not MIN_DATAGRAM_LEN <= number <= MAX_DATAGRAM_LEN:
-        raise argparse.ArgumentTypeError(f"{word} is no number from {MIN_DATAGRAM_LEN} to {MAX_DATAGRAM_LEN}")
-    return number
 
 
 def err(line: str) -> None:
@@ -150,7 +136,7 @@ class Publisher:
         recording.read_rest()
         recording.put_out(True, self.pause)
         self.datagrams.flush()
-        return next_of(recording, lambda: self.is_ending)
+        return next_of(recording, math.inf if self.given.stay else PATIENCE, lambda: self.is_ending)
 
     def go_on(self, recording: Recording) -> None:
         """Publishes what has come, or waits a little."""
