@@ -74,6 +74,18 @@ def test_a_channel_that_has_come_further_is_not_waited_for() -> None:
     judge("one has 60", played.all(100.0) == [(1, 55)])
 
 
+def test_how_far_a_channel_has_come_its_last_frame_says() -> None:
+    body = body_in(body_of([(60, 0, bytes(18)), (90, 0, bytes(18))]))
+    assert body
+    (piece,) = pieces_of(body, 100.0)
+    judge("90", piece.last_counter() == 90)
+    played = Played(1, 2)
+    played.merging.load = lambda placed: [piece] if placed.at else [Piece(80, 100.0, record=b"x")]
+    played.merging.add(2, Placed(1, 100.0))
+    played.merging.add(1, Placed(0, 100.0))
+    judge("80 waits for none", played.all(100.0) == [(2, 60), (1, 80)])
+
+
 def test_a_channel_that_has_ended_is_not_waited_for() -> None:
     played = Played(1, 2)
     played.add(2, 100.0, 5, is_end=True)

@@ -3,21 +3,25 @@
 from __future__ import annotations
 
 import hashlib
-import json
 import random
+import time
 from pathlib import Path
-from typing import Any
+from typing import Optional
 
 import pytest
 from bpfrec_host.chapter11.setup import Asked
+from bpfrec_host.publish import clock, setup_record
+from bpfrec_host.publish.pieces import Piece
 from bpfrec_host.publish.recording import Recording
-from bpfrec_host.publish.setup_record import cleaned
-from bpfrec_host.publish.stream import MOST_GAP
+from bpfrec_host.publish.setup_record import Source, cleaned
+from bpfrec_host.publish.stream import MOST_GAP, Stream
 from bpfrec_host.streams import Refused
 from drawn_recording import DrawnRecording, drawn_insns
+from frames import FRAMES, body_of
+from ground import renumbered, write_facts
 from reading import SAMPLES
 from support import judge, judge_quietly
-from whole_file import INDEX, SECOND, SETUP, TIME, Origin, Setup
+from whole_file import INDEX, SETUP, TIME, Origin, Setup
 from whole_file import cleaned as plainly_cleaned
 from whole_file import whole_file
 from whole_file_parts import ORIGIN, SAMPLE_SETUP, Part, parts_of, recorded, sample_recording
@@ -30,16 +34,11 @@ ONE_SUM = "bc7788fb6bd5a9b95dc6af282ea8a3d1a4b274476766c991a927b7373ea32e74"
 TIME_PACKET = "25eb0200280000000c000000080003119f86010000000683 30020000 2600 0012 0112 2520 57142532"
 
 
-def write(work: Path, data: bytes, setup: Setup, **more: Any) -> Path:
+def write(work: Path, data: bytes, setup: Setup) -> Path:
     """A recording that has ended, with the facts that say this."""
     path = work / "flight.ch11"
     path.write_bytes(data)
-    facts: dict[str, Any] = {"facts": 1, "host": setup.host, "program": setup.program, "losses": []}
-    origins = [(it.counter, divmod(it.nanoseconds, SECOND)) for it in setup.origins]
-    facts["origins"] = [{"counter": counter, "origin": f"{it[0]}.{it[1]:09}"} for counter, it in origins]
-    facts["interfaces"] = [{"interface": name, "channel": it} for it, (name, _) in setup.channels.items()]
-    facts.update(begun="2025-12-01T12:00:00Z", state="ended", **more)
-    Path(f"{path}.json").write_text(json.dumps(facts))
+    write_facts(path, setup)
     return path
 
 
@@ -50,16 +49,9 @@ def published(path: Path, setup: Setup, asked: Asked = Asked()) -> tuple[list[Pa
     recording = Recording(str(path), lambda line: judge("nothing is wrong", False, line), asked, packets.append)
     recording.begin(False, lambda: False)
     recording.read_rest()
-    recording.put_out(True, lambda _: None)
+    recording.put_out(True, lambda _: True)
     recording.close()
     return parts_of(b"".join(packets)), recording
-
-
-def without_repeats(parts: list[Part]) -> list[Part]:
-    """The packets of a whole file: but the first, setup records are left out, and channel 0 is numbered anew."""
-    kept = [it for at, it in enumerate(parts) if not at or it.kind != SETUP]
-    numbers = iter(range(len(kept)))
-    return [it if it.channel else it._replace(sequence=next(numbers) % 256) for it in kept]
 
 
 def wanted_of(data: bytes, setup: Setup) -> list[Part]:
@@ -97,13 +89,13 @@ def test_packets_are_those_of_a_whole_file(work: Path, seed: int) -> None:
     data = bytes(made.data)
     parts, _ = published(write(work, data, setup), setup)
     wanted = wanted_of(data, setup)
-    judge("each packet", without_repeats(parts) == wanted, (len(parts), len(wanted)))
+    judge("each packet", renumbered(parts) == wanted, (len(parts), len(wanted)))
 
 
 def test_the_sample_has_its_packets_and_its_network(work: Path) -> None:
     setup = with_networks(SAMPLE_SETUP)
     parts, recording = published(write(work, sample_recording(), setup), setup)
-    judge("each packet", without_repeats(parts) == wanted_of(sample_recording(), setup))
+    judge("each packet", renumbered(parts) == wanted_of(sample_recording(), setup))
     judge("none is late", (recording.stream.late, recording.others) == (0, 0))
 
 
@@ -115,7 +107,7 @@ def test_origins_that_begin_later_have_their_own_time(work: Path) -> None:
         origins = [Origin(0, ORIGIN), *(Origin(it, ORIGIN + draw.randrange(-(10**9), 10**9)) for it in later)]
         setup = Setup(tuple(origins), channels={})
         parts, _ = published(write(work, data, setup), setup)
-        judge_quietly(f"seed {seed}", without_repeats(parts) == wanted_of(data, setup))
+        judge_quietly(f"seed {seed}", renumbered(parts) == wanted_of(data, setup))
 
 
 def test_the_setup_record_goes_out_again_each_ten_seconds_ahead_of_a_time_packet(work: Path) -> None:
@@ -162,4 +154,91 @@ def test_what_nobody_knows_the_time_of_is_refused(work: Path) -> None:
         published(path, setup)
     parts, _ = published(path, setup, Asked(origin="1764590400.250000123"))
     wanted = wanted_of(sample_recording(), setup._replace(host="bpfrec"))
-    judge("with --origin it isn't", without_repeats(parts) == wanted)
+    judge("with --origin it isn't", renumbered(parts) == wanted)
+
+
+# ---- as it goes on
+
+
+class Played:
+    """A stream of pieces that are records, with the packets that it gives."""
+
+    def __init__(self, *origins: Origin) -> None:
+        self.data = bytearray()
+        self.setup = setup_record.Setup("h", "p", False, (), {1: Source(), 2: Source()})
+        self.stream = Stream(self.data.extend, lambda: self.setup)
+        self.set_clock(*origins)
+
+    def set_clock(self, *origins: Origin) -> None:
+        self.stream.set_clock(clock.Clock(clock.Origin(*it) for it in origins))
+
+    def put(self, channel: int, counter: Optional[int]) -> None:
+        self.stream.put(channel, Piece(counter, 0.0, record=bytes(28)))
+
+    def parts(self) -> list[Part]:
+        return parts_of(bytes(self.data))
+
+
+def test_pieces_that_come_behind_a_later_one_are_counted() -> None:
+    played = Played(Origin(0, ORIGIN))
+    for channel, counter in [(1, 50), (2, 40), (1, 60), (2, 60), (1, 59), (2, None)]:
+        played.put(channel, counter)
+    judge("two are late", played.stream.late == 2, played.stream.late)
+    judge("they go out all the same", [it.counter for it in played.parts() if not it.kind][1:5] == [40, 60, 60, 59])
+
+
+def test_an_origin_that_is_noted_meanwhile_has_its_time_packets() -> None:
+    """As if it had been known from the beginning on."""
+    both = (Origin(0, ORIGIN), Origin(3 * TICKS, ORIGIN + 123_456_789))
+    known, noted = Played(*both), Played(both[0])
+    for counter in range(0, 8 * TICKS, TICKS // 3):
+        for played in (known, noted):
+            played.put(1, counter)
+        if counter > 2 * TICKS:
+            noted.set_clock(*both)
+    judge("the same packets", noted.data == known.data, len(noted.data))
+    times = [it.counter for it in known.parts() if it.kind == TIME]
+    judge("one where it begins to hold", any(3 * TICKS <= it < 3 * TICKS + 100_000 for it in times), times)
+
+
+def test_in_a_silence_the_setup_record_goes_out_each_ten_seconds() -> None:
+    played = Played(Origin(0, ORIGIN))
+    now = time.monotonic()
+    played.stream.remind(now + 11)
+    judge("not ahead of the first", not played.data)
+    played.put(1, 5)
+    for seconds in (5, 9, 11):
+        played.stream.remind(now + seconds)
+    kinds = [it.kind for it in played.parts()]
+    judge("once in 11 s", kinds == [SETUP, TIME, 0, SETUP], kinds)
+    judge("with the same text", played.parts()[3].data == played.parts()[0].data)
+
+
+def test_a_channel_that_nobody_expected_gets_a_setup_record_that_has_it() -> None:
+    played = Played(Origin(0, ORIGIN))
+    played.put(1, 5)
+    played.setup = played.setup._replace(channels={**played.setup.channels, 3: Source("eth3", 7)})
+    played.put(3, 6)
+    played.put(3, 7)
+    parts = played.parts()
+    judge("ahead of its first packet", [it.kind for it in parts] == [SETUP, TIME, 0, SETUP, 0, 0])
+    judge("with its name and its network", b"ENAM-4-1:eth3;" in parts[3].data and b"ENBR-4-1:7;" in parts[3].data)
+
+
+def test_network_identifiers_are_those_of_frames_or_of_the_settings(work: Path) -> None:
+    made = DrawnRecording()
+    made.add_program(5, 0, 0, drawn_insns(random.Random(1)))
+    made.add(5, body_of([(9, 7 << 16, bytes(60))]), FRAMES, 9, "frames")
+    path = work / "flight.ch11"
+    path.write_bytes(bytes(made.data))
+    setup = Setup((Origin(0, ORIGIN),), channels={5: ("eth0", 0), 6: ("eth1", 0)})
+    settings = "".join(f'[[channel]]\nid = {it}\nnet = {it + 1}\nfeed = "a"\nfilter = "b"\n' for it in (5, 6, 8))
+    write_facts(path, setup, "recording", settings=settings)
+    recording = Recording(str(path), lambda _: None, Asked(), lambda _: None)
+    recording.begin(False, lambda: False)
+    judge("of one that goes on all that are set", recording.channels() == {5: 6, 6: 7, 8: 9}, recording.channels())
+    recording.read_on()
+    judge("and what frames have", recording.channels() == {5: 7, 6: 7, 8: 9}, recording.channels())
+    write_facts(path, setup, "ended", settings=settings)
+    parts, _ = published(path, setup)
+    judge("of one that has ended those that it has", b"R-1\\N:2;" in parts[0].data and b"ENBR-2-1:7;" in parts[0].data)

@@ -72,9 +72,9 @@ def test_a_full_socket_is_not_waited_for(monkeypatch: pytest.MonkeyPatch) -> Non
     world.send(b"a", b"b", b"c", b"d")
     judge("the rest is sent", (played.sent, world.counts()) == ([b"a", b"d"], (2, 2)), played.sent)
     judge("nothing is waited for", world.waited == [])
-    judge("a line at first", world.lines == ["socket full: 1 datagrams are lost"], world.lines)
+    judge("a line at first", world.lines == ["socket full: datagrams lost: 1"], world.lines)
     world.sending.end()
-    judge("and at the end", world.lines[1:] == ["socket full: 1 datagrams are lost"], world.lines)
+    judge("and at the end", world.lines[1:] == ["socket full: datagrams lost: 1"], world.lines)
 
 
 def test_what_was_there_already_waits_for_room_once(monkeypatch: pytest.MonkeyPatch) -> None:
@@ -96,7 +96,7 @@ def test_a_datagram_is_sent_again_where_one_before_was_refused(monkeypatch: pyte
     world.send(b"a", b"b", b"c", b"d")
     judge("b is sent, and c isn't", played.sent == [b"a", b"b", b"d"], played.sent)
     judge("counts", world.counts() == (3, 3), world.counts())
-    judge("a line", world.lines[0] == "connection refused: 1 datagrams are lost", world.lines)
+    judge("a line", world.lines[0] == "connection refused: datagrams lost: 1", world.lines)
 
 
 def test_another_route_is_found_once_there_is_one(monkeypatch: pytest.MonkeyPatch) -> None:
@@ -121,11 +121,9 @@ def test_a_line_of_a_reason_comes_each_five_seconds_at_most(monkeypatch: pytest.
         world.send(b"x")
     judge("of 10 s two", len(world.lines) == 2, world.lines)
     world.send(b"y")
-    judge(
-        "another reason has its own", world.lines[2:] == ["operation not permitted: 1 datagrams are lost"], world.lines
-    )
+    judge("another reason has its own", world.lines[2:] == ["operation not permitted: datagrams lost: 1"], world.lines)
     world.sending.end()
-    said = sum(int(it.split()[-4]) for it in world.lines)
+    said = sum(int(it.split()[-1]) for it in world.lines)
     judge("all are said", said == 101, world.lines)
 
 

@@ -6,7 +6,7 @@ import os
 import time
 from typing import Callable, Optional
 
-from bpfrec_host.follow.runs import Known, following, is_written, known_of
+from bpfrec_host.follow.runs import Known, following, is_written, known_of, names_of, number_of
 from bpfrec_host.formats.ch11.follow import Follower, Front
 from bpfrec_host.live.names import facts_path
 
@@ -92,14 +92,16 @@ class Growing:
 def next_of(
     recording: Growing, patience: float = PATIENCE, is_given_up: Callable[[], bool] = lambda: False
 ) -> Optional[str]:
-    """The recording that follows one, which is waited for until that has ended by its facts, and a little longer."""
+    """The recording that follows one, which is waited for until that has ended by its facts, and a little longer where it
+    is numbered."""
+    is_numbered = number_of(recording.path, names_of(recording.path)) is not None
     ends = None
     while recording.known and not is_given_up():
         next_path = following(recording.path, recording.known.begun)
         if next_path or ends is not None and time.monotonic() > ends:
             return next_path
         if recording.has_ended() and ends is None:
-            ends = time.monotonic() + patience
+            ends = time.monotonic() + (patience if is_numbered or patience > PATIENCE else 0)
         time.sleep(PAUSE)
         recording.look_at_facts()
     return None

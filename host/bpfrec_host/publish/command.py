@@ -45,7 +45,7 @@ What is in RECORDING at the beginning goes out as fast as the socket takes it, w
 has ended goes out at the pace of its counters, or with --fast as the socket takes it.
 
 At the end it prints `published packets <n> datagrams <n> lost <n> late <n>` on standard error. TERM has it send what is
-there and end.
+there of a recording that goes on, and end.
 
 Status: 0 the run has ended, also where datagrams were lost, 1 a recording is damaged or refused, 2 the arguments are wrong,
 3 a file can't be read, 4 out of memory, 130 interrupted.
@@ -98,12 +98,13 @@ class Publisher:
         self.datagrams = Datagrams(given.datagram, self.sending.send)
         self.packets = self.late = 0
         self.is_damaged = False
-        # TERM came: what is there is sent, and nothing waited for.
-        self.is_ending = False
+        # TERM came, so what is there of one that goes on is sent, and nothing waited for; or Ctrl-C, which ends all.
+        self.is_ending = self.is_interrupted = False
 
-    def end_soon(self, _: int, __: Optional[FrameType]) -> None:
-        """TERM has come."""
+    def end_soon(self, number: int, _: Optional[FrameType]) -> None:
+        """A signal has come that ends it."""
         self.is_ending = True
+        self.is_interrupted |= number == signal.SIGINT
 
     def run(self, path: str) -> None:
         """Publishes a recording and those that follow it, until the run ends."""
@@ -134,7 +135,7 @@ class Publisher:
             self.go_on(recording)
             self.sending.waits = False
         recording.read_rest()
-        recording.put_out(True, self.pause)
+        recording.put_out(True, self.wait)
         self.datagrams.flush()
         return next_of(recording, math.inf if self.given.stay else PATIENCE, lambda: self.is_ending)
 
@@ -143,19 +144,24 @@ class Publisher:
         has_come, size = False, recording.size()
         while recording.follower.at < size and recording.read_on():
             has_come = True
-        recording.put_out(False, self.pause)
+        recording.put_out(False, self.wait)
         recording.stream.remind(time.monotonic())
         self.datagrams.flush()
         if not has_come:
             time.sleep(PAUSE)
 
-    def pause(self, seconds: float) -> None:
-        """Waits until a piece is due, unless nobody asks for the pace; what went out before is sent."""
+    def wait(self, seconds: Optional[float]) -> bool:
+        """Waits until a piece is due, where somebody asks for the pace: whether it goes out. One without a time is of a
+        recording that goes on."""
+        if seconds is None:
+            return not self.is_interrupted
         if seconds > 0 and not self.given.fast:
+            # What is ahead of it goes out first.
             self.datagrams.flush()
         ends = time.monotonic() + seconds
         while not self.given.fast and not self.is_ending and (left := ends - time.monotonic()) > 0:
             time.sleep(min(left, LONGEST_PAUSE))
+        return not self.is_ending
 
     def end(self) -> None:
         """Prints what was done."""
@@ -172,7 +178,8 @@ def run(arguments: list[str]) -> int:
     if given.interface and not given.address.is_multicast():
         made.error(f"--interface is for a multicast group, which {given.address} is not")
     publisher = Publisher(given)
-    signal.signal(signal.SIGTERM, publisher.end_soon)
+    for number in (signal.SIGINT, signal.SIGTERM):
+        signal.signal(number, publisher.end_soon)
     try:
         path = first_of(given.recording)
         if not stat.S_ISREG(os.stat(path).st_mode):
@@ -181,8 +188,7 @@ def run(arguments: list[str]) -> int:
     except Refused as refused:
         err(str(refused))
         return refused.status
-    except KeyboardInterrupt:
-        publisher.end()
-        raise
     publisher.end()
+    if publisher.is_interrupted:
+        raise KeyboardInterrupt
     return 1 if publisher.is_damaged else 0

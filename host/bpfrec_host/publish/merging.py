@@ -32,7 +32,7 @@ class Placed(NamedTuple):
 
 
 class Channel:
-    """A channel: the packets that wait, the pieces of the first of them, and the turn of the last piece that went out."""
+    """A channel: the packets that wait, the pieces of the first of them, and how far the last piece that went out came."""
 
     def __init__(self) -> None:
         self.waiting: deque[Placed] = deque()
@@ -69,8 +69,9 @@ class Merging:
         channel = self.channels[turn.channel]
         if not is_whole and now - channel.pieces[0].came < PATIENCE and self.may_be_overtaken(turn):
             return None
-        channel.last = turn
-        return turn.channel, channel.pieces.popleft()
+        piece = channel.pieces.popleft()
+        channel.last = turn._replace(counter=piece.last_counter())
+        return turn.channel, piece
 
     def put_back(self, number: int, rest: Piece) -> None:
         """The rest of a piece is its channel's next one."""

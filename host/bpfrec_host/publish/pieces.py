@@ -45,6 +45,10 @@ class Piece(NamedTuple):
     end: int = 0
     record: bytes = b""
 
+    def last_counter(self) -> int:
+        """The counter of its last frame, or of the record; 0 where that has none."""
+        return self.body.counters[self.end - 1] if self.body else self.counter or 0
+
     def frames(self, end: int) -> bytes:
         """Its frames up to one of the body."""
         assert self.body

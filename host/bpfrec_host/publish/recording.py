@@ -26,6 +26,9 @@ from bpfrec_host.publish.sources import clock_of, set_networks, setup_of
 from bpfrec_host.publish.stream import Stream
 from bpfrec_host.streams import Refused
 
+# Waits for so many seconds until a piece is due, or not at all where it is one of a recording that goes on: whether it
+# goes out.
+Wait = Callable[[Optional[float]], bool]
 # For how long the facts of a recording that has just begun are waited for, in seconds.
 FACTS_PATIENCE = 10.0
 # Where the data of a packet have the network identifier of the first frame: the third byte of its word.
@@ -172,23 +175,22 @@ class Recording(Growing):
         self.report(f"{self.path}: {fault}")
         return []
 
-    def put_out(self, is_whole: bool, pause: Callable[[float], None]) -> None:
-        """Puts out what may go out by now. Of a recording that has ended, `pause` is called with the seconds until a
-        piece is due."""
+    def put_out(self, is_whole: bool, wait: Wait) -> None:
+        """Puts out what may go out by now, each piece once `wait` says so."""
         found = self.merging.next(time.monotonic(), is_whole)
-        while found:
+        while found and wait(self.due_in(found[1]) if self.was_over else None):
             channel, piece = found
-            if self.was_over and piece.counter is not None:
-                pause(self.due_in(piece.counter))
             rest = self.stream.put(channel, piece)
             if rest:
                 self.merging.put_back(channel, rest)
             found = self.merging.next(time.monotonic(), is_whole)
 
-    def due_in(self, counter: int) -> float:
-        """In how many seconds a counter is due, by that of the first piece."""
+    def due_in(self, piece: Piece) -> float:
+        """In how many seconds a piece is due, by the counter of the first one."""
         now = time.monotonic()
+        if piece.counter is None:
+            return 0.0
         if self.paced_from is None:
-            self.paced_from = now, counter
+            self.paced_from = now, piece.counter
         begun, first = self.paced_from
-        return begun + (counter - first) / TICKS_A_SECOND - now
+        return begun + (piece.counter - first) / TICKS_A_SECOND - now

@@ -54,7 +54,7 @@ class Lost:
         if not count or not is_last and now < self.line_at:
             return None
         self.said, self.line_at = self.count, now + LINE_AFTER
-        return f"{self.reason}: {count} datagrams are lost"
+        return f"{self.reason}: datagrams lost: {count}"
 
 
 class Sending:

@@ -30,8 +30,8 @@ OUT begins with the first setup record that comes; what comes ahead of it is ski
 are left out. Of a further recording of a run a further file is made, as flight_00002.ch10. An OUT that exists is refused
 unless --force is given.
 
-OUT is a whole Chapter 11 file but for its index, which isn't sent: check_ch10 says so, and nothing else where nothing was
-lost. bpfrec audit and bpfrec extract answer as for the recording.
+OUT is a whole Chapter 11 file but for its index, which isn't sent: check_ch10 says so, and nothing else where nothing is
+missing. bpfrec audit and bpfrec extract answer as for the recording.
 """
 MORE = """\
 It ends by Ctrl-C, TERM, --for or --idle, and prints
@@ -43,9 +43,9 @@ Status: 0 nothing is missing, 1 a datagram was lost or damaged, or nothing came,
 can't be had, or OUT can't be written or is taken, 4 out of memory.
 """
 MAX_SECONDS = 999_999_999
-# For how many seconds a datagram that is missing is waited for where no other comes; how many are read in a turn; and how
-# many gaps have a line of their own.
-GAP_PATIENCE, A_TURN, MOST_LINES = 0.5, 1_024, 100
+# For how many seconds a datagram that is missing is waited for where no other comes, and what came is read at the end; how
+# many are read in a turn; and how many gaps have a line of their own.
+GAP_PATIENCE, LAST, A_TURN, MOST_LINES = 0.5, 2.0, 1_024, 100
 
 
 def parser() -> Parser:
@@ -113,7 +113,9 @@ class Receiver:
             else:
                 self.window.give_up()
             self.files.out.flush()
-        self.read()
+        ends = time.monotonic() + LAST
+        while self.read() and time.monotonic() < ends:
+            pass
         self.window.give_up()
 
     def is_over(self, now: float, ends: Optional[float]) -> bool:
@@ -121,13 +123,13 @@ class Receiver:
         is_idle = self.given.idle and self.last_at is not None and now - self.last_at >= self.given.idle
         return bool(is_idle) or ends is not None and now >= ends
 
-    def read(self) -> None:
-        """Reads what has come, as much as a turn takes."""
+    def read(self) -> bool:
+        """Reads what has come, as much as a turn takes: whether more may be there."""
         for _ in range(A_TURN):
             try:
                 data = self.socket.recv(MAX_DATAGRAM_LEN)
             except BlockingIOError:
-                return
+                return False
             self.last_at = time.monotonic()
             self.datagrams += 1
             datagram = datagram_in(data)
@@ -135,6 +137,7 @@ class Receiver:
                 self.damaged += 1
             else:
                 self.window.add(datagram)
+        return True
 
     def end(self) -> int:
         """Ends the file, and prints what was received: the status."""
