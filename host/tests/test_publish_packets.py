@@ -191,10 +191,11 @@ def test_an_origin_that_is_noted_meanwhile_has_its_time_packets() -> None:
     """As if it had been known from the beginning on."""
     both = (Origin(0, ORIGIN), Origin(3 * TICKS, ORIGIN + 123_456_789))
     known, noted = Played(*both), Played(both[0])
-    for counter in range(0, 8 * TICKS, TICKS // 3):
+    for counter in range(0, 8 * TICKS, TICKS // 10):
         for played in (known, noted):
             played.put(1, counter)
-        if counter > 2 * TICKS:
+        # The next time packet would be that of 3.75 s.
+        if counter > 2.8 * TICKS:
             noted.set_clock(*both)
     judge("the same packets", noted.data == known.data, len(noted.data))
     times = [it.counter for it in known.parts() if it.kind == TIME]

@@ -161,6 +161,19 @@ def test_what_a_network_loses_doubles_and_exchanges_is_counted(work: Path, seed:
     judge("and can be read", outcome(BPFREC, "list", receiver.out).returncode == 0)
 
 
+def test_what_came_ahead_of_the_end_is_written(work: Path) -> None:
+    """Also where receive has read none of it yet."""
+    path, port = drawn(work, 6), free_port()
+    receiver = Receiver(work, "ground.ch10", f"127.0.0.1:{port}")
+    receiver.process.send_signal(signal.SIGSTOP)
+    counts = send(path, f"127.0.0.1:{port}", "--datagram", 36)
+    judge_quietly("more than a turn takes", counts.datagrams > 1_024, counts)
+    receiver.process.terminate()
+    receiver.process.send_signal(signal.SIGCONT)
+    status, received = receiver.over()
+    judge("all of it", (status, received.datagrams) == (0, counts.datagrams), (received, counts))
+
+
 def test_nobody_listens(work: Path) -> None:
     """Datagrams are lost, and the recording is as ever."""
     address = f"127.0.0.1:{free_port()}"

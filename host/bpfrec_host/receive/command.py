@@ -73,21 +73,29 @@ def err(line: str) -> None:
     printing.err(f"{short_name('receive')}: {line}")
 
 
+class Ending:
+    """Whether a signal has come that ends it."""
+
+    def __init__(self) -> None:
+        self.is_due = False
+        for number in (signal.SIGINT, signal.SIGTERM):
+            signal.signal(number, self.come)
+
+    def come(self, _: int, __: Optional[FrameType]) -> None:
+        """A signal has come."""
+        self.is_due = True
+
+
 class Receiver:
     """Receives datagrams until it is to end."""
 
-    def __init__(self, given: argparse.Namespace, through: socket.socket) -> None:
-        self.given, self.socket = given, through
+    def __init__(self, given: argparse.Namespace, through: socket.socket, ending: Ending) -> None:
+        self.given, self.socket, self.ending = given, through, ending
         self.files = Files(given.out, given.force)
         self.assembling = Assembling(self.files.take)
         self.window = Window(self.assembling.add, self.gap, self.restart)
         self.datagrams = self.damaged = self.gaps = 0
-        self.is_ending = False
         self.last_at: Optional[float] = None
-
-    def end_soon(self, _: int, __: Optional[FrameType]) -> None:
-        """A signal ends it."""
-        self.is_ending = True
 
     def gap(self, count: int, number: int) -> None:
         """Datagrams are missing ahead of one."""
@@ -107,7 +115,7 @@ class Receiver:
         ends = begun + self.given.seconds if self.given.seconds else None
         poll = select.poll()
         poll.register(self.socket, select.POLLIN)
-        while not self.is_ending and not self.is_over(time.monotonic(), ends):
+        while not self.ending.is_due and not self.is_over(time.monotonic(), ends):
             if poll.poll(GAP_PATIENCE * 1_000):
                 self.read()
             else:
@@ -157,11 +165,11 @@ def run(arguments: list[str]) -> int:
     given = made.parse_args(arguments)
     if given.interface and not given.address.is_multicast():
         made.error(f"--interface is for a multicast group, which {given.address} is not")
+    # Ahead of OUT, by which another program sees that it listens.
+    ending = Ending()
     try:
         with listening(given) as through:
-            receiver = Receiver(given, through)
-            for number in (signal.SIGINT, signal.SIGTERM):
-                signal.signal(number, receiver.end_soon)
+            receiver = Receiver(given, through, ending)
             receiver.run()
             return receiver.end()
     except Refused as refused:
