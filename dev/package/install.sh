@@ -21,7 +21,7 @@ umask 022
 PREFIX=${PREFIX:-/usr/local} DESTDIR=${DESTDIR:-} ZSH=${ZSH:-share/zsh/site-functions}
 to=$DESTDIR$PREFIX
 # The tools in Python, and all.
-tools=(live chapter11 control convert follow info pcapng preflight salvage)
+tools=(live chapter11 control convert follow info pcapng preflight publish receive salvage)
 names=(capture "${tools[@]}")
 
 # Each file, as its mode, where it stands here or what it is made of, and where it goes.

@@ -15,9 +15,10 @@ import threading
 from pathlib import Path
 from typing import Any, NamedTuple, Optional
 
-from support import ROOT, SECONDS, judge_quietly, present, wait_for
-from whole_file import SECOND, SETUP, Setup
-from whole_file_parts import Part
+from recordings import extracted
+from support import BPFREC, ROOT, SECONDS, judge_quietly, outcome, present, run, wait_for
+from whole_file import SECOND, SETUP, Origin, Setup
+from whole_file_parts import ORIGIN, Part, recorded
 
 PUBLISH, RECEIVE = ROOT / "host/bin/publish", ROOT / "host/bin/receive"
 PUBLISHED = re.compile(r"published packets (\d+) datagrams (\d+) lost (\d+) late (\d+)\n\Z")
@@ -189,6 +190,16 @@ def free_port() -> int:
         return int(made.getsockname()[1])
 
 
+def is_taken(port: int) -> bool:
+    """Whether somebody listens at a port."""
+    with socket.socket(socket.AF_INET, socket.SOCK_DGRAM) as made:
+        try:
+            made.bind(("127.0.0.1", port))
+        except OSError:
+            return True
+    return False
+
+
 def write_facts(path: Path, setup: Setup, state: str = "ended", **more: Any) -> None:
     """Facts beside a recording that say this."""
     facts: dict[str, Any] = {"facts": 1, "host": setup.host, "program": setup.program, "losses": []}
@@ -197,3 +208,33 @@ def write_facts(path: Path, setup: Setup, state: str = "ended", **more: Any) -> 
     facts["interfaces"] = [{"interface": name, "channel": it} for it, (name, _) in setup.channels.items()]
     facts.update(begun="2025-12-01T12:00:00Z", state=state, **more)
     Path(f"{path}.json").write_text(json.dumps(facts))
+
+
+def drawn_flight(work: Path, seed: int, seconds: int = 25) -> Path:
+    """A recording that has ended, with its facts: some channels over some seconds."""
+    draw = random.Random(seed)
+    channels = sorted(draw.sample(range(1, 300), 4))
+    path = work / "flight.ch11"
+    path.write_bytes(bytes(recorded(draw, channels, draw.randrange(2**40), seconds).data))
+    write_facts(path, Setup((Origin(0, ORIGIN),), channels={it: (f"eth{it}", 0) for it in channels[1:]}))
+    return path
+
+
+def whole_file_of(work: Path, path: Path) -> bytes:
+    """The whole file that bpfrec makes of a recording."""
+    run(ROOT / "host/bin/chapter11", "--force", path, work / "whole.ch10")
+    return (work / "whole.ch10").read_bytes()
+
+
+def send(path: Path, address: str, *options: object) -> Published:
+    """Publishes a recording that has ended, as fast as it goes: what it counts."""
+    done = outcome(PUBLISH, "--fast", *options, path, address)
+    judge_quietly("it ends well", done.returncode == 0, done.stderr)
+    return published(done.stderr)
+
+
+def answers(path: Path, channels: list[int], work: Path) -> list[object]:
+    """What the audit and extract answer of a recording."""
+    audit = outcome(BPFREC, "audit", path)
+    lines = audit.stdout.splitlines()
+    return [audit.returncode, lines[:-1], lines[-1].split()[0], *(extracted(work, path, it) for it in channels)]

@@ -1,5 +1,5 @@
-"""Tries host/bin/publish and host/bin/receive, and live --publish: by a receiver of its own beside receive, over networks
-that lose what they like, and with publishers that die."""
+"""Tries host/bin/publish and live --publish: by a receiver of its own beside host/bin/receive, where nobody listens or no
+route leads, and with publishers that die."""
 
 from __future__ import annotations
 
@@ -10,22 +10,22 @@ import signal
 import socket
 import subprocess
 import time
-from collections import Counter
 from pathlib import Path
 
 import pytest
 from frames import FRAMES, numbers_in, records
 from ground import (
     PUBLISH,
-    RECEIVE,
-    Published,
     Receiver,
-    Relay,
     Station,
+    answers,
+    drawn_flight,
     free_port,
     packets_in,
     published,
     renumbered,
+    send,
+    whole_file_of,
     write_facts,
 )
 from recordings import (
@@ -39,51 +39,21 @@ from recordings import (
     recordings,
     settings_of_one,
 )
-from support import BPFREC, LIVE, PREFLIGHT, ROOT, judge, judge_quietly, outcome, run, wait_for
+from support import LIVE, PREFLIGHT, ROOT, judge, judge_quietly, outcome, run, wait_for
 from whole_file import INDEX, Origin, Setup
 from whole_file_parts import ORIGIN, SAMPLE_SETUP, parts_of, recorded, sample_recording
 
 WANTED = {"bin/bpfrec": "make build", "bin/capture": "make build", "ip": "iproute2"}
 pytestmark = [pytest.mark.usefixtures("namespace")]
-CHAPTER11, CHECK, CONTROL = (ROOT / "host/bin" / it for it in ("chapter11", "check_ch10", "control"))
+CHECK, CONTROL = ROOT / "host/bin/check_ch10", ROOT / "host/bin/control"
 NO_INDEX = "the file doesn't end with a root that names all"
-
-
-def drawn(work: Path, seed: int, seconds: int = 25) -> Path:
-    """A recording that has ended, with its facts: some channels over some seconds."""
-    draw = random.Random(seed)
-    channels = sorted(draw.sample(range(1, 300), 4))
-    path = work / "flight.ch11"
-    path.write_bytes(bytes(recorded(draw, channels, draw.randrange(2**40), seconds).data))
-    write_facts(path, Setup((Origin(0, ORIGIN),), channels={it: (f"eth{it}", 0) for it in channels[1:]}))
-    return path
-
-
-def whole_file_of(work: Path, path: Path) -> bytes:
-    """The whole file that bpfrec makes of a recording."""
-    run(CHAPTER11, "--force", path, work / "whole.ch10")
-    return (work / "whole.ch10").read_bytes()
-
-
-def send(path: Path, address: str, *options: object) -> Published:
-    """Publishes a recording that has ended, as fast as it goes: what it counts."""
-    done = outcome(PUBLISH, "--fast", *options, path, address)
-    judge_quietly("it ends well", done.returncode == 0, done.stderr)
-    return published(done.stderr)
-
-
-def answers(path: Path, channels: list[int], work: Path) -> list[object]:
-    """What the audit and extract answer of a recording."""
-    audit = outcome(BPFREC, "audit", path)
-    lines = audit.stdout.splitlines()
-    return [audit.returncode, lines[:-1], lines[-1].split()[0], *(extracted(work, path, it) for it in channels)]
 
 
 @pytest.mark.parametrize("seed, most", [(1, 1_472), (2, 36), (3, 65_507), (4, 300)])
 def test_the_packets_are_those_of_a_whole_file(work: Path, seed: int, most: int) -> None:
     """Packet for packet what bpfrec chapter11 writes, but for the index and repeated setup records; and what is received
     is that too, and answers as the recording does."""
-    path = drawn(work, seed)
+    path = drawn_flight(work, seed)
     whole = whole_file_of(work, path)
     station = Station()
     counts = send(path, station.address, "--datagram", most)
@@ -136,42 +106,6 @@ def test_what_is_recorded_is_received_as_it_grows(work: Path) -> None:
     parts = [records(extracted(work, it, 1)) for it in ground]
     numbers = numbers_in(parts)
     judge("all frames, once", numbers == list(range(numbers[0], sent)), (len(numbers), sent))
-
-
-@pytest.mark.parametrize("seed", [1, 2, 3])
-def test_what_a_network_loses_doubles_and_exchanges_is_counted(work: Path, seed: int) -> None:
-    path = drawn(work, seed)
-    port = free_port()
-    receiver = Receiver(work, "ground.ch10", f"127.0.0.1:{port}")
-    relay = Relay(random.Random(seed), port, 0.02)
-    counts = send(path, relay.address, "--datagram", 200)
-    wait_for("all has come to the relay", lambda: relay.came == counts.datagrams)
-    relay.close()
-    seen = relay.came - relay.lost + relay.doubled
-    status, received = receiver.ended()
-    judge("all that came is counted", received.datagrams == seen, (received, seen))
-    judge("lost", (received.lost, status) == (relay.lost, 1), (received, relay.lost))
-    judge("doubled", (received.doubled, received.damaged) == (relay.doubled, 0), (received, relay.doubled))
-    errors = receiver.errors.read_text().splitlines()
-    gaps = sum(int(it.split()[2]) for it in errors if it.startswith("receive: gap "))
-    judge("each gap is said", gaps == relay.lost, errors)
-    got, wanted = parts_of(receiver.out.read_bytes()), parts_of(whole_file_of(work, path))
-    rest = Counter(it.data for it in got) - Counter(it.data for it in wanted)
-    judge("what is written was sent", not rest and 0 < len(got) < len(wanted), (len(got), len(wanted)))
-    judge("and can be read", outcome(BPFREC, "list", receiver.out).returncode == 0)
-
-
-def test_what_came_ahead_of_the_end_is_written(work: Path) -> None:
-    """Also where receive has read none of it yet."""
-    path, port = drawn(work, 6), free_port()
-    receiver = Receiver(work, "ground.ch10", f"127.0.0.1:{port}")
-    receiver.process.send_signal(signal.SIGSTOP)
-    counts = send(path, f"127.0.0.1:{port}", "--datagram", 36)
-    judge_quietly("more than a turn takes", counts.datagrams > 1_024, counts)
-    receiver.process.terminate()
-    receiver.process.send_signal(signal.SIGCONT)
-    status, received = receiver.over()
-    judge("all of it", (status, received.datagrams) == (0, counts.datagrams), (received, counts))
 
 
 def test_nobody_listens(work: Path) -> None:
@@ -292,7 +226,7 @@ def test_a_group_is_sent_to_by_an_interface(work: Path) -> None:
 
 
 def test_one_that_has_ended_goes_out_at_the_pace_of_its_counters(work: Path) -> None:
-    path = drawn(work, 5, seconds=3)
+    path = drawn_flight(work, 5, seconds=3)
     station = Station()
     begun = time.monotonic()
     done = outcome(PUBLISH, path, station.address)
@@ -364,23 +298,6 @@ def test_what_cannot_be_published_is_refused(work: Path) -> None:
     path.write_bytes(data)
     done = outcome(PUBLISH, "--fast", path, f"127.0.0.1:{free_port()}")
     judge("damage is said", done.returncode == 1 and "read 8 DataChecksum" in done.stderr, done)
-
-
-def test_what_cannot_be_received_is_refused(work: Path) -> None:
-    (work / "there").write_text("x")
-    with socket.socket(socket.AF_INET, socket.SOCK_DGRAM) as made:
-        made.bind(("127.0.0.1", 0))
-        taken = made.getsockname()[1]
-        for words, what in [
-            ([f"127.0.0.1:{free_port()}", work / "there"], "there is there: give it another name, or --force"),
-            ([f"127.0.0.1:{taken}", work / "a"], "Address already in use"),
-            ([f"192.0.2.9:{taken}", work / "a"], "Cannot assign requested address"),
-        ]:
-            done = outcome(RECEIVE, *words)
-            judge(what, (done.returncode, what in done.stderr) == (3, True), done)
-    done = outcome(RECEIVE, "--for", 1, f"127.0.0.1:{free_port()}", work / "b")
-    line = "received packets 0 datagrams 0 lost 0 doubled 0 damaged 0 skipped 0\n"
-    judge("nothing comes", (done.returncode, done.stdout) == (1, line), done)
 
 
 def test_live_refuses_what_it_cannot_publish(work: Path) -> None:

@@ -171,6 +171,19 @@ def parser() -> Parser:
     made.add_argument("--keep", metavar="N", type=count, help="keeps the last N recordings of --every or --size")
     made.add_argument("--keep-free", metavar="BYTES", type=size, help="removes the oldest until this much is free")
     made.add_argument("--mode", metavar="MODE", type=file_mode, help="who may read OUT and its facts")
+    add_outside_options(made)
+    made.add_argument("--prefilter", action="store_true", help="has the kernel run the filters too")
+    whole = "makes OUT.ch10, a whole Chapter 11 file, after each recording"
+    made.add_argument("--chapter11", action="store_true", help=whole)
+    made.add_argument("--no-audit", action="store_true", help="leaves the audit out")
+    made.add_argument("--strict", action="store_true", help="exit status 5 if an interface lost frames")
+    add_capture_options(made)
+    made.add_argument("operands", nargs="*", help=argparse.SUPPRESS)
+    return made
+
+
+def add_outside_options(made: Parser) -> None:
+    """The options by which others see how the run goes, steer it, or get what it records."""
     made.add_argument("--status", metavar="[ADDRESS:]PORT", help="serves a page that shows how the recording goes")
     named = "a name by which browsers ask for it; may be given again"
     made.add_argument("--status-name", metavar="NAME", action="append", default=[], help=named)
@@ -182,14 +195,6 @@ def parser() -> Parser:
     sent = "sends what is recorded there by UDP; may be given again"
     form = "ADDRESS:PORT[,ttl=N][,interface=NAME][,datagram=BYTES]"
     made.add_argument("--publish", metavar=form, type=target_of, action="append", default=[], help=sent)
-    made.add_argument("--prefilter", action="store_true", help="has the kernel run the filters too")
-    whole = "makes OUT.ch10, a whole Chapter 11 file, after each recording"
-    made.add_argument("--chapter11", action="store_true", help=whole)
-    made.add_argument("--no-audit", action="store_true", help="leaves the audit out")
-    made.add_argument("--strict", action="store_true", help="exit status 5 if an interface lost frames")
-    add_capture_options(made)
-    made.add_argument("operands", nargs="*", help=argparse.SUPPRESS)
-    return made
 
 
 def read(arguments: list[str]) -> Arguments:

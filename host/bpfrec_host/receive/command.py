@@ -174,7 +174,7 @@ def run(arguments: list[str]) -> int:
             return receiver.end()
     except Refused as refused:
         err(str(refused))
-        return refused.status
+        return Unreadable.status
 
 
 def listening(given: argparse.Namespace) -> socket.socket:
