@@ -64,10 +64,12 @@ def with_networks(setup: Setup) -> Setup:
     return setup._replace(channels={it: (name, 0) for it, (name, _) in setup.channels.items()})
 
 
-def test_the_worked_row_has_its_bytes(work: Path) -> None:
-    """The recording of 248 bytes: with the index of its whole file it has that file's sum."""
+@pytest.mark.parametrize("profile", [1, 2])
+def test_the_worked_row_has_its_bytes(work: Path, profile: int) -> None:
+    """The recording of 248 bytes, or the same without data checksums: with the index of its whole file it has that file's
+    sum."""
     path = work / "flight.ch11"
-    path.write_bytes(SAMPLES[1].read_bytes())
+    path.write_bytes(SAMPLES[profile - 1].read_bytes())
     parts, _ = published(path, Setup(()), Asked(origin="1764590400.250000123"))
     lengths = [len(it.bytes()) for it in parts]
     judge("its packets", lengths == [688, 40, 64, 64, 64, 56], lengths)
@@ -152,6 +154,8 @@ def test_what_nobody_knows_the_time_of_is_refused(work: Path) -> None:
     Path(f"{path}.json").unlink()
     with pytest.raises(Refused, match="no facts beside it"):
         published(path, setup)
+    with pytest.raises(Refused, match="flight.ch11: its times are of no year from 1 to 3999"):
+        published(path, setup, Asked(origin="64060588800"))
     parts, _ = published(path, setup, Asked(origin="1764590400.250000123"))
     wanted = wanted_of(sample_recording(), setup._replace(host="bpfrec"))
     judge("with --origin it isn't", renumbered(parts) == wanted)

@@ -8,6 +8,7 @@ import errno
 import os
 import select
 import socket
+import time
 from typing import Any, Optional
 
 import pytest
@@ -43,11 +44,11 @@ class World:
     """A Sending with a clock and sockets that are played."""
 
     def __init__(self, patch: pytest.MonkeyPatch, *sockets: Any) -> None:
-        self.now, self.lines = 100.0, []
+        self.now = 100.0
         self.waited: list[float] = []
         self.sockets = list(sockets)
         patch.setattr(sending, "opened", self.open)
-        patch.setattr(sending.time, "monotonic", lambda: self.now)
+        patch.setattr(time, "monotonic", lambda: self.now)
         patch.setattr(select, "select", lambda *given: self.waited.append(given[-1]))
         self.lines: list[str] = []
         self.sending = Sending(Route(ADDRESS), self.lines.append)

@@ -10,6 +10,7 @@ import signal
 import socket
 import subprocess
 import time
+from functools import partial
 from pathlib import Path
 
 import pytest
@@ -154,6 +155,11 @@ def test_a_full_socket_ends_no_publisher(work: Path) -> None:
     judge("and says why", "publish: 127.0.0.1:50000: socket full: " in done.stderr, done.stderr)
 
 
+def has_more(station: Station, count: int) -> bool:
+    """Whether more datagrams have come than that."""
+    return len(station.datagrams) > count
+
+
 def test_a_publisher_that_is_killed_comes_back(work: Path) -> None:
     """At two moments, and clients of --control too; the recording has all frames, and what comes later is published
     again."""
@@ -168,16 +174,14 @@ def test_a_publisher_that_is_killed_comes_back(work: Path) -> None:
         time.sleep(draw.random() / 4)
         client.kill()
         client.wait()
-        before = len(station.datagrams)
-        wait_for("it is sent", lambda count=before: len(station.datagrams) > count, 60)
+        wait_for("it is sent", partial(has_more, station, len(station.datagrams)), 60)
         time.sleep(draw.random())
         (pid,) = [it for it, words in processes_of(out).items() if "--stay" in words]
         judge_quietly("another one", pid not in killed)
         killed.add(pid)
         os.kill(pid, signal.SIGKILL)
         wait_for("a line", lambda: running.told().count("ended by signal 9, and begins again in ") == len(killed))
-    before = len(station.datagrams)
-    wait_for("it is sent again", lambda: len(station.datagrams) > before + 3, 60)
+    wait_for("it is sent again", partial(has_more, station, len(station.datagrams) + 3), 60)
     running.interrupt()
     sent = traffic.end()
     status, _ = running.ended()
@@ -223,6 +227,18 @@ def test_a_group_is_sent_to_by_an_interface(work: Path) -> None:
     status, received = receiver.over()
     judge("it is received", (status, received.datagrams) == (0, counts.datagrams), received)
     judge("whole", [it.kind for it in parts_of(receiver.out.read_bytes())].count(FRAMES) > 0)
+
+
+@pytest.mark.parametrize("address", ["[::1]:50001", "[ff02::1:5%tx0]:50001", "[ff05::1:5]:50001"])
+def test_addresses_of_ipv6_are_sent_to(work: Path, address: str) -> None:
+    Path("/proc/sys/net/ipv6/conf/tx0/disable_ipv6").write_text("0")
+    run("ip", "-6", "addr", "add", "fe80::1/64", "dev", "tx0", "nodad")
+    options = ("--interface", "tx0") if "%" not in address and "ff" in address else ()
+    path = drawn_flight(work, 8)
+    receiver = Receiver(work, "ground.ch10", address, *options)
+    counts = send(path, address, *options)
+    status, received = receiver.ended()
+    judge("all is received", (status, received.datagrams, counts.lost) == (0, counts.datagrams, 0), (received, counts))
 
 
 def test_one_that_has_ended_goes_out_at_the_pace_of_its_counters(work: Path) -> None:
@@ -278,10 +294,34 @@ def test_signals_end_it_with_its_counts(work: Path, sign: signal.Signals, status
     judge("all that was counted came", published(f"{line[0]}\n").datagrams == len(datagrams), (line, len(datagrams)))
 
 
+def test_term_has_all_recordings_of_a_run_sent(work: Path) -> None:
+    """Also those that it has not begun with."""
+    out, station = work / "flight.ch11", Station()
+    running = begin(work, out, "--quiet", "--every", 1)
+    traffic = Traffic(pause=0.01)
+    wait_for("the first", lambda: recordings(work, "flight"))
+    publisher = subprocess.Popen(
+        [PUBLISH, work / "flight_00001.ch11", station.address], stderr=subprocess.PIPE, text=True
+    )
+    wait_for("it is sent", lambda: station.datagrams)
+    publisher.send_signal(signal.SIGSTOP)
+    wait_for("three recordings", lambda: len(recordings(work, "flight")) >= 3)
+    running.interrupt()
+    sent = traffic.end()
+    judge_quietly("the run ends well", running.ended()[0] == 0, running.told())
+    publisher.terminate()
+    publisher.send_signal(signal.SIGCONT)
+    _, told = publisher.communicate(timeout=30)
+    judge("it ends well", publisher.returncode == 0, told)
+    (work / "all.ch11").write_bytes(packets_in(station.close()))
+    numbers = numbers_in([records(extracted(work, work / "all.ch11", 1))])
+    judge("all frames", numbers == list(range(numbers[0], sent)), (len(numbers), sent))
+
+
 def test_what_cannot_be_published_is_refused(work: Path) -> None:
     path = work / "flight.ch11"
     path.write_bytes(sample_recording())
-    for words, status, what in [
+    refused: list[tuple[list[object], int, str]] = [
         ([path, "127.0.0.1:50000"], 1, f"publish: {path}: no facts beside it: --origin says when it was recorded"),
         ([work / "none.ch11", "127.0.0.1:5"], 1, "there is no such recording"),
         ([work, "127.0.0.1:5"], 1, "it is no regular file, which could be followed"),
@@ -289,7 +329,8 @@ def test_what_cannot_be_published_is_refused(work: Path) -> None:
         (["--interface", "lo", path, "127.0.0.1:5"], 2, "--interface is for a multicast group"),
         (["--datagram", "35", path, "127.0.0.1:5"], 2, "35 is no number from 36 to 65507"),
         (["--ttl", "256", path, "127.0.0.1:5"], 2, "256 is no number from 0 to 255"),
-    ]:
+    ]
+    for words, status, what in refused:
         done = outcome(PUBLISH, *words)
         judge(what, (done.returncode, what in done.stderr) == (status, True), done)
     write_facts(path, SAMPLE_SETUP)
@@ -302,14 +343,15 @@ def test_what_cannot_be_published_is_refused(work: Path) -> None:
 
 def test_live_refuses_what_it_cannot_publish(work: Path) -> None:
     settings = settings_of_one(work)
+    programs: list[list[object]] = [[LIVE], [PREFLIGHT, "--live"]]
     for word, what in [
         ("ground:5", "--publish ground:5: needs ADDRESS:PORT"),
         ("127.0.0.1:5,interface=lo", "interface= is for a multicast group"),
         ("239.1.2.3:5,ttl=x", "--publish x is no number"),
         ("239.1.2.3:5,speed=5", "speed=5: needs ttl=N, interface=NAME or datagram=BYTES, each once"),
     ]:
-        for words in ([LIVE], [PREFLIGHT, "--live"]):
-            done = outcome(*words, "--publish", word, settings, work / "x.ch11", "rx0=1")
+        for program in programs:
+            done = outcome(*program, "--publish", word, settings, work / "x.ch11", "rx0=1")
             judge(what, done.returncode == 2 and what in done.stderr, done)
     os.mkfifo(work / "pipe")
     done = outcome(LIVE, "--publish", "127.0.0.1:5", settings, work / "pipe", "rx0=1")

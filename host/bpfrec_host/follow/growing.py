@@ -96,9 +96,9 @@ def next_of(
     is numbered."""
     is_numbered = number_of(recording.path, names_of(recording.path)) is not None
     ends = None
-    while recording.known and not is_given_up():
+    while recording.known:
         next_path = following(recording.path, recording.known.begun)
-        if next_path or ends is not None and time.monotonic() > ends:
+        if next_path or is_given_up() or ends is not None and time.monotonic() > ends:
             return next_path
         if recording.has_ended() and ends is None:
             ends = time.monotonic() + (patience if is_numbered or patience > PATIENCE else 0)

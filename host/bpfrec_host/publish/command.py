@@ -98,6 +98,8 @@ class Publisher:
         self.datagrams = Datagrams(given.datagram, self.sending.send)
         self.packets = self.late = 0
         self.is_damaged = False
+        # Whether the first recording had ended, so that all go out at their pace; one that follows may have ended since.
+        self.is_replay: Optional[bool] = None
         # TERM came, so what is there of one that goes on is sent, and nothing waited for; or Ctrl-C, which ends all.
         self.is_ending = self.is_interrupted = False
 
@@ -110,10 +112,12 @@ class Publisher:
         """Publishes a recording and those that follow it, until the run ends."""
         next_path: Optional[str] = path
         begins_now = self.given.now
-        while next_path and not self.is_ending:
+        while next_path:
             recording = Recording(next_path, err, self.asked, self.datagrams.add)
             try:
                 recording.begin(begins_now, lambda: self.is_ending)
+                self.is_replay = recording.was_over if self.is_replay is None else self.is_replay
+                recording.is_paced = self.is_replay
                 next_path, begins_now = self.publish(recording), False
             finally:
                 self.count(recording)
@@ -137,7 +141,10 @@ class Publisher:
         recording.read_rest()
         recording.put_out(True, self.wait)
         self.datagrams.flush()
-        return next_of(recording, math.inf if self.given.stay else PATIENCE, lambda: self.is_ending)
+        # TERM leaves out what is replayed, and nothing of a run that goes on.
+        is_over = self.is_interrupted or self.is_ending and recording.is_paced
+        patience = math.inf if self.given.stay else PATIENCE
+        return None if is_over else next_of(recording, patience, lambda: self.is_ending)
 
     def go_on(self, recording: Recording) -> None:
         """Publishes what has come, or waits a little."""

@@ -55,9 +55,10 @@ class Recording(Growing):
         self.hidden: dict[int, int] = {}
         # How many packets are another recorder's.
         self.others = 0
-        # Where the stream's first piece stands in time: when it went out, and its counter.
+        # Whether it had ended when it was begun with, and whether it goes out at the pace of its counters: when the first
+        # piece went out, and its counter.
+        self.was_over = self.is_paced = False
         self.paced_from: Optional[tuple[float, int]] = None
-        self.was_over = False
 
     def begin(self, begins_now: bool, is_given_up: Callable[[], bool]) -> None:
         """Finds out when it was recorded, and leaves out what is there where only what comes is published."""
@@ -178,12 +179,18 @@ class Recording(Growing):
     def put_out(self, is_whole: bool, wait: Wait) -> None:
         """Puts out what may go out by now, each piece once `wait` says so."""
         found = self.merging.next(time.monotonic(), is_whole)
-        while found and wait(self.due_in(found[1]) if self.was_over else None):
-            channel, piece = found
-            rest = self.stream.put(channel, piece)
-            if rest:
-                self.merging.put_back(channel, rest)
+        while found and wait(self.due_in(found[1]) if self.is_paced else None):
+            self.put(*found)
             found = self.merging.next(time.monotonic(), is_whole)
+
+    def put(self, channel: int, piece: Piece) -> None:
+        """Puts out a piece; what is left of it behind a time packet is its channel's next one."""
+        try:
+            rest = self.stream.put(channel, piece)
+        except Refused as refused:
+            raise Refused(f"{self.path}: {refused}") from None
+        if rest:
+            self.merging.put_back(channel, rest)
 
     def due_in(self, piece: Piece) -> float:
         """In how many seconds a piece is due, by the counter of the first one."""
