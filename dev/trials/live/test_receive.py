@@ -71,6 +71,17 @@ def test_what_cannot_be_received_is_refused(work: Path) -> None:
     judge("nothing comes", (done.returncode, done.stdout) == (1, line), done)
 
 
+def test_streams_that_follow_one_another_have_their_own_files(work: Path) -> None:
+    """Also of the same recording, which begins at the same time."""
+    path, port = drawn_flight(work, 9), free_port()
+    receiver = Receiver(work, "ground.ch10", f"127.0.0.1:{port}")
+    counts = [send(path, f"127.0.0.1:{port}", "--datagram", most) for most in (200, 200, 1_472)]
+    status, received = receiver.ended()
+    judge("nothing is lost", (status, received.datagrams) == (0, sum(it.datagrams for it in counts)), received)
+    files = [work / name for name in ("ground.ch10", "ground_00002.ch10", "ground_00003.ch10")]
+    judge("three that are alike", len({it.read_bytes() for it in files}) == 1 and parts_of(files[0].read_bytes()))
+
+
 def test_an_out_that_finds_no_room_ends_it(work: Path) -> None:
     path, port = drawn_flight(work, 7), free_port()
     receiver = subprocess.Popen([RECEIVE, f"127.0.0.1:{port}", "/dev/full"], stderr=subprocess.PIPE, text=True)

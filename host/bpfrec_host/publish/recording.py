@@ -67,10 +67,11 @@ class Recording(Growing):
         ends = time.monotonic() + FACTS_PATIENCE
         self.look_at_facts()
         while not self.known and not self.asked.origin and not self.has_ended() and time.monotonic() < ends:
-            if is_given_up():
-                break
+            is_last = is_given_up()
             time.sleep(PAUSE)
             self.look_at_facts()
+            if is_last:
+                break
         self.judge_times()
         self.was_over = self.has_ended()
 

@@ -21,6 +21,8 @@ class Window:
         # The number that comes next, and those that wait by how far behind it they are.
         self.next: Optional[int] = None
         self.held: dict[int, Datagram] = {}
+        # The datagram with number 0 of the stream, where it came.
+        self.first: Optional[Datagram] = None
         self.lost = self.doubled = 0
         # The last of those in a row that lay far behind, and how many these are.
         self.behind, self.behind_count = -1, 0
@@ -40,6 +42,8 @@ class Window:
             self.doubled += 1
             return
         self.held[number] = datagram
+        if number == 0:
+            self.first = datagram
         while self.held and (self.next in self.held or self.must_go_on()):
             self.go_on()
 
@@ -68,8 +72,7 @@ class Window:
         """Takes a datagram that had its turn: it came twice or too late, or another stream has begun."""
         is_next = datagram.number == (self.behind + 1) % NUMBERS
         self.behind, self.behind_count = datagram.number, self.behind_count + 1 if is_next else 1
-        is_far = self.next is not None and (self.next - datagram.number) % NUMBERS > WIDTH
-        if datagram.number == 0 and is_far or self.behind_count >= MOST_BEHIND:
+        if datagram.number == 0 and self.begins_anew(datagram) or self.behind_count >= MOST_BEHIND:
             self.give_up()
             # Those in a row before it were counted as doubled, and are missing.
             self.next, self.behind_count = datagram.number, 0
@@ -77,3 +80,8 @@ class Window:
             self.add(datagram)
             return
         self.doubled += 1
+
+    def begins_anew(self, first: Datagram) -> bool:
+        """Whether a datagram with number 0 is another stream's: it isn't that of this one, or comes long after it."""
+        is_far = self.next is not None and (self.next - first.number) % NUMBERS > WIDTH
+        return is_far or self.first is not None and first != self.first
