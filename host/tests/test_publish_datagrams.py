@@ -95,7 +95,6 @@ def test_as_many_packets_as_fit_go_together() -> None:
 
 
 def test_the_headers_have_these_bytes() -> None:
-    """As whole_file.md shows them."""
     found: list[bytes] = []
     datagrams = Datagrams(36, found.append)
     datagrams.number = 0x1_00_00_05

@@ -11,6 +11,7 @@ from typing import Optional
 import pytest
 from bpfrec_host.chapter11.setup import Asked
 from bpfrec_host.publish import clock, setup_record
+from bpfrec_host.publish.datagrams import Datagrams
 from bpfrec_host.publish.pieces import Piece
 from bpfrec_host.publish.recording import Recording
 from bpfrec_host.publish.setup_record import Source, cleaned
@@ -20,7 +21,7 @@ from drawn_recording import DrawnRecording, drawn_insns
 from frames import FRAMES, body_of
 from ground import renumbered, write_facts
 from reading import SAMPLES
-from support import judge, judge_quietly
+from support import ROOT, judge, judge_quietly
 from whole_file import INDEX, SETUP, TIME, Origin, Setup
 from whole_file import cleaned as plainly_cleaned
 from whole_file import whole_file
@@ -29,6 +30,7 @@ from whole_file_parts import ORIGIN, SAMPLE_SETUP, Part, parts_of, recorded, sam
 WANTED: dict[str, str] = {}
 TICKS = 10_000_000
 SEEDS = range(40)
+PAGE = ROOT / "docs/user/formats/whole_file.md"
 # The sum of the whole file of the recording of 248 bytes with this origin, and its time packet.
 ONE_SUM = "bc7788fb6bd5a9b95dc6af282ea8a3d1a4b274476766c991a927b7373ea32e74"
 TIME_PACKET = "25eb0200280000000c000000080003119f86010000000683 30020000 2600 0012 0112 2520 57142532"
@@ -77,6 +79,22 @@ def test_the_worked_row_has_its_bytes(work: Path, profile: int) -> None:
     index = bytes(whole_file(path.read_bytes(), Setup((Origin(0, ORIGIN),))).data)[sum(lengths) :]
     data = b"".join(it.bytes() for it in parts) + index
     judge("with the index the file's sum", hashlib.sha256(data).hexdigest() == ONE_SUM)
+
+
+def test_the_datagrams_of_the_worked_row_are_those_of_the_page(work: Path) -> None:
+    path = work / "flight.ch11"
+    path.write_bytes(SAMPLES[1].read_bytes())
+    parts, _ = published(path, Setup(()), Asked(origin="1764590400.250000123"))
+    for most, lengths in [(1_472, [980]), (400, [400, 312, 292])]:
+        sent: list[bytes] = []
+        datagrams = Datagrams(most, sent.append)
+        for part in parts:
+            datagrams.add(part.bytes())
+        datagrams.flush()
+        judge(f"of at most {most}", [len(it) for it in sent] == lengths, [len(it) for it in sent])
+    section = PAGE.read_text().partition("## The same packets by UDP")[2]
+    lines = [it.removesuffix(" ..").replace(" ", "") for it in section.split("```")[1].split("\n") if it]
+    judge("their bytes", len(lines) == 3 and all(it.hex().startswith(line) for it, line in zip(sent, lines)), lines)
 
 
 @pytest.mark.parametrize("seed", SEEDS)

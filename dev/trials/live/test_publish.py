@@ -208,6 +208,18 @@ def test_a_run_ends_soon_whatever_its_publisher_does(work: Path, sign: signal.Si
     judge("and leaves nothing", not processes_of(out) and nothing_left(work), processes_of(out))
 
 
+def test_no_publisher_outlives_live(work: Path) -> None:
+    """Where live is killed; the recording is whole all the same."""
+    out, station = work / "flight.ch11", Station()
+    running = begin(work, out, "--quiet", "--flush", 1, "--publish", station.address)
+    traffic = Traffic()
+    wait_for("it is sent", partial(has_more, station, 3))
+    os.kill(running.process.pid, signal.SIGKILL)
+    wait_for("all has ended", lambda: not processes_of(out))
+    traffic.end()
+    judge("the recording is whole", is_approved(out), running.told())
+
+
 def test_a_group_is_sent_to_by_an_interface(work: Path) -> None:
     """Over as many routers as --ttl says; whoever has joined on the interface receives."""
     path = work / "flight.ch11"
