@@ -268,6 +268,10 @@ def with_and_without_publisher(work: Path, buffer: int) -> Commands:
     }
 
 
+# What host/bin/live is timed with and without, in turn.
+IN_TURN = {"syncs": with_and_without_syncs, "follow": with_and_without_follower, "publish": with_and_without_publisher}
+
+
 def time_wire(work: Path, words: argparse.Namespace, made: Commands) -> None:
     frames = words.frames
     print(
@@ -376,17 +380,12 @@ def main() -> int:
     if words.ahead:
         go_ahead()
     with tempfile.TemporaryDirectory() as folder:
-        made = {
-            "syncs": with_and_without_syncs,
-            "follow": with_and_without_follower,
-            "publish": with_and_without_publisher,
-        }
         if words.part != "files":
             make_pairs()
         if words.part in (None, "wire"):
             time_wire(Path(folder), words, commands(Path(folder), words.buffer, words.before))
-        elif words.part in made:
-            time_wire(Path(folder), words, made[words.part](Path(folder), words.buffer))
+        elif words.part in IN_TURN:
+            time_wire(Path(folder), words, IN_TURN[words.part](Path(folder), words.buffer))
         if words.part in (None, "files") and not words.before:
             time_files(Path(folder), words.frames, words.least)
     return 0

@@ -6,7 +6,7 @@ import hashlib
 import random
 import time
 from pathlib import Path
-from typing import Optional
+from typing import Callable, Optional
 
 import pytest
 from bpfrec_host.chapter11.setup import Asked
@@ -24,7 +24,7 @@ from reading import SAMPLES
 from support import ROOT, judge, judge_quietly
 from whole_file import INDEX, SETUP, TIME, Origin, Setup
 from whole_file import cleaned as plainly_cleaned
-from whole_file import whole_file
+from whole_file import frames_in, whole_file
 from whole_file_parts import ORIGIN, SAMPLE_SETUP, Part, parts_of, recorded, sample_recording
 
 WANTED: dict[str, str] = {}
@@ -36,11 +36,11 @@ ONE_SUM = "bc7788fb6bd5a9b95dc6af282ea8a3d1a4b274476766c991a927b7373ea32e74"
 TIME_PACKET = "25eb0200280000000c000000080003119f86010000000683 30020000 2600 0012 0112 2520 57142532"
 
 
-def write(work: Path, data: bytes, setup: Setup) -> Path:
-    """A recording that has ended, with the facts that say this."""
+def write(work: Path, data: bytes, setup: Setup, state: str = "ended") -> Path:
+    """A recording with the facts that say this."""
     path = work / "flight.ch11"
     path.write_bytes(data)
-    write_facts(path, setup)
+    write_facts(path, setup, state)
     return path
 
 
@@ -199,6 +199,73 @@ class Played:
 
     def parts(self) -> list[Part]:
         return parts_of(bytes(self.data))
+
+
+def grown(
+    work: Path, data: bytes, setup: Setup, draw: random.Random, pass_time: Callable[[], None]
+) -> tuple[list[Part], Recording]:
+    """The packets of a recording that is published as it grows, in drawn steps."""
+    path = write(work, b"", setup, "recording")
+    packets: list[bytes] = []
+    recording = Recording(str(path), lambda line: judge("nothing is wrong", False, line), Asked(), packets.append)
+    recording.begin(False, lambda: False)
+    at = 0
+    with open(path, "ab", buffering=0) as file:
+        while at < len(data):
+            length = draw.choice([1, 50, 700, 5_000])
+            file.write(data[at : at + length])
+            at += length
+            pass_time()
+            recording.read_on()
+            recording.put_out(False, lambda _: True)
+    recording.read_rest()
+    recording.put_out(True, lambda _: True)
+    recording.close()
+    return parts_of(b"".join(packets)), recording
+
+
+def frames_by_channel(parts: list[Part]) -> dict[int, list[tuple]]:
+    """The frames of each channel in order, but for bits that a whole file has zero."""
+    found: dict[int, list[tuple]] = {}
+    for part in parts:
+        if part.kind == FRAMES:
+            found.setdefault(part.channel, []).extend(frames_in(part.data))
+    return found
+
+
+@pytest.mark.parametrize("seed", SEEDS)
+def test_a_recording_that_grows_has_the_packets_of_its_whole_file(
+    work: Path, seed: int, monkeypatch: pytest.MonkeyPatch
+) -> None:
+    """Where no second goes by, in which a piece would wait no longer."""
+    draw = random.Random(seed)
+    channels = sorted(draw.sample(range(1, 12), draw.randrange(1, 5)))
+    data = bytes(recorded(draw, channels, draw.randrange(2**44), draw.choice([1, 4, 25])).data)
+    setup = Setup((Origin(0, ORIGIN),), channels={it: (f"eth{it}", 0) for it in channels})
+    monkeypatch.setattr(time, "monotonic", lambda: 100.0)
+    parts, recording = grown(work, data, setup, draw, lambda: None)
+    judge("each packet", renumbered(parts) == wanted_of(data, setup) and recording.stream.late == 0)
+
+
+@pytest.mark.parametrize("seed", SEEDS)
+def test_whatever_comes_late_each_frame_goes_out_once_and_in_order(
+    work: Path, seed: int, monkeypatch: pytest.MonkeyPatch
+) -> None:
+    draw = random.Random(seed)
+    data = bytes(recorded(draw, [2, 3, 7], draw.randrange(2**44), 25).data)
+    setup = Setup((Origin(0, ORIGIN),), channels={it: (f"eth{it}", 0) for it in (2, 3, 7, 9)})
+    moments = [100.0]
+    monkeypatch.setattr(time, "monotonic", lambda: moments[-1])
+    parts, recording = grown(work, data, setup, draw, lambda: moments.append(moments[-1] + draw.random()))
+    judge("frames", frames_by_channel(parts) == frames_by_channel(parts_of(data)), recording.stream.late)
+    records = [it.data for it in parts if it.kind == 0]
+    judge("and records", sorted(records) == sorted(it.data for it in parts_of(data) if it.kind == 0))
+    late, latest = 0, 0
+    for part in parts:
+        if part.kind in (0, FRAMES) and part.data[8:20] != b"\2\0" + part.data[10:12] + bytes(8):
+            late += part.counter < latest
+            latest = max(latest, part.counter)
+    judge("what is late is counted", recording.stream.late == late, (recording.stream.late, late))
 
 
 def test_pieces_that_come_behind_a_later_one_are_counted() -> None:
