@@ -60,7 +60,7 @@ def udp_address(word: str) -> UdpAddress:
 
 
 def ttl_of(word: str) -> int:
-    """The number of routers that a word says."""
+    """The hops that a word says."""
     number = natural(word)
     if number > MAX_BYTE:
         raise argparse.ArgumentTypeError(f"{word} is no number from 0 to {MAX_BYTE}")

@@ -162,11 +162,11 @@ def test_other_words_are_no_addresses(word: str) -> None:
         udp_address(word)
 
 
-def test_a_group_gets_its_routers_and_its_interface() -> None:
+def test_a_group_gets_its_hops_and_its_interface() -> None:
     route = Route(udp_address("239.1.2.3:50000"), 7, "lo")
     with opened(route) as made:
         ttl = made.getsockopt(socket.IPPROTO_IP, socket.IP_MULTICAST_TTL)
-        judge("routers", ttl == 7, ttl)
+        judge("hops", ttl == 7, ttl)
         chosen = made.getsockopt(socket.IPPROTO_IP, socket.IP_MULTICAST_IF, 12)
         judge_quietly("an interface", len(chosen) >= 4)
         judge("a buffer", made.getsockopt(socket.SOL_SOCKET, socket.SO_SNDBUF) >= 212_992)

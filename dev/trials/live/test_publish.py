@@ -221,7 +221,7 @@ def test_no_publisher_outlives_live(work: Path) -> None:
 
 
 def test_a_group_is_sent_to_by_an_interface(work: Path) -> None:
-    """Over as many routers as --ttl says; whoever has joined on the interface receives."""
+    """With the hops of --ttl; a receiver that has joined on the interface gets all."""
     path = work / "flight.ch11"
     path.write_bytes(sample_recording())
     write_facts(path, SAMPLE_SETUP)
@@ -235,7 +235,7 @@ def test_a_group_is_sent_to_by_an_interface(work: Path) -> None:
         while frame[14 + 9] != socket.IPPROTO_UDP:
             frame = seen.recv(65_535)
     judge("the group's Ethernet address", frame[:6].hex() == "01005e010203", frame[:6].hex())
-    judge("its routers and its port", (frame[14 + 8], int.from_bytes(frame[36:38], "big")) == (5, 50_000), frame[:40])
+    judge("its hops and its port", (frame[14 + 8], int.from_bytes(frame[36:38], "big")) == (5, 50_000), frame[:40])
     status, received = receiver.over()
     judge("it is received", (status, received.datagrams) == (0, counts.datagrams), received)
     judge("whole", [it.kind for it in parts_of(receiver.out.read_bytes())].count(FRAMES) > 0)

@@ -56,12 +56,13 @@ LONGEST_PAUSE = 0.1
 
 def parser() -> Parser:
     """The arguments of bpfrec-publish."""
-    made = Parser(prog=full_name("publish"), description=ABOUT, epilog=MORE)
+    name = full_name("publish")
+    made = Parser(prog=name, usage=f"{name} [OPTION..] RECORDING ADDRESS:PORT", description=ABOUT, epilog=MORE)
     made.add_argument("--now", action="store_true", help="leaves out the frames that are in the recording already")
     made.add_argument("--fast", action="store_true", help="sends one that has ended as fast as the socket takes it")
     stay = "waits for the next recording of a run until TERM comes"
     made.add_argument("--stay", action="store_true", help=stay)
-    ttl = "over how many routers a group's datagrams go, 0 to 255; 1 by default"
+    ttl = "the hops of a group's datagrams, 0 to 255; 1, which is the link alone, by default"
     made.add_argument("--ttl", metavar="N", type=ttl_of, default=1, help=ttl)
     made.add_argument("--interface", metavar="NAME", help="the interface by which a group's datagrams go")
     most = f"the longest datagram, {MIN_DATAGRAM_LEN} to {MAX_DATAGRAM_LEN} bytes; {USUAL_DATAGRAM_LEN:,} by default"

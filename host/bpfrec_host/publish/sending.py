@@ -33,7 +33,7 @@ SO_SNDBUFFORCE = 32
 
 
 class Route(NamedTuple):
-    """Where datagrams go: the address, over how many routers those of a group go, and by which interface."""
+    """Where datagrams go: the address, and the hops of those of a group and the interface by which they go."""
 
     address: UdpAddress
     ttl: int = 1
@@ -171,7 +171,7 @@ def make_room(made: socket.socket) -> None:
 
 
 def set_multicast(made: socket.socket, route: Route) -> None:
-    """Sets by which interface datagrams go to a group, and over how many routers."""
+    """Sets by which interface datagrams go to a group, and their hops."""
     interface = route.interface or route.address.zone
     index = socket.if_nametoindex(interface) if interface else 0
     if route.address.address.version == 6:
