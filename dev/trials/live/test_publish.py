@@ -10,6 +10,7 @@ import signal
 import socket
 import subprocess
 import time
+from collections.abc import Iterator
 from functools import partial
 from pathlib import Path
 
@@ -114,7 +115,7 @@ def test_nobody_listens(work: Path) -> None:
     address = f"127.0.0.1:{free_port()}"
     running = begin(work, work / "flight.ch11", "--quiet", "--flush", 1, "--publish", address)
     traffic = Traffic()
-    wait_for("a line", lambda: "connection refused" in running.told())
+    wait_for(running.told, lambda: "connection refused" in running.told())
     running.interrupt()
     sent = traffic.end()
     status, _ = running.ended()
@@ -142,17 +143,28 @@ def test_a_route_that_comes_later_is_taken(work: Path) -> None:
     judge("it ends well", running.ended()[0] == 0 and is_approved(work / "flight.ch11"), running.told())
 
 
-def test_a_full_socket_ends_no_publisher(work: Path) -> None:
-    """Behind an interface that sends nearly nothing the rest is lost, which takes no longer."""
+@contextlib.contextmanager
+def slow_loopback() -> Iterator[None]:
+    """The loopback sends a kilobyte a second while it lasts. What waits then is dropped at its end, since that would keep
+    the namespace and what the kernel answers for hours."""
     if outcome(*"tc qdisc add dev lo root tbf rate 8kbit burst 2000 limit 1000000000".split()).returncode:
         pytest.skip("this kernel has no tbf, by which an interface is slow")
-    path = work / "flight.ch11"
+    try:
+        yield
+    finally:
+        run(*"tc qdisc del dev lo root".split())
+
+
+def test_a_full_socket_ends_no_publisher(work: Path) -> None:
+    """Behind an interface that sends nearly nothing the rest is lost, which takes no longer."""
+    path, station = work / "flight.ch11", Station()
     path.write_bytes(long_recording(24 << 20))
     write_facts(path, Setup((Origin(0, ORIGIN),)))
-    done = outcome(PUBLISH, "--fast", path, "127.0.0.1:50000", seconds=60)
-    counts = published(done.stderr)
-    judge("it ends", done.returncode == 0 and counts.lost > 0, done)
-    judge("and says why", "publish: 127.0.0.1:50000: socket full: " in done.stderr, done.stderr)
+    with slow_loopback():
+        done = outcome(PUBLISH, "--fast", path, station.address, seconds=60)
+    station.close()
+    judge("it ends", done.returncode == 0 and published(done.stderr).lost > 0, done)
+    judge("and says why", f"publish: {station.address}: socket full: " in done.stderr, done.stderr)
 
 
 def has_more(station: Station, count: int) -> bool:
