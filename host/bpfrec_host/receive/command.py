@@ -28,7 +28,7 @@ Writes what bpfrec-publish sends into a file: packets of Chapter 11, each once a
 ADDRESS:PORT is an address of this machine, as 0.0.0.0:50000 or [::]:50000, or a multicast group, which is joined.
 OUT begins with the first setup record that comes; what comes ahead of it is skipped, and setup records that are repeated
 are left out. Of a further recording of a run a further file is made, as flight_00002.ch10. An OUT that exists is refused
-unless --force is given.
+unless --force is given; `-` is standard output, which gets all recordings.
 
 OUT is a whole Chapter 11 file but for its index, which isn't sent: check_ch10 says so, and nothing else where nothing is
 missing. bpfrec audit and bpfrec extract answer as for the recording.
