@@ -10,6 +10,7 @@ from typing import Callable, Optional
 
 import pytest
 from bpfrec_host.chapter11.setup import Asked
+from bpfrec_host.formats.facts import SCALE_UNKNOWN
 from bpfrec_host.publish import clock, setup_record
 from bpfrec_host.publish.datagrams import Datagrams
 from bpfrec_host.publish.pieces import Piece
@@ -22,7 +23,7 @@ from frames import FRAMES, body_of
 from ground import renumbered, write_facts
 from reading import SAMPLES
 from support import ROOT, judge, judge_quietly
-from whole_file import INDEX, SETUP, TIME, Origin, Setup
+from whole_file import INDEX, SECOND, SETUP, TIME, Origin, Setup
 from whole_file import cleaned as plainly_cleaned
 from whole_file import frames_in, whole_file
 from whole_file_parts import ORIGIN, SAMPLE_SETUP, Part, parts_of, recorded, sample_recording
@@ -177,6 +178,29 @@ def test_what_nobody_knows_the_time_of_is_refused(work: Path) -> None:
     parts, _ = published(path, setup, Asked(origin="1764590400.250000123"))
     wanted = wanted_of(sample_recording(), setup._replace(host="bpfrec"))
     judge("with --origin it isn't", renumbered(parts) == wanted)
+
+
+@pytest.mark.parametrize(
+    "scale, ahead, seconds", [(None, None, 0), (None, 37, -37), ("TAI", None, -37), ("UTC", 37, 0)]
+)
+def test_times_are_utc_where_the_scale_is_known(
+    work: Path, scale: Optional[str], ahead: Optional[int], seconds: int
+) -> None:
+    path = write(work, sample_recording(), SAMPLE_SETUP)
+    origin = {"counter": 0, "origin": "1764590400.250000123", "scale": scale, "tai_offset": 37}
+    write_facts(path, with_networks(SAMPLE_SETUP), origins=[origin])
+    lines: list[str] = []
+    packets: list[bytes] = []
+    asked = Asked(ahead=ahead, is_external=True, attributes=SAMPLE_SETUP.attributes)
+    recording = Recording(str(path), lines.append, asked, packets.append)
+    recording.begin(False, lambda: False)
+    recording.read_rest()
+    recording.put_out(True, lambda _: True)
+    recording.close()
+    setup = with_networks(SAMPLE_SETUP)._replace(origins=(Origin(0, ORIGIN + seconds * SECOND),), is_external=True)
+    judge("times", renumbered(parts_of(b"".join(packets))) == wanted_of(sample_recording(), setup))
+    is_said = lines == [f"{path}.json: {SCALE_UNKNOWN}"]
+    judge("that nobody knows it is said", is_said == (scale is None and ahead is None), lines)
 
 
 # ---- as it goes on
