@@ -1,7 +1,7 @@
 #!/usr/bin/env python3
 """Times recordings from an interface beside dumpcap and tcpdump, and feeds that are made of a capture file.
 
-usage: bench/wire.py [--frames N] [--rate N] [--most N] [--part wire|files|syncs|follow] [--before CHECKOUT]
+usage: bench/wire.py [--frames N] [--rate N] [--most N] [--part wire|files|syncs|follow|publish] [--before CHECKOUT]
 
 It makes a network namespace with a pair of virtual interfaces, sends frames of 64, 300 and 1,500 bytes into
 one of them as fast as bin/send_frames can, and records what the other receives: by host/bin/live, with a filter
@@ -12,7 +12,7 @@ buffer. Then it makes a feed of a capture of as many frames, by host/bin/convert
 With --part syncs it records by host/bin/live alone, forced to the disk each second (the default), and only at the end
 (`--sync 0`, told as before), in turn: what the syncs cost.
 With --part follow it records by host/bin/live alone (told as before) and with host/bin/follow beside it, in turn: what
-the live view costs the recorder. `--rate` has frames sent at that rate.
+the live view costs the recorder. `--rate` has frames sent at that rate. With --part publish it does so with --publish.
 
 Each recording of a round is compared with that of the same round by tcpdump, or by the other way. Rounds go on until
 the medians of the ratios of both halves of the rounds differ by 3 % at most; where they never do it says that the
@@ -259,6 +259,19 @@ def with_and_without_follower(work: Path, buffer: int) -> Commands:
     }
 
 
+def with_and_without_publisher(work: Path, buffer: int) -> Commands:
+    """Recordings by host/bin/live alone, and with --publish to this machine, where nobody listens."""
+    words: list[object] = ["--quiet", "--buffer", buffer, work / "out", "rx0=1"]
+    return {
+        ("host/bin/live, before", "all"): Recorder([LIVE, *words], "origin"),
+        ("host/bin/live", "all"): Recorder([LIVE, "--publish", "127.0.0.1:50000", *words], "origin"),
+    }
+
+
+# What host/bin/live is timed with and without, in turn.
+IN_TURN = {"syncs": with_and_without_syncs, "follow": with_and_without_follower, "publish": with_and_without_publisher}
+
+
 def time_wire(work: Path, words: argparse.Namespace, made: Commands) -> None:
     frames = words.frames
     print(
@@ -345,7 +358,7 @@ def main() -> int:
     parser.add_argument("--frames", type=int, default=1_000_000)
     parser.add_argument("--least", type=int, default=6, help="rounds, at least (6)")
     parser.add_argument("--most", type=int, default=30, help="rounds, at most (30)")
-    parser.add_argument("--part", choices=["wire", "files", "syncs", "follow"])
+    parser.add_argument("--part", choices=["wire", "files", "syncs", "follow", "publish"])
     parser.add_argument("--rate", type=int, default=0, help="frames a second, in place of as many as can be sent")
     parser.add_argument("--buffer", type=int, default=BUFFER_MIB, help="MiB of the kernel's buffer for each program")
     parser.add_argument(
@@ -367,15 +380,12 @@ def main() -> int:
     if words.ahead:
         go_ahead()
     with tempfile.TemporaryDirectory() as folder:
+        if words.part != "files":
+            make_pairs()
         if words.part in (None, "wire"):
-            make_pairs()
             time_wire(Path(folder), words, commands(Path(folder), words.buffer, words.before))
-        if words.part == "syncs":
-            make_pairs()
-            time_wire(Path(folder), words, with_and_without_syncs(Path(folder), words.buffer))
-        if words.part == "follow":
-            make_pairs()
-            time_wire(Path(folder), words, with_and_without_follower(Path(folder), words.buffer))
+        elif words.part in IN_TURN:
+            time_wire(Path(folder), words, IN_TURN[words.part](Path(folder), words.buffer))
         if words.part in (None, "files") and not words.before:
             time_files(Path(folder), words.frames, words.least)
     return 0

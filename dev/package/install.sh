@@ -23,7 +23,7 @@ umask 022
 PREFIX=${PREFIX:-/usr/local} DESTDIR=${DESTDIR:-} ZSH=${ZSH:-share/zsh/site-functions}
 to=$DESTDIR$PREFIX
 # The tools in Python, and all.
-tools=(live chapter11 control convert follow info pcapng preflight salvage)
+tools=(live chapter11 control convert follow info pcapng preflight publish receive salvage)
 names=(capture "${tools[@]}")
 
 # The folder below PREFIX in which Python looks for packages.

@@ -27,6 +27,8 @@ TOOLS = {
         "bpfrec_host.chapter11.command", "makes a whole Chapter 11 file of a recording, with setup, time and index"
     ),
     "follow": Tool("bpfrec_host.follow.command", "gives the frames of a recording that goes on, as pcapng"),
+    "publish": Tool("bpfrec_host.publish.command", "sends a recording that goes on to a ground station, by UDP"),
+    "receive": Tool("bpfrec_host.receive.command", "writes what publish sends into a file"),
     "control": Tool("bpfrec_host.control.command", "sends lines to a recording that goes on, and waits for answers"),
     "salvage": Tool("bpfrec_host.salvage", "copies what is left of a damaged recording"),
     "preflight": Tool("bpfrec_host.preflight.command", "names all that is wrong with settings before a recording"),

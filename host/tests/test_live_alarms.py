@@ -268,6 +268,8 @@ PRIORITIES = {
         "live: eth0 LOST 1 dropped 0 skipped",
         "live: left of runs that were killed, and to be removed: /tmp/bpfrec.0123456789abcdef",
         "live: flight.ch11 was moved to other.ch11: it is recorded on there",
+        "live: publish [ff02::1%eth0]:50000: no route: datagrams lost: 5",
+        "live: publish 239.1.2.3:50000: ended by signal 9, and begins again in 1 s",
         "capture: eth0 LOST 1 dropped 0 skipped",
         "capture: eth0: it is down, and is recorded on once it is up",
         "capture: eth0: the interface is gone, and is taken again once it is back",
@@ -275,6 +277,7 @@ PRIORITIES = {
         "refused 1 Empty",
     ],
     Priority.NOTE: [
+        "live: publish 239.1.2.3:50000: published packets 5 datagrams 5 lost 0 late 0",
         "live: alarm ended: channel 3 (eth2): no frame came for 12 s",
         "live: warning ended: channel 3 (eth2): its pipe was full for 100 ms of the last 10 s",
         "live: clock: synchronised, off by at most 0.000500 s",

@@ -17,6 +17,8 @@ TOOLS = (
     "live",
     "pcapng",
     "preflight",
+    "publish",
+    "receive",
     "salvage",
 )
 OLD = next(iter(sorted(Path.home().glob(".pyenv/versions/3.[78].*/bin/python"))), None)

@@ -11,7 +11,8 @@ from typing import Optional
 
 from bpfrec_host import printing
 from bpfrec_host.arguments import Parser, full_name, natural, short_name
-from bpfrec_host.follow.runs import first_of, following
+from bpfrec_host.follow.growing import PAUSE, next_of
+from bpfrec_host.follow.runs import first_of
 from bpfrec_host.follow.view import Recording, View
 from bpfrec_host.formats.limits import MAX_CHANNEL_ID
 from bpfrec_host.streams import STREAM, Refused, Taken, input_at
@@ -37,8 +38,6 @@ read: a reader that is slow or leaves changes nothing of it.
 Status: 0 the run has ended, 1 a recording is damaged, 2 the arguments are wrong, 3 a file can't be read or written,
 4 out of memory, 130 interrupted.
 """
-# How often it looks for more, in seconds, and for how long a next recording is waited for once the last has ended.
-PAUSE, PATIENCE = 0.02, 2.0
 BUFFER_LEN = 1 << 20
 
 
@@ -96,20 +95,6 @@ def show_more(recording: Recording) -> None:
         recording.view.out.flush()
     else:
         time.sleep(PAUSE)
-
-
-def next_of(recording: Recording) -> Optional[str]:
-    """The recording that follows one, which is waited for until that has ended by its facts, and a little longer."""
-    ends = None
-    while recording.known:
-        next_path = following(recording.path, recording.known.begun)
-        if next_path or ends is not None and time.monotonic() > ends:
-            return next_path
-        if recording.has_ended() and ends is None:
-            ends = time.monotonic() + PATIENCE
-        time.sleep(PAUSE)
-        recording.look_at_facts()
-    return None
 
 
 def run(arguments: list[str]) -> int:

@@ -2,14 +2,13 @@
 
 from __future__ import annotations
 
-import os
-from typing import BinaryIO, Callable, Iterator, Optional
+from typing import BinaryIO, Iterator, Optional
 
 from bpfrec_host.filter_texts import Texts
-from bpfrec_host.follow.runs import Known, is_written, known_of
+from bpfrec_host.follow.growing import Growing, Report
 from bpfrec_host.formats import pcapng_blocks
 from bpfrec_host.formats.ch11.body import BadBody, End, Frames, Program
-from bpfrec_host.formats.ch11.follow import Follower, Front
+from bpfrec_host.formats.ch11.follow import Front
 from bpfrec_host.formats.facts import SCALE_UNKNOWN
 from bpfrec_host.formats.limits import (
     BODY_WORD_LEN,
@@ -28,7 +27,6 @@ from bpfrec_host.pcapng.merging import program_text
 from bpfrec_host.pcapng.slices import CONTENT, FRAME, MARKS
 
 PROGRAM = "bpfrec-follow"
-Report = Callable[[str], None]
 
 
 class Interface:
@@ -109,55 +107,21 @@ class View:
         return self.marks
 
 
-class Recording:
-    """A recording that is shown: its file, its facts, and the channels that have ended."""
+class Recording(Growing):
+    """A recording that is shown."""
 
     def __init__(self, path: str, view: View, report: Report) -> None:
-        self.path, self.view, self.report = path, view, report
-        self.file = open(path, "rb", buffering=0)
-        self.follower = Follower(self.file.fileno(), self.take)
-        self.known: Optional[Known] = None
-        self.facts_file: Optional[tuple[int, int]] = None
-        self.ended: set[int] = set()
-        self.named: set[int] = set()
+        super().__init__(path, report)
+        self.view = view
         # Up to this place frames are not shown.
         self.hidden_to = 0
         self.has_shown_frames = False
-        self.is_damaged = False
         # How many of its marks were shown, or were there already where they are left out.
         self.marks_shown = 0
 
-    def close(self) -> None:
-        """Closes the file."""
-        self.file.close()
-
-    def size(self) -> int:
-        """How many bytes it has by now."""
-        return os.fstat(self.file.fileno()).st_size
-
-    def read_on(self) -> bool:
-        """Shows what has come: whether anything had."""
-        before, size = self.follower.at, self.size()
-        self.look_at_facts()
-        for fault in self.follower.read_on(size):
-            self.is_damaged = True
-            self.report(f"{self.path}: {fault}")
-        return self.follower.at > before
-
-    def read_at(self, at: int, length: int) -> bytes:
-        """Bytes at a place; its fault has the file's name."""
-        try:
-            return os.pread(self.file.fileno(), length, at)
-        except OSError as error:
-            error.filename = self.path
-            raise
-
     def end(self) -> None:
         """Shows what is left of a recording that has ended."""
-        if not self.follower.reader:
-            self.follower.end()
-            while self.read_on():
-                pass
+        self.read_rest()
         self.view.ending.append(self)
         self.view.look_back()
 
@@ -177,16 +141,6 @@ class Recording:
         while self.known and self.marks_shown < len(marks) and marks[self.marks_shown].counter <= counter:
             self.view.marks.append(self.known.facts.mark_text(marks[self.marks_shown]))
             self.marks_shown += 1
-
-    def look_at_facts(self) -> None:
-        """Reads the facts where they are new."""
-        try:
-            found = os.stat(facts_path(self.path))
-        except OSError:
-            return
-        file = (found.st_ino, found.st_mtime_ns)
-        if file != self.facts_file:
-            self.facts_file, self.known = file, known_of(self.path) or self.known
 
     def take(self, front: Front) -> None:
         """Shows a packet."""
@@ -238,20 +192,7 @@ class Recording:
             self.report(f"{facts_path(self.path)}: {SCALE_UNKNOWN}")
         self.has_shown_frames = True
 
-    def name(self, channel: int) -> str:
-        """The name of a channel's interface."""
-        return (self.known.facts.interfaces.get(channel) if self.known else None) or f"channel {channel}"
-
     def moment_of(self, counter: int) -> int:
         """The moment of a counter, which a capture has from 1970 on."""
         moment = self.known.facts.moment_of(counter) if self.known else counter * NANOSECONDS_A_TICK
         return min(max(moment or 0, 0), pcapng_blocks.MOST_UNITS)
-
-    def has_all_ends(self) -> bool:
-        """Whether it has the record of each channel's end."""
-        wanted = set(self.known.facts.interfaces) if self.known else set()
-        return bool(wanted) and (wanted | self.named) <= self.ended
-
-    def has_ended(self) -> bool:
-        """Whether its facts say that it has ended; without facts, whether nobody writes it."""
-        return self.known.has_ended if self.known else not is_written(self.path)

@@ -75,6 +75,9 @@ class Facts:
         self.host = host
         # The recorder and its version. Nothing stands on it, so of another form it is left out.
         self.program = text_in(told.get("program"))
+        # The settings of the recording, a text in TOML that isn't judged here.
+        settings: Any = told.get("settings")
+        self.settings = settings if isinstance(settings, str) else ""
         self.origins = origins_in(told.get("origins"))
         self.losses = losses_in(told.get("losses"))
         self.interfaces = interfaces_in(told.get("interfaces"))

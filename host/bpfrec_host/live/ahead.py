@@ -11,7 +11,7 @@ from bpfrec_host.formats.signatures import Unsigned
 from bpfrec_host.live.arguments import Arguments
 from bpfrec_host.live.clock_watch import by_the_kernel
 from bpfrec_host.live.control.sockets import judge_path
-from bpfrec_host.live.names import Refusal
+from bpfrec_host.live.names import Refusal, is_special
 from bpfrec_host.live.signer import Signer
 
 # How many descriptors live has open at most: while it records, while recordings follow one another, and for browsers.
@@ -20,6 +20,8 @@ RECORDING, ROTATING, SERVING = 32, 48, 40
 ALARMING = 8
 # And for ssh-keygen, while it signs.
 SIGNING = 8
+# For what publishes at an address: its end and its lines, and what is open while it starts.
+PUBLISHING = 4
 # How many the capture and the recorder have open, and how many more for each channel.
 CAPTURING, FOR_A_CHANNEL = 24, 4
 # What is signed to see whether a key can.
@@ -32,7 +34,7 @@ def refuse_few_descriptors(given: Arguments, channels: int) -> None:
     """Takes as many descriptors as are allowed where the usual number is too small, and refuses where that is too."""
     soft, hard = resource.getrlimit(resource.RLIMIT_NOFILE)
     own = (ROTATING if given.is_rotating() else RECORDING) + (SERVING if given.status is not None else 0)
-    own += (ALARMING if given.on_alarm else 0) + (SIGNING if given.sign else 0)
+    own += (ALARMING if given.on_alarm else 0) + (SIGNING if given.sign else 0) + PUBLISHING * len(given.targets)
     needed = max(own, CAPTURING + FOR_A_CHANNEL * channels) + inherited()
     if is_under(soft, needed) and not is_under(hard, needed):
         resource.setrlimit(resource.RLIMIT_NOFILE, (hard, hard))
@@ -108,6 +110,10 @@ def refuse_together(given: Arguments) -> None:
         raise Refusal(2, "live: --chapter11 is made of what was audited, and --no-audit audits nothing")
     if given.makes_whole_files and not given.routes:
         raise Refusal(2, "live: --chapter11 needs an interface")
+    if given.targets and not given.routes:
+        raise Refusal(2, "live: --publish needs an interface")
+    if given.targets and is_special(given.out):
+        raise Refusal(2, "live: --publish needs an OUT that is a file")
     if given.status_names and given.status is None:
         raise Refusal(2, "live: --status-name needs --status")
     if given.sign is not None and not given.routes:

@@ -13,6 +13,7 @@ from bpfrec_host.live.capture_options import add_capture_options
 from bpfrec_host.live.help import ABOUT, MORE
 from bpfrec_host.live.model import are_rotating
 from bpfrec_host.live.operands import Route, operands_of
+from bpfrec_host.live.targets import Target, target_of
 
 # The recorder opens OUT anew, to write it.
 OWNERS = 0o600
@@ -66,6 +67,8 @@ class Arguments(NamedTuple):
     makes_whole_files: bool
     # The key that signs facts.
     sign: Optional[str]
+    # Where the run is published.
+    targets: list[Target]
 
     def is_rotating(self) -> bool:
         """Whether recordings follow one another."""
@@ -170,14 +173,7 @@ def parser() -> Parser:
     made.add_argument("--keep", metavar="N", type=count, help="keeps the last N recordings of --every or --size")
     made.add_argument("--keep-free", metavar="BYTES", type=size, help="removes the oldest until this much is free")
     made.add_argument("--mode", metavar="MODE", type=file_mode, help="who may read OUT and its facts")
-    made.add_argument("--status", metavar="[ADDRESS:]PORT", help="serves a page that shows how the recording goes")
-    named = "a name by which browsers ask for it; may be given again"
-    made.add_argument("--status-name", metavar="NAME", action="append", default=[], help=named)
-    asked = "needs a synchronised clock that is off by no more than this"
-    made.add_argument("--require-clock", metavar="SECONDS", dest="clock_error", type=clock_error, help=asked)
-    ran = "runs a program when an alarm begins or ends"
-    made.add_argument("--on-alarm", metavar="COMMAND", type=command_words, help=ran)
-    made.add_argument("--control", metavar="PATH", help="takes lines by a Unix socket too: bpfrec-control sends them")
+    add_outside_options(made)
     made.add_argument("--prefilter", action="store_true", help="has the kernel run the filters too")
     add_options_of_the_end(made)
     made.add_argument("--strict", action="store_true", help="exit status 5 if an interface lost frames")
@@ -193,6 +189,21 @@ def add_options_of_the_end(made: Parser) -> None:
     key = "signs the facts of each recording by ssh-keygen, with a key without a passphrase or of an agent"
     made.add_argument("--sign", metavar="KEY", help=key)
     made.add_argument("--no-audit", action="store_true", help="leaves the audit out")
+
+
+def add_outside_options(made: Parser) -> None:
+    """The options by which others see how the run goes, steer it, or get what it records."""
+    made.add_argument("--status", metavar="[ADDRESS:]PORT", help="serves a page that shows how the recording goes")
+    named = "a name by which browsers ask for it; may be given again"
+    made.add_argument("--status-name", metavar="NAME", action="append", default=[], help=named)
+    asked = "needs a synchronised clock that is off by no more than this"
+    made.add_argument("--require-clock", metavar="SECONDS", dest="clock_error", type=clock_error, help=asked)
+    ran = "runs a program when an alarm begins or ends"
+    made.add_argument("--on-alarm", metavar="COMMAND", type=command_words, help=ran)
+    made.add_argument("--control", metavar="PATH", help="takes lines by a Unix socket too: bpfrec-control sends them")
+    sent = "sends what is recorded there by UDP; may be given again"
+    form = "ADDRESS:PORT[,ttl=N][,interface=NAME][,datagram=BYTES]"
+    made.add_argument("--publish", metavar=form, type=target_of, action="append", default=[], help=sent)
 
 
 def read(arguments: list[str]) -> Arguments:
@@ -224,4 +235,5 @@ def read(arguments: list[str]) -> Arguments:
         control=given.control,
         makes_whole_files=given.chapter11,
         sign=given.sign,
+        targets=given.publish,
     )

@@ -61,6 +61,11 @@ Alarms and warnings are lines too then.
 waits for what it comes to. PATH is made when the run begins, and removed when it ends; a socket that a run left which
 was killed is replaced.
 
+--publish ADDRESS:PORT sends what is recorded to a ground station by UDP, as packets of Chapter 11, over all recordings of
+the run; several times to several. ADDRESS is a host or a multicast group; ttl=N and interface=NAME are the group's, and
+datagram=BYTES is the longest datagram. It is bpfrec-publish, in a process of its own for which nothing waits. What it
+prints is a line of live's. If it dies it is begun again with what comes then, and the status stays as it is.
+
 On a terminal a table shows each second how the recording goes, unless --quiet is given. With --status PORT a page shows
 the same to a browser, on this machine alone; with --status ADDRESS:PORT to anybody who reaches the address and asks by
 it, or by a NAME of --status-name. The port serves the data too: /status.json as JSON and /metrics for Prometheus.

@@ -24,12 +24,13 @@ class Priority(Enum):
 KINDS = [
     (r"live: clock: .*--require-clock", Priority.ERROR),
     (
-        r"live: (clock: synchronised|the next recording begins$|(alarm|warning) ended: |.* was removed: )",
+        r"live: (clock: synchronised|the next recording begins$|(alarm|warning) ended: |.* was removed: "
+        r"|publish \S+: published packets )",
         Priority.NOTE,
     ),
     (
         r"live: (clock: |warning: |next: |channel \d+ has room for |left of runs that were killed"
-        r"|\d+ lines were left out|.* LOST |.* was moved to |its guard was ended )",
+        r"|\d+ lines were left out|.* LOST |.* was moved to |its guard was ended |publish \S+: )",
         Priority.WARNING,
     ),
     (

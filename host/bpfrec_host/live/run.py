@@ -37,10 +37,11 @@ from bpfrec_host.live.notify import Notifier
 from bpfrec_host.live.observers import Observers
 from bpfrec_host.live.ports import Deed, Observer, Ports
 from bpfrec_host.live.programs import Programs, Timed
+from bpfrec_host.live.publishers import Publishers
 from bpfrec_host.live.recorder import Recorder
 from bpfrec_host.live.recordings import Recordings
 from bpfrec_host.live.retention import Kept, Retention, approved
-from bpfrec_host.live.signer import Signer
+from bpfrec_host.live.signer import signer_of
 from bpfrec_host.live.status import Terminal
 from bpfrec_host.live.versions import Versions
 from bpfrec_host.live.watches import Watches
@@ -80,7 +81,10 @@ class Run:
         self.durability = Durability(self.loop, self.writer, self.events, self.synced, self.sync_failed, self.err)
         self.recordings = Recordings(self.writer, self.outputs, self.err)
         self.audits = Audits(self.loop, programs.bpfrec, self.guard, self.audited, self.err)
-        self.hashes, self.whole_files = self.made_hashes(), self.made_whole_files()
+        signer = signer_of(given.sign, self.guard)
+        self.hashes = Hashes(self.loop, self.writer.files, signer, self.observers.signing_failed, self.err)
+        self.whole_files = self.made_whole_files()
+        self.publishers = Publishers(given.targets, self.loop, self.guard, self.err)
         self.end_of_run = EndOfRun(given.seconds, self.end)
         self.alarm_command = AlarmCommand(given.on_alarm, self.loop, self.console)
         self.clock = ClockWatch(self.loop, given.clock_error, self.err, self.observers.clock_seen)
@@ -97,11 +101,6 @@ class Run:
         ports = ControlPorts(self.end, self.next, self.observers.report, self.marks.take, self.err, terminal)
         return ControlLines(self.loop, self.given, changes, self.current, ports)
 
-    def made_hashes(self) -> Hashes:
-        """What brings each recording's hash into its facts, and signs them."""
-        signer = Signer(self.given.sign, self.guard) if self.given.sign is not None else None
-        return Hashes(self.loop, self.writer.files, signer, self.observers.signing_failed, self.err)
-
     def made_whole_files(self) -> WholeFiles:
         """What makes a whole file of each recording, before it may be removed."""
         is_wanted, files = self.given.makes_whole_files, self.writer.files
@@ -116,7 +115,8 @@ class Run:
     def made_timed(self) -> list[Timed]:
         """What has something to do at moments of its own."""
         made: list[Timed] = [self.watches, self.outputs, self.observers, self.retention, self.notifier]
-        return [*made, self.end_of_run, self.alarm_command, self.clock, *([self.flush] if self.flush else [])]
+        made += [self.end_of_run, self.alarm_command, self.clock, self.publishers]
+        return [*made, *([self.flush] if self.flush else [])]
 
     def made_deeds(self) -> dict[Deed, Callable[[Recorder], object]]:
         """What is done for each deed of the machine."""
@@ -194,6 +194,7 @@ class Run:
         self.marks.finish()
         self.control.finish()
         came = self.signals_came
+        self.publishers.finish(lambda: self.signals_came > max(came, 1))
         self.console.finish(lambda: self.signals_came > max(came, 1))
         self.observers.all_ended()
         self.alarm_command.finish(lambda: self.signals_came > max(came, 1))
@@ -261,6 +262,7 @@ class Run:
         self.notifier.ready(recorder.about.out)
         self.durability.begin(recorder)
         self.marks.begun(recorder)
+        self.publishers.begin(recorder.about.out)
         if self.flush and recorder.is_created:
             self.flush.begin(recorder, time.monotonic())
 

@@ -60,3 +60,8 @@ class Signer:
         """Ends what is being signed, and what is to be."""
         self.is_ended = True
         children.kill(self.child)
+
+
+def signer_of(key: Optional[str], guard: Guard) -> Optional[Signer]:
+    """What signs with a key, each program of which ends with live; None where there is no key."""
+    return None if key is None else Signer(key, guard)

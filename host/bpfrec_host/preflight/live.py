@@ -41,6 +41,7 @@ from bpfrec_host.live.folder import is_channel
 from bpfrec_host.live.folder import judge_settings as refuse_settings
 from bpfrec_host.live.names import Files, Names, Refusal, is_special, refuse_long
 from bpfrec_host.live.status import BadEndpoint, endpoint_in
+from bpfrec_host.live.targets import Target
 from bpfrec_host.preflight.keys import read_settings
 from bpfrec_host.preflight.output import available_memory, judge_out
 from bpfrec_host.preflight.report import Report
@@ -96,6 +97,8 @@ def judge_live(arguments: list[str], judge: Judge, report: Report) -> None:
     judge_clock(given, report)
     for route in given.routes:
         judge_interface(route.interface, report)
+    for target in given.targets:
+        judge_target(target, report)
     if given.routes:
         judge_origin(given, report)
         judge_permission(report)
@@ -179,6 +182,13 @@ def judge_interface(interface: str, report: Report) -> None:
         report.note(interface, f"the kernel may join frames ({', '.join(joins)}): ethtool -K {interface} {options}")
     else:
         report.note(interface, "it is there, and its frames are not joined")
+
+
+def judge_target(target: Target, report: Report) -> None:
+    """Whether the interface by which the run is published is there."""
+    interface = target.options.get("interface") or target.address.zone
+    if interface and flags_of(interface) is None:
+        report.fault("live", f"--publish {target.address}: no such interface: {interface}")
 
 
 def flags_of(interface: str) -> Optional[int]:

@@ -1,0 +1,395 @@
+"""Tries host/bin/publish and live --publish: by a receiver of its own beside host/bin/receive, where nobody listens or no
+route leads, and with publishers that die."""
+
+from __future__ import annotations
+
+import contextlib
+import os
+import random
+import signal
+import socket
+import subprocess
+import time
+from collections.abc import Iterator
+from functools import partial
+from pathlib import Path
+
+import pytest
+from frames import FRAMES, numbers_in, records
+from ground import (
+    PUBLISH,
+    Receiver,
+    Station,
+    answers,
+    drawn_flight,
+    free_port,
+    packets_in,
+    published,
+    renumbered,
+    send,
+    whole_file_of,
+    write_facts,
+)
+from recordings import (
+    Traffic,
+    begin,
+    extracted,
+    facts_of,
+    is_approved,
+    nothing_left,
+    processes_of,
+    recordings,
+    settings_of_one,
+)
+from support import LIVE, PREFLIGHT, ROOT, judge, judge_quietly, outcome, run, wait_for
+from whole_file import INDEX, Origin, Setup
+from whole_file_parts import ORIGIN, SAMPLE_SETUP, parts_of, recorded, sample_recording
+
+WANTED = {"bin/bpfrec": "make build", "bin/capture": "make build", "ip": "iproute2"}
+pytestmark = [pytest.mark.usefixtures("namespace")]
+CHECK, CONTROL = ROOT / "host/bin/check_ch10", ROOT / "host/bin/control"
+NO_INDEX = "the file doesn't end with a root that names all"
+
+
+@pytest.mark.parametrize("seed, most", [(1, 1_472), (2, 36), (3, 65_507), (4, 300)])
+def test_the_packets_are_those_of_a_whole_file(work: Path, seed: int, most: int) -> None:
+    """Packet for packet what bpfrec chapter11 writes, but for the index and repeated setup records; and what is received
+    is that too, and answers as the recording does."""
+    path = drawn_flight(work, seed)
+    whole = whole_file_of(work, path)
+    station = Station()
+    counts = send(path, station.address, "--datagram", most)
+    datagrams = station.close()
+    judge("each datagram comes", (len(datagrams), counts.lost, counts.late) == (counts.datagrams, 0, 0), counts)
+    judge("none is longer", max(map(len, datagrams)) <= most)
+    wanted = [it for it in parts_of(whole) if it.kind != INDEX]
+    judge("each packet", renumbered(parts_of(packets_in(datagrams))) == wanted, (counts.packets, len(wanted)))
+    port = free_port()
+    receiver = Receiver(work, "ground.ch10", f"127.0.0.1:{port}")
+    sent = send(path, f"127.0.0.1:{port}", "--datagram", most)
+    status, received = receiver.ended()
+    judge("nothing is lost", (status, received.lost, received.damaged) == (0, 0, 0), received)
+    judge("counts", (received.datagrams, received.packets) == (sent.datagrams, len(wanted)), (sent, received))
+    judge("the file", parts_of(receiver.out.read_bytes()) == wanted)
+    faults = [
+        it for it in outcome(CHECK, receiver.out).stdout.splitlines() if not it.startswith(("channel", "packets"))
+    ]
+    judge("the index alone is missing", [it.partition(" ")[2] for it in faults] == [NO_INDEX], faults)
+    channels = sorted({it.channel for it in wanted if it.kind == FRAMES})
+    judge("it answers as the recording", answers(receiver.out, channels, work) == answers(path, channels, work))
+
+
+def test_what_is_recorded_is_received_as_it_grows(work: Path) -> None:
+    """Of recordings that follow one another each is a file, whose frames are those of the recording; datagrams come while
+    the recording goes on."""
+    station, out = Station(), work / "flight.ch11"
+    port = free_port()
+    receiver = Receiver(work, "ground.ch10", f"127.0.0.1:{port}")
+    words = ("--publish", f"127.0.0.1:{port},datagram=9000", "--publish", station.address)
+    running = begin(work, out, "--quiet", "--every", 2, "--flush", 1, *words)
+    traffic = Traffic(length=300)
+    wait_for("three recordings", lambda: len(recordings(work, "flight")) >= 3, 60)
+    judge("it is sent while the recording goes on", len(station.datagrams) > 10, len(station.datagrams))
+    running.interrupt()
+    sent = traffic.end()
+    status, _ = running.ended()
+    told = running.told()
+    judge("it ends well", status == 0 and nothing_left(work), told)
+    lines = [it for it in told.splitlines() if "published packets" in it]
+    judge("and says what was published", len(lines) == 2 and all(" lost 0 " in it for it in lines), told)
+    status, counts = receiver.ended()
+    judge("nothing is lost", (status, counts.lost, counts.skipped) == (0, 0, 0), counts)
+    station.close()
+    ground = [receiver.out, *sorted(work.glob("ground_*.ch10"))]
+    flights = recordings(work, "flight")
+    judge("a file for each recording", len(ground) == len(flights), (ground, flights))
+    for one, other in zip(flights, ground):
+        judge_quietly(f"{other.name} answers as {one.name}", answers(one, [1, 2], work) == answers(other, [1, 2], work))
+    parts = [records(extracted(work, it, 1)) for it in ground]
+    numbers = numbers_in(parts)
+    judge("all frames, once", numbers == list(range(numbers[0], sent)), (len(numbers), sent))
+
+
+def test_nobody_listens(work: Path) -> None:
+    """Datagrams are lost, and the recording is as ever."""
+    address = f"127.0.0.1:{free_port()}"
+    running = begin(work, work / "flight.ch11", "--quiet", "--flush", 1, "--publish", address)
+    traffic = Traffic()
+    wait_for(running.told, lambda: "connection refused" in running.told())
+    running.interrupt()
+    sent = traffic.end()
+    status, _ = running.ended()
+    judge("it ends well", status == 0 and is_approved(work / "flight.ch11"), running.told())
+    frames = [it["frames"] for it in facts_of(work / "flight.ch11")["counts"]]
+    judge("with all frames", frames == [sent, sent], (frames, sent))
+    line = f"live: publish {address}: connection refused: datagrams lost: 1"
+    judge("a line says so", line in running.told().splitlines(), running.told())
+    (last,) = [it for it in running.told().splitlines() if "published packets" in it]
+    judge("and the last one", published(f"{last}\n").lost > 0, last)
+
+
+def test_a_route_that_comes_later_is_taken(work: Path) -> None:
+    address = "192.0.2.77:50077"
+    running = begin(work, work / "flight.ch11", "--quiet", "--flush", 1, "--publish", address)
+    traffic = Traffic()
+    wait_for("a line", lambda: f"live: publish {address}: no route: " in running.told())
+    run("ip", "addr", "add", "192.0.2.77/32", "dev", "lo")
+    with socket.socket(socket.AF_INET, socket.SOCK_DGRAM) as made:
+        made.bind(("192.0.2.77", 50_077))
+        made.settimeout(30)
+        judge("datagrams come", made.recv(65_535)[0] & 15 == 1)
+    running.interrupt()
+    traffic.end()
+    judge("it ends well", running.ended()[0] == 0 and is_approved(work / "flight.ch11"), running.told())
+
+
+@contextlib.contextmanager
+def slow_loopback() -> Iterator[None]:
+    """The loopback sends a kilobyte a second while it lasts. What waits then is dropped at its end, since that would keep
+    the namespace and what the kernel answers for hours."""
+    if outcome(*"tc qdisc add dev lo root tbf rate 8kbit burst 2000 limit 1000000000".split()).returncode:
+        pytest.skip("this kernel has no tbf, by which an interface is slow")
+    try:
+        yield
+    finally:
+        run(*"tc qdisc del dev lo root".split())
+
+
+def test_a_full_socket_ends_no_publisher(work: Path) -> None:
+    """Behind an interface that sends nearly nothing the rest is lost, which takes no longer."""
+    path, station = work / "flight.ch11", Station()
+    path.write_bytes(long_recording(24 << 20))
+    write_facts(path, Setup((Origin(0, ORIGIN),)))
+    with slow_loopback():
+        done = outcome(PUBLISH, "--fast", path, station.address, seconds=60)
+    station.close()
+    judge("it ends", done.returncode == 0 and published(done.stderr).lost > 0, done)
+    judge("and says why", f"publish: {station.address}: socket full: " in done.stderr, done.stderr)
+
+
+def has_more(station: Station, count: int) -> bool:
+    """Whether more datagrams have come than that."""
+    return len(station.datagrams) > count
+
+
+def test_a_publisher_that_is_killed_comes_back(work: Path) -> None:
+    """At two moments, and clients of --control too; the recording has all frames, and what comes later is published
+    again."""
+    draw = random.Random(1)
+    out, station = work / "flight.ch11", Station()
+    words = ("--flush", 1, "--control", work / "control", "--publish", station.address)
+    running = begin(work, out, "--quiet", *words)
+    traffic = Traffic()
+    killed: set[int] = set()
+    for number in range(2):
+        client = subprocess.Popen([CONTROL, work / "control", "mark", f"m{number}"], stderr=subprocess.DEVNULL)
+        time.sleep(draw.random() / 4)
+        client.kill()
+        client.wait()
+        wait_for("it is sent", partial(has_more, station, len(station.datagrams)), 60)
+        time.sleep(draw.random())
+        (pid,) = [it for it, words in processes_of(out).items() if "--stay" in words]
+        judge_quietly("another one", pid not in killed)
+        killed.add(pid)
+        os.kill(pid, signal.SIGKILL)
+        wait_for("a line", lambda: running.told().count("ended by signal 9, and begins again in ") == len(killed))
+    wait_for("it is sent again", partial(has_more, station, len(station.datagrams) + 3), 60)
+    running.interrupt()
+    sent = traffic.end()
+    status, _ = running.ended()
+    station.close()
+    judge("it ends well", status == 0 and is_approved(out), running.told())
+    judge("with all frames", [it["frames"] for it in facts_of(out)["counts"]] == [sent, sent])
+    starts = [it for it in station.datagrams if int.from_bytes(it[:4], "little") >> 8 == 0]
+    judge("each stream has its own numbers", len(starts) == 3, len(starts))
+
+
+@pytest.mark.parametrize("sign", [signal.SIGSTOP, None], ids=["stopped", "nothing"])
+def test_a_run_ends_soon_whatever_its_publisher_does(work: Path, sign: signal.Signals | None) -> None:
+    out = work / "flight.ch11"
+    running = begin(work, out, "--quiet", "--publish", f"127.0.0.1:{free_port()}")
+    traffic = Traffic()
+    wait_for("the publisher runs", lambda: any("--stay" in it for it in processes_of(out).values()))
+    (pid,) = [it for it, words in processes_of(out).items() if "--stay" in words]
+    time.sleep(1)
+    if sign:
+        os.kill(pid, sign)
+    running.interrupt()
+    traffic.end()
+    judge("it ends well", running.ended()[0] == 0 and is_approved(out), running.told())
+    judge("and leaves nothing", not processes_of(out) and nothing_left(work), processes_of(out))
+
+
+def test_no_publisher_outlives_live(work: Path) -> None:
+    """Where live is killed; the recording is whole all the same."""
+    out, station = work / "flight.ch11", Station()
+    running = begin(work, out, "--quiet", "--flush", 1, "--publish", station.address)
+    traffic = Traffic()
+    wait_for("it is sent", partial(has_more, station, 3))
+    os.kill(running.process.pid, signal.SIGKILL)
+    wait_for("all has ended", lambda: not processes_of(out))
+    traffic.end()
+    judge("the recording is whole", is_approved(out), running.told())
+
+
+def test_a_group_is_sent_to_by_an_interface(work: Path) -> None:
+    """With the hops of --ttl; a receiver that has joined on the interface gets all."""
+    path = work / "flight.ch11"
+    path.write_bytes(sample_recording())
+    write_facts(path, SAMPLE_SETUP)
+    run("ip", "addr", "add", "192.0.2.1/24", "dev", "tx0")
+    receiver = Receiver(work, "ground.ch10", "239.1.2.3:50000", "--interface", "tx0", "--idle", 1)
+    with contextlib.closing(socket.socket(socket.AF_PACKET, socket.SOCK_RAW, 0x0008)) as seen:
+        seen.bind(("rx0", 0x0800))
+        seen.settimeout(30)
+        counts = send(path, "239.1.2.3:50000", "--ttl", 5, "--interface", "tx0")
+        frame = seen.recv(65_535)
+        while frame[14 + 9] != socket.IPPROTO_UDP:
+            frame = seen.recv(65_535)
+    judge("the group's Ethernet address", frame[:6].hex() == "01005e010203", frame[:6].hex())
+    judge("its hops and its port", (frame[14 + 8], int.from_bytes(frame[36:38], "big")) == (5, 50_000), frame[:40])
+    status, received = receiver.over()
+    judge("it is received", (status, received.datagrams) == (0, counts.datagrams), received)
+    judge("whole", [it.kind for it in parts_of(receiver.out.read_bytes())].count(FRAMES) > 0)
+
+
+@pytest.mark.parametrize("address", ["[::1]:50001", "[ff02::1:5%tx0]:50001", "[ff05::1:5]:50001"])
+def test_addresses_of_ipv6_are_sent_to(work: Path, address: str) -> None:
+    Path("/proc/sys/net/ipv6/conf/tx0/disable_ipv6").write_text("0")
+    run("ip", "-6", "addr", "add", "fe80::1/64", "dev", "tx0", "nodad")
+    options = ("--interface", "tx0") if "%" not in address and "ff" in address else ()
+    path = drawn_flight(work, 8)
+    receiver = Receiver(work, "ground.ch10", address, *options)
+    counts = send(path, address, *options)
+    status, received = receiver.ended()
+    judge("all is received", (status, received.datagrams, counts.lost) == (0, counts.datagrams, 0), (received, counts))
+
+
+def test_one_that_has_ended_goes_out_at_the_pace_of_its_counters(work: Path) -> None:
+    path = drawn_flight(work, 5, seconds=3)
+    station = Station()
+    begun = time.monotonic()
+    done = outcome(PUBLISH, path, station.address)
+    took = time.monotonic() - begun
+    judge("it ends well", done.returncode == 0 and station.close(), done.stderr)
+    judge(f"in about 3 s: {took:.1f}", took > 2)
+
+
+def test_what_is_there_is_left_out_with_now(work: Path) -> None:
+    """But the filters that are in force."""
+    out, station = work / "flight.ch11", Station()
+    running = begin(work, out, "--quiet", "--flush", 1)
+    traffic = Traffic(pause=0.01)
+    wait_for("packets are written", lambda: out.exists() and out.stat().st_size > 20_000)
+    publisher = subprocess.Popen([PUBLISH, "--now", out, station.address], stderr=subprocess.PIPE, text=True)
+    wait_for("later ones are sent", lambda: len(station.datagrams) > 20)
+    running.interrupt()
+    traffic.end()
+    judge_quietly("the recording ends well", running.ended()[0] == 0, running.told())
+    _, told = publisher.communicate(timeout=60)
+    judge("it ends with it", publisher.returncode == 0, told)
+    data = packets_in(station.close())
+    (work / "now.ch11").write_bytes(data)
+    wanted, found = records(extracted(work, out, 1)), records(extracted(work, work / "now.ch11", 1))
+    judge("the last frames", 0 < len(found) < len(wanted) and found == wanted[-len(found) :], (len(found), len(wanted)))
+    judge("none is late", published(told).late == 0, told)
+    kinds = [(it.kind, it.data[8:9]) for it in parts_of(data)]
+    judge("a filter of each channel ahead of frames", [it[0] for it in kinds].index(FRAMES) > kinds.index((0, b"\1")))
+    judge_quietly("of both", kinds.count((0, b"\1")) >= 2, kinds[:9])
+
+
+@pytest.mark.parametrize("sign, status", [(signal.SIGTERM, 0), (signal.SIGINT, 130)], ids=["TERM", "INT"])
+def test_signals_end_it_with_its_counts(work: Path, sign: signal.Signals, status: int) -> None:
+    out, station = work / "flight.ch11", Station()
+    running = begin(work, out, "--quiet", "--flush", 1)
+    traffic = Traffic(pause=0.01)
+    publisher = subprocess.Popen([PUBLISH, out, station.address], stderr=subprocess.PIPE, text=True)
+    wait_for("it is sent", lambda: len(station.datagrams) > 5)
+    publisher.send_signal(sign)
+    _, told = publisher.communicate(timeout=30)
+    line = [it for it in told.splitlines() if it.startswith("published")]
+    judge(
+        "its status, with its counts", publisher.returncode == status and len(line) == 1, (publisher.returncode, told)
+    )
+    running.interrupt()
+    traffic.end()
+    judge("the recording ends well", running.ended()[0] == 0, running.told())
+    datagrams = station.close()
+    judge("all that was counted came", published(f"{line[0]}\n").datagrams == len(datagrams), (line, len(datagrams)))
+
+
+def test_term_has_all_recordings_of_a_run_sent(work: Path) -> None:
+    """Also those that it has not begun with."""
+    out, station = work / "flight.ch11", Station()
+    running = begin(work, out, "--quiet", "--every", 1)
+    traffic = Traffic(pause=0.01)
+    wait_for("the first", lambda: recordings(work, "flight"))
+    publisher = subprocess.Popen(
+        [PUBLISH, work / "flight_00001.ch11", station.address], stderr=subprocess.PIPE, text=True
+    )
+    wait_for("it is sent", lambda: station.datagrams)
+    publisher.send_signal(signal.SIGSTOP)
+    wait_for("three recordings", lambda: len(recordings(work, "flight")) >= 3)
+    running.interrupt()
+    sent = traffic.end()
+    judge_quietly("the run ends well", running.ended()[0] == 0, running.told())
+    publisher.terminate()
+    publisher.send_signal(signal.SIGCONT)
+    _, told = publisher.communicate(timeout=30)
+    judge("it ends well", publisher.returncode == 0, told)
+    (work / "all.ch11").write_bytes(packets_in(station.close()))
+    numbers = numbers_in([records(extracted(work, work / "all.ch11", 1))])
+    judge("all frames", numbers == list(range(numbers[0], sent)), (len(numbers), sent))
+
+
+def test_what_cannot_be_published_is_refused(work: Path) -> None:
+    path = work / "flight.ch11"
+    path.write_bytes(sample_recording())
+    refused: list[tuple[list[object], int, str]] = [
+        ([path, "127.0.0.1:50000"], 1, f"publish: {path}: no facts beside it: --origin says when it was recorded"),
+        ([work / "none.ch11", "127.0.0.1:5"], 1, "there is no such recording"),
+        ([work, "127.0.0.1:5"], 1, "it is no regular file, which could be followed"),
+        ([path, "ground:5"], 2, "ground:5: needs ADDRESS:PORT"),
+        (["--interface", "lo", path, "127.0.0.1:5"], 2, "--interface is for a multicast group"),
+        (["--datagram", "35", path, "127.0.0.1:5"], 2, "35 is no number from 36 to 65507"),
+        (["--ttl", "256", path, "127.0.0.1:5"], 2, "256 is no number from 0 to 255"),
+    ]
+    for words, status, what in refused:
+        done = outcome(PUBLISH, *words)
+        judge(what, (done.returncode, what in done.stderr) == (status, True), done)
+    write_facts(path, SAMPLE_SETUP)
+    data = bytearray(path.read_bytes())
+    data[400] ^= 1
+    path.write_bytes(data)
+    done = outcome(PUBLISH, "--fast", path, f"127.0.0.1:{free_port()}")
+    judge("damage is said", done.returncode == 1 and "read 8 DataChecksum" in done.stderr, done)
+
+
+def test_live_refuses_what_it_cannot_publish(work: Path) -> None:
+    settings = settings_of_one(work)
+    programs: list[list[object]] = [[LIVE], [PREFLIGHT, "--live"]]
+    for word, what in [
+        ("ground:5", "--publish ground:5: needs ADDRESS:PORT"),
+        ("127.0.0.1:5,interface=lo", "interface= is for a multicast group"),
+        ("239.1.2.3:5,ttl=x", "--publish x is no number"),
+        ("239.1.2.3:5,speed=5", "speed=5: needs ttl=N, interface=NAME or datagram=BYTES, each once"),
+    ]:
+        for program in programs:
+            done = outcome(*program, "--publish", word, settings, work / "x.ch11", "rx0=1")
+            judge(what, done.returncode == 2 and what in done.stderr, done)
+    os.mkfifo(work / "pipe")
+    done = outcome(LIVE, "--publish", "127.0.0.1:5", settings, work / "pipe", "rx0=1")
+    judge("a pipe", (done.returncode, done.stderr) == (2, "live: --publish needs an OUT that is a file\n"), done)
+    words = ("--publish", "239.1.2.3:5,interface=none0", settings, work / "x.ch11", "rx0=1")
+    done = outcome(PREFLIGHT, "--live", *words)
+    judge("an interface that is missing", "--publish 239.1.2.3:5: no such interface: none0" in done.stdout, done)
+
+
+def long_recording(length: int) -> bytes:
+    """A recording of at least this length: one packet, again and again."""
+    made = recorded(random.Random(1), [1], 0, 1)
+    made.add_frames(1, [(10_000_000, 0, 16_000)] * 30)
+    end = len(made.data)
+    made.add_frames(1, [(10_000_000, 0, 16_000)] * 30)
+    packet = bytes(made.data[end:])
+    return bytes(made.data) + packet * (length // len(packet))

@@ -1,0 +1,156 @@
+"""What publishes a run: for each address a bpfrec-publish, which follows its recordings and is begun again where it dies.
+
+The recording waits for none of them, and its status isn't changed by one.
+"""
+
+from __future__ import annotations
+
+import os
+import signal
+import subprocess
+import sys
+import time
+from typing import Callable, Optional
+
+import bpfrec_host
+from bpfrec_host.live import children
+from bpfrec_host.live.capture_lines import CaptureLines
+from bpfrec_host.live.guard import Guard
+from bpfrec_host.live.loop import Loop
+from bpfrec_host.live.model import KILLED
+from bpfrec_host.live.targets import Target
+
+# Runs the tool from where this package is, behind what records.
+CODE = (
+    "import os, sys; os.nice(5); sys.path.insert(0, sys.argv.pop(1)); from bpfrec_host.__main__ import run_tool; "
+    "sys.exit(run_tool('publish'))"
+)
+PLACE = os.path.dirname(os.path.dirname(os.path.abspath(bpfrec_host.__file__)))
+COMMAND = (sys.executable, "-I", "-B", "-c", CODE, PLACE)
+# Seconds until one that died is begun again, which double up to so many times where it dies soon; for how long it has to
+# run so that it didn't; and for how many seconds it may send what is left at the end of a run.
+AGAIN_AFTER, MOST_DOUBLINGS, LONG, LAST = 1.0, 5, 60.0, 2.0
+
+
+class Publisher:
+    """Publishes a run at one address."""
+
+    def __init__(self, target: Target, loop: Loop, guard: Guard, err: Callable[[str], None]) -> None:
+        self.target, self.loop, self.guard = target, loop, guard
+        self.print_line = err
+        self.child: Optional[children.Child] = None
+        self.lines: Optional[CaptureLines] = None
+        # The recording that goes on, when it was begun last and is begun again, and how often it has died soon.
+        self.out: Optional[str] = None
+        self.begun = 0.0
+        self.due: Optional[float] = None
+        self.deaths = 0
+        self.is_ending = False
+
+    def err(self, what: str) -> None:
+        """Prints what is said of it."""
+        self.print_line(f"live: publish {self.target.address}: {what}")
+
+    def begin(self, out: str) -> None:
+        """A recording has begun. The one that runs follows the recordings of a run by itself."""
+        is_first, self.out = self.out is None, out
+        if is_first:
+            self.start([])
+
+    def start(self, options: list[str]) -> None:
+        """Starts it, or says that this can't be done."""
+        assert self.out
+        self.begun, self.due = time.monotonic(), None
+        lines = CaptureLines(self.loop, self.take_line)
+        words = [*COMMAND, "--stay", *options, *self.target.arguments(), "--", os.path.abspath(self.out)]
+        try:
+            self.child = self.started([*words, str(self.target.address)], lines)
+        except OSError as error:
+            os.close(lines.writer)
+            lines.end()
+            self.die(f"can't be started: {error.strerror}")
+            return
+        self.lines = lines
+        lines.follow()
+        self.loop.follow(self.child, self.ended)
+
+    def started(self, words: list[str], lines: CaptureLines) -> children.Child:
+        """The program, which prints into a pipe of ours."""
+        with open(self.guard.lifeline_of_live(), "rb", buffering=0) as lifeline:
+            manner = children.Manner([self.guard.all], ends_with=lifeline.fileno(), takes_signals=True)
+            return children.start(words, (subprocess.DEVNULL, subprocess.DEVNULL, lines.writer), manner)
+
+    def take_line(self, line: str) -> None:
+        """It has printed a line."""
+        for prefix in ("publish: ", f"{self.target.address}: "):
+            line = line[len(prefix) :] if line.startswith(prefix) else line
+        self.err(line)
+
+    def ended(self, status: int) -> None:
+        """It has ended, which it does by itself only where something is wrong."""
+        if self.lines:
+            self.lines.end()
+        self.child = self.lines = None
+        if not self.is_ending:
+            self.die(f"ended by signal {status - KILLED}" if status > KILLED else f"ended with status {status}")
+
+    def die(self, why: str) -> None:
+        """It died: it is begun again after a pause."""
+        now = time.monotonic()
+        self.deaths = 1 if now - self.begun > LONG else self.deaths + 1
+        pause = AGAIN_AFTER * 2 ** min(self.deaths - 1, MOST_DOUBLINGS)
+        self.due = now + pause
+        self.err(f"{why}, and begins again in {pause:.0f} s")
+
+    def deadline(self) -> Optional[float]:
+        """When it is begun again."""
+        return self.due
+
+    def tick(self, now: float) -> None:
+        """Begins it again where it is time. What is in the recording by now is left out."""
+        if self.due is not None and now >= self.due:
+            self.start(["--now"])
+
+
+class Publishers:
+    """Those of a run."""
+
+    def __init__(self, targets: list[Target], loop: Loop, guard: Guard, err: Callable[[str], None]) -> None:
+        self.loop = loop
+        self.all = [Publisher(it, loop, guard, err) for it in targets]
+
+    def begin(self, out: str) -> None:
+        """A recording has begun."""
+        for publisher in self.all:
+            publisher.begin(out)
+
+    def deadline(self) -> Optional[float]:
+        """When one is begun again."""
+        return min((it.due for it in self.all if it.due is not None), default=None)
+
+    def tick(self, now: float) -> None:
+        """Begins those again whose time it is."""
+        for publisher in self.all:
+            publisher.tick(now)
+
+    def finish(self, is_given_up: Callable[[], bool]) -> None:
+        """Has all send what is left, for a time, unless nobody waits for that any more."""
+        ends = time.monotonic() + LAST
+        for publisher in self.all:
+            publisher.is_ending, publisher.due = True, None
+        self.send(signal.SIGTERM)
+        while self.running() and (left := ends - time.monotonic()) > 0 and not is_given_up():
+            self.loop.turn(left)
+        self.send(signal.SIGKILL)
+        while self.running():
+            self.loop.turn(None)
+
+    def running(self) -> bool:
+        """Whether one runs."""
+        return any(it.child for it in self.all)
+
+    def send(self, number: signal.Signals) -> None:
+        """Sends a signal to those that run."""
+        for publisher in self.all:
+            if publisher.child:
+                publisher.child.send(number)

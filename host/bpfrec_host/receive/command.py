@@ -1,0 +1,185 @@
+"""The command line of bpfrec-receive."""
+
+from __future__ import annotations
+
+import argparse
+import select
+import signal
+import socket
+import time
+from types import FrameType
+from typing import Optional
+
+from bpfrec_host import printing
+from bpfrec_host.addresses import udp_address
+from bpfrec_host.arguments import Parser, full_name, natural, short_name
+from bpfrec_host.formats.transfer import datagram_in
+from bpfrec_host.receive.assembling import Assembling
+from bpfrec_host.receive.listening import MAX_DATAGRAM_LEN, opened
+from bpfrec_host.receive.output import Files
+from bpfrec_host.receive.window import Window
+from bpfrec_host.streams import Refused, Unreadable
+
+ABOUT = """\
+Writes what bpfrec-publish sends into a file: packets of Chapter 11, each once and in order.
+
+  bpfrec-receive 239.1.2.3:50000 flight.ch10
+
+ADDRESS:PORT is an address of this machine, as 0.0.0.0:50000 or [::]:50000, or a multicast group, which is joined.
+OUT begins with the first setup record that comes; what comes ahead of it is skipped, and setup records that are repeated
+are left out. Of a further recording of a run a further file is made, as flight_00002.ch10. An OUT that exists is refused
+unless --force is given; `-` is standard output, which gets all recordings.
+
+OUT is a whole Chapter 11 file but for its index, which isn't sent: check_ch10 says so, and nothing else where nothing is
+missing. bpfrec audit and bpfrec extract answer as for the recording.
+"""
+MORE = """\
+It ends by Ctrl-C, TERM, --for or --idle, and prints
+  received packets <n> datagrams <n> lost <n> doubled <n> damaged <n> skipped <n>
+A line `gap <n> datagrams before <number>` on standard error says what is missing. Doubled are datagrams that came twice or
+too late; damaged those that are none of this format, and packets with a wrong checksum, which aren't written.
+
+Status: 0 nothing is missing, 1 a datagram was lost or damaged, or nothing came, 2 the arguments are wrong, 3 the address
+can't be had, or OUT can't be written or is taken, 4 out of memory.
+"""
+MAX_SECONDS = 999_999_999
+# For how many seconds a datagram that is missing is waited for where no other comes, and what came is read at the end; how
+# many are read in a turn; and how many gaps have a line of their own.
+GAP_PATIENCE, LAST, A_TURN, MOST_LINES = 0.5, 2.0, 1_024, 100
+
+
+def parser() -> Parser:
+    """The arguments of bpfrec-receive."""
+    made = Parser(prog=full_name("receive"), description=ABOUT, epilog=MORE)
+    made.add_argument("--interface", metavar="NAME", help="the interface on which a group is joined")
+    made.add_argument("--for", metavar="SECONDS", dest="seconds", type=seconds, help="ends after this time")
+    made.add_argument("--idle", metavar="SECONDS", type=seconds, help="ends when nothing has come for this time")
+    made.add_argument("--force", action="store_true", help="overwrites an OUT that exists")
+    made.add_argument("address", metavar="ADDRESS:PORT", type=udp_address)
+    made.add_argument("out", metavar="OUT")
+    return made
+
+
+def seconds(word: str) -> int:
+    """The seconds that a word says."""
+    number = natural(word)
+    if not 1 <= number <= MAX_SECONDS:
+        raise argparse.ArgumentTypeError(f"needs seconds from 1 to {MAX_SECONDS}")
+    return number
+
+
+def err(line: str) -> None:
+    """Prints what is wrong."""
+    printing.err(f"{short_name('receive')}: {line}")
+
+
+class Ending:
+    """Whether a signal has come that ends it."""
+
+    def __init__(self) -> None:
+        self.is_due = False
+        for number in (signal.SIGINT, signal.SIGTERM):
+            signal.signal(number, self.come)
+
+    def come(self, _: int, __: Optional[FrameType]) -> None:
+        """A signal has come."""
+        self.is_due = True
+
+
+class Receiver:
+    """Receives datagrams until it is to end."""
+
+    def __init__(self, given: argparse.Namespace, through: socket.socket, ending: Ending) -> None:
+        self.given, self.socket, self.ending = given, through, ending
+        self.files = Files(given.out, given.force)
+        self.assembling = Assembling(self.files.take)
+        self.window = Window(self.assembling.add, self.gap, self.restart)
+        self.datagrams = self.damaged = self.gaps = 0
+        self.last_at: Optional[float] = None
+
+    def gap(self, count: int, number: int) -> None:
+        """Datagrams are missing ahead of one."""
+        self.gaps += 1
+        if self.gaps <= MOST_LINES:
+            err(f"gap {count} datagrams before {number}")
+        self.assembling.gap()
+
+    def restart(self) -> None:
+        """Another stream has begun."""
+        self.assembling.gap()
+        self.files.restart()
+
+    def run(self) -> None:
+        """Receives until it is to end."""
+        begun = time.monotonic()
+        ends = begun + self.given.seconds if self.given.seconds else None
+        poll = select.poll()
+        poll.register(self.socket, select.POLLIN)
+        while not self.ending.is_due and not self.is_over(time.monotonic(), ends):
+            if poll.poll(GAP_PATIENCE * 1_000):
+                self.read()
+            else:
+                self.window.give_up()
+            self.files.out.flush()
+        ends = time.monotonic() + LAST
+        while self.read() and time.monotonic() < ends:
+            pass
+        self.window.give_up()
+
+    def is_over(self, now: float, ends: Optional[float]) -> bool:
+        """Whether its time is over, or nothing has come for too long."""
+        is_idle = self.given.idle and self.last_at is not None and now - self.last_at >= self.given.idle
+        return bool(is_idle) or ends is not None and now >= ends
+
+    def read(self) -> bool:
+        """Reads what has come, as much as a turn takes: whether more may be there."""
+        for _ in range(A_TURN):
+            try:
+                data = self.socket.recv(MAX_DATAGRAM_LEN)
+            except BlockingIOError:
+                return False
+            self.last_at = time.monotonic()
+            self.datagrams += 1
+            datagram = datagram_in(data)
+            if datagram is None:
+                self.damaged += 1
+            else:
+                self.window.add(datagram)
+        return True
+
+    def end(self) -> int:
+        """Ends the file, and prints what was received: the status."""
+        files, window = self.files, self.window
+        files.out.close()
+        if self.gaps > MOST_LINES:
+            err(f"{self.gaps - MOST_LINES} more gaps")
+        damaged = self.damaged + self.assembling.damaged
+        counts = f"lost {window.lost} doubled {window.doubled} damaged {damaged} skipped {files.skipped}"
+        files.out.report(f"received packets {files.packets} datagrams {self.datagrams} {counts}")
+        return 1 if window.lost or damaged or not files.packets else 0
+
+
+def run(arguments: list[str]) -> int:
+    """Receives: the status."""
+    made = parser()
+    given = made.parse_args(arguments)
+    if given.interface and not given.address.is_multicast():
+        made.error(f"--interface is for a multicast group, which {given.address} is not")
+    # Ahead of OUT, by which another program sees that it listens.
+    ending = Ending()
+    try:
+        with listening(given) as through:
+            receiver = Receiver(given, through, ending)
+            receiver.run()
+            return receiver.end()
+    except Refused as refused:
+        err(str(refused))
+        return Unreadable.status
+
+
+def listening(given: argparse.Namespace) -> socket.socket:
+    """The socket at which datagrams come."""
+    try:
+        return opened(given.address, given.interface)
+    except OSError as error:
+        raise Unreadable(f"{given.address}: {error.strerror or error}") from None
