@@ -11,6 +11,7 @@ from typing import NamedTuple
 
 import pytest
 import tomllib
+from disks import memory_disk
 from frames import FRAMES, HEADER_LENGTH, body_of, numbered, packet_of, program_packet, records, with_check_sequence
 from recorder import extracted
 from several_recorders import facts_by, recording_at
@@ -217,3 +218,12 @@ def test_networks_of_several_are_those_of_their_channels(work: Path, two: list[P
     done = made(work, "--print-setup", *ORDERED, "all.ch10")
     found = {it["id"]: it.get("net", 0) for it in tomllib.loads(done.stdout)["channel"]}
     judge("by the new ID", found == {1: 0, 2: 7}, done)
+
+
+def test_a_folder_without_room_for_both_is_said(work: Path, two: list[Path]) -> None:
+    with memory_disk(work / "full", "size=64k") as disk:
+        (disk / "filler").write_bytes(bytes(62_000))
+        done = made(work, *ORDERED, disk / "all.ch10")
+        line = f"file {disk}: No space left on device\n"
+        judge("it is said", (done.returncode, done.stdout, done.stderr) == (3, "", line), done)
+        judge("and nothing made", os.listdir(disk) == ["filler"])

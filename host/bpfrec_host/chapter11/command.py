@@ -202,29 +202,38 @@ def at_descriptor(descriptor: int) -> str:
     return f"/proc/self/fd/{descriptor}"
 
 
+def is_made_of(setup: str, given: argparse.Namespace) -> bool:
+    """Whether a file is made by SETUP, which else is printed. An OUT that may not be overwritten is refused."""
+    if given.print_setup:
+        printing.out(setup)
+        return False
+    judge_overwriting(given.out, given.force)
+    return True
+
+
 def make_of_one(given: argparse.Namespace) -> None:
     """Makes the file of one recording, or prints SETUP."""
     setup = setup_of(given)
-    if given.print_setup:
-        printing.out(setup)
-        return
-    judge_overwriting(given.out, given.force)
-    make(given.recordings[0], setup, given.out)
+    if is_made_of(setup, given):
+        make(given.recordings[0], setup, given.out)
 
 
 def make_of_several(given: argparse.Namespace) -> None:
     """Makes the file of several recordings, or prints SETUP."""
     joined = joined_of(given)
     setup = joined.setup_text()
-    if given.print_setup:
-        printing.out(setup)
+    if not is_made_of(setup, given):
         return
-    judge_overwriting(given.out, given.force)
-    with tempfile.TemporaryFile(dir=os.path.dirname(os.path.realpath(given.out))) as file:
-        joined.write(file)
-        printing.out("".join(joined.lines()))
-        os.set_inheritable(file.fileno(), True)
-        make(at_descriptor(file.fileno()), setup, given.out)
+    folder = os.path.dirname(os.path.realpath(given.out))
+    try:
+        with tempfile.TemporaryFile(dir=folder) as file:
+            joined.write(file)
+            printing.out("".join(joined.lines()))
+            os.set_inheritable(file.fileno(), True)
+            make(at_descriptor(file.fileno()), setup, given.out)
+    except OSError as error:
+        error.filename = error.filename or folder
+        raise
 
 
 def arguments_of(arguments: list[str]) -> argparse.Namespace:

@@ -11,7 +11,7 @@ from bpfrec_host.chapter11.setup import Asked, moments_of, setup_text
 from bpfrec_host.chapter11.several import Numbered, Recorded, first_origin, judge_recorders, numbered, told_of
 from bpfrec_host.formats.ch11 import Damage, End, Frames, Packet, Program, Reader, word_sum
 from bpfrec_host.formats.ch11.body import FRAME, LENGTH_BITS
-from bpfrec_host.formats.ch11.packet import HEADER, WORDS
+from bpfrec_host.formats.ch11.packet import header_bytes
 from bpfrec_host.formats.facts import Origin
 from bpfrec_host.formats.limits import (
     BODY_WORD_LEN,
@@ -22,7 +22,6 @@ from bpfrec_host.formats.limits import (
     MAX_COUNTER,
     NANOSECONDS_A_TICK,
     RECORD_CHANNEL,
-    SYNC_PATTERN,
 )
 from bpfrec_host.streams import Refused
 
@@ -90,10 +89,7 @@ def changed(packet: Packet, numbers: dict[int, int], clock: Clock) -> Changed:
 def rebuilt(packet: Packet, to_be: Changed, sequence: int) -> bytes:
     """The bytes of a packet with another channel, counter, data and sequence number."""
     header = packet.header
-    low, high = to_be.counter & 0xFFFF_FFFF, to_be.counter >> 32
-    fields = header.packet_len, header.data_len, header.version, sequence, header.flags, header.kind, low, high
-    head = HEADER.pack(SYNC_PATTERN, to_be.channel, *fields, 0)
-    head = head[:-2] + (sum(WORDS.unpack_from(head)) & 0xFFFF).to_bytes(2, "little")
+    head = header_bytes(header._replace(channel=to_be.channel, sequence=sequence, counter=to_be.counter))
     body = packet.bytes[HEADER_LEN:]
     if to_be.data is None:
         return head + body

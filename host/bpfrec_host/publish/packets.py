@@ -6,7 +6,7 @@ import struct
 from datetime import datetime, timedelta
 from typing import Optional
 
-from bpfrec_host.formats.ch11.packet import CHECKSUM, HEADER, SYNC, word_sum
+from bpfrec_host.formats.ch11.packet import CHECKSUM, Header, header_bytes, word_sum
 from bpfrec_host.formats.limits import BODY_WORD_LEN, CHECKSUM_LEN, COMPUTER_GENERATED_DATA, ETHERNET_DATA, HEADER_LEN
 
 SETUP, TIME, FRAMES, RECORD = 0x01, 0x11, ETHERNET_DATA, COMPUTER_GENERATED_DATA
@@ -15,7 +15,6 @@ EPOCH, LAST_YEAR = datetime(1970, 1, 1), 3_999
 MICROSECOND = 1_000
 # The word of a setup record: RCC 106-17, in ASCII. Of a time packet: a real-time clock, with day, month and year.
 SETUP_WORD, TIME_WORD, LEAP_YEAR = 0x0C, 0x230, 1 << 8
-HALVES = struct.Struct("<11H")
 TIME_DATA = struct.Struct("<I4H")
 
 
@@ -40,12 +39,9 @@ def packet_of(channel: int, kind: int, sequence: int, counter: int, data: bytes)
     """A packet with a data checksum."""
     filler = bytes(-len(data) % 4)
     length = HEADER_LEN + len(data) + len(filler) + CHECKSUM_LEN
-    low, high = counter & 0xFFFF_FFFF, counter >> 32
-    sync = int.from_bytes(SYNC, "little")
-    head = HEADER.pack(sync, channel, length, len(data), VERSION, sequence, CHECKSUM, kind, low, high, 0)
-    checksum = sum(HALVES.unpack_from(head)) & 0xFFFF
+    head = header_bytes(Header(channel, length, len(data), VERSION, sequence, CHECKSUM, kind, counter))
     body = data + filler if filler else data
-    return b"".join((head[:-2], checksum.to_bytes(2, "little"), body, word_sum(body).to_bytes(CHECKSUM_LEN, "little")))
+    return b"".join((head, body, word_sum(body).to_bytes(CHECKSUM_LEN, "little")))
 
 
 def date_of(moment: int) -> Optional[datetime]:
