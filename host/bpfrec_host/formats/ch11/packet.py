@@ -139,7 +139,7 @@ def header_bytes(header: Header) -> bytes:
     """The 24 bytes of a header."""
     low, high = header.counter & 0xFFFF_FFFF, header.counter >> 32
     ids = SYNC_PATTERN, header.channel, header.packet_len, header.data_len, header.version, header.sequence
-    head = HEADER.pack(*ids, header.flags, header.kind, low, high, 0)
+    head: bytes = HEADER.pack(*ids, header.flags, header.kind, low, high, 0)
     return head[:-2] + (sum(WORDS.unpack_from(head)) & 0xFFFF).to_bytes(2, "little")
 
 
