@@ -139,8 +139,9 @@ def header_bytes(header: Header) -> bytes:
     """The 24 bytes of a header."""
     low, high = header.counter & 0xFFFF_FFFF, header.counter >> 32
     ids = SYNC_PATTERN, header.channel, header.packet_len, header.data_len, header.version, header.sequence
-    head: bytes = HEADER.pack(*ids, header.flags, header.kind, low, high, 0)
-    return head[:-2] + (sum(WORDS.unpack_from(head)) & 0xFFFF).to_bytes(2, "little")
+    head = HEADER.pack(*ids, header.flags, header.kind, low, high, 0)
+    checksum: int = sum(WORDS.unpack_from(head)) & 0xFFFF
+    return head[:-2] + checksum.to_bytes(2, "little")
 
 
 def what_in(header: Header, data: bytes) -> What:
