@@ -85,9 +85,24 @@ def input_at(out: str, inputs: Iterable[str]) -> Optional[str]:
 
 
 def refuse_overwriting(out: str, is_forced: bool) -> None:
-    """Refuses a file that exists, unless it may be overwritten."""
-    if out != STREAM and os.path.isfile(out) and not is_forced:
+    """Refuses a file that exists, unless it may be overwritten; a recording with its facts beside it may not."""
+    if out == STREAM or not os.path.isfile(out):
+        return
+    if os.path.exists(f"{out}.json"):
+        raise Taken(f"{out} is a recording, with its facts beside it: give OUT another name")
+    if not is_forced:
         raise Taken(f"{out} is there: give it another name, or --force")
+
+
+def refuse_twice(paths: Iterable[str]) -> None:
+    """Refuses a file that is given twice, also by another name."""
+    known: dict[tuple[int, int], str] = {}
+    for path in paths:
+        found = identity(path, 0)
+        if found in known:
+            raise Refused(f"{path}: it is given twice" + (f", as {known[found]} too" if known[found] != path else ""))
+        if found:
+            known[found] = path
 
 
 class Input:

@@ -309,8 +309,8 @@ def test_an_out_that_has_bytes_is_refused_without_force(recording: Path) -> None
     out.write_text("another's")
     refused(recording, 3, "chapter11: out is there: give it another name, or --force\n", "flight.ch11", "out")
     judge("it stays", out.read_text() == "another's")
+    judge("options stand anywhere", by(recording, "flight.ch11", "--force", "out").stdout == ANSWER)
     judge("with --force it is the program's", by(recording, "--force", "flight.ch11", "out").stdout == ANSWER)
-    judge("SETUP is printed all the same", by(recording, "--print-setup", "flight.ch11", "out").returncode == 0)
     out.write_text("")
     for path in ("out", "/dev/null"):
         judge(path, by(recording, "flight.ch11", path).stdout == ANSWER)
@@ -377,3 +377,15 @@ def test_an_output_whose_reader_has_left_is_said(recording: Path) -> None:
     env = {**os.environ, "BPFREC": str(played), "PLAYED": plays}
     done = outcome("sh", "-c", script, env=env, cwd=recording.parent)
     judge("it is told of a failed write", "broken" in done.stderr and "killed" not in done.stderr, done)
+
+
+def test_an_out_that_is_a_recording_or_a_folder_is_refused(recording: Path) -> None:
+    """With --force too, as where OUT was forgotten."""
+    with_facts(recording, ONE)
+    other = Path(shutil.copy(recording, recording.with_name("wing.ch11")))
+    with_facts(other, ONE)
+    line = "chapter11: wing.ch11 is a recording, with its facts beside it: give OUT another name\n"
+    refused(recording, 3, line, "--force", "flight.ch11", "wing.ch11")
+    judge("it stays", other.read_bytes() == recording.read_bytes())
+    (recording.parent / "folder").mkdir()
+    refused(recording, 3, "chapter11: folder: it is a folder\n", "--force", "flight.ch11", "folder")

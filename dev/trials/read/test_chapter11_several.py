@@ -168,6 +168,10 @@ def test_what_can_not_be_one_file_is_refused(work: Path, two: list[Path]) -> Non
     one, other = two
     recording_at(work / "same.ch11", [SECOND], 3, facts_by("tap1", "eth0", origin()))
     recording_at(work / "plain.ch11", [SECOND], 4)
+    (work / "again.ch11").hardlink_to(one)
+    Path(f"{work}/again.ch11.json").write_text(Path(f"{one}.json").read_text())
+    refused(work, 1, "one.ch11: it is given twice", "one.ch11", "one.ch11")
+    refused(work, 1, "again.ch11: it is given twice, as one.ch11 too", "one.ch11", "again.ch11")
     whose = "one.ch11 and same.ch11 are both of eth0 of tap1: each gets a file of its own"
     refused(work, 1, whose, "one.ch11", "same.ch11")
     refused(work, 3, "plain.ch11.json: No such file or directory", "one.ch11", "plain.ch11")
@@ -207,15 +211,18 @@ def test_a_body_with_a_wrong_sum_is_refused_by_its_place(work: Path, two: list[P
 
 
 def test_setup_of_several_is_printed(work: Path, two: list[Path]) -> None:
-    done = made(work, "--print-setup", *ORDERED, "all.ch10")
+    """With the new IDs ahead of it, as comments."""
+    done = made(work, "--print-setup", *ORDERED)
     judge("it is printed", done.returncode == 0 and 'name = "eth0 of tap2"' in done.stdout, done)
-    judge("and no file made", not (work / "all.ch10").exists())
+    judge("the IDs", done.stdout.startswith("# channel 1 of two.ch11 is 2\n"), done)
+    done = made(work, "--print-setup", *ORDERED, "all.ch10")
+    judge("there is no OUT", (done.returncode, done.stdout) == (3, "") and not (work / "all.ch10").exists(), done)
 
 
 def test_networks_of_several_are_those_of_their_channels(work: Path, two: list[Path]) -> None:
     frame = (SECOND, 7 << 16, with_check_sequence(numbered(0)))
     two[1].write_bytes(program_packet(1, 0) + packet_of(1, body_of([frame]), 0, FRAMES, SECOND, True))
-    done = made(work, "--print-setup", *ORDERED, "all.ch10")
+    done = made(work, "--print-setup", *ORDERED)
     found = {it["id"]: it.get("net", 0) for it in tomllib.loads(done.stdout)["channel"]}
     judge("by the new ID", found == {1: 0, 2: 7}, done)
 

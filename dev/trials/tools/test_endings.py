@@ -13,6 +13,7 @@ from typing import Any
 
 import pytest
 from frames import body_of, packet_of
+from pcapng import section
 from reading import SAMPLES
 from recorder import make_feed, write_settings
 from support import (
@@ -139,7 +140,9 @@ def large_input(tool: str) -> bytes:
     frames = body_of((at, 0, bytes(1_500)) for at in range(300))
     recording = packet_of(1, frames, 0, 0x68, 0, True) * 5
     feed = (b"\0" * 7 + (16_000).to_bytes(2, "little") + bytes(16_000)) * 130
-    return {"to-pcap": feed, "show": feed}.get(tool, recording)
+    # A block of a kind that nobody knows.
+    capture = section("<") + (0xBAD).to_bytes(4, "little") + (2 * MEBIBYTE).to_bytes(4, "little") + bytes(2 * MEBIBYTE)
+    return {"from-pcap": capture, "to-pcap": feed, "show": feed}.get(tool, recording)
 
 
 @pytest.mark.parametrize("tool", [it for it in WAITING if it not in ("check_sums", "pcapng")])

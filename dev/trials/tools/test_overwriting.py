@@ -46,6 +46,18 @@ def test_an_out_that_exists_is_refused_without_force(work: Path, tool: str) -> N
 
 
 @pytest.mark.parametrize("tool", MAKING)
+def test_a_recording_with_its_facts_is_overwritten_by_no_tool(work: Path, tool: str) -> None:
+    """With --force too, as where OUT was forgotten, or stands first in one tool and last in another."""
+    out = work / "flight.ch11"
+    shutil.copy(SAMPLES[0], out)
+    (work / "flight.ch11.json").write_text("{}")
+    done = outcome(*words_of(work, tool, out, "--force"))
+    told = f"{name_of(tool)}: {out} is a recording, with its facts beside it: give OUT another name\n"
+    kept = out.read_bytes() == SAMPLES[0].read_bytes()
+    judge("refused", (done.returncode, done.stderr) == (3, told) and kept, done)
+
+
+@pytest.mark.parametrize("tool", MAKING)
 def test_pipes_devices_and_standard_output_are_no_files_that_exist(work: Path, tool: str) -> None:
     run(*words_of(work, tool, "/dev/null"))
     if tool != "salvage":
@@ -122,6 +134,18 @@ def test_one_pipe_twice_is_refused(work: Path, words: str, told: str) -> None:
     feed = SAMPLES[1] if "salvage" in words else feed
     done = outcome("sh", "-c", f"cat {feed} | {ROOT}/host/bin/{words}", cwd=work, seconds=10)
     judge("refused", done.returncode in (1, 3) and done.stderr == f"{told}\n" and not (work / "out").exists(), done)
+
+
+def test_a_recording_twice_is_refused(work: Path) -> None:
+    """A capture would have each of its frames doubled."""
+    for name in ("own.ch11", "other.ch11"):
+        shutil.copy(SAMPLES[1], work / name)
+    (work / "link.ch11").symlink_to(work / "own.ch11")
+    for words, told in (("own.ch11 other.ch11 own.ch11", "own.ch11: it is given twice"),
+                        ("own.ch11 link.ch11", "link.ch11: it is given twice, as own.ch11 too")):  # fmt: skip
+        done = outcome(PCAPNG, "out", *words.split(), cwd=work)
+        judge(words, (done.returncode, done.stdout, done.stderr) == (1, "", f"pcapng: {told}\n"), done)
+    judge("nothing is made", not (work / "out").exists())
 
 
 # ---- what is no recording

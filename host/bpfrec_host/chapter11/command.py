@@ -6,7 +6,7 @@ import argparse
 import os
 import re
 import tempfile
-from typing import NoReturn, Optional
+from typing import IO, NoReturn, Optional
 
 from bpfrec_host import printing, program
 from bpfrec_host.arguments import Parser, full_name, natural, short_name
@@ -19,8 +19,8 @@ from bpfrec_host.formats.limits import MAX_TAI_OFFSET
 from bpfrec_host.streams import STREAM, Refused, Taken, Unreadable, input_at, refuse_overwriting
 
 ABOUT = """\
-Makes a whole Chapter 11 file of a recording: with a setup record (TMATS), time packets and an index. Or one file of the
-recordings of several recorders, by the clock of each.
+Makes a whole Chapter 11 file of recordings: with a setup record (TMATS), time packets and an index. Recordings of
+several recorders become one file, by the clock of each.
 
 OUT has all frames, programs and ends of RECORDING, merged by their counters and cut into packets of 100 ms at most.
 Times are UTC by the facts beside the recording, RECORDING.json. From these the setup record has the host, the
@@ -58,7 +58,7 @@ class Unusable(Refused):
 def parser() -> Parser:
     """The arguments of bpfrec-chapter11."""
     name = full_name("chapter11")
-    usage = f"{name} [OPTION..] RECORDING.. OUT\n       {name} --print-setup [OPTION..] RECORDING"
+    usage = f"{name} [OPTION..] RECORDING.. OUT\n       {name} --print-setup [OPTION..] RECORDING.."
     made = Parser(prog=name, usage=usage, description=ABOUT, epilog=MORE)
     times = made.add_mutually_exclusive_group()
     times.add_argument("--facts", metavar="FILE", help="the facts of the recording, if they aren't RECORDING.json")
@@ -85,12 +85,8 @@ def parser() -> Parser:
         help="a further line of the setup record; several times",
     )
     made.add_argument("--force", action="store_true", help="overwrites an OUT that exists")
-    made.add_argument(
-        "--print-setup",
-        action="store_true",
-        help="prints SETUP, and makes no file; of one recording OUT may be left out",
-    )
-    made.add_argument("paths", metavar="RECORDING.. OUT", nargs="+")
+    made.add_argument("--print-setup", action="store_true", help="prints SETUP, and makes no file: there is no OUT")
+    made.add_argument("paths", metavar="RECORDING.. OUT", nargs="*")
     return made
 
 
@@ -204,9 +200,11 @@ def at_descriptor(descriptor: int) -> str:
 
 def is_made_of(setup: str, given: argparse.Namespace) -> bool:
     """Whether a file is made by SETUP, which else is printed. An OUT that may not be overwritten is refused."""
-    if given.print_setup:
+    if given.out is None:
         printing.out(setup)
         return False
+    if os.path.isdir(given.out):
+        raise Unreadable(f"{given.out}: it is a folder")
     judge_overwriting(given.out, given.force)
     return True
 
@@ -219,31 +217,40 @@ def make_of_one(given: argparse.Namespace) -> None:
 
 
 def make_of_several(given: argparse.Namespace) -> None:
-    """Makes the file of several recordings, or prints SETUP."""
+    """Makes the file of several recordings, or prints SETUP with the new IDs ahead of it."""
     joined = joined_of(given)
-    setup = joined.setup_text()
-    if not is_made_of(setup, given):
+    lines, setup = joined.lines(), joined.setup_text()
+    if not is_made_of("".join(f"# {it}" for it in lines) + setup, given):
         return
-    folder = os.path.dirname(os.path.realpath(given.out))
+    with joined_file(joined, os.path.dirname(os.path.realpath(given.out))) as file:
+        printing.out("".join(lines))
+        os.set_inheritable(file.fileno(), True)
+        make(at_descriptor(file.fileno()), setup, given.out)
+
+
+def joined_file(joined: Joined, folder: str) -> IO[bytes]:
+    """The recording that several become, in an unnamed file of this folder."""
     try:
-        with tempfile.TemporaryFile(dir=folder) as file:
-            joined.write(file)
-            printing.out("".join(joined.lines()))
-            os.set_inheritable(file.fileno(), True)
-            make(at_descriptor(file.fileno()), setup, given.out)
+        file = tempfile.TemporaryFile(dir=folder)
+    except OSError as error:
+        raise OSError(error.errno, error.strerror, folder) from None
+    try:
+        joined.write(file)
     except OSError as error:
         error.filename = error.filename or folder
         raise
+    return file
 
 
 def arguments_of(arguments: list[str]) -> argparse.Namespace:
-    """The arguments, the last of which is OUT; it may be left out where SETUP of one recording is printed."""
+    """The arguments, the last of which is OUT, but where SETUP is printed."""
     made = parser()
-    given = made.parse_args(arguments)
-    has_out = len(given.paths) > 1
-    if not has_out and not given.print_setup:
-        made.error("the following arguments are required: OUT")
-    given.recordings, given.out = (given.paths[:-1], given.paths[-1]) if has_out else (given.paths, None)
+    end = arguments.index("--") if "--" in arguments else len(arguments)
+    given = made.parse_intermixed_args(arguments[:end])
+    paths = [*given.paths, *arguments[end + 1 :]]
+    given.recordings, given.out = (paths, None) if given.print_setup else (paths[:-1], paths[-1] if paths else None)
+    if not given.recordings:
+        made.error(f"the following arguments are required: {'OUT' if paths else 'RECORDING, OUT'}")
     return given
 
 

@@ -12,7 +12,7 @@ from bpfrec_host.formats.channel_ids import unique_ids
 from bpfrec_host.formats.facts import Facts, Origin
 from bpfrec_host.formats.limits import MAX_CHANNEL_ID
 from bpfrec_host.pcapng.index import Index
-from bpfrec_host.streams import Refused
+from bpfrec_host.streams import Refused, refuse_twice
 
 
 class Recorded(NamedTuple):
@@ -58,7 +58,9 @@ def channels_of(path: str) -> list[int]:
 
 
 def judge_recorders(recordings: list[Recorded]) -> None:
-    """Refuses two recordings of one recorder, whose channels would end within the file and begin again."""
+    """Refuses a recording that is given twice, and two of one recorder, whose channels would end within the file and
+    begin again."""
+    refuse_twice(it.path for it in recordings)
     known: dict[tuple[str, str], str] = {}
     for recorded in recordings:
         for interface in recorded.facts.interfaces.values():

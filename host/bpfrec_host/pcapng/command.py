@@ -16,7 +16,7 @@ from bpfrec_host.pcapng.merging import Capture, Interface, interfaces_of
 from bpfrec_host.pcapng.recordings import Recording
 from bpfrec_host.pcapng.times import Times, dated, time_of
 from bpfrec_host.progress import Progress
-from bpfrec_host.streams import STREAM, Refused, Unreadable, force, identity
+from bpfrec_host.streams import STREAM, Refused, Unreadable, force, identity, refuse_twice
 
 ABOUT = """\
 Makes one capture in pcapng of recordings: of all their time or a slice of it, of all channels or some.
@@ -168,10 +168,11 @@ def write(path: str, recordings: list[Recording], interfaces: list[Interface], i
 
 
 def judge_inputs(paths: list[str]) -> None:
-    """Refuses standard input that is given twice, also by another name."""
+    """Refuses a recording that is given twice, also by another name: each of its frames would be doubled."""
     others = [it for it in paths if it != STREAM]
     if paths.count(STREAM) > 1 or STREAM in paths and identity(STREAM, 0) in [identity(it, 0) or () for it in others]:
         raise Refused(f"{STREAM}: it is given twice, and can be read once")
+    refuse_twice(others)
 
 
 def make(given: argparse.Namespace) -> int:
