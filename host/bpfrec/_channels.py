@@ -2,6 +2,7 @@
 
 from __future__ import annotations
 
+import operator
 from typing import Iterable, Iterator, Union
 
 from bpfrec._records import Channel
@@ -11,6 +12,9 @@ from bpfrec_host.pcapng.recordings import Recorder
 
 # A channel of a recorder, by its ID there.
 Key = tuple[int, Recorder]
+# What names channels, one or several; None all.
+Named = Union[int, str, Channel]
+Asked = Union[Named, Iterable[Named], None]
 
 
 class Channels:
@@ -45,14 +49,43 @@ class Channels:
         """The ID of a channel that a recording has by this number."""
         return self.ids_in[source.number, number]
 
-    def asked(self, channels: Union[int, str, Iterable[Union[int, str]], None]) -> set[int]:
+    def asked(self, channels: Asked) -> set[int]:
         """The IDs of the channels that are asked for by their IDs or names."""
         if channels is None:
             return {it.id for it in self.all}
-        found: set[int] = set()
-        for asked in [channels] if isinstance(channels, (int, str)) else channels:
-            ids = {it.id for it in self.all if asked in (it.id, it.name)}
-            if not ids:
-                raise ValueError(f"{' '.join(it.path for it in self.sources)}: no channel {asked}")
-            found |= ids
+        return {number for named in each_of(channels) for number in self.ids_of(named)}
+
+    def ids_of(self, named: Named) -> set[int]:
+        """The IDs of the channels that have an ID or a name."""
+        if isinstance(named, str):
+            found, asked = {it.id for it in self.all if it.name == named}, f"named {named}"
+            if named.isdecimal():
+                asked += "; an ID is given as an int"
+        else:
+            number = number_of(named)
+            found, asked = {it.id for it in self.all if it.id == number}, f"{number}"
+        if not found:
+            raise ValueError(f"{' '.join(it.path for it in self.sources)}: no channel {asked}")
         return found
+
+
+def each_of(channels: Union[Named, Iterable[Named]]) -> Iterable[Named]:
+    """What names each of the channels that are asked for."""
+    # Bytes would be several numbers, and a `Channel` is a tuple.
+    if isinstance(channels, (bytes, bytearray)):
+        raise wrong_type(channels)
+    return [channels] if isinstance(channels, (str, Channel)) or not isinstance(channels, Iterable) else channels
+
+
+def number_of(named: Union[int, Channel]) -> int:
+    """The ID that names a channel, of any type of integers, as numpy has its own."""
+    try:
+        return named.id if isinstance(named, Channel) else operator.index(named)
+    except TypeError:
+        raise wrong_type(named) from None
+
+
+def wrong_type(named: object) -> TypeError:
+    """The refusal of what names no channel."""
+    what = "a channel's ID as an int, its name as a str, a Channel, or several of these"
+    return TypeError(f"channels takes {what}, not {named!r}")

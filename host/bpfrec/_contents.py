@@ -100,6 +100,16 @@ class Contents(Index):
         if self.is_strict and first and (at is None or first.place < at):
             raise Damaged(*first)
 
+    def refuse_closed(self) -> None:
+        """Refuses a file that is closed."""
+        if self.file.closed:
+            raise ValueError(f"{self.path}: the recording is closed")
+
+    def read_at(self, at: int, length: int) -> bytes:
+        """Bytes at a place, of a file that is still open."""
+        self.refuse_closed()
+        return super().read_at(at, length)
+
     def data_at(self, place: Place) -> Optional[bytes]:
         """The data of a packet of frames; None where they are others, or are damaged and skipped."""
         self.refuse_before(place.at)

@@ -7,9 +7,9 @@ import os
 from datetime import datetime
 from itertools import repeat
 from types import TracebackType
-from typing import Iterable, Iterator, Optional, Union
+from typing import Iterable, Iterator, NoReturn, Optional, Union
 
-from bpfrec._channels import Channels
+from bpfrec._channels import Asked, Channels
 from bpfrec._decode import Owner, frames_in
 from bpfrec._facts import Facts, Given, public, utc_at
 from bpfrec._faults import Fault
@@ -23,7 +23,6 @@ from bpfrec_host.pcapng.merging import last_moments
 
 Path = Union[str, "os.PathLike[str]"]
 Moment = Union[int, datetime, None]
-Asked = Union[int, str, Iterable[Union[int, str]], None]
 
 
 class Recording:
@@ -49,6 +48,10 @@ class Recording:
 
     def __del__(self) -> None:
         self.close()
+
+    def __reduce__(self) -> NoReturn:
+        # A copy would close the files of this one.
+        raise TypeError(f"{self!r} can't be copied: open it again")
 
     def __iter__(self) -> Iterator[Frame]:
         return self.frames()
@@ -116,14 +119,16 @@ class Recording:
     ) -> Iterator[Frame]:
         """The frames of some channels or of all, from one time on and before another.
 
-        `channels` is a channel ID or a name, or several of them. `begin` and `end` are in nanoseconds since 1970 UTC,
-        or a `datetime` with its time zone; of a recording without times they are a ValueError. For these no other
-        packets are read than those in the slice, in which counters within a packet are taken to rise.
+        `channels` is a channel ID, a name or a `Channel`, or several of them. `begin` and `end` are in nanoseconds
+        since 1970 UTC, or a `datetime` with its time zone; of a recording without times they are a ValueError. For
+        these no other packets are read than those in the slice, in which counters within a packet are taken to rise.
         With `by_time` the frames of all channels are merged by time, else they stand as in the recording, packet by
         packet, each of one channel. By default several recordings are merged, and one isn't. Frames of a channel stay
         in their order, and a clock that was set back while it was recorded doesn't change the order of frames."""
+        for source in self._sources:
+            source.contents.refuse_closed()
         ids = self._channels.asked(channels)
-        since, until = moment_of(begin), moment_of(end)
+        since, until = moment_of("begin", begin), moment_of("end", end)
         ranges = [it.ranges(since, until) for it in self._sources]
         parts = [it for part in self._channels.parts if part.channel in ids for it in part.sliced(ranges)]
         if by_time is None:
@@ -204,7 +209,7 @@ def open(path: Path, *more: Path, facts: Given = None, skip_damage: bool = False
     and the interfaces of their facts, have the same channels; a recording without facts has channels of its own. All
     must have facts, or none. Where channels of several recorders have the same ID, that of the recording given first
     keeps it, and each other one gets the lowest ID that no recording has; `recorded_as` of a channel is the one that it
-    has in its recordings."""
+    has in its recordings. A file that is given twice, by another name or link too, is a ValueError."""
     paths = [os.fsdecode(it) for it in (path, *more)]
     if more and facts not in (None, False, True):
         raise TypeError("facts names the facts of one recording; of several those beside each are taken")
@@ -212,12 +217,25 @@ def open(path: Path, *more: Path, facts: Given = None, skip_damage: bool = False
     try:
         for number, name in enumerate(paths):
             sources.append(Source(number, name, facts, not skip_damage))
+        judge_files(sources)
         judge_times(sources)
     except BaseException:
         for source in sources:
             source.contents.file.close()
         raise
     return Recording(sources)
+
+
+def judge_files(sources: list[Source]) -> None:
+    """Refuses a file that is given twice, also by another name or link, whose frames would be there twice."""
+    paths: dict[tuple[int, int], str] = {}
+    for source in sources:
+        found = os.fstat(source.contents.file.fileno())
+        file = (found.st_dev, found.st_ino)
+        if file in paths:
+            other = "" if paths[file] == source.path else f", as {source.path} too"
+            raise ValueError(f"{paths[file]} is given twice{other}")
+        paths[file] = source.path
 
 
 def judge_times(sources: list[Source]) -> None:

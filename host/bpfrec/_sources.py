@@ -2,6 +2,7 @@
 
 from __future__ import annotations
 
+import operator
 from datetime import datetime, timedelta
 from typing import NamedTuple, Optional, Union
 
@@ -72,10 +73,21 @@ class Part(NamedTuple):
         return [self._replace(places=places, ranges=mine)] if places else []
 
 
-def moment_of(time: Union[int, datetime, None]) -> Optional[int]:
-    """A time in nanoseconds since 1970 UTC."""
-    if time is None or isinstance(time, int):
-        return time
+def moment_of(name: str, time: Union[int, datetime, None]) -> Optional[int]:
+    """A time in nanoseconds since 1970 UTC, which is given as the argument of this name."""
+    if time is None:
+        return None
+    if not isinstance(time, datetime):
+        return nanoseconds_of(name, time)
     if time.tzinfo is None:
         raise ValueError(f"{time} has no time zone: datetime(.., tzinfo=timezone.utc)")
     return (time - EPOCH) // timedelta(microseconds=1) * NANOSECONDS_A_MICROSECOND
+
+
+def nanoseconds_of(name: str, time: int) -> int:
+    """A number of nanoseconds, of any type of integers, as numpy has its own."""
+    try:
+        return operator.index(time)
+    except TypeError:
+        what = "a datetime with its time zone, or nanoseconds since 1970 UTC as an int"
+        raise TypeError(f"{name} takes {what}, not {time!r}") from None

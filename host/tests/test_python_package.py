@@ -8,7 +8,7 @@ from __future__ import annotations
 
 import json
 import zlib
-from datetime import datetime, timedelta, timezone
+from datetime import date, datetime, timedelta, timezone
 from pathlib import Path
 from typing import Any, Optional
 
@@ -18,6 +18,17 @@ from expected_facts import BEFORE_1970, TAI_37, THREE_ORIGINS, UNKNOWN_SCALE, fa
 from frames import FRAMES, body_of, frames_packet, numbered, packet_of, program_packet
 from small_recordings import FRAME, IN_ORDER, NOON, ONE_ORIGIN, counters, packet, recording, written
 from support import SECOND, judge, judge_quietly
+
+
+class OfNumpy:
+    """An integer of another type than int, as numpy has its own."""
+
+    def __init__(self, number: int) -> None:
+        self.number = number
+
+    def __index__(self) -> int:
+        return self.number
+
 
 # ---- frames
 
@@ -152,10 +163,39 @@ def test_channels_are_chosen_by_their_ids_and_names(work: Path, asked: Any, want
 
 def test_a_channel_that_no_recording_has_is_refused(work: Path) -> None:
     opened = bpfrec.open(written(work, recording()))
-    every: list[Any] = [3, "eth0", [1, 3]]
-    for asked in every:
-        with pytest.raises(ValueError, match="x.ch11: no channel (3|eth0)"):
+    every: list[tuple[Any, str]] = [
+        (3, "3"),
+        ("eth0", "named eth0"),
+        ([1, 3], "3"),
+        (bpfrec.Channel(3, "", "", 3, ()), "3"),
+    ]
+    every += [("1", "named 1; an ID is given as an int")]
+    for asked, named in every:
+        with pytest.raises(ValueError, match=f"x.ch11: no channel {named}$"):
             opened.frames(channels=asked)
+
+
+def test_a_channel_is_chosen_by_itself_and_by_any_integer(work: Path) -> None:
+    """As an element of `channels`, alone or in a list, and as a number of another type, as numpy has its own."""
+    opened = bpfrec.open(written(work, recording()))
+    first, second = opened.channels
+    table: list[tuple[Any, list[tuple[int, int]]]] = [
+        (second, [it for it in IN_ORDER if it[0] == 2]),
+        ([first], [it for it in IN_ORDER if it[0] == 1]),
+        (opened.channels, IN_ORDER),
+        (OfNumpy(2), [it for it in IN_ORDER if it[0] == 2]),
+        ([OfNumpy(1), second], IN_ORDER),
+    ]
+    for asked, wanted in table:
+        judge_quietly(f"{asked}", counters(opened.frames(channels=asked)) == wanted)
+    judge("each is", True)
+
+
+@pytest.mark.parametrize("asked", [1.0, b"eth0", bytearray(b"eth0"), [1.0], [b"eth0"], [[1]], object()])
+def test_what_names_no_channel_is_refused(work: Path, asked: Any) -> None:
+    """Bytes are no list of numbers, and 1.0 isn't 1."""
+    with pytest.raises(TypeError, match="^channels takes a channel's ID as an int, its name as a str, a Channel, or "):
+        bpfrec.open(written(work, recording())).frames(channels=asked)
 
 
 @pytest.mark.parametrize("origins", [ONE_ORIGIN, TAI_37, THREE_ORIGINS])
@@ -177,6 +217,21 @@ def test_a_slice_takes_a_datetime_with_its_time_zone(work: Path) -> None:
     judge("from it on", counters(opened.frames(1, begin=at)) == [(1, 20), (1, 30), (1, 40)])
     with pytest.raises(ValueError, match="has no time zone"):
         opened.frames(begin=at.replace(tzinfo=None))
+
+
+def test_a_slice_takes_any_integer(work: Path) -> None:
+    opened = bpfrec.open(written(work, recording(), ONE_ORIGIN))
+    begin: Any = OfNumpy(NOON + 2_000)
+    judge("as an int", counters(opened.frames(1, begin=begin)) == [(1, 20), (1, 30), (1, 40)])
+
+
+@pytest.mark.parametrize("name", ["begin", "end"])
+@pytest.mark.parametrize("time", [12.5, "2025-12-01", date(2025, 12, 1), [NOON]])
+def test_what_is_no_time_is_refused(work: Path, name: str, time: Any) -> None:
+    """With the name of the argument, and what it takes."""
+    takes = "takes a datetime with its time zone, or nanoseconds since 1970 UTC as an int, not "
+    with pytest.raises(TypeError, match=f"^{name} {takes}"):
+        bpfrec.open(written(work, recording(), ONE_ORIGIN)).frames(**{name: time})
 
 
 @pytest.mark.parametrize(

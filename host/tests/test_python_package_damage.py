@@ -4,9 +4,11 @@ what it promises."""
 from __future__ import annotations
 
 import ast
+import copy
 import gc
 import inspect
 import os
+import pickle
 import tracemalloc
 import warnings
 from pathlib import Path
@@ -14,7 +16,7 @@ from typing import Callable
 
 import bpfrec
 import pytest
-from frames import COMPUTER, FRAMES, body_of, packet_of
+from frames import COMPUTER, FRAMES, body_of, packet_of, program_packet
 from small_recordings import FRAME, IN_ORDER, PACKETS, counters, packet, recording, written
 from support import MEBIBYTE, ROOT, judge, judge_quietly
 
@@ -125,6 +127,15 @@ def test_what_is_no_recording_is_refused(work: Path) -> None:
     )
 
 
+def test_behind_a_damaged_program_frames_have_the_version_before(work: Path) -> None:
+    parts = [program_packet(1, 0), packet(1, [1]), program_packet(1, 1), packet(1, [2]), program_packet(1, 2)]
+    data = bytearray(b"".join([*parts, packet(1, [3])]))
+    data[sum(map(len, parts[:2])) + 60] ^= 1
+    opened = bpfrec.open(written(work, bytes(data)), skip_damage=True)
+    judge("of the second frame it is 0", [it.version for it in opened] == [0, 0, 2])
+    judge("and the place is listed", len(opened.faults) == 1 and [it.version for it in opened.filters] == [0, 2])
+
+
 def test_damage_at_the_very_beginning_can_be_skipped(work: Path) -> None:
     opened = bpfrec.open(written(work, bytes(8) + recording()), skip_damage=True)
     judge("all frames are there", counters(opened) == IN_ORDER and len(opened.faults) == 1, opened.faults)
@@ -167,6 +178,8 @@ def test_a_recording_that_changes_meanwhile_is_read_as_it_was_or_is_damaged(work
 def test_files_are_closed(work: Path) -> None:
     """By `close`, by `with`, and where nothing refers to a recording any more, without a warning."""
     path = written(work, recording())
+    # Recordings of other tests, which an exception may still refer to.
+    gc.collect()
     before = len(os.listdir("/proc/self/fd"))
     with warnings.catch_warnings(record=True) as said:
         warnings.simplefilter("always")
@@ -180,8 +193,29 @@ def test_files_are_closed(work: Path) -> None:
         gc.collect()
     judge("all are", len(os.listdir("/proc/self/fd")) == before)
     judge("and Python warns of none", not said, [str(it.message) for it in said])
-    with pytest.raises(ValueError):
-        list(opened)
+
+
+def test_a_recording_that_is_closed_is_refused_by_its_name(work: Path) -> None:
+    """Where its frames are asked for, and where the reading goes on."""
+    path = written(work, recording())
+    opened = bpfrec.open(path)
+    begun = iter(opened)
+    judge("three come of the packet that is read", next(begun).counter == 10)
+    opened.close()
+    every: list[Callable[[], object]] = [lambda: opened.frames(channels=[]), opened.frames, lambda: list(begun)]
+    for reading in every:
+        with pytest.raises(ValueError, match="/x.ch11: the recording is closed$"):
+            reading()
+    judge("what is known of it stays", len(opened.channels) == 2 and len(opened.filters) == 2)
+
+
+@pytest.mark.parametrize("copied", [copy.copy, copy.deepcopy, pickle.dumps])
+def test_no_copy_closes_the_files_of_a_recording(work: Path, copied: Callable[[object], object]) -> None:
+    opened = bpfrec.open(written(work, recording()))
+    with pytest.raises(TypeError, match="^<bpfrec.Recording .*x.ch11> can't be copied: open it again$"):
+        copied(opened)
+    gc.collect()
+    judge("it can still be read", counters(opened) == IN_ORDER)
 
 
 def test_one_packet_is_in_memory(work: Path) -> None:

@@ -3,6 +3,7 @@
 from __future__ import annotations
 
 import json
+import os
 import random
 from pathlib import Path
 from typing import Any, Optional
@@ -163,6 +164,35 @@ def test_recordings_without_facts_have_channels_of_their_own(work: Path) -> None
     judge("merged by their counters", counters(opened) == [(1, 10), (2, 20), (1, 30)])
 
 
+def test_a_file_that_is_given_twice_is_refused(work: Path) -> None:
+    """By another path and by links too; a copy of it is another file."""
+    one, two = recorder(work, "1", {1: [10]}, None), recorder(work, "2", {1: [20]}, None)
+    (work / "folder").mkdir()
+    (work / "symbolic").symlink_to(one)
+    os.link(one, work / "hard")
+    with pytest.raises(ValueError, match="^/.*/1 is given twice$"):
+        bpfrec.open(one, two, one)
+    for name in ("folder/../1", "symbolic", "hard"):
+        with pytest.raises(ValueError, match=f"^/.*/1 is given twice, as /.*/{name} too$"):
+            bpfrec.open(two, one, work / name)
+    other = written(work / "copy", one.read_bytes())
+    judge("a copy is read", len(list(bpfrec.open(one, two, other))) == 3)
+
+
+def test_times_step_where_a_clock_was_set(work: Path) -> None:
+    """By time frames stand as they came."""
+    one, two = recorder(work, "1", {1: [10, 30], 2: [20, 40]}), recorder(work, "2", {1: [25]}, host="fc2")
+    origins = [(NOON, 0, None), ("1764590399.250000000", 15, None)]
+    for path, host in ((one, "fc1"), (two, "fc2")):
+        Path(f"{path}.json").write_text(json.dumps({**facts_of_run(origins), "host": host}))
+    found = list(bpfrec.open(one, two))
+    judge("in the order of their counters", [it.counter for it in found] == [10, 20, 25, 30, 40], found)
+    times = [it.time or 0 for it in found]
+    judge(
+        "a second back behind the first", times[1] - times[0] == 10 * 100 - 10**9 and times[1:] == sorted(times[1:])
+    )
+
+
 def test_recordings_with_facts_and_without_are_refused(work: Path) -> None:
     one, two = recorder(work, "1", {1: [10]}), recorder(work, "2", {1: [20]}, None)
     with pytest.raises(ValueError, match="2 has none, so their times can't be compared"):
@@ -178,6 +208,8 @@ def test_damage_of_one_recording_is_that_of_its_file(work: Path) -> None:
     with pytest.raises(bpfrec.Damaged) as caught:
         list(bpfrec.open(one, two))
     judge("it is named", caught.value.path == str(two) and caught.value.kind == "Truncated")
+    with pytest.raises(bpfrec.Damaged):
+        next(iter(bpfrec.open(one, two)))
     opened = bpfrec.open(one, two, skip_damage=True)
     judge("the other is read", counters(opened) == [(1, 10)] and [it.path for it in opened.faults] == [str(two)])
     found: list[bpfrec.Frame] = []
