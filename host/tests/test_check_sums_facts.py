@@ -12,7 +12,8 @@ from typing import Any, Optional, cast
 import pytest
 from bpfrec_host.check_sums import claims
 from bpfrec_host.check_sums.claims import Before, Claims, NoClaims, claims_in
-from bpfrec_host.check_sums.judge import PIECE, Judge, content_of, in_order
+from bpfrec_host.check_sums.judge import PIECE, Judge, content_of
+from bpfrec_host.check_sums.order import Place, in_order, place_of
 from bpfrec_host.check_sums.verifier import Verifier, verifier_of
 from bpfrec_host.formats.signatures import Unsigned
 from support import CHECK_SUMS, judge, judge_quietly, outcome
@@ -81,9 +82,25 @@ def test_the_hash_is_that_of_all_bytes(work: Path, length: int) -> None:
 
 
 def test_recordings_follow_one_another_by_their_numbers() -> None:
-    """Also past five digits, and of several runs."""
-    names = ["f/9_99999.ch11", "f/9_100000.ch11", "f/10_00001.ch11", "f\u00b2/1", "g/1"]
+    """Also past five digits, of several runs, and in whichever folders they are."""
+    names = ["g/9_00001.ch11", "h/9_00002.ch11", "f/9_99999.ch11", "f/9_100000.ch11", "f/9_a.ch11", "h/a_00001.ch11"]
     judge("in this order", in_order(names[::-1]) == names, in_order(names[::-1]))
+
+
+@pytest.mark.parametrize(
+    "path, place",
+    [
+        ("card/flight_00003.ch11", Place("flight.ch11", 3)),
+        ("flight_2_100000.ch11", Place("flight_2.ch11", 100_000)),
+        ("flight.v2_00003", Place("flight.v2", 3)),
+        ("flight_00003.ch11.ch10", Place("flight_00003.ch11.ch10", 0)),
+        ("flight_0003.ch11", Place("flight_0003.ch11", 0)),
+        ("flight_0000\u0663.ch11", Place("flight_0000\u0663.ch11", 0)),
+        (f"flight_{'9' * 5_000}", Place(f"flight_{'9' * 5_000}", 0)),
+    ],
+)
+def test_a_run_is_known_by_the_names_of_its_recordings(path: str, place: Place) -> None:
+    judge(path, place_of(path) == place, place_of(path))
 
 
 class Judged:
@@ -96,9 +113,10 @@ class Judged:
     def of(self, name: str, data: bytes, **changes: object) -> tuple[bool, list[str]]:
         """A recording with right facts, but for these keys."""
         path = self.work / name
+        path.parent.mkdir(exist_ok=True)
         path.write_bytes(data)
         digest = hashlib.sha256(data).hexdigest()
-        facts = {"recording": name, "sha256": digest, "bytes": len(data), "before": None, **changes}
+        facts = {"recording": path.name, "sha256": digest, "bytes": len(data), "before": None, **changes}
         Path(f"{path}.json").write_text(json.dumps(facts))
         self.lines.clear()
         return self.judge.judge(str(path)), self.lines
@@ -110,35 +128,85 @@ def named(name: str, data: bytes) -> dict[str, str]:
 
 def test_the_one_before_is_the_one_that_is_given_before(work: Path) -> None:
     judged = Judged(work)
-    found = judged.of("b", b"b", before=named("a", b"a"))
-    judge("of the first it isn't asked for", found == (True, ["hash right", "before not given: a"]), found)
-    found = judged.of("c", b"c", before=named("b", b"b"))
-    judge("it is", found == (True, ["hash right", "before right: b"]), found)
-    found = judged.of("d", b"d")
+    found = judged.of("r_00002", b"b", before=named("r_00001", b"a"))
+    judge("of the first it isn't asked for", found == (True, ["hash right", "before not given: r_00001"]), found)
+    found = judged.of("r_00003", b"c", before=named("r_00002", b"b"))
+    judge("it is", found == (True, ["hash right", "before right: r_00002"]), found)
+    found = judged.of("r_00004", b"d")
     judge("another run begins", found == (True, ["hash right", "before none"]), found)
-    found = judged.of("e", b"e", before=named("c", b"c"))
-    judge("another", found == (False, ["hash right", "before wrong: d, the facts say c"]), found)
-    found = judged.of("f", b"f", before=named("e", b"x"))
-    judge(
-        "another hash", found == (False, ["hash right", "before wrong: e has another hash than the facts say"]), found
-    )
-    found = judged.of("g", b"g", before={"recording": "f", "sha256": None})
-    judge("nobody knew it", found == (True, ["hash right", "before unknown: f had no hash"]), found)
+    found = judged.of("r_00005", b"e", before=named("r_00003", b"c"))
+    judge("another", found == (False, ["hash right", "before wrong: r_00004, the facts say r_00003"]), found)
+    found = judged.of("r_00006", b"f", before=named("r_00005", b"x"))
+    line = "before wrong: r_00005 has another hash than the facts say"
+    judge("another hash", found == (False, ["hash right", line]), found)
+    found = judged.of("r_00007", b"g", before={"recording": "r_00006", "sha256": None})
+    judge("nobody knew it", found == (True, ["hash right", "before unknown: r_00006 had no hash"]), found)
+    found = judged.of("s_00003", b"h", before=named("s_00002", b"b"))
+    judge("nor of the first of another run", found == (True, ["hash right", "before not given: s_00002"]), found)
+
+
+def test_runs_of_one_name_are_judged_together(work: Path) -> None:
+    """Of two days, the second of which lacks one, and a copy of a recording."""
+    judged = Judged(work)
+    for folder in ("monday", "tuesday"):
+        judge(folder, judged.of(f"{folder}/r_00001", folder.encode())[0], judged.lines)
+    for folder in ("copy", "monday"):
+        found = judged.of(f"{folder}/r_00002", b"2", before=named("r_00001", b"monday"))
+        judge(folder, found == (True, ["hash right", "before right: r_00001"]), found)
+    found = judged.of("tuesday/r_00003", b"3", before=named("r_00002", b"of tuesday"))
+    line = "before wrong: r_00002 has another hash than the facts say"
+    judge("the one that lacks its own", found == (False, ["hash right", line]), found)
+
+
+def recorded(work: Path, *folders: str) -> list[Path]:
+    """Empty recordings of one run in these folders, each with facts that name the one before."""
+    paths: list[Path] = []
+    for number, folder in enumerate(folders, 1):
+        path = work / folder / f"r_{number:05}"
+        path.parent.mkdir(exist_ok=True)
+        path.write_bytes(b"")
+        before = named(paths[-1].name, b"") if paths else None
+        Path(f"{path}.json").write_text(json.dumps({**named(path.name, b""), "bytes": 0, "before": before}))
+        paths.append(path)
+    return paths
+
+
+def test_one_that_is_missing_is_seen_where_a_run_has_several_folders(work: Path) -> None:
+    """The later ones are in the folder that is sorted first."""
+    paths = recorded(work, "card2", "card2", "card1", "card1")
+    done = outcome(CHECK_SUMS, *paths)
+    judge("all of them", done.returncode == 0 and done.stdout.count("before right") == 3, done)
+    done = outcome(CHECK_SUMS, paths[0], *paths[2:])
+    line = "before wrong: r_00001, the facts say r_00002\n"
+    judge("without the second", done.returncode == 1 and line in done.stdout, done)
+
+
+def test_a_recording_that_is_given_twice_is_refused(work: Path) -> None:
+    """Also by another name; one that isn't there is another fault."""
+    (path,) = recorded(work, "card")
+    (work / "link").symlink_to(path)
+    for again in (path, work / "card/../card" / path.name, work / "link"):
+        done = outcome(CHECK_SUMS, path, again)
+        judge(f"{again}", done.returncode == 2 and f"error: {again} is given twice\n" in done.stderr, done)
+    done = outcome(CHECK_SUMS, work / "none", work / "none")
+    judge("missing", (done.returncode, done.stderr) == (3, f"file {work}/none: No such file or directory\n"), done)
 
 
 def test_a_name_that_is_no_utf8_is_that_of_its_facts(work: Path) -> None:
     """They lack what isn't UTF-8; and it is printed."""
-    for number in ("1", "2"):
-        path = os.fsencode(work) + b"/\xff" + number.encode()
+    names = ("_00001", "_00002")
+    for name in names:
+        path = os.fsencode(work) + b"/\xff" + name.encode()
         Path(os.fsdecode(path)).write_bytes(b"")
         digest = hashlib.sha256(b"").hexdigest()
-        before = None if number == "1" else {"recording": "1", "sha256": digest}
-        facts = {"recording": number, "sha256": digest, "bytes": 0, "before": before}
+        before = None if name == names[0] else {"recording": names[0], "sha256": digest}
+        facts = {"recording": name, "sha256": digest, "bytes": 0, "before": before}
         Path(os.fsdecode(path + b".json")).write_text(json.dumps(facts))
-    paths = [os.fsencode(work) + b"/\xff" + number for number in (b"1", b"2")]
+    paths = [os.fsencode(work) + b"/\xff" + name.encode() for name in names]
     done = outcome(CHECK_SUMS, *paths, env={**os.environ, "LC_ALL": "C.UTF-8"})
-    lines = [f"recording {work}/?1", "hash right", "before none", "packets 0 data checksums 0 without 0 wrong 0"]
-    lines += [f"recording {work}/?2", "hash right", "before right: 1", "packets 0 data checksums 0 without 0 wrong 0"]
+    last = "packets 0 data checksums 0 without 0 wrong 0"
+    lines = [f"recording {work}/?_00001", "hash right", "before none", last]
+    lines += [f"recording {work}/?_00002", "hash right", "before right: _00001", last]
     judge("each is right", (done.returncode, done.stdout.splitlines()) == (0, lines), done)
 
 
@@ -177,8 +245,11 @@ def test_where_signatures_are_asked_for_all_has_to_be_there(work: Path) -> None:
     judge("it is right", judged.of("a", b"a") == (True, ["hash right", "before none", "signature right: fc1"]))
     found = judged.of("a", b"a", sha256=None)
     judge("no hash", found == (False, ["hash none: the facts have none", "before none", "signature right: fc1"]), found)
-    found = judged.of("a", b"a", before={"recording": "a", "sha256": None})
-    judge("nobody knew the one before", found[0] is False, found)
+    judged.of("r_00001", b"a", sha256=None)
+    (work / "r_00002.json.sig").write_text("signature")
+    found = judged.of("r_00002", b"a", before={"recording": "r_00001", "sha256": None})
+    lines = ["hash right", "before unknown: r_00001 had no hash", "signature right: fc1"]
+    judge("nobody knew the one before", found == (False, lines), found)
     (work / "a.json").unlink()
     judged.lines.clear()
     found = judged.judge.judge(str(work / "a")), judged.lines

@@ -3,15 +3,21 @@
 from __future__ import annotations
 
 import os
+import signal
+import subprocess
+import sys
 import threading
 import time
 from pathlib import Path
 
 import pytest
 from bpfrec_host.formats.signatures import Unsigned, reason_in
-from bpfrec_host.live import signer
+from bpfrec_host.live import ahead, signer
+from bpfrec_host.live.ahead import refuse_signing
+from bpfrec_host.live.arguments import read
+from bpfrec_host.live.names import Refusal
 from bpfrec_host.live.signer import Signer
-from support import judge, wait_for
+from support import ROOT, judge, wait_for
 
 LOCKED = b'Enter passphrase: Load key "k": incorrect passphrase supplied to decrypt private key\r\n'
 OPEN = (
@@ -42,7 +48,12 @@ def why_unsigned(made: Signer) -> str:
     "printed, code, reason",
     [
         (LOCKED, 255, 'Load key "k": incorrect passphrase supplied to decrypt private key'),
-        (OPEN, 255, "Permissions 0644 for 'k' are too open. This private key will be ignored."),
+        (OPEN, 255, "Permissions 0644 for 'k' are too open; This private key will be ignored."),
+        (
+            b"s_pubonly:1: invalid key\r\nNo principal matched.\r\n",
+            255,
+            "s_pubonly:1: invalid key; No principal matched.",
+        ),
         (b"Signing data on standard input\nagent refused operation\n", 255, "agent refused operation"),
         (b"\x1b[2J\xff\n", 1, "?[2J\ufffd"),
         (b"Signing data on standard input\n", 7, "ssh-keygen ended with status 7"),
@@ -64,11 +75,10 @@ def test_it_signs_what_it_reads_in_the_namespace_of_recordings(played: Path, mon
     judge("these", found == "-Y sign -f the key -n bpfrec\nfacts\nnever\nnot a tty\n", found)
 
 
-def test_one_that_takes_too_long_is_ended(played: Path, work: Path, monkeypatch: pytest.MonkeyPatch) -> None:
+def test_one_that_takes_too_long_is_ended(played: Path, work: Path) -> None:
     write(played, f"echo $$ > {work}/pid; exec sleep 600")
-    monkeypatch.setattr(signer, "LONGEST", 1.0)
     begun = time.monotonic()
-    judge("it is said", why_unsigned(Signer("k")) == "ssh-keygen took over 1 s")
+    judge("it is said", why_unsigned(Signer("k", longest=1.0)) == "ssh-keygen took over 1 s")
     judge("in time", time.monotonic() < begun + 30)
     judge("nothing runs on", not Path(f"/proc/{(work / 'pid').read_text().strip()}").exists())
 
@@ -100,3 +110,53 @@ def test_a_program_that_can_not_be_had_is_said(work: Path, monkeypatch: pytest.M
     (work / "ssh-keygen").write_text("no program")
     (work / "ssh-keygen").chmod(0o755)
     judge("it is no program", why_unsigned(Signer("k")) == "ssh-keygen: Exec format error")
+
+
+def test_the_trial_at_the_start_has_less_time(played: Path, monkeypatch: pytest.MonkeyPatch) -> None:
+    """A person waits for it, and an agent may hang."""
+    write(played, "exec sleep 600")
+    judge("ten seconds", (signer.LONGEST_TRIAL, signer.LONGEST) == (10.0, 30.0))
+    monkeypatch.setattr(ahead, "LONGEST_TRIAL", 1.0)
+    with pytest.raises(Refusal, match="^live: --sign k: ssh-keygen took over 1 s$"):
+        refuse_signing(read(["--sign", "k", "settings", "out", "eth0=1"]))
+
+
+# A program that signs as preflight does: SIGPIPE and Ctrl-C end it.
+SIGNING = """
+import signal, sys
+from bpfrec_host.formats.signatures import Unsigned
+from bpfrec_host.live.signer import Signer
+
+signal.signal(signal.SIGPIPE, signal.SIG_DFL)
+signal.signal(signal.SIGINT, signal.default_int_handler)
+try:
+    Signer("k").sign(b"facts" * 100_000)
+except Unsigned as why:
+    print(why)
+except KeyboardInterrupt:
+    print("interrupted")
+"""
+
+
+def begun_signing() -> subprocess.Popen[str]:
+    adds = {"PYTHONPATH": str(ROOT / "host"), "PYTHONDONTWRITEBYTECODE": "1"}
+    words = [sys.executable, "-c", SIGNING]
+    return subprocess.Popen(words, stdout=subprocess.PIPE, text=True, env={**os.environ, **adds})
+
+
+def test_one_that_reads_nothing_ends_nobody_by_a_signal(played: Path) -> None:
+    """It ends before it has read the facts, of which there are more than a pipe takes."""
+    write(played, "echo no such key >&2; exit 1")
+    signing = begun_signing()
+    printed = signing.communicate(timeout=60)[0]
+    judge("why is said", (signing.returncode, printed) == (0, "no such key\n"), (signing.returncode, printed))
+
+
+def test_an_interrupt_ends_one_that_hangs(played: Path, work: Path) -> None:
+    write(played, f"echo $$ > {work}/new; mv {work}/new {work}/pid; exec sleep 100")
+    signing = begun_signing()
+    wait_for("it is asked", (work / "pid").exists)
+    signing.send_signal(signal.SIGINT)
+    printed = signing.communicate(timeout=60)[0]
+    judge("it is interrupted", (signing.returncode, printed) == (0, "interrupted\n"), (signing.returncode, printed))
+    judge("nothing runs on", not Path(f"/proc/{(work / 'pid').read_text().strip()}").exists())

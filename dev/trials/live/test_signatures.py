@@ -4,6 +4,7 @@ that was changed in it."""
 import contextlib
 import json
 import os
+import re
 import shutil
 import stat
 import subprocess
@@ -30,9 +31,11 @@ from signing import (
     signature_of,
     without_ssh,
 )
-from support import CHECK_SUMS, judge, judge_quietly, outcome, run
+from support import CHECK_SUMS, ROOT, judge, judge_quietly, outcome, run
 
 WANTED = {"bin/bpfrec": "make build", "bin/capture": "make build", "ip": "iproute2", **NEEDED}
+# Which has the commands by which recordings are verified without the source tree.
+PAGE = ROOT / "docs/user/using/read.md"
 # Where a numbered frame has the last byte of its number.
 NUMBER_AT = len(HEAD) + 7
 
@@ -112,6 +115,22 @@ def test_what_is_as_it_was_is_approved(flight: Flight) -> None:
     judge(
         "the first may be left out", done.returncode == 0 and f"before not given: {first.name}\n" in done.stdout, done
     )
+
+
+def says_the_page(part: Path) -> bool:
+    """Whether the page's command finds the hash of a recording in its facts."""
+    (command,) = re.findall(r"^\$ (grep -q .* && echo the hash is right)$", PAGE.read_text(), re.MULTILINE)
+    done = outcome("sh", "-c", command.replace("bin/signed_00001.ch11", str(part)))
+    return done.stdout == "the hash is right\n"
+
+
+def test_the_page_asks_for_the_hash_of_the_recording_alone(flight: Flight) -> None:
+    """One that took the place of the next has the hash of the one before."""
+    for part in flight.parts:
+        judge_quietly(f"{part.name} is right", says_the_page(part), facts_file(part).read_text())
+    one, two = flight.parts[:2]
+    shutil.copy(one, two)
+    judge("an exchanged one is not", not says_the_page(two), facts_file(two).read_text())
 
 
 def test_the_last_line_is_that_of_the_sums_still(flight: Flight) -> None:

@@ -4,17 +4,16 @@ from __future__ import annotations
 
 import hashlib
 import os
-import re
 import stat
 from typing import Callable, NamedTuple, Optional
 
 from bpfrec_host.check_sums.claims import MAX_LEN, Claims, NoClaims, claims_in
+from bpfrec_host.check_sums.order import Chain, Given, place_of
 from bpfrec_host.check_sums.verifier import Verifier
 from bpfrec_host.formats.signatures import Unsigned, signature_path
 
 # How many bytes of a recording are read at once.
 PIECE = 1 << 20
-NUMBER = re.compile("([0-9]+)")
 
 
 class Content(NamedTuple):
@@ -22,13 +21,6 @@ class Content(NamedTuple):
 
     digest: str
     length: int
-
-
-class Given(NamedTuple):
-    """A recording that was judged: its name and its hash."""
-
-    name: str
-    digest: str
 
 
 def facts_path(recording: str) -> str:
@@ -53,11 +45,6 @@ def content_of(path: str) -> Optional[Content]:
     return Content(digest.hexdigest(), length)
 
 
-def in_order(paths: list[str]) -> list[str]:
-    """Recordings by the numbers in their names, as they followed one another."""
-    return sorted(paths, key=lambda path: [int(it) if at % 2 else it for at, it in enumerate(NUMBER.split(path))])
-
-
 def name_of(path: str) -> str:
     """The name of a recording as facts have it, without bytes that are no UTF-8."""
     return os.path.basename(path).encode(errors="ignore").decode()
@@ -69,25 +56,25 @@ def shown(name: str) -> str:
 
 
 class Judge:
-    """Judges one recording after another. `out` takes a line, and without a verifier no signature is asked for."""
+    """Judges recordings, which come in order. `out` takes a line, and without a verifier no signature is asked for."""
 
     def __init__(self, verifier: Optional[Verifier], out: Callable[[str], object]) -> None:
         self.verifier, self.out = verifier, out
-        self.given: Optional[Given] = None
+        self.chain = Chain()
         self.is_right = True
 
     def judge(self, path: str) -> bool:
         """Prints what the facts beside a recording come to; whether nothing of it is wrong."""
         self.is_right = True
+        self.chain.move_to(place_of(path))
         content = content_of(path)
         if content is None:
             self.missing("hash none: it is no regular file")
-            self.given = None
             return self.is_right
         facts = self.facts_of(path)
         if facts is not None:
             self.judge_facts(path, facts, content)
-        self.given = Given(name_of(path), content.digest)
+        self.chain.current.append(Given(name_of(path), content.digest))
         return self.is_right
 
     def wrong(self, line: str) -> None:
@@ -142,17 +129,17 @@ class Judge:
             self.wrong(f"name wrong: the facts are of {shown(claims.name)}")
 
     def judge_before(self, claims: Claims) -> None:
-        """Whether the recording before is the one that was given before."""
-        before, given = claims.before, self.given
+        """Whether the recording before is the one of this run that was given before."""
+        before, given = claims.before, self.chain.before
         if before is None:
             self.out("before none")
-        elif given is None:
+        elif not given:
             self.out(f"before not given: {shown(before.name)}")
-        elif before.name != given.name:
-            self.wrong(f"before wrong: {shown(given.name)}, the facts say {shown(before.name)}")
+        elif before.name not in [it.name for it in given]:
+            self.wrong(f"before wrong: {shown(given[-1].name)}, the facts say {shown(before.name)}")
         elif before.digest is None:
             self.missing(f"before unknown: {shown(before.name)} had no hash")
-        elif before.digest != given.digest:
+        elif Given(before.name, before.digest) not in given:
             self.wrong(f"before wrong: {shown(before.name)} has another hash than the facts say")
         else:
             self.out(f"before right: {shown(before.name)}")

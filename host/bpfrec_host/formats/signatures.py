@@ -31,9 +31,10 @@ def environment() -> dict[str, str]:
 
 
 def reason_in(printed: bytes, code: int) -> str:
-    """Why ssh-keygen failed, by what it printed on standard error and its exit code, which is negative after a
+    """Why ssh-keygen failed, by the lines that it printed on standard error and its exit code, which is negative after a
     signal."""
     lines = [PROMPT.sub("", it).strip() for it in printed.decode(errors="replace").splitlines()]
-    told = " ".join(it for it in lines if it and not BESIDE_A_REASON.fullmatch(it))
+    # A full stop ahead of a semicolon is left out.
+    told = "; ".join(it for it in lines if it and not BESIDE_A_REASON.fullmatch(it)).replace(".; ", "; ")
     reason = "".join(it if it.isprintable() else "?" for it in told)
     return reason or f"{PROGRAM} " + (f"ended with status {code}" if code >= 0 else f"was ended by signal {-code}")

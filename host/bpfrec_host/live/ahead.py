@@ -12,7 +12,7 @@ from bpfrec_host.live.arguments import Arguments
 from bpfrec_host.live.clock_watch import by_the_kernel
 from bpfrec_host.live.control.sockets import judge_path
 from bpfrec_host.live.names import Refusal, is_special
-from bpfrec_host.live.signer import Signer
+from bpfrec_host.live.signer import LONGEST_TRIAL, Signer
 
 # How many descriptors live has open at most: while it records, while recordings follow one another, and for browsers.
 RECORDING, ROTATING, SERVING = 32, 48, 40
@@ -94,7 +94,7 @@ def refuse_signing(given: Arguments) -> None:
     """Refuses a key that can't sign, also where that is known by a text that is signed for a trial alone."""
     try:
         if given.sign is not None:
-            Signer(given.sign).sign(PROBE)
+            Signer(given.sign, longest=LONGEST_TRIAL).sign(PROBE)
     except Unsigned as why:
         raise Refusal(3, f"live: --sign {given.sign}: {why}") from None
 

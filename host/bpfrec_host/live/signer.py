@@ -2,23 +2,24 @@
 
 from __future__ import annotations
 
+import os
 import shutil
 import subprocess
-from typing import Optional
+from typing import IO, Optional
 
 from bpfrec_host.formats.signatures import MISSING, NAMESPACE, PROGRAM, Unsigned, environment, reason_in
 from bpfrec_host.live import children
 from bpfrec_host.live.guard import Guard
 
-# How many seconds ssh-keygen may take, as where it asks an agent.
-LONGEST = 30.0
+# How many seconds ssh-keygen may take, as where it asks an agent; and for a trial, while a person waits for the start.
+LONGEST, LONGEST_TRIAL = 30.0, 10.0
 
 
 class Signer:
     """Signs with a key. Each program that it starts ends with live, where there is a guard; a thread may call it."""
 
-    def __init__(self, key: str, guard: Optional[Guard] = None) -> None:
-        self.key, self.guard = key, guard
+    def __init__(self, key: str, guard: Optional[Guard] = None, longest: float = LONGEST) -> None:
+        self.key, self.guard, self.longest = key, guard, longest
         self.child: Optional[children.Child] = None
         self.is_ended = False
 
@@ -27,39 +28,53 @@ class Signer:
         if not shutil.which(PROGRAM):
             raise Unsigned(MISSING)
         try:
-            child = self.child = self.started()
+            child = self.child = self.started(data)
         except OSError as error:
             raise Unsigned(f"{PROGRAM}: {error.strerror}") from None
-        if self.is_ended:
-            children.kill(child)
         try:
-            signature, printed = child.process.communicate(data, LONGEST)
+            if self.is_ended:
+                children.kill(child)
+            signature, printed = child.process.communicate(timeout=self.longest)
         except subprocess.TimeoutExpired:
-            children.kill(child)
-            child.process.communicate()
-            raise Unsigned(f"{PROGRAM} took over {LONGEST:.0f} s") from None
+            raise Unsigned(f"{PROGRAM} took over {self.longest:.0f} s") from None
         finally:
-            code = child.process.wait()
+            # It may run still, also where Ctrl-C ended the wait.
+            children.kill(child)
+            with child.process:
+                code = child.process.wait()
             self.child = None
             child.close()
         if code or not signature:
             raise Unsigned(reason_in(printed, code))
         return bytes(signature)
 
-    def started(self) -> children.Child:
-        """Starts ssh-keygen, which reads what it signs and prints the signature, so that it writes no file."""
+    def started(self, data: bytes) -> children.Child:
+        """Starts ssh-keygen, which reads these bytes and prints their signature, so that it writes no file."""
         arguments = [PROGRAM, "-Y", "sign", "-f", self.key, "-n", NAMESPACE]
-        streams = (subprocess.PIPE, subprocess.PIPE, subprocess.PIPE)
-        if self.guard is None:
-            return children.start(arguments, streams, children.Manner(), environment())
-        with open(self.guard.lifeline_of_live(), "rb", buffering=0) as lifeline:
-            manner = children.Manner(ends_with=lifeline.fileno())
-            return children.start(arguments, streams, manner, environment())
+        with unnamed_file(data) as given:
+            streams = (given, subprocess.PIPE, subprocess.PIPE)
+            if self.guard is None:
+                return children.start(arguments, streams, children.Manner(), environment())
+            with open(self.guard.lifeline_of_live(), "rb", buffering=0) as lifeline:
+                manner = children.Manner(ends_with=lifeline.fileno())
+                return children.start(arguments, streams, manner, environment())
 
     def kill(self) -> None:
         """Ends what is being signed, and what is to be."""
         self.is_ended = True
         children.kill(self.child)
+
+
+def unnamed_file(data: bytes) -> IO[bytes]:
+    """A file of these bytes without a name. Unlike a pipe it sends no SIGPIPE where the reader ends early."""
+    file = os.fdopen(os.memfd_create("facts"), "w+b")
+    try:
+        file.write(data)
+        file.seek(0)
+    except OSError:
+        file.close()
+        raise
+    return file
 
 
 def signer_of(key: Optional[str], guard: Guard) -> Optional[Signer]:
