@@ -127,6 +127,7 @@ def test_lines_wait_with_what_the_recorder_gets_of_them(folder: Folder, keeps: b
     changes.answered(change, True)
     is_kept = folder.kept_filter(1).exists() and folder.kept_filter(1).read_text() == KEEPS
     judge("it is kept for later recordings, or goes", is_kept == keeps and not made.listing.exists())
+    judge("with its words", folder.kept_words(1) == ("udp port 5004" if keeps else None))
     wrong = changes.held(b"set 1 udp prt 5004")
     assert wrong.made
     wrong.made.refuse("syntax error")

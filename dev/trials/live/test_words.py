@@ -75,6 +75,22 @@ def test_a_line_begins_the_next_recording_and_one_ends_the_run(work: Path) -> No
     judge("each frame once, in order", numbers == list(range(len(numbers))), len(numbers))
 
 
+def test_facts_have_the_words_that_a_recording_began_with(work: Path) -> None:
+    """Those of the settings, those of a line, and none of a listing that a line named."""
+    settings = write_settings(work, 'id = 1\nfilter = "udp port 5004"', f'id = 2\nfilter = "{work}/all"')
+    running = begin(work, work / "set.ch11", "--quiet", "--every", 1_000, settings=settings, stdin=subprocess.PIPE)
+    for number, lines in ((1, ["set 1 udp port 7777"]), (2, [f"set 1 {work}/all", "set 2 arp"]), (3, [])):
+        wait_for("a recording", lambda: len(recordings(work, "set")) == number, 10)
+        for line in lines:
+            type_line(running, line)
+        type_line(running, "next" if lines else "stop")
+    judge("it ends well", running.ended()[0] == 0, running.told())
+    facts = [facts_of(it)["filters"] for it in recordings(work, "set")]
+    found = [{it["channel"]: it.get("expression") for it in filters} for filters in facts]
+    wanted: list[dict] = [{1: "udp port 5004", 2: None}, {1: "udp port 7777", 2: None}, {1: None, 2: "arp"}]
+    judge("as each began", found == wanted, found)
+
+
 def test_next_needs_recordings_that_follow_one_another_and_help_says_what_there_is(work: Path) -> None:
     out = work / "alone.ch11"
     running = begin(work, out, "--quiet", stdin=subprocess.PIPE)

@@ -9,7 +9,7 @@ import os
 import socket
 import subprocess
 from pathlib import Path
-from typing import Any, NamedTuple, Optional
+from typing import Any, Iterator, NamedTuple, Optional
 
 from bpfrec_host.formats.facts import NoFacts, origin_in, utc_of
 from bpfrec_host.formats.limits import MAX_LISTING_LEN
@@ -27,6 +27,8 @@ Entry = dict[str, Any]
 MOST_NAMES = 1_000
 # Where a run was killed, as shells have it.
 KILLED_STATUS = 137
+# Where a recording's folder has the filters that it began with.
+FILTERS = "filters.json"
 
 
 class About(NamedTuple):
@@ -48,6 +50,11 @@ class Writer:
         """Leaves what is known of a recording when it begins, for whoever writes its facts where live is killed."""
         made = self.folder.of(about.number)
         (made / "about.json").write_text(json.dumps(about), encoding="utf-8")
+        try:
+            # By now, since a line may change a filter until the facts are written first.
+            (made / FILTERS).write_text(json.dumps(list(self.filters())), encoding="utf-8")
+        except OSError:
+            pass
 
     def beginning(self, about: About) -> Entry:
         """What is known of a recording when it begins; it is found once."""
@@ -70,7 +77,7 @@ class Writer:
             "synchronisation": {"begin": synchronisation(), "end": None},
             "interfaces": [{"interface": it.interface, "channel": it.channel} for it in self.given.routes],
             "settings": self.folder.text,
-            "filters": [it for it in (self.filter(*named) for named in self.folder.filters()) if it],
+            "filters": [self.with_text(it) for it in self.filters_at_the_beginning(about)],
         }
         try:
             kept.write_bytes(encoded(made))
@@ -78,16 +85,35 @@ class Writer:
             pass
         return made
 
-    def filter(self, channel: int, path: str) -> Optional[Entry]:
-        """A channel's filter: its listing, and its text."""
-        listing = listing_in(path, MAX_LISTING_LEN)
-        if listing is None:
-            return None
-        text = self.answer("dis", "-", given=listing)
-        made: Entry = {"channel": channel, "listing": listing.decode(errors="ignore"), "text": text}
+    def filters_at_the_beginning(self, about: About) -> list[Entry]:
+        """The filters that a recording began with; those by now, where there was no room for them."""
+        try:
+            found: list[Entry] = json.loads((self.folder.of(about.number) / FILTERS).read_bytes())
+            return found
+        except (OSError, ValueError):
+            return list(self.filters())
+
+    def filters(self) -> Iterator[Entry]:
+        """The filters that channels have by now: their listings, and the words of which they were made."""
+        for channel, path in self.folder.filters():
+            listing, words = listing_in(path, MAX_LISTING_LEN), self.words_of(channel)
+            if listing is not None:
+                found: Entry = {"channel": channel, "listing": listing.decode(errors="ignore")}
+                yield {**found, "expression": words} if words else found
+
+    def with_text(self, found: Entry) -> Entry:
+        """A filter with its text, which the program prints."""
+        text = self.answer("dis", "-", given=found["listing"].encode())
+        return {"channel": found["channel"], "listing": found["listing"], "text": text, **found}
+
+    def words_of(self, channel: int) -> str:
+        """The words of which a channel's filter was made, as it is by now; none of a listing."""
+        kept = self.folder.kept_words(channel)
+        if kept is not None:
+            return kept
         given = [it.expression for it in self.given.routes if it.channel == channel and it.expression]
         given += [text for named, (_, text) in self.folder.words.items() if named == channel]
-        return {**made, "expression": given[0]} if given else made
+        return given[0] if given else ""
 
     def answer(self, *arguments: str, given: bytes = b"") -> str:
         """What the program prints; nothing where it can't be run."""

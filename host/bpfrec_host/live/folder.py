@@ -7,9 +7,10 @@ Its files, below `top`:
     kept            with --flush: how many frames of each interface the capture has counted that its filter keeps
     now             a link to the folder of the recording that goes on; to `gate` until OUT is there
     given/          the filters that the arguments give channels, and those that SETTINGS give in words
-    filters/        of recordings that follow one another, and with --flush: the filter that each channel has by now
+    filters/        of recordings that follow one another, and with --flush: the filter that each channel has by now,
+                    and the words of one that a line gave it
     <number>/       a recording: <channel>.pipe, settings.toml, answers, report, audit, audit_errors, each of the last
-                    three `.room` until it is printed into, and what `guard` needs: about.json and marks
+                    three `.room` until it is printed into, and what facts need: about.json, filters.json and marks
 """
 
 from __future__ import annotations
@@ -39,6 +40,8 @@ PRINTED, MARKS = ("report", "audit", "audit_errors"), "marks"
 PRINTED_ROOM, EVENTS_ROOM = 1 << 16, 1 << 20
 # A line of the file `kept`: 20 digits.
 COUNT_LEN = 21
+# What stands behind the name of a filter that is kept, in that of its words.
+WORDS = ".words"
 
 
 def read_settings(path: str) -> tuple[str, Settings]:
@@ -219,6 +222,17 @@ class Folder:
     def kept_filter(self, channel: int) -> Path:
         """Where a channel's filter is kept."""
         return self.top / "filters" / str(channel)
+
+    def keep_words(self, channel: int, words: str) -> None:
+        """Keeps the words of which the filter was made that a line gave a channel; none of a listing."""
+        self.kept_filter(channel).with_suffix(WORDS).write_bytes(os.fsencode(words))
+
+    def kept_words(self, channel: int) -> Optional[str]:
+        """The same; None where no line gave it a filter."""
+        try:
+            return os.fsdecode(self.kept_filter(channel).with_suffix(WORDS).read_bytes())
+        except FileNotFoundError:
+            return None
 
     def given_filter(self, channel: int) -> Path:
         """Where the listing is of a filter that the arguments give a channel, or SETTINGS in words."""

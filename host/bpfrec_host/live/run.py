@@ -73,7 +73,7 @@ class Run:
         self.marks = Marks(self.events, given.is_rotating(), self.marked, self.err)
         self.control = self.made_control(terminal)
         self.flush = Flush(given.flush, folder, self.control.push) if given.flush is not None else None
-        self.notifier = Notifier()
+        self.notifier, self.signals_came = Notifier(), 0
         self.retention = Retention(
             given.keep, given.keep_free, lambda: outputs.room_beside(self.machine.current), self.err
         )
@@ -88,9 +88,7 @@ class Run:
         self.end_of_run = EndOfRun(given.seconds, self.end)
         self.alarm_command = AlarmCommand(given.on_alarm, self.loop, self.console)
         self.clock = ClockWatch(self.loop, given.clock_error, self.err, self.observers.clock_seen)
-        self.timed = self.made_timed()
-        self.signals_came = 0
-        self.machine = self.made_machine()
+        self.timed, self.machine = self.made_timed(), self.made_machine()
         self.versions = Versions(self.flush, given.is_rotating(), self.machine.used_up, self.err)
         self.deeds = self.made_deeds()
 

@@ -76,13 +76,14 @@ def may_bring_lines() -> bool:
 
 class Change(NamedTuple):
     """A line that the recorder has and hasn't answered: the copy of the listing that it names, its channel, whether live
-    gave it itself, the filter's name, and who asked."""
+    gave it itself, the filter's name, who asked, and the filter's words, where it has some."""
 
     channel: int
     copy: Optional[Path]
     is_own: bool = False
     name: str = ""
     asker: Asker = None
+    words: str = ""
 
 
 class Pipe:
@@ -169,7 +170,7 @@ class Changes:
         channel, text = int(found[1]), os.fsdecode(found[2]).strip()
         copy, name = self.next_copy(), name_of(text)
         if is_in_words(text):
-            return Held(line, Change(channel, copy, name=name, asker=asker), self.make(text, copy))
+            return Held(line, Change(channel, copy, name=name, asker=asker, words=text), self.make(text, copy))
         if not self.keeps or not copy_listing(os.fsdecode(found[2]), copy):
             return Held(line, Change(channel, None, name=name, asker=asker))
         return Held(set_line(channel, copy), Change(channel, copy, name=name, asker=asker))
@@ -185,5 +186,6 @@ class Changes:
             return
         if is_installed and self.keeps:
             change.copy.replace(self.folder.kept_filter(change.channel))
+            self.folder.keep_words(change.channel, change.words)
         else:
             change.copy.unlink(missing_ok=True)
