@@ -79,7 +79,7 @@ def test_facts_have_the_words_that_a_recording_began_with(work: Path) -> None:
     """Those of the settings, those of a line, and none of a listing that a line named."""
     settings = write_settings(work, 'id = 1\nfilter = "udp port 5004"', f'id = 2\nfilter = "{work}/all"')
     running = begin(work, work / "set.ch11", "--quiet", "--every", 1_000, settings=settings, stdin=subprocess.PIPE)
-    typed = [["set 1 udp port 7777"], [f"set 1 {work}/all", "set 2 arp"], []]
+    typed: list[list[str]] = [["set 1 udp port 7777"], [f"set 1 {work}/all", "set 2 arp"], []]
     for number, lines in enumerate(typed, 1):
         wait_for("a recording", lambda: len(recordings(work, "set")) == number, 10)
         for line in lines:
