@@ -105,6 +105,15 @@ def refuse_twice(paths: Iterable[str]) -> None:
             known[found] = path
 
 
+def part_of(file: BinaryIO, path: str, at: int, length: int) -> bytes:
+    """The bytes of a file from a place on, up to that many; a fault has its path."""
+    try:
+        return os.pread(file.fileno(), length, at)
+    except OSError as error:
+        error.filename = path
+        raise
+
+
 class Input:
     """The bytes of a file as they come: those that are there are data[at:], and place is where data begins."""
 

@@ -196,21 +196,18 @@ def streamed(command: str, given: Path, streams: str) -> Answer:
     return Answer(done.returncode, done.stdout, done.stderr.replace(b"out\n", b"OUT\n"), made)
 
 
+# What prints where all is well, the help of some, and what prints of a refusal, as an export what stands ahead of a fault.
+ENDINGS = [
+    *{**COMMANDS, **OF_FILES, **dict.fromkeys(("version", "help", "list --help"), WHOLE)}.items(),
+    *REFUSED.items(),
+]
+
+
 @pytest.mark.parametrize("stream", ["> /dev/full", ">&-"], ids=["full", "closed"])
-@pytest.mark.parametrize("command", [*COMMANDS, *OF_FILES, "version", "help", "list --help"])
-def test_an_output_that_fails_is_status_3(command: str, stream: str) -> None:
+@pytest.mark.parametrize("command, given", ENDINGS)
+def test_an_output_that_fails_is_status_3(command: str, given: Path, stream: str) -> None:
     """Where there is something to print; OUT was made by then."""
-    given = {**COMMANDS, **OF_FILES}.get(command, WHOLE)
     wanted, found = by_name(command, given), streamed(command, given, stream)
-    fails = wanted._replace(status=3, printed=b"", faults=b"file -\n") if wanted.printed else wanted
-    judge(f"{command} {stream}", found == fails, found)
-
-
-@pytest.mark.parametrize("stream", ["> /dev/full", ">&-"], ids=["full", "closed"])
-@pytest.mark.parametrize("command", REFUSED)
-def test_an_output_that_fails_behind_a_refusal_is_status_3_too(command: str, stream: str) -> None:
-    """What is printed of a refusal, and the part of an export that stands ahead of a fault."""
-    wanted, found = by_name(command, REFUSED[command]), streamed(command, REFUSED[command], stream)
     fails = wanted._replace(status=3, printed=b"", faults=b"file -\n") if wanted.printed else wanted
     judge(f"{command} {stream}", found == fails, found)
 

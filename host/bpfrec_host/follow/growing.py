@@ -9,6 +9,7 @@ from typing import Callable, Optional
 from bpfrec_host.follow.runs import Known, following, is_written, known_of, names_of, number_of
 from bpfrec_host.formats.ch11.follow import Follower, Front
 from bpfrec_host.live.names import facts_path
+from bpfrec_host.streams import part_of
 
 Report = Callable[[str], None]
 # How often one looks for more, in seconds, and for how long a next recording is waited for once the last has ended.
@@ -52,11 +53,7 @@ class Growing:
 
     def read_at(self, at: int, length: int) -> bytes:
         """Bytes at a place; its fault has the file's name."""
-        try:
-            return os.pread(self.file.fileno(), length, at)
-        except OSError as error:
-            error.filename = self.path
-            raise
+        return part_of(self.file, self.path, at, length)
 
     def read_rest(self) -> None:
         """Takes what is left of a recording that has ended."""

@@ -13,7 +13,7 @@ from bpfrec_host.formats.ch11.body import BadBody, What
 from bpfrec_host.formats.ch11.follow import Follower, Front
 from bpfrec_host.formats.ch11.packet import body_fault, has_right_sum, header_of
 from bpfrec_host.formats.limits import ETHERNET_DATA, HEADER_LEN
-from bpfrec_host.streams import STREAM, Refused
+from bpfrec_host.streams import STREAM, Refused, part_of
 
 # A record of a program is far shorter; a longer packet is another recorder's.
 MOST_RECORD_LEN = 1 << 20
@@ -97,11 +97,7 @@ class Index:
 
     def read_at(self, at: int, length: int) -> bytes:
         """Bytes at a place; its fault has the file's name."""
-        try:
-            return os.pread(self.file.fileno(), length, at)
-        except OSError as error:
-            error.filename = self.path
-            raise
+        return part_of(self.file, self.path, at, length)
 
     def take(self, front: Front) -> None:
         """Notes a packet by its header. One that may be a record is read, and must be whole."""
