@@ -12,7 +12,7 @@ use Rattle.ch11_index.specs.declared.index.IndexPacket.{IndexPacket}
 use Rattle.ch11_index.specs.FileIndex.{IndexState, empty_index, due, due_at_end}
 use Rattle.ch11_merge.specs.Merging.{FilePiece, ChannelLeft, NothingLeft}
 use Rattle.ch11_merge.specs.Placing.{SayLeft}
-use Rattle.ch11_merge.specs.declared.placed.MergedChannel.{MergedChannel}
+use Rattle.ch11_merge.specs.declared.channels.MergedChannel.{MergedChannel}
 use Rattle.ch11_file.specs.declared.counts.FileCounts.{FileCounts}
 use Rattle.ch11_file.specs.declared.kind.BlockKind.{BlockKind}
 use Rattle.ch11_file.specs.declared.kind.BlockKind.TheVariants.{Setup, Time, Frames, Record, Index}

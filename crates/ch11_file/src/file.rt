@@ -23,7 +23,7 @@ use crate::setup_block::put_setup;
 use crate::time_block::put_time;
 use crate::times::FileTimes;
 use ch11_clock::{CivilTime, Clock, TimePoint, civil_time};
-use ch11_merge::{MergedChannel, PieceSource};
+use ch11_merge::{MergedChannels, PieceSource};
 use std::alloc::Global;
 use std::io::Write;
 
@@ -31,7 +31,7 @@ use std::io::Write;
 /// with this least counter. A node of its index and a root name at most `most`.
 pub fn write_file<S: PieceSource<Piece = OwnedPiece>, W: Write>(
     alloc: Global,
-    channels: &mut [MergedChannel<S>],
+    channels: &mut MergedChannels<S>,
     setup: &FileSetup<'_>,
     clock: &Clock,
     least: u64,
@@ -100,7 +100,7 @@ fn put_front<W: Write>(
 /// Sends all packets behind the first time packet.
 fn put_rest<S: PieceSource<Piece = OwnedPiece>, W: Write>(
     alloc: Global,
-    channels: &mut [MergedChannel<S>],
+    channels: &mut MergedChannels<S>,
     setup: &FileSetup<'_>,
     times: &mut FileTimes<'_>,
     sent: &mut Sent,

@@ -16,14 +16,14 @@ use crate::sent::Sent;
 use crate::setup::FileSetup;
 use crate::time_block::put_time;
 use crate::times::FileTimes;
-use ch11_merge::{Head, MergedChannel, PieceFault, PieceSource, Placed, next_head, next_placed};
+use ch11_merge::{Head, MergedChannels, PieceFault, PieceSource, Placed, next_head, next_placed};
 use std::alloc::Global;
 use std::io::Write;
 
 /// Sends all pieces that are left of channels, with the time packets ahead of them.
 pub(crate) fn place_all<S: PieceSource<Piece = OwnedPiece>, W: Write>(
     alloc: Global,
-    channels: &mut [MergedChannel<S>],
+    channels: &mut MergedChannels<S>,
     setup: &FileSetup<'_>,
     times: &mut FileTimes<'_>,
     sent: &mut Sent,
@@ -49,7 +49,7 @@ pub(crate) fn place_all<S: PieceSource<Piece = OwnedPiece>, W: Write>(
 /// Sends what comes next: a time packet, or a piece. At `false` nothing is left.
 fn place_next<S: PieceSource<Piece = OwnedPiece>, W: Write>(
     alloc: Global,
-    channels: &mut [MergedChannel<S>],
+    channels: &mut MergedChannels<S>,
     setup: &FileSetup<'_>,
     times: &mut FileTimes<'_>,
     sent: &mut Sent,
@@ -97,7 +97,7 @@ fn is_far_ahead(greatest: u64, head: Head) -> bool
 }
 
 /// The refusal of the next piece, which lies too far ahead: it is taken to find the place of its packet.
-fn gap_of<S: PieceSource<Piece = OwnedPiece>>(channels: &mut [MergedChannel<S>]) -> FileEnd
+fn gap_of<S: PieceSource<Piece = OwnedPiece>>(channels: &mut MergedChannels<S>) -> FileEnd
     ensures { IsGapOrPieces result }
 {
     match next_placed(channels, u64::MAX) {

@@ -1,10 +1,10 @@
 -- What is answered, of sources that say their pieces.
-use Rattle.std.proofs.Common.{ℕ, ◌≡◌, ◌≢◌, ◌<◌, List, [], ◌∷◌, length, get_or, map, refl, sym, ◌∙◌, ap, subst, All, Some, None, Option}
+use Rattle.std.proofs.Common.{ℕ, ◌≡◌, ◌≢◌, List, [], ◌∷◌, map, refl, sym, ◌∙◌, ap, subst, All, Some, None, Option}
 use Rattle.std.specs.Prelude.{true, false, slice_get, slice_set, IfSome, IsSomeAnd}
-use Rattle.std.proofs.lemmas.Option.{same_Some, none-some, slice_get-get_or}
+use Rattle.std.proofs.lemmas.Option.{same_Some, none-some}
 use Rattle.ch11_merge.specs.declared.source.Head.{Head}
 use Rattle.ch11_merge.specs.declared.source.Head.TheVariants.{End}
-use Rattle.ch11_merge.specs.declared.placed.MergedChannel.{MergedChannel}
+use Rattle.ch11_merge.specs.declared.channels.MergedChannel.{MergedChannel}
 use Rattle.ch11_merge.specs.Merging.{FilePiece, ChannelLeft, head_of, is_ahead, IsNextAt, is_due, TakesPart, channel_with, TimeIsNext, PieceIsNext, NothingLeft}
 use Rattle.ch11_merge.specs.Placing.{Said, said_by, said_of, SayLeft, IsLeastIn}
 use Rattle.ch11_merge.proofs.Merged.{has_head}
@@ -45,13 +45,11 @@ pub record NextSaid {S : Type 0} (left : S → Option (List FilePiece)) (stands 
   pub is_next : IsNextAt old at of
   pub says : SaysLeft left stands c of
 
-pub next_said : {S : Type 0} (left : S → Option (List FilePiece)) (stands : S → Head) (channels : List (MergedChannel S)) (old : List ChannelLeft) (at : ℕ)
-    (x : MergedChannel S)
-    → StandFirst left stands → SayLeft left channels old → IsLeastIn (λ d. stands d.source) (λ d. d.channel) channels at → at < length channels
-    → NextSaid left stands old at (get_or channels at x)
-next_said {S = S} left stands channels old at x first said least within =
-    let c = get_or channels at x in
-    let there : slice_get channels at ≡ Some c = slice_get-get_or channels at x within in
+pub next_said_there : {S : Type 0} (left : S → Option (List FilePiece)) (stands : S → Head) (channels : List (MergedChannel S))
+    (old : List ChannelLeft) (at : ℕ) (c : MergedChannel S)
+    → StandFirst left stands → SayLeft left channels old → IsLeastIn (λ d. stands d.source) (λ d. d.channel) channels at → slice_get channels at ≡ Some c
+    → NextSaid left stands old at c
+next_said_there {S = S} left stands channels old at c first said least there =
     let c_is : least.least ≡ c = same_Some least.least c (sym least.there ∙ there) in
     let l = other_there (said_by left) said_of channels old at c said there in
     let s = says left stands first c l.0 l.2 in
@@ -127,8 +125,7 @@ piece_next left stands channels old at tick c d piece said n early took named =
     )
 
 -- the least has a piece
-pub least_stands : {S : Type 0} (stands : S → Head) (channels : List (MergedChannel S)) (at : ℕ) (x : MergedChannel S)
-    → IsLeastIn (λ d. stands d.source) (λ d. d.channel) channels at → at < length channels → stands (get_or channels at x).source ≢ End
-least_stands {S = S} stands channels at x least within = λ none.
-    least.some (ap (λ (d : MergedChannel S). stands d.source)
-    (same_Some least.least (get_or channels at x) (sym least.there ∙ slice_get-get_or channels at x within)) ∙ none)
+pub least_there_stands : {S : Type 0} (stands : S → Head) (channels : List (MergedChannel S)) (at : ℕ) (c : MergedChannel S)
+    → IsLeastIn (λ d. stands d.source) (λ d. d.channel) channels at → slice_get channels at ≡ Some c → stands c.source ≢ End
+least_there_stands {S = S} stands channels at c least there = λ none.
+    least.some (ap (λ (d : MergedChannel S). stands d.source) (same_Some least.least c (sym least.there ∙ there)) ∙ none)

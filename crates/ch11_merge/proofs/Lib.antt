@@ -1,9 +1,8 @@
 pub mod Cutting
 pub mod Places
 pub mod Merged
-pub mod Leasts
+pub mod Stands
 pub mod Answering
-pub mod Runs
 pub mod PartsTaken
 pub mod TimesAhead
 pub mod TimesBehind

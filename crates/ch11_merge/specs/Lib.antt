@@ -4,3 +4,4 @@ pub mod Kept
 pub mod Placing
 pub mod Parts
 pub mod Short
+pub mod Waiting

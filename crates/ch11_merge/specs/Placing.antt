@@ -1,8 +1,8 @@
 -- What sources of pieces say, and what of them has the next place in a file.
-use Rattle.std.specs.Prelude.{ℕ, ◌≡◌, ◌≢◌, ◌⊎◌, false, List, [], ◌∷◌, ◌++◌, map, All, Option, None, Some, slice_get}
+use Rattle.std.specs.Prelude.{ℕ, ◌≡◌, ◌≢◌, ◌⊎◌, false, List, map, All, Option, None, Some, slice_get}
 use Rattle.ch11_merge.specs.declared.source.Head.{Head}
 use Rattle.ch11_merge.specs.declared.source.Head.TheVariants.{End}
-use Rattle.ch11_merge.specs.declared.placed.MergedChannel.{MergedChannel}
+use Rattle.ch11_merge.specs.declared.channels.MergedChannel.{MergedChannel}
 use Rattle.ch11_merge.specs.declared.placed.Placed.{Placed}
 use Rattle.ch11_merge.specs.declared.placed.Placed.TheVariants.{Time, Piece}
 use Rattle.ch11_merge.specs.Merging.{FilePiece, ChannelLeft, head_of, is_ahead, IsNextAt, TimeIsNext, PieceIsNext, NothingLeft, Merged}
@@ -53,12 +53,3 @@ abbrev pub IsNextHead : List ChannelLeft → Head → Type 0
 IsNextHead old head =
     (NothingLeft old × (head ≡ End))
     ⊎ ((at : ℕ) × (of : ChannelLeft) × IsNextAt old at of × (head ≡ head_of of.pieces))
-
--- the tick of the next time packet behind this
-abbrev pub tick_behind : (after : ℕ → ℕ) → (tick : ℕ) → Merged → ℕ
-tick_behind after tick (OfTime time) = after tick
-tick_behind after tick (OfPiece channel piece) = tick
-
--- what took some, one after the other, takes one more
-abbrev pub TakesNext : {X : Type 0} → (old new : List X → Type 0) → X → Type 0
-TakesNext {X} old new next = (earlier : List X) → old earlier → new (earlier ++ next ∷ [])

@@ -2,20 +2,21 @@
 //! be too long, in time or in bytes, and merged by their counters, with time packets ahead of them.
 #![tactic(auto)]
 
+mod channels;
 mod frames;
 mod laws;
-mod merge;
 mod piece;
 mod placed;
 mod source;
+mod waiting;
 
+pub use channels::{MergedChannel, MergedChannels};
 pub use frames::FramesSource;
 pub use laws::{
     a_merge_has_no_other_channel, a_merge_keeps_each_channel, frames_are_cut_in_one_way,
     frames_have_pieces, pieces_are_short, pieces_of_frames_are_the_cut, there_is_one_merge,
     time_packets_stand_ahead, time_packets_stand_late, times_follow_each_other,
 };
-pub use merge::{MergeEnd, PlacedSink, TimeTicks, merge_into};
 pub use piece::{PIECE_TICKS, PieceSoFar};
-pub use placed::{MergedChannel, Placed, next_head, next_placed};
+pub use placed::{Placed, next_head, next_placed};
 pub use source::{Head, PieceFault, PieceSource};

@@ -3,8 +3,8 @@
 use std::alloc::{AllocError, AllocFailed};
 use thiserror::Error;
 
-/// Where a source stands.
-#[derive(Clone, Copy, Debug, PartialEq, Eq)]
+/// Where a source stands. A lesser one comes first.
+#[derive(Clone, Copy, Debug, PartialEq, Eq, PartialOrd, Ord)]
 pub enum Head {
     /// Its next piece has this counter.
     At(u64),

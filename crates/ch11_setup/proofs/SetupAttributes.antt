@@ -1,9 +1,9 @@
 -- Each line of a setup record is an attribute.
-use Rattle.std.proofs.Common.{ℕ, ◌+◌, ◌/◌, ◌%◌, ◌^◌, ◌<◌, ◌≡◌, ◌==◌, ◌&&◌, not, nat_lt, Bool, true, false, cond, List, [], ◌∷◌, ◌++◌, length, drop}
-use Rattle.std.proofs.Common.{take, refl, arith, codes, decimal, pos}
+use Rattle.std.proofs.Common.{ℕ, ◌+◌, ◌/◌, ◌%◌, ◌^◌, ◌<◌, ◌≡◌, ◌==◌, ◌&&◌, not, nat_lt, Bool, true, false, cond, inl, inr, map, List, []}
+use Rattle.std.proofs.Common.{◌∷◌, ◌++◌, length, drop, take, refl, arith, codes, decimal, pos}
 use Rattle.std.specs.List.{AllByRecursion, list_all}
 use Rattle.std.specs.Str.Parse.{AllDigits}
-use Rattle.std.proofs.lemmas.Bool.{and_parts}
+use Rattle.std.proofs.lemmas.Bool.{and_parts, cases_Bool}
 use Rattle.std.proofs.lemmas.Bool.Decides.{nat_tests}
 use Rattle.std.proofs.lemmas.Fmt.{decimal_is_IsNumeral}
 use Rattle.std.proofs.lemmas.Str.Parse.{digit_from_value}
@@ -12,12 +12,14 @@ use Rattle.ch11_clock.specs.declared.civil.CivilTime.{CivilTime}
 use Rattle.ch11_clock.specs.CivilTime.{IsCivilTime}
 use Rattle.ch11_setup.specs.declared.setup.Setup.{Setup}
 use Rattle.ch11_setup.specs.declared.setup.SetupChannel.{SetupChannel}
+use Rattle.ch11_setup.specs.declared.attribute.Attribute.{Attribute}
 use Rattle.ch11_setup.specs.Attributes.{AttributeData, attribute_of, Lacks, IsAttribute, AreAttributes}
 use Rattle.ch11_setup.specs.Names.{cleaned, source_name}
 use Rattle.ch11_setup.specs.Dates.{two_digits, date_text, day_time_text, date_time_text}
 use Rattle.ch11_setup.specs.Lines.{general_attributes, recorder_attributes, content_attributes, numbered, time_attributes, channel_attributes}
 use Rattle.ch11_setup.specs.Lines.{comment_attribute}
-use Rattle.ch11_setup.specs.Setups.{channels_attributes, given_attributes, recording_attributes, source_attributes, setup_attributes, IsSetupChannel, IsSetup}
+use Rattle.ch11_setup.specs.Setups.{given_attribute, given_attributes, is_test_name, test_name}
+use Rattle.ch11_setup.specs.Setups.{channels_attributes, recording_attributes, source_attributes, setup_attributes, IsSetupChannel, IsSetup}
 use Rattle.ch11_setup.proofs.CleanedNames.{all_append, name_lacks_semicolons}
 
 -- ---- bytes that lack another one
@@ -127,9 +129,10 @@ are_append : (attributes others : List AttributeData) → AreAttributes attribut
 are_append [] others are also = also
 are_append (attribute ∷ attributes) others are also = (are.0, are_append attributes others are.1 also)
 
-general_are : (host : List ℕ) (time : CivilTime) → Lacks 59 host → IsCivilTime time → AreAttributes (general_attributes host time)
-general_are host time lack is = (
-  constant _ _ refl refl,
+general_are : (test host : List ℕ) (time : CivilTime) → Lacks 59 test → Lacks 59 host → IsCivilTime time
+    → AreAttributes (general_attributes test host time)
+general_are test host time said lack is = (
+  named _ _ refl said,
   (
     constant _ _ refl refl,
     (
@@ -266,6 +269,22 @@ channels_are n (channel ∷ channels) small are =
     (name_lacks_semicolons channel.name.now))
     (channels_are (n + 1) channels (omega (arith, small)) are.1)
 
+-- ---- what a user adds
+
+test_lacks : (attributes : List Attribute) → AreAttributes (map given_attribute attributes) → Lacks 59 (test_name attributes)
+test_lacks [] are = lacks_by 59 (codes "bpfrec") refl
+test_lacks (attribute ∷ attributes) are = elim (cases_Bool (is_test_name attribute)) as (λ _. Lacks 59 (test_name (attribute ∷ attributes))) [
+  | inl on ↦ rw on are.0.value
+  | inr off ↦ rw off (test_lacks attributes are.1)
+]
+
+given_are : (attributes : List Attribute) → AreAttributes (map given_attribute attributes) → AreAttributes (given_attributes attributes)
+given_are [] are = tt
+given_are (attribute ∷ attributes) are = elim (cases_Bool (is_test_name attribute)) as (λ _. AreAttributes (given_attributes (attribute ∷ attributes))) [
+  | inl on ↦ rw on (given_are attributes are.1)
+  | inr off ↦ rw off (are.0, given_are attributes are.1)
+]
+
 -- ---- all
 
 pub setup_are : (setup : Setup) → IsSetup setup → AreAttributes (setup_attributes setup)
@@ -274,14 +293,16 @@ setup_are setup is =
     let program = cleaned setup.program.now in
     let number = is.number in
     let channel = is.time_channel in
-    let general = general_attributes host setup.time in
+    let test = test_name setup.attributes.now in
+    let general = general_attributes test host setup.time in
     let recorder = recorder_attributes host program setup.time in
     let content = content_attributes (length setup.channels.now + 1) in
     let time = time_attributes setup.time_channel setup.is_external in
     let channels = channels_attributes 2 setup.channels.now in
     let rest = comment_attribute ∷ given_attributes setup.attributes.now in
     let recording =
-    are_append general (recorder ++ content) (general_are host setup.time (name_lacks_semicolons setup.host.now) is.time)
+    are_append general (recorder ++ content) (general_are test host setup.time (test_lacks setup.attributes.now is.given)
+    (name_lacks_semicolons setup.host.now) is.time)
     (are_append recorder content
     (recorder_are host program setup.time (name_lacks_semicolons setup.host.now) (name_lacks_semicolons setup.program.now) is.time)
     (content_are (length setup.channels.now + 1) (omega (arith, number)))) in
@@ -289,4 +310,4 @@ setup_are setup is =
     are_append time channels (time_are setup.time_channel setup.is_external (omega (arith, channel)))
     (channels_are 2 setup.channels.now (omega (arith, number)) is.channels) in
     are_append (recording_attributes setup) (source_attributes setup ++ rest) recording
-    (are_append (source_attributes setup) rest sources (constant _ _ refl refl, is.given))
+    (are_append (source_attributes setup) rest sources (constant _ _ refl refl, given_are setup.attributes.now is.given))

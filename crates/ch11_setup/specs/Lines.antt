@@ -6,11 +6,11 @@ use Rattle.ch11_setup.specs.Dates.{date_text, date_time_text}
 
 -- ---- the recording
 
--- general information: the format's edition, the date of the first time packet, and the host, the
--- one source of data
-abbrev pub general_attributes : (host : List ℕ) → CivilTime → List AttributeData
-general_attributes host time =
-    attribute_of (codes "G\\PN") (codes "bpfrec")
+-- general information: the name of the test, the format's edition, the date of the first time packet,
+-- and the host, the one source of data
+abbrev pub general_attributes : (test host : List ℕ) → CivilTime → List AttributeData
+general_attributes test host time =
+    attribute_of (codes "G\\PN") test
     ∷ attribute_of (codes "G\\106") (codes "17")
     ∷ attribute_of (codes "G\\OD") (date_text time)
     ∷ attribute_of (codes "G\\DSI\\N") (codes "1")

@@ -1,5 +1,5 @@
 -- The attributes of the setup record of a recording, all of them.
-use Rattle.std.specs.Prelude.{ℕ, ◌+◌, ◌<◌, ◌^◌, List, [], ◌∷◌, ◌++◌, map, length}
+use Rattle.std.specs.Prelude.{ℕ, ◌+◌, ◌<◌, ◌^◌, Bool, if◌then◌else◌, List, [], ◌∷◌, ◌++◌, map, length, bytes_eq, codes}
 use Rattle.std.specs.List.{AllByRecursion}
 use Rattle.ch11_clock.specs.CivilTime.{IsCivilTime}
 use Rattle.ch11_setup.specs.declared.setup.Setup.{Setup}
@@ -22,13 +22,27 @@ channels_attributes n (channel ∷ channels) =
 abbrev pub given_attribute : Attribute → AttributeData
 given_attribute attribute = attribute_of attribute.name.now attribute.value.now
 
+-- whether it is the name of the test, which stands first in a setup record
+abbrev pub is_test_name : Attribute → Bool
+is_test_name attribute = bytes_eq attribute.name.now (codes "G\\PN")
+
+-- the first name of the test that is given: that of the recorder where none is
+abbrev pub test_name : List Attribute → List ℕ
+test_name [] = codes "bpfrec"
+test_name (attribute ∷ attributes) =
+    if is_test_name attribute then attribute.value.now else test_name attributes
+
+-- the others, which stand last
 abbrev pub given_attributes : List Attribute → List AttributeData
-given_attributes attributes = map given_attribute attributes
+given_attributes [] = []
+given_attributes (attribute ∷ attributes) =
+    if is_test_name attribute then given_attributes attributes
+    else given_attribute attribute ∷ given_attributes attributes
 
 -- what is said of the recording and its recorder
 abbrev pub recording_attributes : Setup → List AttributeData
 recording_attributes setup =
-    general_attributes (cleaned setup.host.now) setup.time
+    general_attributes (test_name setup.attributes.now) (cleaned setup.host.now) setup.time
     ++ (recorder_attributes (cleaned setup.host.now) (cleaned setup.program.now) setup.time
     ++ content_attributes (length setup.channels.now + 1))
 
@@ -56,4 +70,4 @@ pub record IsSetup (setup : Setup) : Type 0 where
   pub time_channel : setup.time_channel < 2 ^ 16
   pub number : length setup.channels.now < 2 ^ 16
   pub channels : AllByRecursion IsSetupChannel setup.channels.now
-  pub given : AreAttributes (given_attributes setup.attributes.now)
+  pub given : AreAttributes (map given_attribute setup.attributes.now)

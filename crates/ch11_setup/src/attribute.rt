@@ -5,6 +5,9 @@ ghost use Rattle.ch11_setup.specs.Lines.{numbered};
 
 use std::alloc::AllocError;
 
+/// The name of the test (TMATS, general information), which a user may say.
+pub(crate) const TEST_NAME: &str = "G\\PN";
+
 /// An attribute that a user adds. Its name isn't empty and has no `:`, and neither has a `;`.
 #[derive(Clone, Copy, Debug, PartialEq, Eq)]
 pub struct Attribute<'a> {

@@ -15,6 +15,6 @@ pub use attribute::Attribute;
 pub use laws::{
     a_setup_record_is_read_back, a_setup_record_names_the_channels, cleaned_names_are_plain,
 };
-pub use name::clean;
+pub use name::{clean, trim_end, trim_start};
 pub use setup::{Setup, SetupChannel};
 pub use text::setup_text;

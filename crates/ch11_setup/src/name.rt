@@ -98,7 +98,7 @@ fn trim(bytes: &[u8]) -> &[u8]
 }
 
 /// A text without the blanks at its start.
-fn trim_start(bytes: &[u8]) -> &[u8]
+pub fn trim_start(bytes: &[u8]) -> &[u8]
     ensures { result.now ≡ without_blanks bytes.now }
 {
     let mut left = bytes;
@@ -112,7 +112,7 @@ fn trim_start(bytes: &[u8]) -> &[u8]
 }
 
 /// A text without the blanks at its end.
-fn trim_end(bytes: &[u8]) -> &[u8]
+pub fn trim_end(bytes: &[u8]) -> &[u8]
     ensures { result.now ≡ reverse (without_blanks (reverse bytes.now)) }
 {
     let mut left = bytes;

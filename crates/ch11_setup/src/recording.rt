@@ -5,7 +5,7 @@ ghost use Rattle.ch11_setup.specs.Attributes.{attribute_of, attribute_line, attr
 ghost use Rattle.ch11_setup.specs.Dates.{date_text, date_time_text};
 ghost use Rattle.ch11_setup.specs.Lines.{general_attributes, recorder_attributes, content_attributes};
 
-use crate::attribute::{push_attribute, push_number};
+use crate::attribute::{TEST_NAME, push_attribute, push_number};
 use crate::date::{push_date, push_date_time};
 use ch11_clock::CivilTime;
 use std::alloc::AllocError;
@@ -13,14 +13,15 @@ use std::alloc::AllocError;
 /// Adds the general information.
 pub(crate) fn push_general(
     text: &mut String,
+    test: &str,
     host: &str,
     time: &CivilTime,
 ) -> Result<(), AllocError>
     requires { IsCivilTime time.now }
-    ensures { OnOk result (string_bytes text.new
-        ≡ string_bytes text.old ++ attributes_text (general_attributes host.now time.now)) }
+    ensures { OnOk result (string_bytes text.new ≡ string_bytes text.old
+        ++ attributes_text (general_attributes test.now host.now time.now)) }
 {
-    push_attribute(text, "G\\PN", "bpfrec")?;
+    push_attribute(text, TEST_NAME, test)?;
     push_attribute(text, "G\\106", "17")?;
     push_origin_date(text, time)?;
     push_attribute(text, "G\\DSI\\N", "1")?;

@@ -6,9 +6,9 @@ ghost use Rattle.ch11_setup.specs.Names.{cleaned};
 ghost use Rattle.ch11_setup.specs.Lines.{comment_attribute, general_attributes, recorder_attributes};
 ghost use Rattle.ch11_setup.specs.Lines.{content_attributes};
 ghost use Rattle.ch11_setup.specs.Setups.{setup_attributes, channels_attributes, given_attributes};
-ghost use Rattle.ch11_setup.specs.Setups.{recording_attributes, source_attributes};
+ghost use Rattle.ch11_setup.specs.Setups.{recording_attributes, source_attributes, test_name};
 
-use crate::attribute::{Attribute, push_attribute};
+use crate::attribute::{Attribute, TEST_NAME, push_attribute};
 use crate::channel::{push_channel, push_time_channel};
 use crate::name::{clean, source_name};
 use crate::recording::{push_content, push_general, push_recorder};
@@ -43,7 +43,7 @@ fn push_recording(alloc: Global, text: &mut String, setup: &Setup) -> Result<(),
 {
     let host = clean(alloc, setup.host.as_bytes())?;
     let program = clean(alloc, setup.program.as_bytes())?;
-    push_general(text, &host, &setup.time)?;
+    push_general(text, test_name(setup.attributes), &host, &setup.time)?;
     push_recorder(text, &host, &program, &setup.time)?;
     push_content(text, setup.channels.len() as u64 + 1)
 }
@@ -78,13 +78,27 @@ fn push_channels(
     Ok(())
 }
 
-/// Adds what a user adds.
+/// The name of the test: the first that a user says, or that of the recorder.
+fn test_name<'a>(attributes: &[Attribute<'a>]) -> &'a str
+    ensures { result.now ≡ test_name attributes.now }
+{
+    'attributes: for attribute in attributes {
+        if attribute.name == TEST_NAME {
+            return attribute.value;
+        }
+    }
+    "bpfrec"
+}
+
+/// Adds what else a user adds.
 fn push_given(text: &mut String, attributes: &[Attribute]) -> Result<(), AllocError>
     ensures { OnOk result (string_bytes text.new ≡ string_bytes text.old
         ++ attributes_text (given_attributes attributes.now)) }
 {
     'attributes: for attribute in attributes {
-        push_attribute(text, attribute.name, attribute.value)?;
+        if attribute.name != TEST_NAME {
+            push_attribute(text, attribute.name, attribute.value)?;
+        }
     }
     Ok(())
 }

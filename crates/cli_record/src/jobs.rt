@@ -48,6 +48,7 @@ fn job_of<'a, R: AllocGlobal + Files>(
         net,
         speed,
         max,
+        span,
         ..
     } = channel;
     let program = Arc::new(rt.alloc(), read_filter(rt, filter, inputs)?)?;
@@ -57,9 +58,10 @@ fn job_of<'a, R: AllocGlobal + Files>(
             net,
             speed,
             limit,
+            span: if span == 0 { None } else { Some(span) },
         },
         program,
         max,
-        source: open_feed(rt, feed, max, inputs, feeds)?,
+        source: open_feed(rt, feed, max, span != 0, inputs, feeds)?,
     })
 }

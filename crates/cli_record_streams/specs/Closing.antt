@@ -1,17 +1,19 @@
 -- What a source that closes what it reads from still gives, by the source below it.
 use Rattle.std.specs.Prelude.{ℕ, ◌+◌, Option, None, Some, take, length, nat_lt, if◌then◌else◌}
 use Rattle.std.specs.Option.{option_map}
-use Rattle.eth_frame.specs.Source.{Left, no_frames}
+use Rattle.std.specs.List.{filter}
+use Rattle.eth_frame.specs.Source.{Left, TimeMark, no_frames}
 use Rattle.eth_frame.specs.declared.source.SourceEnding.{SourceEnding}
 use Rattle.eth_frame.specs.declared.source.SourceEnding.TheVariants.{End}
 use Rattle.cli_record_streams.specs.declared.closing.Held.{Held}
 use Rattle.cli_record_streams.specs.declared.closing.Held.TheVariants.{Open, Closed}
 
--- the first frames of what is left, `max` at most; after them its ending, where there were fewer, else
--- an end
+-- the first frames of what is left, `max` at most, and the time marks before the last of them; after
+-- them its ending, where there were fewer, else an end
 abbrev pub at_most : ℕ → Left → Left
 at_most max left = record {
   frames = take max left.frames;
+  times = filter (λ (mark : TimeMark). nat_lt mark.after max) left.times;
   ending = if nat_lt (length left.frames) max then left.ending else End;
 }
 

@@ -36,6 +36,7 @@ pub struct ClosingSource<S: FrameSource + Drop> {
 
 impl<S: FrameSource + Drop> ClosingSource<S> {
     /// The first `max` frames of a source that goes on.
+    #[tactic(auto, using(crate::proofs::ClosingTimes::none_of))]
     pub fn new(source: S, max: u64) -> ClosingSource<S>
         requires { S.ending source ≡ None }
         ensures left { IfSome (S.left source)
@@ -61,10 +62,15 @@ impl<S: FrameSource + Drop> FrameSource for ClosingSource<S> {
 
     ghost ending = { λ s. ending_of s.held };
 
+    #[tactic(auto, using(crate::proofs::ClosingTimes::first_on, crate::proofs::ClosingTimes::first_last, crate::proofs::ClosingTimes::time_on))]
     fn next(&mut self, buffer: &mut FrameBuf) -> Result<Next, SourceFault> {
         match &mut self.held {
             Held::Open { source, further } => {
                 let answer = source.next(buffer);
+                // a time mark is no frame, and more may follow
+                if let Ok(Next::Time(_)) = answer {
+                    return answer;
+                }
                 let ending = SourceEnding::of(answer);
                 match further.checked_sub(1) {
                     Some(rest) if ending.is_none() => *further = rest,

@@ -52,12 +52,13 @@ pub fn read_filter<'a, R: AllocGlobal + Files>(
     }
 }
 
-/// The first `max` frames of a feed, which is opened here and added to the inputs and to the feeds. A
-/// pipe or a device that is among the feeds is refused.
+/// The first `max` frames of a feed, which is opened here and added to the inputs and to the feeds, and
+/// the time marks among them if it may have some. A pipe or a device that is among the feeds is refused.
 pub fn open_feed<'a, R: AllocGlobal + Files>(
     rt: &R,
     feed: String,
     max: u64,
+    timed: bool,
     inputs: &mut Inputs,
     feeds: &mut Inputs,
 ) -> Result<Source<R::File>, CommandEnding<'a>>
@@ -78,5 +79,10 @@ pub fn open_feed<'a, R: AllocGlobal + Files>(
     let reader = BufReader::with_capacity(rt.alloc(), FEED_BUFFER, file).map_err(
         |_| CommandEnding::Memory,
     )?;
-    Ok(ClosingSource::new(BufferedFeedSource::new(reader), max))
+    let source = if timed {
+        BufferedFeedSource::with_times(reader)
+    } else {
+        BufferedFeedSource::new(reader)
+    };
+    Ok(ClosingSource::new(source, max))
 }

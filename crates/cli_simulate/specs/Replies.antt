@@ -3,7 +3,7 @@ use Rattle.std.specs.Prelude.{ℕ, ◌-◌, ◌/◌, ◌%◌, false, codes, List
 use Rattle.std.specs.List.{flat_map}
 use Rattle.std.specs.Fmt.{decimal, digit_glyph}
 use Rattle.rec_core.specs.declared.reply.Reply.{Reply}
-use Rattle.rec_core.specs.declared.reply.Reply.TheVariants.{Took, Installed, Sent, Wrote, Closed}
+use Rattle.rec_core.specs.declared.reply.Reply.TheVariants.{Took, Timed, Installed, Sent, Wrote, Closed}
 use Rattle.rec_core.specs.declared.reply.Which.{Which}
 use Rattle.rec_core.specs.declared.reply.Which.TheVariants.{Program, Frames, End}
 
@@ -29,6 +29,7 @@ abbrev pub reply_text : Reply → (out : List ℕ) → List ℕ
 reply_text (Took number version value) out =
     codes "took " ++ (decimal number ++ (codes " " ++ (decimal version
     ++ (codes " " ++ (decimal value ++ (10 ∷ []))))))
+reply_text Timed out = codes "timed\n"
 reply_text (Installed version mark) out =
     codes "installed " ++ (decimal version ++ (codes " " ++ (decimal mark ++ (10 ∷ []))))
 reply_text (Sent which) out = sent_text which

@@ -7,12 +7,15 @@ use bpf_insn::ListingFault;
 use bpf_verify::Verified;
 use ch11_packet::{Limit, MAX_SPEED};
 use cli_streams::{ListedFault, channel_in, listed_program};
-use eth_frame::Frame;
+use eth_frame::{COUNTER_BITS, Frame};
 use hex::FromHexError;
 use rec_core::{ChannelSpec, Event, MAX_RING};
 use rec_lane::LaneSpec;
 use std::alloc::{AllocError, AllocFailed, Global};
 use std::sync::Arc;
+
+/// The greatest counter.
+const MAX_COUNTER: u64 = (1 << COUNTER_BITS) - 1;
 
 /// Why a line of a script isn't read.
 #[derive(Clone, Copy)]
@@ -106,8 +109,28 @@ fn lane_in(fields: &str, limit: Limit) -> Option<(LaneSpec, &str)> {
     Some((lane, fields))
 }
 
-/// `take <channel> <counter> <marks> <frame>`, `install <channel> <listing>`, `send <channel>`,
-/// `write <channel>` or `close <channel>`
+/// `<channel> <ticks>`: sets the span of a channel that is among these. Whether it is.
+pub(crate) fn span_in(fields: &str, specs: &mut [ChannelSpec]) -> bool {
+    let Some((channel, ticks)) = fields.split_once(' ') else {
+        return false;
+    };
+    let (Some(channel), Some(span)) = (channel_in(channel), number_in(ticks, MAX_COUNTER)) else {
+        return false;
+    };
+    if span == 0 {
+        return false;
+    }
+    'specs: for spec in specs {
+        if spec.lane.channel == channel {
+            spec.lane = spec.lane.with_span(span);
+            return true;
+        }
+    }
+    false
+}
+
+/// `take <channel> <counter> <marks> <frame>`, `time <channel> <counter>`, `install <channel> <listing>`,
+/// `send <channel>`, `write <channel>` or `close <channel>`
 pub(crate) fn event_in(alloc: Global, line: &str) -> Result<Event, LineFault> {
     let (word, fields) = line.split_once(' ').ok_or(LineFault::Shape)?;
     let (channel, rest) = match fields.split_once(' ') {
@@ -117,6 +140,10 @@ pub(crate) fn event_in(alloc: Global, line: &str) -> Result<Event, LineFault> {
     let channel = channel_in(channel).ok_or(LineFault::Shape)?;
     match (word, rest) {
         ("take", Some(rest)) => take_of(alloc, channel, rest),
+        ("time", Some(counter)) => Ok(Event::Time {
+            channel,
+            counter: number_in(counter, MAX_COUNTER).ok_or(LineFault::Shape)?,
+        }),
         ("install", Some(listing)) => Ok(Event::Install {
             channel,
             program: program_of(alloc, listing)?,

@@ -4,7 +4,7 @@ ghost use Rattle.std.specs.Prelude.{◌≡◌, OnOk};
 ghost use Rattle.std.specs.Io.KnownBytes.{Appends};
 ghost use Rattle.cli_simulate.specs.Replies.{byte_text, last_of, packet_text, reply_text, sent_text};
 
-use crate::script::{LineFault, Recorder, channel_of, event_in, recorder_in};
+use crate::script::{LineFault, Recorder, channel_of, event_in, recorder_in, span_in};
 use ch11_packet::Limit;
 use cli_streams::{CommandEnding, MAX_TEXT, print_line, text_in};
 use rec_core::{ChannelSpec, CoreFault, Reply, Which, World, specs_ok};
@@ -13,8 +13,10 @@ use std::io;
 use std::io::{Read, Write};
 use std::rt::Files;
 
-/// What a channel's line begins with.
+/// What a channel's line begins with, and that of a channel's span.
 const CHANNEL: &str = "channel ";
+
+const SPAN: &str = "span ";
 
 /// A line that isn't empty, with its number, counted from 1.
 #[derive(Clone, Copy)]
@@ -50,13 +52,14 @@ pub fn simulate_script<'a, R: AllocGlobal + Files, I: Read, O: Write>(
     let Some(recorder) = recorder_in(first.text) else {
         return Err(CommandEnding::Script(first.number));
     };
-    let (channels, events) = split_channels(rest);
+    let (channels, rest) = split_lines(rest, CHANNEL);
     let Recorder {
         limit,
         ring,
         version,
     } = recorder;
-    let specs = specs_of(alloc, limit, channels)?;
+    let mut specs = specs_of(alloc, limit, channels)?;
+    let events = set_spans(&mut specs, rest)?;
     if !specs_ok(specs.as_slice()) {
         // each was tested where it was read, so there is none
         return Err(CommandEnding::Script(number_of(events)));
@@ -89,13 +92,14 @@ fn lines_of(alloc: Global, text: &str) -> Result<Vec<ScriptLine<'_>>, AllocError
     Ok(lines)
 }
 
-/// The lines of channels at the front, and the others.
-fn split_channels<'l, 's>(
+/// The lines at the front that begin so, and the others.
+fn split_lines<'l, 's>(
     lines: &'l [ScriptLine<'s>],
+    beginning: &str,
 ) -> (&'l [ScriptLine<'s>], &'l [ScriptLine<'s>]) {
     let count = lines
         .iter()
-        .take_while(|line| line.text.starts_with(CHANNEL))
+        .take_while(|line| line.text.starts_with(beginning))
         .count();
     lines.split_at(count)
 }
@@ -118,6 +122,21 @@ fn specs_of(
     Ok(specs)
 }
 
+/// Sets the spans of channels by the lines at the front; the others.
+fn set_spans<'l, 's>(
+    specs: &mut Vec<ChannelSpec>,
+    lines: &'l [ScriptLine<'s>],
+) -> Result<&'l [ScriptLine<'s>], CommandEnding<'static>> {
+    let (spans, events) = split_lines(lines, SPAN);
+    'lines: for line in spans {
+        let fields = line.text.strip_prefix(SPAN).unwrap_or("");
+        if !span_in(fields, specs.as_mut_slice()) {
+            return Err(CommandEnding::Script(line.number));
+        }
+    }
+    Ok(events)
+}
+
 /// The number of the first line, or 0.
 fn number_of(lines: &[ScriptLine<'_>]) -> u64 {
     match lines.first() {
@@ -137,6 +156,7 @@ fn print_reply<O: Write>(output: &mut O, reply: Reply, out: &[u8]) -> io::Result
             version,
             value,
         } => writeln!(output, "took {number} {version} {value}"),
+        Reply::Timed => writeln!(output, "timed"),
         Reply::Installed { version, mark } => writeln!(output, "installed {version} {mark}"),
         Reply::Sent(which) => print_sent(output, which),
         Reply::Wrote { bytes } => print_packet(output, last_bytes(out, bytes as usize)),

@@ -9,7 +9,7 @@ use Rattle.eth_frame.specs.declared.source.SourceFault.TheVariants.{Device}
 use Rattle.eth_frame.specs.declared.source.SourceEnding.{SourceEnding}
 use Rattle.eth_frame.specs.declared.source.SourceEnding.TheVariants.{End, Fault}
 use Rattle.eth_frame.specs.Frame.{FrameData}
-use Rattle.eth_frame.specs.Source.{Left, no_frames, with_first_frame, source_ending_of, GivesFirst, GivesEnding, Fails}
+use Rattle.eth_frame.specs.Source.{Left, no_frames, with_first_frame, source_ending_of, GivesFirst, GivesTime, GivesEnding, Fails}
 use Rattle.eth_frame.specs.FeedRecord.{record_at}
 use Rattle.eth_frame.specs.Feed.{left_from, left_of_feed, after_record, left_of_source, failures_before}
 use Rattle.eth_frame.specs.FeedTaking.{TakesRecord}
@@ -44,43 +44,56 @@ left_of_feed-ending (b ∷ bs) ending e = ap (λ (r : Result FrameData SourceEnd
 -- the first frame, or the ending, if the device didn't fail
 abbrev pub Gives : Result Next SourceFault → Option Left → Option FrameData → Option Left → Type 0
 Gives (Ok next.Frame) old held new = GivesFirst old held new
+Gives (Ok (next.Time counter)) old held new = GivesTime old counter new
 Gives (Ok next.End) old held new = GivesEnding old End new
 Gives (Err fault) old held new = (fault ≡ Device) ⊎ GivesEnding old (Fault fault) new
 
 pub Gives-taken : (ended now : Option SourceEnding) (a c : Option (List ℕ)) (result : Result Next SourceFault) (held : Option FrameData) → ended ≡ None
-    → now ≡ source_ending_of result
+    → now ≡ source_ending_of result → ((counter : ℕ) → result ≡ Ok (next.Time counter) → ⊥)
     → IfSome a (λ bytes. TakesRecord bytes result held c) → Gives result (left_of_source ended a) held (left_of_source now c)
-Gives-taken (Some ending) now a c result held e n took = absurd cc
-Gives-taken None now None c (Ok next.Frame) held e n took = tt
-Gives-taken None now (Some x) c (Ok next.Frame) None e n took = absurd took
-Gives-taken None (Some ending) (Some x) c (Ok next.Frame) (Some frame) e n took = absurd cc
-Gives-taken None None (Some x) None (Ok next.Frame) (Some frame) e n took = absurd (let after = took.1 in cc)
-Gives-taken None None (Some x) (Some z) (Ok next.Frame) (Some frame) e n took =
+Gives-taken (Some ending) now a c result held e n timeless took = absurd cc
+Gives-taken None now None c (Ok next.Frame) held e n timeless took = tt
+Gives-taken None now (Some x) c (Ok next.Frame) None e n timeless took = absurd took
+Gives-taken None (Some ending) (Some x) c (Ok next.Frame) (Some frame) e n timeless took = absurd cc
+Gives-taken None None (Some x) None (Ok next.Frame) (Some frame) e n timeless took = absurd (let after = took.1 in cc)
+Gives-taken None None (Some x) (Some z) (Ok next.Frame) (Some frame) e n timeless took =
     let rest : z ≡ drop (HEAD_LEN + length frame.bytes) x = let after = took.1 in cc in
     left_of_feed-frame x frame took.0 ∙ ap (λ l. with_first_frame frame (left_of_feed l)) (sym rest)
-Gives-taken None now None c (Ok next.End) held e n took = tt
-Gives-taken None None (Some x) c (Ok next.End) held e n took = absurd cc
-Gives-taken None (Some ending) (Some x) c (Ok next.End) held e n took =
+Gives-taken None now a c (Ok (next.Time counter)) held e n timeless took = absurd (timeless counter refl)
+Gives-taken None now None c (Ok next.End) held e n timeless took = tt
+Gives-taken None None (Some x) c (Ok next.End) held e n timeless took = absurd cc
+Gives-taken None (Some ending) (Some x) c (Ok next.End) held e n timeless took =
     let same : ending ≡ End = cc in
     (left_of_feed-ending x End took.0, ap (λ (d : SourceEnding). Some (no_frames d)) same)
-Gives-taken None None a c (Err fault) held e n took = absurd cc
-Gives-taken None (Some ending) None c (Err fault) held e n took = inr tt
-Gives-taken None (Some ending) (Some x) c (Err fault) held e n (inl read) =
+Gives-taken None None a c (Err fault) held e n timeless took = absurd cc
+Gives-taken None (Some ending) None c (Err fault) held e n timeless took = inr tt
+Gives-taken None (Some ending) (Some x) c (Err fault) held e n timeless (inl read) =
     let same : ending ≡ Fault fault = cc in
     inr (left_of_feed-ending x (Fault fault) read, ap (λ (d : SourceEnding). Some (no_frames d)) same)
-Gives-taken None (Some ending) (Some x) c (Err fault) held e n (inr device) = inl device
+Gives-taken None (Some ending) (Some x) c (Err fault) held e n timeless (inr device) = inl device
 
 pub Gives-frame : (result : Result Next SourceFault) (old : Option Left) (held : Option FrameData) (new : Option Left) → result ≡ Ok next.Frame
     → Gives result old held new → GivesFirst old held new
 Gives-frame (Ok next.Frame) old held new is gives = gives
+Gives-frame (Ok (next.Time counter)) old held new is gives = absurd cc
 Gives-frame (Ok next.End) old held new is gives = absurd cc
 Gives-frame (Err fault) old held new is gives = absurd cc
 
 pub Gives-end : (result : Result Next SourceFault) (old : Option Left) (held : Option FrameData) (new : Option Left) → result ≡ Ok next.End
     → Gives result old held new → GivesEnding old End new
 Gives-end (Ok next.Frame) old held new is gives = absurd cc
+Gives-end (Ok (next.Time counter)) old held new is gives = absurd cc
 Gives-end (Ok next.End) old held new is gives = gives
 Gives-end (Err fault) old held new is gives = absurd cc
+
+pub Gives-time : (result : Result Next SourceFault) (old : Option Left) (held : Option FrameData) (new : Option Left) (counter : ℕ)
+    → result ≡ Ok (next.Time counter) → Gives result old held new → GivesTime old counter new
+Gives-time (Ok next.Frame) old held new counter is gives = absurd cc
+Gives-time (Ok (next.Time other)) old held new counter is gives =
+    let same : other ≡ counter = cc in
+    subst (λ k. GivesTime old k new) same gives
+Gives-time (Ok next.End) old held new counter is gives = absurd cc
+Gives-time (Err fault) old held new counter is gives = absurd cc
 
 pub Gives-fault : (result : Result Next SourceFault) (old : Option Left) (held : Option FrameData) (new : Option Left) → Gives result old held new
     → IfErr result (λ fault. (fault ≡ Device) ⊎ GivesEnding old (Fault fault) new)

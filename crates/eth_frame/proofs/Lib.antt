@@ -4,5 +4,8 @@ pub mod Records
 pub mod Taken
 pub mod Shown
 pub mod Lefts
+pub mod Marks
 pub mod Fields
 pub mod OneFeedReading
+pub mod TimedLefts
+pub mod TimedReading

@@ -65,7 +65,7 @@ Ends-record_at rest (Fault Marks) ends = record_at-whole rest ends.0 ∙ ap (λ 
 Ends-record_at rest (Fault Device) ends = absurd ends
 
 left_of_feed-records : (frames : List FrameData) (rest : List ℕ) (ending : SourceEnding) → AllByRecursion IsFrame frames → EndsFeed rest ending
-    → left_of_feed (flat_map feed_record frames ++ rest) ≡ record { frames = frames; ending = ending }
+    → left_of_feed (flat_map feed_record frames ++ rest) ≡ record { frames = frames; times = []; ending = ending }
 left_of_feed-records [] rest ending each ends = left_of_feed-ending rest ending (Ends-record_at rest ending ends)
 left_of_feed-records (f ∷ fs) rest ending each ends =
     let more = flat_map feed_record fs ++ rest in
@@ -76,7 +76,7 @@ left_of_feed-records (f ∷ fs) rest ending each ends =
     ∙ ap (with_first_frame f) (left_of_feed-records fs rest ending each.1 ends)
 
 pub said : (bytes : List ℕ) (frames : List FrameData) (ending : SourceEnding) → Feed bytes frames ending
-    → left_of_feed bytes ≡ record { frames = frames; ending = ending }
+    → left_of_feed bytes ≡ record { frames = frames; times = []; ending = ending }
 said bytes frames ending feed = ap left_of_feed feed.whole ∙ left_of_feed-records frames feed.rest ending feed.in_range feed.ends
 
 pub one : (bytes : List ℕ) (frames others : List FrameData) (ending other : SourceEnding) → Feed bytes frames ending → Feed bytes others other
@@ -258,5 +258,5 @@ Feed-left zero bytes few fit = subst (λ l. Feed l (left_of_feed l).frames (left
 Feed-left (suc n) bytes few fit = Feed-step n bytes (record_at bytes) few fit refl (λ more fewer fits. Feed-left n more fewer fits)
 
 pub meant : (bytes : List ℕ) (frames : List FrameData) (ending : SourceEnding) → AreBytes bytes
-    → left_of_feed bytes ≡ record { frames = frames; ending = ending } → Feed bytes frames ending
+    → left_of_feed bytes ≡ record { frames = frames; times = []; ending = ending } → Feed bytes frames ending
 meant bytes frames ending fit e = subst (λ (l : Left). Feed bytes l.frames l.ending) e (Feed-left (length bytes) bytes (le_refl _) fit)

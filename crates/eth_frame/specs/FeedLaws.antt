@@ -13,7 +13,9 @@ use Rattle.eth_frame.specs.declared.source.SourceEnding.TheVariants.{End, Fault}
 use Rattle.eth_frame.specs.Frame.{FrameData}
 use Rattle.eth_frame.specs.Source.{Left, no_frames}
 use Rattle.eth_frame.specs.FeedRecord.{record_at, head_fault, body_at, length_field, marks_field, frame_at}
+use Rattle.eth_frame.specs.FeedRecord.{time_at}
 use Rattle.eth_frame.specs.Feed.{left_from, after_record, left_of_source, failures_before}
+use Rattle.eth_frame.specs.TimedFeed.{after_time, timed_from, left_of_timed, left_given}
 
 pub left_once_ended : (ended : Option SourceEnding) (known : Option (List ℕ)) (ending : SourceEnding)
     → ended ≡ Some ending → IfSome (left_of_source ended known) (λ l. l ≡ no_frames ending)
@@ -83,3 +85,43 @@ failed_once_ended None (Some bytes) = λ e. absurd (false≢true (sym (left_from
 failed_once_ended (Some End) known = λ e. absurd (false≢true (ap is_failure e))
 failed_once_ended (Some (Fault Device)) known = λ e. lit< tt
 failed_once_ended (Some (Fault fault)) known = λ e. absurd (false≢true (ap is_failure e))
+
+-- ---- where there may be time marks
+
+after_time_tells_none : (mark : Option ℕ) (later other : Left) → is_failure later.ending ≡ false → is_failure other.ending ≡ false
+    → is_failure (after_time mark later other).ending ≡ false
+after_time_tells_none (Some counter) later other a b = a
+after_time_tells_none None later other a b = b
+
+timed_from_tells_none : (skipped : ℕ) (bytes : List ℕ) → is_failure (timed_from skipped bytes).ending ≡ false
+unfolding timed_from
+timed_from_tells_none skipped [] = refl
+timed_from_tells_none zero (b ∷ bs) =
+    after_time_tells_none (time_at (b ∷ bs)) (timed_from (HEAD_LEN - 1) bs) (after_record (record_at (b ∷ bs)) (λ n. timed_from (n - 1) bs))
+    (timed_from_tells_none (HEAD_LEN - 1) bs)
+    (after_record_tells_none (record_at (b ∷ bs)) (λ n. timed_from (n - 1) bs)
+    (record_at_tells_none (b ∷ bs)) (λ n. timed_from_tells_none (n - 1) bs))
+timed_from_tells_none (suc skipped) (b ∷ bs) = timed_from_tells_none skipped bs
+
+timed_once_ended : (ended : Option SourceEnding) (known : Option (List ℕ)) (ending : SourceEnding)
+    → ended ≡ Some ending → IfSome (left_of_timed ended known) (λ l. l ≡ no_frames ending)
+timed_once_ended ended known ending e =
+    subst (λ (o : Option SourceEnding). IfSome (left_of_timed o known) (λ l. l ≡ no_frames ending)) (sym e) refl
+
+failed_once_timed : (ended : Option SourceEnding) (known : Option (List ℕ))
+    → IfSome (left_of_timed ended known) (λ l. l.ending ≡ Fault Device → 0 < failures_before ended)
+failed_once_timed None None = tt
+failed_once_timed None (Some bytes) = λ e. absurd (false≢true (sym (timed_from_tells_none 0 bytes) ∙ ap is_failure e))
+failed_once_timed (Some End) known = λ e. absurd (false≢true (ap is_failure e))
+failed_once_timed (Some (Fault Device)) known = λ e. lit< tt
+failed_once_timed (Some (Fault fault)) known = λ e. absurd (false≢true (ap is_failure e))
+
+pub given_once_ended : (timed : Bool) (ended : Option SourceEnding) (known : Option (List ℕ)) (ending : SourceEnding)
+    → ended ≡ Some ending → IfSome (left_given timed ended known) (λ l. l ≡ no_frames ending)
+given_once_ended true ended known ending e = timed_once_ended ended known ending e
+given_once_ended false ended known ending e = left_once_ended ended known ending e
+
+pub failed_once_given : (timed : Bool) (ended : Option SourceEnding) (known : Option (List ℕ))
+    → IfSome (left_given timed ended known) (λ l. l.ending ≡ Fault Device → 0 < failures_before ended)
+failed_once_given true ended known = failed_once_timed ended known
+failed_once_given false ended known = failed_once_ended ended known

@@ -1,6 +1,6 @@
 -- One record of a feed: the frame's counter in 6 bytes, its marks in 1, its length in 2, and then
 -- its bytes. A number's lowest byte comes first.
-use Rattle.std.specs.Prelude.{ℕ, ◌+◌, ◌==◌, Bool, not, ◌||◌, if◌then◌else◌, nat_lt, List, ◌∷◌, ◌++◌, length}
+use Rattle.std.specs.Prelude.{ℕ, ◌+◌, ◌==◌, Bool, true, false, not, ◌||◌, ◌&&◌, if◌then◌else◌, nat_lt, List, ◌∷◌, ◌++◌, length}
 use Rattle.std.specs.Prelude.{take, drop, slice_index, Option, None, Some, Result, Ok, Err, bit_and}
 use Rattle.std.specs.Int.{w16, to_le_bytes, bytes_low_first}
 use Rattle.eth_frame.specs.Bytes.{u16_at, u48_at}
@@ -32,6 +32,10 @@ feed_record_head frame =
 abbrev pub feed_record : FrameData → List ℕ
 feed_record frame = feed_record_head frame ++ frame.bytes
 
+-- and that of a time mark, which is no more than a head without marks and of length 0
+abbrev pub time_record : (counter : ℕ) → List ℕ
+time_record counter = head_bytes counter false false 0
+
 -- ---- reading
 
 -- the counter, the marks and the length that the 9 bytes at the front say
@@ -50,6 +54,11 @@ has_crc_error marks = not (bit_and marks 1 == 0)
 
 abbrev pub has_frame_error : ℕ → Bool
 has_frame_error marks = not (bit_and marks 2 == 0)
+
+-- the counter of the time mark that the 9 bytes at the front are, if their marks and their length are 0
+abbrev pub time_in : List ℕ → Option ℕ
+time_in bytes =
+    if (length_field bytes == 0) && (marks_field bytes == 0) then Some (counter_field bytes) else None
 
 -- what is wrong with the 9 bytes at the front, the length first
 abbrev pub head_fault : List ℕ → Option SourceFault
@@ -80,3 +89,12 @@ record_at bytes =
     if length bytes == 0 then Err End
     else if nat_lt (length bytes) HEAD_LEN then Err (Fault Truncated)
     else body_at (head_fault bytes) bytes
+
+-- the counter of the time mark that stands at the front
+abbrev pub time_at : List ℕ → Option ℕ
+time_at bytes = if nat_lt (length bytes) HEAD_LEN then None else time_in bytes
+
+-- the same, where there may be time marks
+abbrev pub mark_at : (timed : Bool) → List ℕ → Option ℕ
+mark_at true bytes = time_at bytes
+mark_at false bytes = None

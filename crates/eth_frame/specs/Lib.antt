@@ -6,4 +6,5 @@ pub mod Source
 pub mod FeedRecord
 pub mod Feed
 pub mod FeedTaking
+pub mod TimedFeed
 pub mod FeedLaws

@@ -8,6 +8,8 @@ use thiserror::Error;
 pub enum Next {
     /// A frame, which the buffer holds now.
     Frame,
+    /// A time mark: no frame came up to this counter. More may follow.
+    Time(u64),
     /// No frame: the source is at its end.
     End,
 }
@@ -64,12 +66,12 @@ impl SourceEnding {
         }
     }
 
-    /// The ending of a source that gave this answer: `None` if it gave a frame.
+    /// The ending of a source that gave this answer: `None` if it gave a frame or a time mark.
     pub fn of(answer: Result<Next, SourceFault>) -> Option<SourceEnding>
         ensures ending { result ≡ source_ending_of answer }
     {
         match answer {
-            Ok(Next::Frame) => None,
+            Ok(Next::Frame | Next::Time(_)) => None,
             Ok(Next::End) => Some(SourceEnding::End),
             Err(fault) => Some(SourceEnding::Fault(fault)),
         }
@@ -82,9 +84,10 @@ pub trait FrameSource {
     ghost use Rattle.eth_frame.specs.declared.source.SourceEnding.{SourceEnding};
     ghost use Rattle.eth_frame.specs.declared.source.SourceEnding.TheVariants.{End, Fault};
     ghost use Rattle.eth_frame.specs.declared.source.SourceFault.TheVariants.{Device};
-    ghost use Rattle.eth_frame.specs.Source.{Left, no_frames, answer, source_ending_of, GivesFirst, GivesEnding, Fails};
+    ghost use Rattle.eth_frame.specs.Source.{Left, no_frames, answer, source_ending_of, GivesFirst, GivesTime, GivesEnding, Fails};
 
-    // The frames that are left and the ending after them: `None` if the source doesn't say.
+    // The frames that are left, the time marks among them and the ending after them: `None` if the
+    // source doesn't say.
     ghost left: { Self → Option Left };
 
     // How often the source's device has failed.
@@ -93,8 +96,8 @@ pub trait FrameSource {
     // How the source has ended, once it has.
     ghost ending: { Self → Option SourceEnding };
 
-    /// Puts the next frame into the buffer, or answers how the source has ended. From then on
-    /// each call answers the same. After any answer but a frame the buffer is empty.
+    /// Puts the next frame into the buffer, or answers with a time mark, or how the source has ended.
+    /// From then on each call answers the same. After any answer but a frame the buffer is empty.
     fn next(&mut self, buffer: &mut FrameBuf) -> Result<Next, SourceFault>
         // Of every source.
         ensures repeats { IfSome (ending self.old) (λ last. result ≡ answer last) }
@@ -108,6 +111,8 @@ pub trait FrameSource {
         // Of a source that says its frames.
         ensures frame { result ≡ Ok Next.Frame
             → GivesFirst (left self.old) buffer.new (left self.new) }
+        ensures time { (counter : ℕ) → result ≡ Ok (Next.Time counter)
+            → GivesTime (left self.old) counter (left self.new) }
         ensures end { result ≡ Ok Next.End → GivesEnding (left self.old) End (left self.new) }
         ensures fault { IfErr result (λ fault. (fault ≡ Device)
             ⊎ GivesEnding (left self.old) (Fault fault) (left self.new)) }

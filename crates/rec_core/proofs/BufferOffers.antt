@@ -29,7 +29,7 @@ HaveValues = (program : List Insn) (bytes : List ℕ) → Valid program
 -- a frame makes few pieces certain
 abbrev pub MakeFew : Type 0
 MakeFew = (settings : LaneSettings) (offered : List OfferedFrame) (x : OfferedFrame) → MIN_LIMIT ≤ settings.limit → IsFrame x.frame
-    → GrowsByFew (pieces_so_far settings offered) (pieces_so_far settings (offered ++ x ∷ []))
+    → x.times ≡ [] → GrowsByFew (pieces_so_far settings offered) (pieces_so_far settings (offered ++ x ∷ []))
 
 -- the channels of a run are in order
 abbrev pub AreOrdered : Type 0
@@ -47,8 +47,8 @@ offers values few ring spare world at f frame there is ordered stage some roomy 
     let inside : at_last < length c.history = omega (arith, versions) in
     let last : Version = get_or c.history at_last none in
     let ran = values last.program (view frame) (ordered.history.valid at_last none inside) in
-    let x : OfferedFrame = record { frame = frame; number = length c.offered; version = at_last; program = last.program; value = ran.1 } in
-    let grows = few c.settings c.offered x roomy framed in
+    let x : OfferedFrame = record { frame = frame; number = length c.offered; version = at_last; program = last.program; value = ran.1; times = [] } in
+    let grows = few c.settings c.offered x roomy framed refl in
     let one = grows.2.one_packet in
     let held = known.2 in
     let kept : ℕ = 2 - packets_in grows.0 in
@@ -87,6 +87,7 @@ offers values few ring spare world at f frame there is ordered stage some roomy 
               last = omega (arith, versions);
               program_is = there_map (λ (v : Version). v.program) c.history at_last last (slice_get-get_or c.history at_last none inside);
               ran = (ran.0, ran.2);
+              untimed = refl;
             },
             refl,
             refl,

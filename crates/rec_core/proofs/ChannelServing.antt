@@ -1,7 +1,7 @@
 -- What the calls of a core's channel did to whatever channel it held.
 -- idea: the parts of a channel don't say which frames it has met, so each call is shown for whatever frames and history
 -- they may be of: the channel after it is that one with the frame, the version or the piece of the call.
-use Rattle.std.proofs.Common.{ℕ, suc, zero, ◌+◌, ◌≡◌, ◌≢◌, ◌≤◌, ◌<◌, ◌⊎◌, inl, inr, true, false, if◌then◌else◌, List, []}
+use Rattle.std.proofs.Common.{ℕ, suc, zero, ◌+◌, ◌≡◌, ◌≢◌, ◌<◌, ◌⊎◌, inl, inr, true, false, if◌then◌else◌, List, []}
 use Rattle.std.proofs.Common.{◌∷◌, ◌++◌, length, Option, None, Some, refl, sym, ◌∙◌, ap, subst, arith, All}
 use Rattle.std.specs.Prelude.{slice_get}
 use Rattle.std.proofs.lemmas.List.{append_assoc, append-nil, length-append}
@@ -12,22 +12,23 @@ use Rattle.bpf_machine.specs.Machine.{Runs}
 use Rattle.eth_frame.specs.Frame.{FrameData, view}
 use Rattle.rec_channel.specs.declared.limits.TheConstants.{MAX_VERSIONS}
 use Rattle.rec_channel.specs.Slots.{SlotState, with_version, one_frame_later, programs_in}
-use Rattle.rec_lane.specs.Offered.{OfferedFrame}
+use Rattle.rec_lane.specs.Offered.{OfferedFrame, noted_with}
 use Rattle.rec_lane.specs.Parts.{BeginsList}
 use Rattle.rec_lane.specs.Pieces.{LaneSettings, PieceData, channel_of, channel_pieces, pieces_so_far}
-use Rattle.rec_lane.specs.Lanes.{LaneState, HasMet, AreLeft, offered_now, running}
+use Rattle.rec_lane.specs.Lanes.{LaneState, HasMet, offered_now, running}
 use Rattle.rec_core.specs.declared.reply.Reply.{Reply}
-use Rattle.rec_core.specs.declared.reply.Reply.TheVariants.{Installed, Sent, Wrote, Closed as HasClosed}
+use Rattle.rec_core.specs.declared.reply.Reply.TheVariants.{Timed, Installed, Sent, Wrote}
 use Rattle.rec_core.specs.declared.fault.CoreFault.{CoreFault}
-use Rattle.rec_core.specs.declared.fault.CoreFault.TheVariants.{Closed, RingFull, NothingToSend, NothingToWrite, VersionsFull, CountFull, Output, Memory}
+use Rattle.rec_core.specs.declared.fault.CoreFault.TheVariants.{Output}
 use Rattle.rec_core.specs.Openings.{IsFilter}
 use Rattle.rec_core.specs.World.{ChannelState, MeetsLast, HasPacketLen, ChannelDoes, ChannelRefuses, produced, which_of}
-use Rattle.rec_core.specs.World.{frame_taken, program_installed, piece_sent, piece_written, channel_closed}
-use Rattle.rec_core.specs.World.EventData.{OfTake, OfInstall, OfSend, OfWrite, OfClose}
+use Rattle.rec_core.specs.World.{frame_taken, time_taken, program_installed, piece_sent, piece_written}
+use Rattle.rec_core.specs.World.EventData.{OfTake, OfTime, OfInstall, OfSend, OfWrite}
 use Rattle.rec_core.specs.Worlds.{ChannelParts, HasLane, AreQueued, HoldsChannel, AreHeldParts}
-use Rattle.rec_core.specs.Steps.{DoesEvent, RefusesEvent, Offers, NotOffered, lane_ready}
+use Rattle.rec_core.specs.Steps.{DoesEvent, RefusesEvent, Offers, NotOffered, Notes, lane_ready}
 use Rattle.rec_core.proofs.ListPlaces.{get_behind, All_there}
-use Rattle.rec_core.proofs.ChannelsInOrder.{IsOfHistory, LaterLeave, last_is_of_history, running_is, in_order_taken, in_order_installed}
+use Rattle.rec_core.proofs.ChannelsInOrder.{IsOfHistory, LaterLeave, last_is_of_history, running_is, in_order_taken, in_order_timed, in_order_installed}
+use Rattle.rec_lane.proofs.Noting.{with_length}
 
 -- ---- what a channel holds
 
@@ -82,11 +83,12 @@ slot_later c f = ap (λ n. let s : SlotState = record { history = c.history; off
 same_frame : (lane : LaneState) (version : ℕ) (program ran : List Insn) (frame : FrameData) (value number : ℕ)
     → lane.offered ≡ number → running lane.current version program ≡ ran
     → offered_now lane version program frame value ≡ (let f : OfferedFrame =
-    record { number = number; frame = frame; version = version; program = ran; value = value } in f)
+    record { number = number; frame = frame; version = version; program = ran; value = value; times = [] } in f)
 same_frame lane version program ran frame value number counted same =
-    ap (λ n. let f : OfferedFrame = record { number = n; frame = frame; version = version; program = running lane.current version program; value = value } in
+    ap (λ n. let f : OfferedFrame =
+    record { number = n; frame = frame; version = version; program = running lane.current version program; value = value; times = [] } in
     f) counted
-    ∙ ap (λ p. let f : OfferedFrame = record { number = number; frame = frame; version = version; program = p; value = value } in f) same
+    ∙ ap (λ p. let f : OfferedFrame = record { number = number; frame = frame; version = version; program = p; value = value; times = [] } in f) same
 
 pub take_done : (size channel : ℕ) (old : ChannelParts) (lane met : LaneState) (drawn : SlotState) (pending : List PieceData) (frame : FrameData)
     (reply : Reply)
@@ -102,7 +104,7 @@ take_done size channel old lane met drawn pending frame reply is room o c h =
     let same : running lane.current o.version o.program ≡ o.program =
     running_is c.history lane.current o.version o.program
     (subst (λ v. IsOfHistory c.history v) (sym has.2.current_is) (last_is_of_history c.history c.offered h.in_order.met)) there in
-    let f : OfferedFrame = record { number = length c.offered; frame = frame; version = o.version; program = o.program; value = o.value } in
+    let f : OfferedFrame = record { number = length c.offered; frame = frame; version = o.version; program = o.program; value = o.value; times = [] } in
     let is_f : offered_now (lane_ready lane) o.version o.program frame o.value ≡ f =
     same_frame (lane_ready lane) o.version o.program o.program frame o.value (length c.offered) count same in
     let meets : MeetsLast c f = record {
@@ -110,6 +112,7 @@ take_done size channel old lane met drawn pending frame reply is room o c h =
       last = o.last ∙ ap (λ (s : SlotState). length s.history) h.slot_is;
       program_is = there;
       ran = (o.ran.0, subst (λ p. Runs p (view frame) o.ran.0 o.value) same o.ran.1);
+      untimed = refl;
     } in
     let ready = met_ready lane c.offered has.2 in
     let now : HasMet met (c.offered ++ f ∷ []) = subst (λ (x : OfferedFrame). HasMet met (c.offered ++ x ∷ [])) is_f (o.meets c.offered ready) in
@@ -170,6 +173,59 @@ take_refused size channel old lane met drawn pending frame fault is room n c h =
       subst (λ (e : CoreFault). ChannelRefuses size c (OfTake channel frame) e) (sym n.fault_is) (has.0, below),
       still_held size old c lane met drawn pending is n.slot_stays n.lane_stays n.pending_stays h,
     )
+
+-- ---- a time mark
+
+pub time_done : (size channel : ℕ) (old : ChannelParts) (lane met : LaneState) (pending : List PieceData) (counter : ℕ) (reply : Reply)
+    → old.lane ≡ Some lane → Notes lane met old.pending pending counter reply
+    → DoesEvent size old (record old { lane = Some met; pending = pending }) (OfTime channel counter) reply []
+time_done size channel old lane met pending counter reply is n c h =
+    let has = its_lane old c size lane is h in
+    let noted = noted_with c.settings.span c.offered counter in
+    let ready = met_ready lane c.offered has.2 in
+    let spans : lane.settings.span ≡ c.settings.span = ap (λ (s : LaneSettings). s.span) has.1 in
+    let now : HasMet met noted = subst (λ s. HasMet met (noted_with s c.offered counter)) spans (n.meets c.offered ready) in
+    let made : pieces_so_far lane.settings noted ≡ pieces_so_far lane.settings c.offered ++ n.given =
+    subst (λ s. pieces_so_far lane.settings (noted_with s c.offered counter) ≡ pieces_so_far lane.settings c.offered ++ n.given) spans
+    (n.makes c.offered ready) in
+    let more : produced (time_taken c counter) ≡ produced c ++ n.given =
+    produced_open (time_taken c counter) has.0
+    ∙ (ap (λ s. pieces_so_far s noted) (sym has.1)
+    ∙ (made
+    ∙ (ap (λ s. pieces_so_far s c.offered ++ n.given) has.1
+    ∙ ap (λ ps. ps ++ n.given) (sym (produced_open c has.0))))) in
+    let count = with_length c.settings.span c.offered counter in (
+      time_taken c counter,
+      subst (λ (answer : Reply). ChannelDoes size c (OfTime channel counter) answer (time_taken c counter) []) (sym n.reply_is) (has.0, refl, refl),
+      record {
+        settings_are = h.settings_are;
+        max_is = h.max_is;
+        slot_is = h.slot_is ∙ ap (λ k. let s : SlotState = record { history = c.history; offered = k; max = c.max } in s) (sym count);
+        lane_is = (has.0, n.settings_stay ∙ has.1, now);
+        size_is = h.size_is;
+        queued = subst (λ ps. AreQueued (time_taken c counter) old.ring ps) (sym n.added)
+            (queued_more c (time_taken c counter) old.ring old.pending n.given more refl refl h.queued);
+        in_order = in_order_timed c counter h.in_order;
+      },
+    )
+
+pub time_refused : (size channel : ℕ) (old : ChannelParts) (lane met : LaneState) (pending : List PieceData) (counter : ℕ) (fault : CoreFault)
+    → old.lane ≡ Some lane → NotOffered old.slot old.slot lane met old.pending pending fault
+    → RefusesEvent size old (record old { lane = Some met; pending = pending }) (OfTime channel counter) fault
+time_refused size channel old lane met pending counter fault is n c h =
+    let has = its_lane old c size lane is h in (
+      subst (λ (e : CoreFault). ChannelRefuses size c (OfTime channel counter) e) (sym n.fault_is) has.0,
+      still_held size old c lane met old.slot pending is refl n.lane_stays n.pending_stays h,
+    )
+
+-- without a span a time mark changes nothing
+pub time_idle : (size channel : ℕ) (old : ChannelParts) (lane : LaneState) (counter : ℕ) → old.lane ≡ Some lane → old.settings.span ≡ None
+    → DoesEvent size old old (OfTime channel counter) Timed []
+time_idle size channel old lane counter is none c h =
+    let has = its_lane old c size lane is h in
+    let spanless : c.settings.span ≡ None = ap (λ (s : LaneSettings). s.span) (sym h.settings_are) ∙ none in
+    let same : noted_with c.settings.span c.offered counter ≡ c.offered = ap (λ s. noted_with s c.offered counter) spanless in
+    (c, (has.0, sym (ap (λ fs. record c { offered = fs }) same), refl), h)
 
 -- ---- a program
 

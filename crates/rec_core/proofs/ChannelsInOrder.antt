@@ -17,7 +17,8 @@ use Rattle.rec_lane.specs.Parts.{last_from}
 use Rattle.rec_lane.specs.Pieces.{has_group_version, last_group}
 use Rattle.rec_lane.specs.Lanes.{VersionProgram, version_of, running, MarkedFrom}
 use Rattle.rec_core.specs.Openings.{SpecData, IsFilter}
-use Rattle.rec_core.specs.World.{ChannelState, MeetsLast, IsInOrder, frame_taken, program_installed, opening_channel}
+use Rattle.rec_core.specs.World.{ChannelState, MeetsLast, IsInOrder, frame_taken, time_taken, program_installed, opening_channel}
+use Rattle.rec_lane.proofs.Noting.{with_met, with_length}
 
 -- ---- the program that runs
 
@@ -99,6 +100,18 @@ in_order_taken c f room meets o =
         tt,
       );
       within = omega (arith, longer, room);
+      few = o.few;
+    }
+
+-- ---- a time mark more
+
+pub in_order_timed : (c : ChannelState) (counter : ℕ) → IsInOrder c → IsInOrder (time_taken c counter)
+in_order_timed c counter o =
+    let count = with_length c.settings.span c.offered counter in
+    record {
+      history = subst (λ n. IsHistory n c.history) (sym count) o.history;
+      met = with_met c.settings.span c.history c.offered counter o.met;
+      within = (let w = o.within in omega (arith, count, w));
       few = o.few;
     }
 

@@ -9,17 +9,17 @@ use Rattle.rec_lane.specs.Lanes.{LaneState}
 use Rattle.rec_lane.specs.Pieces.{PieceData}
 use Rattle.rec_writer.specs.Writers.{WriterState, PutsWhole}
 use Rattle.rec_core.specs.declared.reply.Reply.{Reply}
-use Rattle.rec_core.specs.declared.reply.Reply.TheVariants.{Took, Installed, Sent, Wrote, Closed as HasClosed}
+use Rattle.rec_core.specs.declared.reply.Reply.TheVariants.{Took, Timed, Installed, Sent, Wrote, Closed as HasClosed}
 use Rattle.rec_core.specs.declared.reply.Which.{Which}
 use Rattle.rec_core.specs.declared.fault.CoreFault.{CoreFault}
 use Rattle.rec_core.specs.declared.fault.CoreFault.TheVariants.{NoChannel, Closed, RingFull, NothingToSend}
 use Rattle.rec_core.specs.declared.fault.CoreFault.TheVariants.{NothingToWrite, VersionsFull, CountFull, Output, Memory}
 use Rattle.rec_core.specs.Rings.{RingState, with_piece}
 use Rattle.rec_core.specs.World.{ChannelState, EventData, ChannelDoes, ChannelRefuses, which_of}
-use Rattle.rec_core.specs.World.EventData.{OfTake, OfInstall, OfSend, OfWrite, OfClose}
+use Rattle.rec_core.specs.World.EventData.{OfTake, OfTime, OfInstall, OfSend, OfWrite, OfClose}
 use Rattle.rec_core.specs.Worlds.{ChannelParts, AreHeldParts, WritesOnlyWhileItWorks}
-use Rattle.rec_core.specs.Steps.{DoesEvent, RefusesEvent, AnswersEvent, Writes, FailsAtPiece, LeavesWriter, Serves, Offers, NotOffered}
-use Rattle.rec_core.proofs.ChannelServing.{take_done, take_refused, send_done}
+use Rattle.rec_core.specs.Steps.{DoesEvent, RefusesEvent, AnswersEvent, Writes, FailsAtPiece, LeavesWriter, Serves, Offers, NotOffered, Notes}
+use Rattle.rec_core.proofs.ChannelServing.{take_done, take_refused, time_done, time_refused, send_done}
 use Rattle.rec_core.proofs.Writing.{ring_of}
 use Rattle.rec_core.proofs.WorldSteps.{writer_refused}
 
@@ -53,6 +53,17 @@ take_offers size channel old lane met drawn pending frame (Ok reply) is room too
 take_offers size channel old lane met drawn pending frame (Err fault) is room took refused =
     take_refused size channel old lane met drawn pending frame fault is room refused
 
+-- ---- a time mark
+
+pub time_notes : (size channel : ℕ) (old : ChannelParts) (lane met : LaneState) (pending : List PieceData) (counter : ℕ) (result : Result Reply CoreFault)
+    → old.lane ≡ Some lane
+    → IfOk result (Notes lane met old.pending pending counter)
+    → IfErr result (λ fault. (slot : SlotState) → NotOffered slot slot lane met old.pending pending fault)
+    → AnswersEvent size old (record old { lane = Some met; pending = pending }) (OfTime channel counter) result
+time_notes size channel old lane met pending counter (Ok reply) is took refused = time_done size channel old lane met pending counter reply is took
+time_notes size channel old lane met pending counter (Err fault) is took refused =
+    time_refused size channel old lane met pending counter fault is (refused old.slot)
+
 -- ---- an event at which nothing is written
 
 -- the event is never refused for the output
@@ -61,6 +72,9 @@ NeverOutput event = (size : ℕ) (c : ChannelState) → ChannelRefuses size c ev
 
 pub no_output_take : (channel : ℕ) (frame : FrameData) → NeverOutput (OfTake channel frame)
 no_output_take channel frame size c r = r
+
+pub no_output_time : (channel counter : ℕ) → NeverOutput (OfTime channel counter)
+no_output_time channel counter size c r = r
 
 pub no_output_install : (channel : ℕ) (program : List Insn) → NeverOutput (OfInstall channel program)
 no_output_install channel program size c r = r
@@ -121,6 +135,7 @@ stays_failed size old new writer after event (Err fault) serves failed = elim (w
 wrote_one : (size : ℕ) (c : ChannelState) (event : EventData) (bytes : ℕ) (d : ChannelState) (old new : WriterState) (more : List PieceData)
     → ChannelDoes size c event (Wrote bytes) d more → Writes old new more → old.failed ≡ false
 wrote_one size c (OfTake channel frame) bytes d old new more does writes = absurd does
+wrote_one size c (OfTime channel counter) bytes d old new more does writes = absurd does
 wrote_one size c (OfInstall channel program) bytes d old new more does writes = absurd does
 wrote_one size c (OfSend channel) bytes d old new more does writes = absurd does
 wrote_one size c (OfWrite channel) bytes d old new more does writes =
@@ -130,6 +145,7 @@ wrote_one size c (OfClose channel) bytes d old new more does writes = absurd doe
 writes_while : (old new : ChannelParts) (writer after : WriterState) (event : EventData) (reply : Reply)
     → AreHeldParts old → ((n : ℕ) → Serves n old new writer after event (Ok reply)) → WritesOnlyWhileItWorks writer.failed reply
 writes_while old new writer after event (Took number version value) held serves = tt
+writes_while old new writer after event Timed held serves = tt
 writes_while old new writer after event (Installed version mark) held serves = tt
 writes_while old new writer after event (Sent which) held serves = tt
 writes_while old new writer after event (Wrote bytes) (held_size, c, h) serves =

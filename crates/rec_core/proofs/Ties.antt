@@ -10,7 +10,7 @@ use Rattle.std.proofs.lemmas.Option.{slice_get_read}
 use Rattle.bpf_insn.specs.Bytes.{AreInRange}
 use Rattle.bpf_verify.specs.Validity.{Valid}
 use Rattle.rec_channel.specs.History.{Version, IsHistory}
-use Rattle.rec_lane.specs.Offered.{OfferedFrame, frames_of}
+use Rattle.rec_lane.specs.Offered.{OfferedFrame, frames_of, times_of, AreUntimed}
 use Rattle.rec_lane.specs.Pieces.{PieceData, LaneSettings, channel_of, channel_pieces, ArePieces}
 use Rattle.eth_frame.specs.Frame.{FrameData}
 use Rattle.rec_writer.specs.Numbers.{AreDistinctChannels}
@@ -39,16 +39,20 @@ record Lanes (specs : List SpecData) (channels : List RecordedChannel) (pieces :
   pub whole : All (IsWhole pieces) lanes
 
 abbrev HasPieces : List PieceData → RecordedChannel → Type 0
-HasPieces pieces c = ArePieces c.settings c.frames c.history (of c.settings.channel pieces)
+HasPieces pieces c = ArePieces c.settings c.frames c.times c.history (of c.settings.channel pieces)
 
 abbrev lane_of : SpecData → RecordedChannel → List OfferedFrame → Lane
 lane_of spec c offered = record { spec = spec; offered = offered; history = c.history }
 
 same_channel : (spec : SpecData) (c : RecordedChannel) (offered : List OfferedFrame) → c.settings ≡ spec.settings → frames_of offered ≡ c.frames
-    → recorded_lane (lane_of spec c offered) ≡ c
-same_channel spec c offered settings frames =
-    ap (λ (s : LaneSettings). let made : RecordedChannel = record { settings = s; frames = frames_of offered; history = c.history } in made) (sym settings)
-    ∙ ap (λ (fs : List FrameData). let made : RecordedChannel = record { settings = c.settings; frames = fs; history = c.history } in made) frames
+    → times_of offered ≡ c.times → recorded_lane (lane_of spec c offered) ≡ c
+same_channel spec c offered settings frames times =
+    ap (λ (s : LaneSettings). let made : RecordedChannel =
+    record { settings = s; frames = frames_of offered; times = times_of offered; history = c.history } in made) (sym settings)
+    ∙ (ap (λ (fs : List FrameData). let made : RecordedChannel =
+    record { settings = c.settings; frames = fs; times = times_of offered; history = c.history } in made) frames
+    ∙ ap (λ (ts : List (List ℕ)). let made : RecordedChannel =
+    record { settings = c.settings; frames = c.frames; times = ts; history = c.history } in made) times)
 
 is_lane : (spec : SpecData) (c : RecordedChannel) (pieces : List PieceData) → IsOfSpec spec c → (has : HasPieces pieces c) → IsLane (lane_of spec c has.0)
 is_lane spec c pieces is has =
@@ -59,6 +63,7 @@ is_lane spec c pieces is has =
       within = subst (λ n. n ≤ spec.max) count is.within;
       few = is.few;
       met = has.1;
+      untimed = λ none. subst AreUntimed (sym has.4) (is.untimed (ap (λ (s : LaneSettings). s.span) is.settings_are ∙ none));
     }
 
 lanes_of : (specs : List SpecData) (channels : List RecordedChannel) (pieces : List PieceData) → AllZip IsOfSpec specs channels
@@ -74,7 +79,7 @@ lanes_of (s ∷ ss) (c ∷ cs) pieces zip all =
     record {
       lanes = lane ∷ more.lanes;
       specs_are = ap (λ ts. s ∷ ts) more.specs_are;
-      channels_are = ap (λ d. d ∷ map recorded_lane more.lanes) (same_channel s c has.0 zip.0.settings_are has.2) ∙ ap (λ ds. c ∷ ds) more.channels_are;
+      channels_are = ap (λ d. d ∷ map recorded_lane more.lanes) (same_channel s c has.0 zip.0.settings_are has.2 has.4) ∙ ap (λ ds. c ∷ ds) more.channels_are;
       each = All-cons IsLane lane more.lanes (is_lane s c pieces zip.0 has) more.each;
       whole = All-cons (IsWhole pieces) lane more.lanes whole more.whole;
     }

@@ -16,7 +16,7 @@ use Rattle.rec_core.specs.declared.fault.CoreFault.{CoreFault}
 use Rattle.rec_core.specs.declared.fault.CoreFault.TheVariants.{NoChannel, Closed, RingFull, NothingToSend}
 use Rattle.rec_core.specs.declared.fault.CoreFault.TheVariants.{NothingToWrite, VersionsFull, CountFull, Output, Memory}
 use Rattle.rec_core.specs.World.{ChannelState, WorldState, EventData, ChannelRefuses, StandsAt, WorldStep, WorldRun, event_channel, world_after}
-use Rattle.rec_core.specs.World.EventData.{OfTake, OfInstall, OfSend, OfWrite, OfClose}
+use Rattle.rec_core.specs.World.EventData.{OfTake, OfTime, OfInstall, OfSend, OfWrite, OfClose}
 use Rattle.rec_core.specs.Worlds.{ChannelParts, CoreState, HoldsChannel, AreHeldParts, IsCutAtFront, StandsForWorld, StandsCutAt, StandsWith}
 use Rattle.rec_core.specs.Worlds.{StepsWorld, RunsWorld, StepsCut, RunsCut, failed_then, failed_after, channels_of_parts, IsCore}
 use Rattle.rec_core.specs.Steps.{Serves, Writes, FailsAtPiece, LeavesWriter}
@@ -30,6 +30,7 @@ core channels writer = record { channels = channels; writer = writer }
 -- no channel is there to refuse an event as of no channel
 not_of_none : (size : ℕ) (c : ChannelState) (event : EventData) → ChannelRefuses size c event NoChannel → ⊥
 not_of_none size c (OfTake channel frame) r = r
+not_of_none size c (OfTime channel counter) r = r
 not_of_none size c (OfInstall channel program) r = r
 not_of_none size c (OfSend channel) r = r
 not_of_none size c (OfWrite channel) r = r

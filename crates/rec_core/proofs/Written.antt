@@ -9,7 +9,7 @@ use Rattle.std.proofs.lemmas.Bool.{cases_Bool, both_ways, eqb-true}
 use Rattle.std.proofs.lemmas.List.{append-nil, append_assoc, length-append}
 use Rattle.std.proofs.lemmas.List.Elements.{filter-append, All-append, All-cons, All-nil, All-map, All-weaker, All-head, All-tail}
 use Rattle.std.proofs.lemmas.Option.{same_Some, none-some}
-use Rattle.rec_lane.specs.Offered.{OfferedFrame, frames_of}
+use Rattle.rec_lane.specs.Offered.{OfferedFrame, frames_of, times_of, noted_with}
 use Rattle.rec_lane.specs.Parts.{BeginsList}
 use Rattle.rec_lane.specs.Pieces.{LaneSettings, PieceData, channel_of, channel_pieces, pieces_so_far, ArePieces}
 use Rattle.std.specs.Io.KnownBytes.{Appends}
@@ -18,30 +18,32 @@ use Rattle.rec_writer.specs.Recording.{RecordedChannel, AreOfChannels, is_of}
 use Rattle.rec_writer.specs.Numbers.{AreDistinctChannels}
 use Rattle.rec_writer.specs.Writers.{WriterState, HasWritten, HoldsRecording}
 use Rattle.rec_core.specs.declared.reply.Reply.{Reply}
-use Rattle.rec_core.specs.declared.reply.Reply.TheVariants.{Took, Installed, Sent, Wrote, Closed as HasClosed}
+use Rattle.rec_core.specs.declared.reply.Reply.TheVariants.{Took, Timed, Installed, Sent, Wrote, Closed as HasClosed}
 use Rattle.rec_core.specs.declared.fault.CoreFault.{CoreFault}
 use Rattle.rec_core.specs.declared.fault.CoreFault.TheVariants.{NoChannel}
 use Rattle.rec_core.specs.Openings.{SpecData, AreSpecs, HaveFilters, IsFilter, channels_of_specs}
 use Rattle.rec_core.specs.World.{ChannelState, WorldState, EventData, ChannelDoes, IsInOrder, WorldStep, WorldRun, produced, frame_taken}
-use Rattle.rec_core.specs.World.{program_installed, piece_sent, piece_written, channel_closed, opening_channel, opening_world}
-use Rattle.rec_core.specs.World.EventData.{OfTake, OfInstall, OfSend, OfWrite, OfClose}
+use Rattle.rec_core.specs.World.{time_taken, program_installed, piece_sent, piece_written, channel_closed, opening_channel, opening_world}
+use Rattle.rec_core.specs.World.EventData.{OfTake, OfTime, OfInstall, OfSend, OfWrite, OfClose}
 use Rattle.rec_core.specs.Worlds.{CoreState, HoldsChannel, IsCutAtFront, StandsForWorld, StandsCutAt}
 use Rattle.rec_core.specs.Written.{RunsFromOpening, WritesInOrder, WritesAll, IsEndedChannel, AreEnded}
 use Rattle.rec_core.specs.Written.{recorded_channel, recorded_channels, IsCutShort, IsCutShortAt}
 use Rattle.rec_core.proofs.ListPlaces.{set_cases, set_unseen, map_there, there_map, All_there, All_from_places, Any_there, distinct_at, zip_there, get_behind}
-use Rattle.rec_core.proofs.ChannelsInOrder.{LaterLeave, in_order_taken, in_order_installed, in_order_opening}
+use Rattle.rec_core.proofs.ChannelsInOrder.{LaterLeave, in_order_taken, in_order_timed, in_order_installed, in_order_opening}
+use Rattle.rec_lane.proofs.Beginnings.{frame_more}
+use Rattle.rec_lane.proofs.Growth.{timed_grows}
 use Rattle.rec_core.proofs.ChannelServing.{OfTheirChannel, BeginAll, begins_there, produced_begins, produced_is_of, produced_open, produced_closed}
 
 -- the pieces of a channel
 abbrev pub of : ℕ → List PieceData → List PieceData
 of channel pieces = filter (is_of channel) pieces
 
--- what was written of the channel begins its pieces, whatever frames follow where it is open; it is
--- as much as the channel says, and the channel is in order
+-- what was written of the channel begins its pieces, and where it is open those that are certain; it
+-- is as much as the channel says, and the channel is in order
 pub record Sound (out : List PieceData) (c : ChannelState) : Type 0 where
   pub long : length (of c.settings.channel out) ≡ c.written
   pub begins : BeginsList (of c.settings.channel out) (channel_pieces c.settings c.offered)
-  pub certain : c.closed ≡ false → (more : List OfferedFrame) → BeginsList (of c.settings.channel out) (channel_pieces c.settings (c.offered ++ more))
+  pub certain : c.closed ≡ false → BeginsList (of c.settings.channel out) (pieces_so_far c.settings c.offered)
   pub order : IsInOrder c
 
 -- ---- a piece more
@@ -82,15 +84,39 @@ silent out c d e more is none settings sound =
       sound = λ s. subst (λ ps. Sound ps e) (sym (append-nil out)) (sound s);
     }))
 
-take_sound : (out : List PieceData) (c : ChannelState) (f : OfferedFrame) → c.closed ≡ false → (IsInOrder c → IsInOrder (frame_taken c f)) → Sound out c
-    → Sound out (frame_taken c f)
-take_sound out c f not_closed order s = record {
-  long = s.long;
-  begins = s.certain not_closed (f ∷ []);
-  certain = λ is more. subst (λ fs. BeginsList (of c.settings.channel out) (channel_pieces c.settings fs)) (sym (append_assoc c.offered (f ∷ []) more))
-      (s.certain not_closed (f ∷ more));
-  order = order s.order;
-}
+begins_through : (xs ys zs : List PieceData) → BeginsList xs ys → BeginsList ys zs → BeginsList xs zs
+begins_through xs ys zs a b = (a.0 ++ b.0, sym (append_assoc xs a.0 b.0) ∙ (ap (λ ws. ws ++ b.0) a.1 ∙ b.1))
+
+take_sound : BeginAll → (out : List PieceData) (c : ChannelState) (f : OfferedFrame) → c.closed ≡ false → (IsInOrder c → IsInOrder (frame_taken c f))
+    → Sound out c → Sound out (frame_taken c f)
+take_sound begin out c f not_closed order s =
+    let written = of c.settings.channel out in
+    let so_far = pieces_so_far c.settings c.offered in
+    record {
+      long = s.long;
+      begins = begins_through written so_far _ (s.certain not_closed) (begin c.settings c.offered (f ∷ []));
+      certain = λ is. begins_through written so_far _ (s.certain not_closed) (frame_more c.settings c.offered f);
+      order = order s.order;
+    }
+
+noted_more : (settings : LaneSettings) (span : Option ℕ) (offered : List OfferedFrame) (counter : ℕ)
+    → BeginsList (pieces_so_far settings offered) (pieces_so_far settings (noted_with span offered counter))
+noted_more settings None offered counter = ([], append-nil (pieces_so_far settings offered))
+noted_more settings (Some span) offered counter = let grows = timed_grows settings offered counter in (grows.0, sym grows.1)
+
+time_sound : BeginAll → (out : List PieceData) (c : ChannelState) (counter : ℕ) → c.closed ≡ false → Sound out c → Sound out (time_taken c counter)
+time_sound begin out c counter not_closed s =
+    let written = of c.settings.channel out in
+    let noted = noted_with c.settings.span c.offered counter in
+    let certain : BeginsList written (pieces_so_far c.settings noted) =
+    begins_through written (pieces_so_far c.settings c.offered) _ (s.certain not_closed) (noted_more c.settings c.settings.span c.offered counter) in
+    record {
+      long = s.long;
+      begins = subst (λ fs. BeginsList written (channel_pieces c.settings fs)) (append-nil noted)
+          (begins_through written (pieces_so_far c.settings noted) _ certain (begin c.settings noted []));
+      certain = λ is. certain;
+      order = in_order_timed c counter s.order;
+    }
 
 write_sound : BeginAll → (out : List PieceData) (c : ChannelState) (piece : PieceData) → channel_of piece ≡ c.settings.channel
     → slice_get (produced c) c.written ≡ Some piece → Sound out c → Sound (out ++ piece ∷ []) (piece_written c)
@@ -105,18 +131,18 @@ write_sound begin out c piece own next s =
       begins = subst (λ ps. BeginsList ps (channel_pieces c.settings c.offered)) (sym mine)
           (begins_next (of c.settings.channel out) (channel_pieces c.settings c.offered) piece s.begins
           (begins_there (produced c) (channel_pieces c.settings c.offered) (length (of c.settings.channel out)) piece (produced_begins begin c) at));
-      certain = λ is more. subst (λ ps. BeginsList ps (channel_pieces c.settings (c.offered ++ more))) (sym mine)
-          (begins_next (of c.settings.channel out) (channel_pieces c.settings (c.offered ++ more)) piece (s.certain is more)
-          (begins_there (pieces_so_far c.settings c.offered) (channel_pieces c.settings (c.offered ++ more)) (length (of c.settings.channel out)) piece
-          (begin c.settings c.offered more)
-          (subst (λ ps. slice_get ps (length (of c.settings.channel out)) ≡ Some piece) (produced_open c is) at)));
+      certain = λ is. subst (λ ps. BeginsList ps (pieces_so_far c.settings c.offered)) (sym mine)
+          (begins_next (of c.settings.channel out) (pieces_so_far c.settings c.offered) piece (s.certain is)
+          (subst (λ ps. slice_get ps (length (of c.settings.channel out)) ≡ Some piece) (produced_open c is) at));
       order = record { history = s.order.history; met = s.order.met; within = s.order.within; few = s.order.few };
     }
 
 effect : LaterLeave → OfTheirChannel → BeginAll → (ring : ℕ) (out : List PieceData) (c : ChannelState) (event : EventData) (reply : Reply) (d : ChannelState)
     (more : List PieceData) → ChannelDoes ring c event reply d more → Effect out c d more
 effect leave theirs begin ring out c (OfTake channel frame) (Took number version value) d more does =
-    silent out c d (frame_taken c does.0) more does.8 does.9 refl (take_sound out c does.0 does.1 (in_order_taken c does.0 does.2 does.3))
+    silent out c d (frame_taken c does.0) more does.8 does.9 refl (take_sound begin out c does.0 does.1 (in_order_taken c does.0 does.2 does.3))
+effect leave theirs begin ring out c (OfTime channel counter) Timed d more does =
+    silent out c d (time_taken c counter) more does.1 does.2 refl (time_sound begin out c counter does.0)
 effect leave theirs begin ring out c (OfInstall channel program) (Installed version mark) d more does =
     silent out c d (program_installed c program) more does.4 does.5 refl
     (λ s. record { long = s.long; begins = s.begins; certain = s.certain; order = in_order_installed leave c program does.0 does.1 s.order })
@@ -159,7 +185,7 @@ other_sound out more b from differs own s =
     record {
       long = ap (λ (ps : List PieceData). length ps) same ∙ s.long;
       begins = subst (λ ps. BeginsList ps (channel_pieces b.settings b.offered)) (sym same) s.begins;
-      certain = λ is fs. subst (λ ps. BeginsList ps (channel_pieces b.settings (b.offered ++ fs))) (sym same) (s.certain is fs);
+      certain = λ is. subst (λ ps. BeginsList ps (pieces_so_far b.settings b.offered)) (sym same) (s.certain is);
       order = s.order;
     }
 
@@ -231,7 +257,7 @@ opening_sound specs are filters = record {
       subst (λ x. Sound [] x) from.2 (record {
         long = refl;
         begins = (channel_pieces from.0.settings [], refl);
-        certain = λ _ more. (channel_pieces from.0.settings more, refl);
+        certain = λ _. (pieces_so_far from.0.settings [], refl);
         order = in_order_opening from.0 filter;
       });
   named = All-nil (Named (ids (opening_world specs)));
@@ -287,12 +313,13 @@ recorded leave theirs begin ring specs new r ended =
           Any_there (λ (c : RecordedChannel). c.settings.channel ≡ channel_of piece) (recorded_channels new) n.0 (recorded_channel from.0)
           (there_map recorded_channel new.channels n.0 from.0 from.1) from.2)
           new.out s.named;
-      each = All-map (λ (c : RecordedChannel). ArePieces c.settings c.frames c.history (filter (is_of c.settings.channel) new.out)) recorded_channel
+      each = All-map (λ (c : RecordedChannel). ArePieces c.settings c.frames c.times c.history (filter (is_of c.settings.channel) new.out)) recorded_channel
           new.channels
-          (All_from_places (λ (c : ChannelState). ArePieces c.settings (frames_of c.offered) c.history (of c.settings.channel new.out)) new.channels
+          (All_from_places
+          (λ (c : ChannelState). ArePieces c.settings (frames_of c.offered) (times_of c.offered) c.history (of c.settings.channel new.out)) new.channels
           (λ k c is.
           let sound = s.each k c is in
-          (c.offered, sound.order.met, refl, sym (all_of new c sound (All_there IsEndedChannel new.channels k c ended is)))));
+          (c.offered, sound.order.met, refl, sym (all_of new c sound (All_there IsEndedChannel new.channels k c ended is)), refl)));
     }
 
 -- ---- a core

@@ -4,12 +4,12 @@ use Rattle.bpf_insn.specs.declared.insn.Insn.{Insn}
 use Rattle.bpf_machine.specs.Machine.{Runs}
 use Rattle.eth_frame.specs.Frame.{FrameData, view}
 use Rattle.rec_channel.specs.Slots.{SlotState, programs_in, one_frame_later}
-use Rattle.rec_lane.specs.Lanes.{LaneState, running, offered_now, Meets, MakesCertain}
+use Rattle.rec_lane.specs.Lanes.{LaneState, running, offered_now, Meets, MakesCertain, MeetsTime, MakesCertainAt}
 use Rattle.rec_lane.specs.Pieces.{PieceData}
 use Rattle.rec_writer.specs.Writers.{WriterState, PutsWhole, PutsPart}
 use Rattle.rec_core.specs.declared.reply.Reply.{Reply}
 use Rattle.rec_core.specs.declared.fault.CoreFault.{CoreFault}
-use Rattle.rec_core.specs.declared.reply.Reply.TheVariants.{Took}
+use Rattle.rec_core.specs.declared.reply.Reply.TheVariants.{Took, Timed}
 use Rattle.rec_core.specs.declared.fault.CoreFault.TheVariants.{Output, Memory}
 use Rattle.rec_core.specs.World.{ChannelState, EventData, ChannelDoes, ChannelRefuses}
 use Rattle.rec_core.specs.Worlds.{ChannelParts, HoldsChannel}
@@ -70,6 +70,18 @@ pub record NotOffered
   pub slot_stays : drawn ≡ slot
   pub lane_stays : (met ≡ lane) ⊎ (met ≡ lane_ready lane)
   pub pending_stays : more ≡ pending
+
+-- the lane met this time mark, and the piece that became certain, if one did, is pending behind the
+-- others
+pub record Notes
+    (lane met : LaneState) (pending more : List PieceData) (counter : ℕ) (reply : Reply)
+    : Type 0 where
+  pub given : List PieceData
+  pub reply_is : reply ≡ Timed
+  pub settings_stay : met.settings ≡ lane.settings
+  pub meets : MeetsTime (lane_ready lane) met counter
+  pub makes : MakesCertainAt (lane_ready lane) counter given
+  pub added : more ≡ pending ++ given
 
 -- ---- a write
 

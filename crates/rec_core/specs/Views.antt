@@ -5,11 +5,11 @@ use Rattle.rec_lane.specs.Settings.{spec_data as lane_data}
 use Rattle.rec_lane.specs.Views.{pieces_data}
 use Rattle.rec_core.specs.declared.spec.ChannelSpec.{ChannelSpec}
 use Rattle.rec_core.specs.declared.event.Event.{Event}
-use Rattle.rec_core.specs.declared.event.Event.TheVariants.{Take, Install, Send, Write, Close}
+use Rattle.rec_core.specs.declared.event.Event.TheVariants.{Take, Time, Install, Send, Write, Close}
 use Rattle.rec_core.specs.declared.channel.Channel.{Channel}
 use Rattle.rec_core.specs.Openings.{SpecData}
 use Rattle.rec_core.specs.World.{EventData}
-use Rattle.rec_core.specs.World.EventData.{OfTake, OfInstall, OfSend, OfWrite, OfClose}
+use Rattle.rec_core.specs.World.EventData.{OfTake, OfTime, OfInstall, OfSend, OfWrite, OfClose}
 use Rattle.rec_writer.specs.Writers.{WriterState}
 use Rattle.rec_core.specs.Worlds.{ChannelParts, CoreState}
 
@@ -24,6 +24,7 @@ specs_data specs = map channel_spec_data specs
 -- an event
 abbrev pub event_data : Event → EventData
 event_data (Take channel frame) = OfTake channel frame
+event_data (Time channel counter) = OfTime channel counter
 event_data (Install channel program) = OfInstall channel (arc_value program)
 event_data (Send channel) = OfSend channel
 event_data (Write channel) = OfWrite channel

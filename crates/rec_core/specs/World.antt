@@ -8,12 +8,12 @@ use Rattle.eth_frame.specs.Frame.{FrameData, view}
 use Rattle.rec_channel.specs.declared.limits.TheConstants.{MAX_VERSIONS}
 use Rattle.rec_channel.specs.History.{Version, IsHistory}
 use Rattle.rec_channel.specs.Slots.{programs_in}
-use Rattle.rec_lane.specs.Offered.{OfferedFrame, AllMet, accepted}
+use Rattle.rec_lane.specs.Offered.{OfferedFrame, AllMet, accepted, noted_with}
 use Rattle.rec_lane.specs.Pieces.{LaneSettings, PieceData, channel_pieces, pieces_so_far}
 use Rattle.rec_lane.specs.Pieces.PieceData.{OfProgram, OfFrames, OfEnd}
 use Rattle.rec_writer.specs.Encoding.{piece_packet}
 use Rattle.rec_core.specs.declared.reply.Reply.{Reply}
-use Rattle.rec_core.specs.declared.reply.Reply.TheVariants.{Took, Installed, Sent, Wrote, Closed as HasClosed}
+use Rattle.rec_core.specs.declared.reply.Reply.TheVariants.{Took, Timed, Installed, Sent, Wrote, Closed as HasClosed}
 use Rattle.rec_core.specs.declared.reply.Which.{Which}
 use Rattle.rec_core.specs.declared.reply.Which.TheVariants.{Program, Frames, End}
 use Rattle.rec_core.specs.declared.fault.CoreFault.{CoreFault}
@@ -63,10 +63,11 @@ produced c =
 
 -- ---- events
 
--- a frame is taken from the channel's source, or a program is installed; the next piece is sent into
--- the channel's ring, or the first one of the ring is written; or no more frames come
+-- a frame is taken from the channel's source, or a time mark, or a program is installed; the next
+-- piece is sent into the channel's ring, or the first one of the ring is written; or no more frames come
 pub data EventData : Type 0 where
   OfTake : (channel : ℕ) (frame : FrameData) → EventData
+  OfTime : (channel counter : ℕ) → EventData
   OfInstall : (channel : ℕ) (program : List Insn) → EventData
   OfSend : (channel : ℕ) → EventData
   OfWrite : (channel : ℕ) → EventData
@@ -75,6 +76,7 @@ pub data EventData : Type 0 where
 -- the channel that an event is of
 abbrev pub event_channel : EventData → ℕ
 event_channel (OfTake channel frame) = channel
+event_channel (OfTime channel counter) = channel
 event_channel (OfInstall channel program) = channel
 event_channel (OfSend channel) = channel
 event_channel (OfWrite channel) = channel
@@ -89,21 +91,25 @@ which_of (OfEnd channel counter offered kept) = End
 -- ---- what a channel does
 
 -- the frame is the channel's next one, and met the last version, whose program returned its value on
--- the frame's view
+-- the frame's view; no time mark came after it yet
 pub record MeetsLast (c : ChannelState) (f : OfferedFrame) : Type 0 where
   pub number_is : f.number ≡ length c.offered
   pub last : f.version + 1 ≡ length c.history
   pub program_is : slice_get (programs_in c.history) f.version ≡ Some f.program
   pub ran : (steps : ℕ) × Runs f.program (view f.frame) steps f.value
+  pub untimed : f.times ≡ []
 
 -- the piece's packet has this length, whatever its version and its sequence number
 abbrev pub HasPacketLen : PieceData → ℕ → Type 0
 HasPacketLen piece bytes =
     (version sequence : ℕ) → length (piece_packet piece version sequence) ≡ bytes
 
--- the channel after one more frame, or one more program
+-- the channel after one more frame, one more time mark, or one more program
 abbrev pub frame_taken : ChannelState → OfferedFrame → ChannelState
 frame_taken c f = record c { offered = c.offered ++ f ∷ [] }
+
+abbrev pub time_taken : ChannelState → (counter : ℕ) → ChannelState
+time_taken c counter = record c { offered = noted_with c.settings.span c.offered counter }
 
 abbrev pub program_installed : ChannelState → List Insn → ChannelState
 program_installed c program =
@@ -135,6 +141,8 @@ ChannelDoes ring c (OfTake channel frame) (Took number version value) new more =
     × (value ≡ f.value)
     × (new ≡ frame_taken c f)
     × (more ≡ [])
+ChannelDoes ring c (OfTime channel counter) Timed new more =
+    (c.closed ≡ false) × (new ≡ time_taken c counter) × (more ≡ [])
 ChannelDoes ring c (OfInstall channel program) (Installed version mark) new more =
     (length c.history < MAX_VERSIONS)
     × IsFilter program
@@ -173,6 +181,8 @@ ChannelRefuses ring c (OfTake channel frame) CountFull =
     (c.closed ≡ false) × (c.max ≤ length c.offered)
 ChannelRefuses ring c (OfTake channel frame) Memory =
     (c.closed ≡ false) × (length c.offered < c.max)
+ChannelRefuses ring c (OfTime channel counter) Closed = c.closed ≡ true
+ChannelRefuses ring c (OfTime channel counter) Memory = c.closed ≡ false
 ChannelRefuses ring c (OfInstall channel program) VersionsFull = MAX_VERSIONS ≤ length c.history
 ChannelRefuses ring c (OfInstall channel program) Memory = length c.history < MAX_VERSIONS
 ChannelRefuses ring c (OfSend channel) NothingToSend = length (produced c) ≤ c.sent

@@ -1,7 +1,7 @@
 -- What the runs of a world write of each channel.
 use Rattle.std.specs.Prelude.{ℕ, ◌≡◌, ◌<◌, ◌^◌, ◌-◌, ◌++◌, true, min, List, length, map, All, Some, slice_get, Result}
 use Rattle.std.specs.List.{filter}
-use Rattle.rec_lane.specs.Offered.{frames_of}
+use Rattle.rec_lane.specs.Offered.{frames_of, times_of}
 use Rattle.rec_lane.specs.Parts.{BeginsList}
 use Rattle.rec_lane.specs.Pieces.{PieceData, channel_pieces}
 use Rattle.rec_writer.specs.Encoding.{writer_output}
@@ -43,7 +43,12 @@ AreEnded world = All IsEndedChannel world.channels
 -- a channel of the world as a recording has it
 abbrev pub recorded_channel : ChannelState → RecordedChannel
 recorded_channel c =
-    record { settings = c.settings; frames = frames_of c.offered; history = c.history }
+    record {
+      settings = c.settings;
+      frames = frames_of c.offered;
+      times = times_of c.offered;
+      history = c.history;
+    }
 
 abbrev pub recorded_channels : WorldState → List RecordedChannel
 recorded_channels world = map recorded_channel world.channels

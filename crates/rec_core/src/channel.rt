@@ -5,7 +5,8 @@ ghost use Rattle.std.specs.VecDeque.{deque_len, deque_capacity};
 ghost use Rattle.arrayvec.specs.ArrayVec.{array_vec_len};
 ghost use Rattle.eth_frame.specs.Views.{frame_data};
 ghost use Rattle.rec_lane.specs.Views.{pieces_data};
-ghost use Rattle.rec_core.specs.Steps.{Offers, NotOffered};
+ghost use Rattle.rec_channel.specs.Slots.{SlotState};
+ghost use Rattle.rec_core.specs.Steps.{Offers, NotOffered, Notes};
 
 use crate::event::Event;
 use crate::fault::CoreFault;
@@ -50,7 +51,7 @@ impl Channel {
     ghost use Rattle.rec_writer.specs.Writers.{Knows};
     ghost use Rattle.rec_core.specs.Openings.{IsFilter};
     ghost use Rattle.rec_core.specs.World.{opening_channel};
-    ghost use Rattle.rec_core.specs.World.EventData.{OfTake, OfInstall, OfSend, OfWrite, OfClose};
+    ghost use Rattle.rec_core.specs.World.EventData.{OfTake, OfTime, OfInstall, OfSend, OfWrite, OfClose};
     ghost use Rattle.rec_core.specs.Worlds.{HoldsChannel, AreHeldParts};
     ghost use Rattle.rec_core.specs.Steps.{AnswersEvent, Serves};
     ghost use Rattle.rec_core.specs.Views.{channel_spec_data, channel_parts, event_data};
@@ -96,6 +97,7 @@ impl Channel {
     {
         match event {
             Event::Take { frame, .. } => self.take(&frame.frame()),
+            Event::Time { counter, .. } => self.meet_time(*counter),
             Event::Install { program, .. } => self.install(program),
             Event::Send { .. } => self.send(),
             Event::Write { .. } => self.write(writer),
@@ -118,6 +120,23 @@ impl Channel {
             return Err(CoreFault::CountFull);
         }
         offer(&mut self.slot, lane, &mut self.pending, frame)
+    }
+
+    /// Takes a time mark.
+    fn meet_time(&mut self, counter: u64) -> Result<Reply, CoreFault>
+        ensures answers { (size channel : ℕ) → AnswersEvent size (channel_parts self.old)
+            (channel_parts self.new) (OfTime channel counter) result }
+        ensures spec { self.new.spec ≡ self.old.spec }
+        ensures ring { self.new.ring ≡ self.old.ring }
+    {
+        let LaneSpec { span, .. } = self.spec;
+        let Some(lane) = &mut self.lane else {
+            return Err(CoreFault::Closed);
+        };
+        if span.is_none() {
+            return Ok(Reply::Timed);
+        }
+        note(lane, &mut self.pending, counter)
     }
 
     /// Installs a program.
@@ -238,6 +257,21 @@ fn offer(
         version,
         value,
     })
+}
+
+/// Gives a time mark to the lane. What is certain then is pending. Room is taken first.
+fn note(lane: &mut Lane, pending: &mut VecDeque<Piece>, counter: u64) -> Result<Reply, CoreFault>
+    ensures took { IfOk result (Notes lane.old lane.new
+        (pieces_data pending.old.items) (pieces_data pending.new.items) counter) }
+    ensures refused { IfErr result (λ fault. (slot : SlotState) → NotOffered slot slot lane.old
+        lane.new (pieces_data pending.old.items) (pieces_data pending.new.items) fault) }
+{
+    lane.ready()?;
+    pending.reserve(1)?;
+    if let Some(packet) = lane.at(counter) {
+        pending.push_back_reserved(Piece::Data(packet));
+    }
+    Ok(Reply::Timed)
 }
 
 /// Adds pieces behind the others, for which there is room.

@@ -16,6 +16,14 @@ pub enum Event {
         /// The frame.
         frame: OwnedFrame,
     },
+    /// A time mark comes from the channel's source: where packets have a span, what is certain of the
+    /// channel's pieces then is ready to be sent.
+    Time {
+        /// The channel ID.
+        channel: u16,
+        /// The counter up to which no frame came.
+        counter: u64,
+    },
     /// A program is installed as the channel's filter, from the next frame on.
     Install {
         /// The channel ID.
@@ -51,6 +59,7 @@ impl Event {
     {
         match self {
             Event::Take { channel, .. } => *channel,
+            Event::Time { channel, .. } => *channel,
             Event::Install { channel, .. } => *channel,
             Event::Send { channel } => *channel,
             Event::Write { channel } => *channel,

@@ -10,6 +10,7 @@ use thiserror::Error;
 /// Where several faults stand, the first is answered in the order of the event:
 ///
 /// - a take: `NoChannel`, `Closed`, `CountFull`, `Memory`;
+/// - a time mark: `NoChannel`, `Closed`, `Memory`;
 /// - an install: `NoChannel`, `VersionsFull`, `Memory`;
 /// - a send: `NoChannel`, `NothingToSend`, `RingFull`;
 /// - a write: `NoChannel`, `NothingToWrite`, `Output`;

@@ -14,6 +14,8 @@ pub enum Reply {
         /// What the version's program returned on the frame's view; 0 drops the frame.
         value: u32,
     },
+    /// A time mark was taken.
+    Timed,
     /// A program was installed.
     Installed {
         /// Its version: its index in the channel's history.

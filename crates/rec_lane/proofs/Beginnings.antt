@@ -4,15 +4,17 @@ use Rattle.std.specs.List.{flat_map}
 use Rattle.std.proofs.lemmas.Bool.{cases_Bool}
 use Rattle.std.proofs.lemmas.List.{append_assoc, append-nil, map-append}
 use Rattle.std.proofs.lemmas.Grind.{flat_map-append}
-use Rattle.rec_lane.specs.Offered.{OfferedFrame, accepted}
+use Rattle.rec_lane.specs.Offered.{OfferedFrame}
 use Rattle.rec_lane.specs.Parts.{ended_from, as_part, BeginsList}
-use Rattle.rec_lane.specs.Packets.{has_room, full_packets, last_packet}
+use Rattle.rec_lane.specs.Moments.{moments_of, kept_in, stays}
 use Rattle.rec_lane.specs.Lanes.{LaneState, HasMet}
 use Rattle.rec_lane.specs.Pieces.PieceData.{OfEnd}
 use Rattle.rec_lane.specs.Pieces.{LaneSettings, PieceData, has_group_version, ended_groups, last_group, program_piece}
-use Rattle.rec_lane.specs.Pieces.{data_piece, end_piece, open_group_pieces, group_pieces, pieces_so_far, channel_pieces}
+use Rattle.rec_lane.specs.Pieces.{data_piece, end_piece, closed_group_packets, open_group_packet, open_group_pieces, group_pieces}
+use Rattle.rec_lane.specs.Pieces.{pieces_so_far, channel_pieces}
 use Rattle.rec_lane.proofs.Parted.{ended_on, last_on, ended_off}
-use Rattle.rec_lane.proofs.Offering.{accepted_more, group_closed}
+use Rattle.rec_lane.proofs.Packing.{moments_more}
+use Rattle.rec_lane.proofs.Offering.{group_closed}
 
 begins_same : {X : Type 0} (xs : List X) → BeginsList xs xs
 begins_same xs = ([], append-nil xs)
@@ -46,11 +48,14 @@ open_more : (s : LaneSettings) (group : List OfferedFrame) (x : OfferedFrame) �
 open_more s [] x = (open_group_pieces s (x ∷ []), refl)
 open_more s (g ∷ gs) x =
     begins_after (program_piece s (g ∷ gs)) _ _
-    (begins_map (data_piece s) (full_packets s.limit (accepted (g ∷ gs))) (full_packets s.limit (accepted ((g ∷ gs) ++ x ∷ [])))
-    (subst (λ fs. BeginsList (full_packets s.limit (accepted (g ∷ gs))) (full_packets s.limit fs)) (sym (accepted_more (g ∷ gs) (x ∷ [])))
-    (ended_begins (has_room s.limit) [] (accepted (g ∷ gs)) (accepted (x ∷ [])))))
+    (begins_map (data_piece s) (closed_group_packets s (g ∷ gs)) (closed_group_packets s ((g ∷ gs) ++ x ∷ []))
+    (begins_map kept_in (ended_from (stays s.limit s.span) [] (moments_of (g ∷ gs))) (ended_from (stays s.limit s.span) [] (moments_of ((g ∷ gs) ++ x ∷ [])))
+    (subst (λ ms. BeginsList (ended_from (stays s.limit s.span) [] (moments_of (g ∷ gs))) (ended_from (stays s.limit s.span) [] ms))
+    (sym (moments_more (g ∷ gs) (x ∷ [])))
+    (ended_begins (stays s.limit s.span) [] (moments_of (g ∷ gs)) (moments_of (x ∷ []))))))
 
-frame_more : (s : LaneSettings) (offered : List OfferedFrame) (x : OfferedFrame) → BeginsList (pieces_so_far s offered) (pieces_so_far s (offered ++ x ∷ []))
+pub frame_more : (s : LaneSettings) (offered : List OfferedFrame) (x : OfferedFrame)
+    → BeginsList (pieces_so_far s offered) (pieces_so_far s (offered ++ x ∷ []))
 frame_more s offered x =
     let gp = group_pieces s in
     let group = last_group offered in
@@ -67,7 +72,7 @@ frame_more s offered x =
           (subst (λ ps. BeginsList (pieces_so_far s offered) (ps ++ open_group_pieces s (last_group (offered ++ x ∷ []))))
           (sym (flat_map-append gp (ended_groups offered) (group ∷ []) ∙ ap (λ ps. ended ++ ps) (append-nil (group_pieces s group) ∙ group_closed s group)))
           (begins_through (ended ++ open_group_pieces s group) (ended ++ (open_group_pieces s group
-          ++ map (data_piece s) (as_part (last_packet s.limit (accepted group))))) _
+          ++ map (data_piece s) (as_part (open_group_packet s group)))) _
           (begins_after ended (open_group_pieces s group) _ (begins_more (open_group_pieces s group) _))
           (begins_more _ (open_group_pieces s (last_group (offered ++ x ∷ []))))))
     ]
@@ -88,12 +93,12 @@ as_group s (g ∷ gs) = append-nil (group_pieces s (g ∷ gs))
 
 -- all pieces: those that are certain, the last packet, and the end
 pub all_pieces : (s : LaneSettings) (offered : List OfferedFrame)
-    → channel_pieces s offered ≡ pieces_so_far s offered ++ (map (data_piece s) (as_part (last_packet s.limit (accepted (last_group offered))))
+    → channel_pieces s offered ≡ pieces_so_far s offered ++ (map (data_piece s) (as_part (open_group_packet s (last_group offered)))
     ++ end_piece s offered ∷ [])
 all_pieces s offered =
     let gp = group_pieces s in
     let group = last_group offered in
-    let last = map (data_piece s) (as_part (last_packet s.limit (accepted group))) in
+    let last = map (data_piece s) (as_part (open_group_packet s group)) in
     let ended = flat_map gp (ended_groups offered) in
     let end = end_piece s offered ∷ [] in
     ap (λ ps. ps ++ end) (flat_map-append gp (ended_groups offered) (as_part group)

@@ -8,11 +8,11 @@ use Rattle.std.proofs.lemmas.Grind.{flat_map-append}
 use Rattle.eth_frame.specs.Frame.{FrameData}
 use Rattle.rec_lane.specs.Offered.{OfferedFrame, accepted}
 use Rattle.rec_lane.specs.Parts.{ended_parts, last_part, as_part, parts}
-use Rattle.rec_lane.specs.Packets.{has_room, packets}
+use Rattle.rec_lane.specs.Moments.{Moment, moments_of, kept_in, stays}
 use Rattle.rec_lane.specs.Pieces.{LaneSettings, PieceData, channel_of, has_group_version, groups, program_piece}
-use Rattle.rec_lane.specs.Pieces.{data_piece, end_piece, group_pieces, channel_pieces, piece_frames}
+use Rattle.rec_lane.specs.Pieces.{data_piece, end_piece, group_packets, closed_group_packets, open_group_packet, group_pieces, channel_pieces, piece_frames}
 use Rattle.rec_lane.proofs.Parted.{whole_from}
-use Rattle.rec_lane.proofs.Offering.{accepted_more}
+use Rattle.rec_lane.proofs.Packing.{accepted_more, kept_more, kept_moments}
 
 one_part : {X : Type 0} (xs : List X) → flat_map (λ (p : List X). p) (as_part xs) ≡ xs
 one_part [] = refl
@@ -25,6 +25,22 @@ parts_whole {X} goes_on xs =
     ∙ (ap (λ ys. flat_map (λ (p : List X). p) (ended_parts goes_on xs) ++ ys) (one_part (last_part goes_on xs))
     ∙ whole_from goes_on [] xs)
 
+-- what is kept in parts, put together, is kept in the whole
+kept_parts : (parts : List (List Moment)) → flat_map (λ (p : List FrameData). p) (map kept_in parts) ≡ kept_in (flat_map (λ (p : List Moment). p) parts)
+kept_parts [] = refl
+kept_parts (p ∷ ps) = ap (λ fs. kept_in p ++ fs) (kept_parts ps) ∙ sym (kept_more p (flat_map (λ (q : List Moment). q) ps))
+
+-- the packets of a group put together are its accepted frames
+pub group_whole : (s : LaneSettings) (group : List OfferedFrame) → flat_map (λ (p : List FrameData). p) (group_packets s group) ≡ accepted group
+group_whole s group =
+    let ended = ended_parts (stays s.limit s.span) (moments_of group) in
+    let last = last_part (stays s.limit s.span) (moments_of group) in
+    flat_map-append (λ (p : List FrameData). p) (closed_group_packets s group) (as_part (open_group_packet s group))
+    ∙ (ap (λ fs. fs ++ flat_map (λ (p : List FrameData). p) (as_part (open_group_packet s group))) (kept_parts ended)
+    ∙ (ap (λ fs. kept_in (flat_map (λ (p : List Moment). p) ended) ++ fs) (one_part (open_group_packet s group))
+    ∙ (sym (kept_more (flat_map (λ (p : List Moment). p) ended) last)
+    ∙ (ap kept_in (whole_from (stays s.limit s.span) [] (moments_of group)) ∙ kept_moments group))))
+
 packed_frames : (s : LaneSettings) (ps : List (List FrameData)) → flat_map piece_frames (map (data_piece s) ps) ≡ flat_map (λ (p : List FrameData). p) ps
 packed_frames s [] = refl
 packed_frames s (p ∷ ps) = ap (λ fs. p ++ fs) (packed_frames s ps)
@@ -35,9 +51,9 @@ no_frames s (g ∷ gs) = refl
 
 group_frames : (s : LaneSettings) (group : List OfferedFrame) → flat_map piece_frames (group_pieces s group) ≡ accepted group
 group_frames s group =
-    flat_map-append piece_frames (program_piece s group) (map (data_piece s) (packets s.limit (accepted group)))
-    ∙ (ap (λ fs. fs ++ flat_map piece_frames (map (data_piece s) (packets s.limit (accepted group)))) (no_frames s group)
-    ∙ (packed_frames s (packets s.limit (accepted group)) ∙ parts_whole (has_room s.limit) (accepted group)))
+    flat_map-append piece_frames (program_piece s group) (map (data_piece s) (group_packets s group))
+    ∙ (ap (λ fs. fs ++ flat_map piece_frames (map (data_piece s) (group_packets s group))) (no_frames s group)
+    ∙ (packed_frames s (group_packets s group) ∙ group_whole s group))
 
 groups_frames : (s : LaneSettings) (gs : List (List OfferedFrame))
     → flat_map piece_frames (flat_map (group_pieces s) gs) ≡ accepted (flat_map (λ (g : List OfferedFrame). g) gs)
@@ -71,8 +87,8 @@ groups_of : (s : LaneSettings) (gs : List (List OfferedFrame)) → All (IsOf s.c
 groups_of s [] = All-nil (IsOf s.channel)
 groups_of s (g ∷ gs) =
     All-append (IsOf s.channel) (group_pieces s g) (flat_map (group_pieces s) gs)
-    (All-append (IsOf s.channel) (program_piece s g) (map (data_piece s) (packets s.limit (accepted g))) (program_of s g)
-    (packets_of s (packets s.limit (accepted g))))
+    (All-append (IsOf s.channel) (program_piece s g) (map (data_piece s) (group_packets s g)) (program_of s g)
+    (packets_of s (group_packets s g)))
     (groups_of s gs)
 
 pub pieces_of : (s : LaneSettings) (offered : List OfferedFrame) → All (IsOf s.channel) (channel_pieces s offered)

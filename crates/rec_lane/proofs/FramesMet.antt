@@ -15,20 +15,23 @@ use Rattle.bpf_machine.specs.Machine.{Runs}
 use Rattle.eth_frame.specs.Frame.{FrameData, view}
 use Rattle.rec_channel.specs.History.{Version, IsHistory, InForce, version_at}
 use Rattle.rec_channel.specs.Slots.{programs_in}
-use Rattle.rec_lane.specs.Offered.{OfferedFrame, Met, MetFrom, AllMet, frames_of, accepted, AreAccepted}
+use Rattle.rec_lane.specs.Offered.{OfferedFrame, Met, MetFrom, AllMet, frames_of, times_of, accepted, AreAccepted}
 use Rattle.rec_lane.specs.Parts.{last_from}
 use Rattle.rec_lane.specs.Pieces.{PieceData, has_group_version, last_group, pieces_so_far, channel_pieces}
 use Rattle.rec_lane.specs.Lanes.{LaneState, HasMet, VersionProgram, version_of, running, offered_now, MarkedFrom, TakesFrame, EndsLane}
+use Rattle.rec_lane.proofs.Packing.{accepted_more, dropped, taken}
 
 -- ---- one list
 
-same_offered : (f g : OfferedFrame) → f.number ≡ g.number → f.frame ≡ g.frame → f.version ≡ g.version → f.program ≡ g.program → f.value ≡ g.value → f ≡ g
-same_offered f g number frame version program value =
-    ap (λ n. record { number = n; frame = f.frame; version = f.version; program = f.program; value = f.value }) number
-    ∙ (ap (λ x. record { number = g.number; frame = x; version = f.version; program = f.program; value = f.value }) frame
-    ∙ (ap (λ v. record { number = g.number; frame = g.frame; version = v; program = f.program; value = f.value }) version
-    ∙ (ap (λ p. record { number = g.number; frame = g.frame; version = g.version; program = p; value = f.value }) program
-    ∙ ap (λ v. record { number = g.number; frame = g.frame; version = g.version; program = g.program; value = v }) value)))
+same_offered : (f g : OfferedFrame) → f.number ≡ g.number → f.frame ≡ g.frame → f.version ≡ g.version → f.program ≡ g.program → f.value ≡ g.value
+    → f.times ≡ g.times → f ≡ g
+same_offered f g number frame version program value times =
+    ap (λ n. record { number = n; frame = f.frame; version = f.version; program = f.program; value = f.value; times = f.times }) number
+    ∙ (ap (λ x. record { number = g.number; frame = x; version = f.version; program = f.program; value = f.value; times = f.times }) frame
+    ∙ (ap (λ v. record { number = g.number; frame = g.frame; version = v; program = f.program; value = f.value; times = f.times }) version
+    ∙ (ap (λ p. record { number = g.number; frame = g.frame; version = g.version; program = p; value = f.value; times = f.times }) program
+    ∙ (ap (λ v. record { number = g.number; frame = g.frame; version = g.version; program = g.program; value = v; times = f.times }) value
+    ∙ ap (λ t. record { number = g.number; frame = g.frame; version = g.version; program = g.program; value = g.value; times = t }) times))))
 
 pub some_is : {X : Type 0} (x y : X) → Some x ≡ Some y → x ≡ y
 some_is x y e = ap (λ o. unwrap_or o x) e
@@ -41,14 +44,21 @@ abbrev pub OneRun : Type 0
 OneRun = (program : List Insn) (view : List ℕ) (steps value count other : ℕ) → Runs program view steps value → Runs program view count other
     → (steps ≡ count) × (value ≡ other)
 
-one_met : OneInForce → OneRun → (history : List Version) (f g : OfferedFrame) → f.number ≡ g.number → f.frame ≡ g.frame → Met history f → Met history g → f ≡ g
+-- what two frames of one number have in common
+record Alike (f g : OfferedFrame) : Type 0 where
+  version : f.version ≡ g.version
+  program : f.program ≡ g.program
+  value : f.value ≡ g.value
+
+one_met : OneInForce → OneRun → (history : List Version) (f g : OfferedFrame) → f.number ≡ g.number → f.frame ≡ g.frame → Met history f → Met history g
+    → Alike f g
 one_met one run history f g number frame m n =
     let version : f.version ≡ g.version = one history f.number f.version g.version m.in_force
     (subst (λ k. InForce history k g.version) (sym number) n.in_force) in
     let program : f.program ≡ g.program = some_is f.program g.program (sym m.program ∙ (ap (slice_get (programs_in history)) version ∙ n.program)) in
     let ran : Runs f.program (view f.frame) n.ran.0 g.value = subst (λ p. Runs p (view f.frame) n.ran.0 g.value) (sym program)
     (subst (λ x. Runs g.program (view x) n.ran.0 g.value) (sym frame) n.ran.1) in
-    same_offered f g number frame version program (run f.program (view f.frame) m.ran.0 f.value n.ran.0 g.value m.ran.1 ran).1
+    record { version = version; program = program; value = (run f.program (view f.frame) m.ran.0 f.value n.ran.0 g.value m.ran.1 ran).1 }
 
 pub heads : {X : Type 0} (x y : X) (xs ys : List X) → x ∷ xs ≡ y ∷ ys → x ≡ y
 heads x y xs ys e = some_is x y (ap (λ zs. slice_get zs 0) e)
@@ -57,17 +67,40 @@ pub tails : {X : Type 0} (x y : X) (xs ys : List X) → x ∷ xs ≡ y ∷ ys �
 tails x y xs ys e = ap (λ zs. drop 1 zs) e
 
 one_from : OneInForce → OneRun → (history : List Version) (number : ℕ) (fs gs : List OfferedFrame) → MetFrom history number fs → MetFrom history number gs
-    → frames_of fs ≡ frames_of gs → fs ≡ gs
-one_from one run history number [] [] m n same = refl
-one_from one run history number [] (g ∷ gs) m n same = absurd (let e = ap (λ (xs : List FrameData). length xs) same in omega (arith, e))
-one_from one run history number (f ∷ fs) [] m n same = absurd (let e = ap (λ (xs : List FrameData). length xs) same in omega (arith, e))
-one_from one run history number (f ∷ fs) (g ∷ gs) m n same =
-    ap (λ x. x ∷ fs) (one_met one run history f g (m.0 ∙ sym n.0) (heads f.frame g.frame (frames_of fs) (frames_of gs) same) m.1 n.1)
-    ∙ ap (λ xs. g ∷ xs) (one_from one run history (number + 1) fs gs m.2 n.2 (tails f.frame g.frame (frames_of fs) (frames_of gs) same))
+    → frames_of fs ≡ frames_of gs → times_of fs ≡ times_of gs → fs ≡ gs
+one_from one run history number [] [] m n same times = refl
+one_from one run history number [] (g ∷ gs) m n same times = absurd (let e = ap (λ (xs : List FrameData). length xs) same in omega (arith, e))
+one_from one run history number (f ∷ fs) [] m n same times = absurd (let e = ap (λ (xs : List FrameData). length xs) same in omega (arith, e))
+one_from one run history number (f ∷ fs) (g ∷ gs) m n same times =
+    let frame = heads f.frame g.frame (frames_of fs) (frames_of gs) same in
+    let is = one_met one run history f g (m.0 ∙ sym n.0) frame m.1 n.1 in
+    ap (λ x. x ∷ fs) (same_offered f g (m.0 ∙ sym n.0) frame is.version is.program is.value (heads f.times g.times (times_of fs) (times_of gs) times))
+    ∙ ap (λ xs. g ∷ xs) (one_from one run history (number + 1) fs gs m.2 n.2 (tails f.frame g.frame (frames_of fs) (frames_of gs) same)
+    (tails f.times g.times (times_of fs) (times_of gs) times))
 
 pub one_list : OneInForce → OneRun → (history : List Version) (offered other : List OfferedFrame) → AllMet history offered → AllMet history other
-    → frames_of offered ≡ frames_of other → offered ≡ other
-one_list one run history offered other m n same = one_from one run history 0 offered other m n same
+    → frames_of offered ≡ frames_of other → times_of offered ≡ times_of other → offered ≡ other
+one_list one run history offered other m n same times = one_from one run history 0 offered other m n same times
+
+-- whatever time marks came, the accepted frames are the same
+accepted_first : (f g : OfferedFrame) → f.frame ≡ g.frame → f.value ≡ g.value → accepted (f ∷ []) ≡ accepted (g ∷ [])
+accepted_first f g frame value = elim (cases_Bool (f.value == 0)) as (λ _. accepted (f ∷ []) ≡ accepted (g ∷ [])) [
+  | inl zero_value ↦ dropped f zero_value ∙ sym (dropped g (ap (λ v. v == 0) (sym value) ∙ zero_value))
+  | inr some_value ↦ taken f some_value ∙ (ap (λ x. x ∷ []) frame ∙ sym (taken g (ap (λ v. v == 0) (sym value) ∙ some_value)))
+]
+
+accepted_from : OneInForce → OneRun → (history : List Version) (number : ℕ) (fs gs : List OfferedFrame) → MetFrom history number fs
+    → MetFrom history number gs → frames_of fs ≡ frames_of gs → accepted fs ≡ accepted gs
+accepted_from one run history number [] [] m n same = refl
+accepted_from one run history number [] (g ∷ gs) m n same = absurd (let e = ap (λ (xs : List FrameData). length xs) same in omega (arith, e))
+accepted_from one run history number (f ∷ fs) [] m n same = absurd (let e = ap (λ (xs : List FrameData). length xs) same in omega (arith, e))
+accepted_from one run history number (f ∷ fs) (g ∷ gs) m n same =
+    let frame = heads f.frame g.frame (frames_of fs) (frames_of gs) same in
+    let is = one_met one run history f g (m.0 ∙ sym n.0) frame m.1 n.1 in
+    accepted_more (f ∷ []) fs
+    ∙ (ap (λ xs. xs ++ accepted fs) (accepted_first f g frame is.value)
+    ∙ (ap (λ xs. accepted (g ∷ []) ++ xs) (accepted_from one run history (number + 1) fs gs m.2 n.2
+    (tails f.frame g.frame (frames_of fs) (frames_of gs) same)) ∙ sym (accepted_more (g ∷ []) gs)))
 
 -- ---- what stands at an index
 
@@ -98,15 +131,18 @@ abbrev pub SomeRun : Type 0
 SomeRun = (program : List Insn) (view : List ℕ) → Valid program → (steps : ℕ) × (value : ℕ) × Runs program view steps value × (steps ≤ length program)
 
 some_from : SomeInForce → SomeRun → (count : ℕ) (history : List Version) → IsHistory count history → (number : ℕ) (frames : List FrameData)
-    → (offered : List OfferedFrame) × MetFrom history number offered × (frames_of offered ≡ frames)
-some_from some run count history h number [] = ([], tt, refl)
-some_from some run count history h number (f ∷ fs) =
+    (times : List (List ℕ)) → length times ≡ length frames
+    → (offered : List OfferedFrame) × MetFrom history number offered × (frames_of offered ≡ frames) × (times_of offered ≡ times)
+some_from some run count history h number [] [] long = ([], tt, refl, refl)
+some_from some run count history h number [] (t ∷ ts) long = absurd (omega (arith, long))
+some_from some run count history h number (f ∷ fs) [] long = absurd (omega (arith, long))
+some_from some run count history h number (f ∷ fs) (t ∷ ts) long =
     let force = some count history number h in
     let version = version_at history number in
     let valid : Valid force.entry.program = all_at (λ (v : Version). Valid v.program) history version force.entry force.stands h.valid in
     let ran = run force.entry.program (view f) valid in
-    let rest = some_from some run count history h (number + 1) fs in
-    let x : OfferedFrame = record { number = number; frame = f; version = version; program = force.entry.program; value = ran.1 } in (
+    let rest = some_from some run count history h (number + 1) fs ts (omega (arith, long)) in
+    let x : OfferedFrame = record { number = number; frame = f; version = version; program = force.entry.program; value = ran.1; times = t } in (
       x ∷ rest.0,
       (
         refl,
@@ -118,11 +154,13 @@ some_from some run count history h number (f ∷ fs) =
         rest.1,
       ),
       ap (λ xs. f ∷ xs) rest.2,
+      ap (λ xs. t ∷ xs) rest.3,
     )
 
-pub some_list : SomeInForce → SomeRun → (count : ℕ) (history : List Version) (frames : List FrameData) → IsHistory count history
-    → (offered : List OfferedFrame) × AllMet history offered × (frames_of offered ≡ frames)
-some_list some run count history frames h = some_from some run count history h 0 frames
+pub some_list : SomeInForce → SomeRun → (count : ℕ) (history : List Version) (frames : List FrameData) (times : List (List ℕ)) → IsHistory count history
+    → length times ≡ length frames
+    → (offered : List OfferedFrame) × AllMet history offered × (frames_of offered ≡ frames) × (times_of offered ≡ times)
+some_list some run count history frames times h long = some_from some run count history h 0 frames times long
 
 -- ---- later versions
 
@@ -235,7 +273,7 @@ pub takes_frame : OneInForce → OneRun → LeavesPast
     → ((before : List OfferedFrame) → HasMet old before → pieces_so_far old.settings (before ++ offered_now old version program f value ∷ [])
     ≡ pieces_so_far old.settings before ++ given)
     → TakesFrame old new f version program given
-takes_frame one run leaves old new f version program value given ran met pieces frames history more before stands marked drawn so_far =
+takes_frame one run leaves old new f version program value given ran met pieces frames times history more before stands marked drawn so_far =
     let offered = stands.0 in
     let x : OfferedFrame = offered_now old version program f value in
     let count : length frames ≡ length offered = ap (λ (fs : List FrameData). length fs) (sym stands.2) ∙ length-map offered (λ (o : OfferedFrame). o.frame) in
@@ -250,19 +288,32 @@ takes_frame one run leaves old new f version program value given ran met pieces 
     let all : AllMet (history ++ more) (offered ++ x ∷ []) = from_append (history ++ more) 0 offered (x ∷ []) later (omega (arith, number), last_met, tt) in
     let framed : frames_of (offered ++ x ∷ []) ≡ frames ++ f ∷ [] =
     map-append (λ (o : OfferedFrame). o.frame) offered (x ∷ []) ∙ ap (λ fs. fs ++ f ∷ []) stands.2 in
-    let same : so_far.0 ≡ offered = one_list one run history so_far.0 offered so_far.1 stands.1 (so_far.2 ∙ sym stands.2) in (
-      (offered ++ x ∷ [], all, framed, met offered stands.3),
-      (offered ++ x ∷ [], all, framed, pieces offered stands.3 ∙ ap (λ ps. ps ++ given) (ap (λ o. pieces_so_far old.settings o) (sym same) ∙ so_far.3)),
+    let timed : times_of (offered ++ x ∷ []) ≡ times ++ [] ∷ [] =
+    map-append (λ (o : OfferedFrame). o.times) offered (x ∷ []) ∙ ap (λ ts. ts ++ [] ∷ []) stands.4 in
+    let same : so_far.0 ≡ offered = one_list one run history so_far.0 offered so_far.1 stands.1 (so_far.2 ∙ sym stands.2) (so_far.4 ∙ sym stands.4) in (
+      (offered ++ x ∷ [], all, framed, met offered stands.3, timed),
+      (
+        offered ++ x ∷ [],
+        all,
+        framed,
+        pieces offered stands.3 ∙ ap (λ ps. ps ++ given) (ap (λ o. pieces_so_far old.settings o) (sym same) ∙ so_far.3),
+        timed,
+      ),
     )
 
 pub ends : OneInForce → OneRun → (lane : LaneState) (given : List PieceData)
     → ((offered : List OfferedFrame) → HasMet lane offered → channel_pieces lane.settings offered ≡ pieces_so_far lane.settings offered ++ given)
     → EndsLane lane given
-ends one run lane given pieces frames history before stands so_far =
+ends one run lane given pieces frames times history before stands so_far =
     let offered = stands.0 in
-    let same : so_far.0 ≡ offered = one_list one run history so_far.0 offered so_far.1 stands.1 (so_far.2 ∙ sym stands.2) in
-    (offered, stands.1, stands.2, pieces offered stands.3 ∙ ap (λ ps. ps ++ given) (ap (λ o. pieces_so_far lane.settings o) (sym same) ∙ so_far.3))
+    let same : so_far.0 ≡ offered = one_list one run history so_far.0 offered so_far.1 stands.1 (so_far.2 ∙ sym stands.2) (so_far.4 ∙ sym stands.4) in (
+      offered,
+      stands.1,
+      stands.2,
+      pieces offered stands.3 ∙ ap (λ ps. ps ++ given) (ap (λ o. pieces_so_far lane.settings o) (sym same) ∙ so_far.3),
+      stands.4,
+    )
 
 pub accepted_once : OneInForce → OneRun → (history : List Version) (frames kept other : List FrameData) → AreAccepted history frames kept
     → AreAccepted history frames other → kept ≡ other
-accepted_once one run history frames kept other a b = sym a.3 ∙ (ap accepted (one_list one run history a.0 b.0 a.1 b.1 (a.2 ∙ sym b.2)) ∙ b.3)
+accepted_once one run history frames kept other a b = sym a.3 ∙ (accepted_from one run history 0 a.0 b.0 a.1 b.1 (a.2 ∙ sym b.2) ∙ b.3)

@@ -39,7 +39,7 @@ shorter_fits : (limit len other : ℕ) → len ≤ other → packet_len other �
 shorter_fits limit len other shorter fits = omega (arith, shorter, fits)
 
 -- a packet that has no room for the next frame is the longest front
-full_front : (limit : ℕ) (packet : List FrameData) (x : FrameData) (xs : List FrameData)
+pub full_front : (limit : ℕ) (packet : List FrameData) (x : FrameData) (xs : List FrameData)
     → has_room limit packet x ≡ false
     → (other more : List FrameData) → packet ++ x ∷ xs ≡ other ++ more → FitsLimit limit other → length other ≤ length packet
 full_front limit packet x xs full other more same fits = elim (cases_lt (length packet) (length other)) as (λ _. length other ≤ length packet) [
@@ -52,25 +52,25 @@ full_front limit packet x xs full other more same fits = elim (cases_lt (length 
 ]
 
 -- and so is one with which the frames end
-last_front : (packet other more : List FrameData) → packet ++ [] ≡ other ++ more → length other ≤ length packet
-last_front packet other more same =
-    let lengths = ap (λ (fs : List FrameData). length fs) same in
+pub last_front : {X : Type 0} (packet other more : List X) → packet ++ [] ≡ other ++ more → length other ≤ length packet
+last_front {X} packet other more same =
+    let lengths = ap (λ (fs : List X). length fs) same in
     let left = length-append packet [] in
     let right = length-append other more in
     omega (arith, lengths, left, right)
 
 -- one frame more in a packet with room for it
-more_fits : (limit : ℕ) (packet : List FrameData) (x : FrameData) → has_room limit packet x ≡ true → FitsLimit limit (packet ++ x ∷ [])
+pub more_fits : (limit : ℕ) (packet : List FrameData) (x : FrameData) → has_room limit packet x ≡ true → FitsLimit limit (packet ++ x ∷ [])
 more_fits limit packet x room =
     let sum = sum_by_push size packet x in
     shorter_fits limit (data_len (packet ++ x ∷ [])) (data_len packet + size x) (omega (arith, sum))
     (leb-true (packet_len (data_len packet + size x)) limit room)
 
 -- a frame in range fits alone
-one_fits : (limit : ℕ) (x : FrameData) → MIN_LIMIT ≤ limit → IsFrame x → packet_len (data_len [] + size x) ≤ limit
+pub one_fits : (limit : ℕ) (x : FrameData) → MIN_LIMIT ≤ limit → IsFrame x → packet_len (data_len [] + size x) ≤ limit
 one_fits limit x roomy frame = let longest = frame.longest in omega (arith, roomy, longest)
 
-alone_fits : (limit : ℕ) (x : FrameData) → MIN_LIMIT ≤ limit → IsFrame x → FitsLimit limit (x ∷ [])
+pub alone_fits : (limit : ℕ) (x : FrameData) → MIN_LIMIT ≤ limit → IsFrame x → FitsLimit limit (x ∷ [])
 alone_fits limit x roomy frame = more_fits limit [] x (le-leb (packet_len (data_len [] + size x)) limit (one_fits limit x roomy frame))
 
 pub not_empty : {X : Type 0} (x : X) (xs : List X) → x ∷ xs ≢ []
@@ -120,7 +120,8 @@ packets_longest limit (x ∷ xs) roomy frames =
 -- ---- one answer
 
 -- two fronts of one length are one
-same_front : {X : Type 0} (packet rest other more : List X) → packet ++ rest ≡ other ++ more → length packet ≡ length other → (packet ≡ other) × (rest ≡ more)
+pub same_front : {X : Type 0} (packet rest other more : List X) → packet ++ rest ≡ other ++ more → length packet ≡ length other
+    → (packet ≡ other) × (rest ≡ more)
 same_front {X} packet rest other more same lengths = (
   sym (take-append_seam packet rest) ∙ (ap (λ n. take n (packet ++ rest)) lengths ∙ (ap (λ xs. take (length other) xs) same ∙ take-append_seam other more)),
   sym (drop-append_seam packet rest) ∙ (ap (λ n. drop n (packet ++ rest)) lengths ∙ (ap (λ xs. drop (length other) xs) same ∙ drop-append_seam other more)),

@@ -1,9 +1,12 @@
 pub mod Parted
+pub mod Packing
 pub mod Offering
 pub mod FramesMet
 pub mod Beginnings
 pub mod Contents
 pub mod Longer
+pub mod Noting
 pub mod Fronts
 pub mod Groups
 pub mod Growth
+pub mod LongestParts

@@ -5,10 +5,10 @@ use Rattle.bpf_machine.specs.Machine.{Runs}
 use Rattle.eth_frame.specs.Frame.{FrameData, view}
 use Rattle.rec_channel.specs.History.{Version, InForce}
 use Rattle.rec_channel.specs.Slots.{programs_in}
-use Rattle.rec_lane.specs.Offered.{OfferedFrame, accepted, frames_of, AllMet}
+use Rattle.rec_lane.specs.Offered.{OfferedFrame, accepted, frames_of, times_of, noted_with, added_with, AllMet}
 use Rattle.rec_lane.specs.Parts.{BeginsList}
-use Rattle.rec_lane.specs.Packets.{last_packet}
-use Rattle.rec_lane.specs.Pieces.{LaneSettings, PieceData, last_group, last_counter, pieces_so_far, channel_pieces, ArePieces, ArePiecesSoFar}
+use Rattle.rec_lane.specs.Pieces.{LaneSettings, PieceData, last_group, last_counter, open_group_packet, pieces_so_far}
+use Rattle.rec_lane.specs.Pieces.{channel_pieces, ArePieces, ArePiecesSoFar}
 
 -- a version and its program
 pub record VersionProgram : Type 0 where
@@ -53,13 +53,15 @@ pub record HasMet (lane : LaneState) (offered : List OfferedFrame) : Type 0 wher
   pub kept_is : lane.kept ≡ length (accepted offered)
   pub counter_is : lane.counter ≡ last_counter offered
   pub current_is : lane.current ≡ version_of (last_group offered)
-  pub pending_is : lane.pending ≡ last_packet lane.settings.limit (accepted (last_group offered))
+  pub pending_is : lane.pending ≡ open_group_packet lane.settings (last_group offered)
 
--- the lane stands for these frames, offered to a channel with this history
-abbrev pub LaneStandsFor : LaneState → List FrameData → List Version → Type 0
-LaneStandsFor lane frames history =
+-- the lane stands for these frames, with these time marks after each, offered to a channel with this
+-- history
+abbrev pub LaneStandsFor : LaneState → List FrameData → List (List ℕ) → List Version → Type 0
+LaneStandsFor lane frames times history =
     (offered : List OfferedFrame)
     × AllMet history offered × (frames_of offered ≡ frames) × HasMet lane offered
+    × (times_of offered ≡ times)
 
 -- ---- a frame that is offered
 
@@ -82,6 +84,7 @@ offered_now lane version program frame value = record {
   version = version;
   program = running lane.current version program;
   value = value;
+  times = [];
 }
 
 -- the versions were installed after this number of frames
@@ -104,6 +107,19 @@ MakesCertain old f given =
     (before : List OfferedFrame) → HasMet old before
     → pieces_so_far old.settings (before ++ f ∷ []) ≡ pieces_so_far old.settings before ++ given
 
+-- whatever frames the lane had met, it has met this time mark after them, if its packets have a span
+abbrev pub MeetsTime : LaneState → LaneState → (counter : ℕ) → Type 0
+MeetsTime old new counter =
+    (before : List OfferedFrame) → HasMet old before
+    → HasMet new (noted_with old.settings.span before counter)
+
+-- the pieces are those that this time mark makes certain, whatever frames the lane had met
+abbrev pub MakesCertainAt : LaneState → (counter : ℕ) → List PieceData → Type 0
+MakesCertainAt old counter given =
+    (before : List OfferedFrame) → HasMet old before
+    → pieces_so_far old.settings (noted_with old.settings.span before counter)
+    ≡ pieces_so_far old.settings before ++ given
+
 -- the pieces are those that are left of all, whatever frames the lane has met
 abbrev pub AreLeft : LaneState → List PieceData → Type 0
 AreLeft lane given =
@@ -115,27 +131,44 @@ AreLeft lane given =
 abbrev pub TakesFrame :
     LaneState → LaneState → FrameData → (version : ℕ) → List Insn → List PieceData → Type 0
 TakesFrame old new frame version program given =
-    (frames : List FrameData) (history more : List Version) (before : List PieceData)
-    → LaneStandsFor old frames history → MarkedFrom (length frames) more
+    (frames : List FrameData) (times : List (List ℕ)) (history more : List Version)
+    (before : List PieceData)
+    → LaneStandsFor old frames times history → MarkedFrom (length frames) more
     → IsDrawn (history ++ more) (length frames) version program
-    → ArePiecesSoFar old.settings frames history before
-    → LaneStandsFor new (frames ++ frame ∷ []) (history ++ more)
-    × ArePiecesSoFar old.settings (frames ++ frame ∷ []) (history ++ more) (before ++ given)
+    → ArePiecesSoFar old.settings frames times history before
+    → LaneStandsFor new (frames ++ frame ∷ []) (times ++ [] ∷ []) (history ++ more)
+    × ArePiecesSoFar old.settings (frames ++ frame ∷ []) (times ++ [] ∷ []) (history ++ more)
+    (before ++ given)
+
+-- after this time mark the lane stands for the frames with it, and these pieces became certain
+abbrev pub TakesTime : LaneState → LaneState → (counter : ℕ) → List PieceData → Type 0
+TakesTime old new counter given =
+    (frames : List FrameData) (times : List (List ℕ)) (history : List Version)
+    (before : List PieceData)
+    → LaneStandsFor old frames times history
+    → ArePiecesSoFar old.settings frames times history before
+    → LaneStandsFor new frames (added_with old.settings.span times counter) history
+    × ArePiecesSoFar old.settings frames (added_with old.settings.span times counter) history
+    (before ++ given)
 
 -- these are the last pieces: whatever frames and history the lane stands for
 abbrev pub EndsLane : LaneState → List PieceData → Type 0
 EndsLane lane given =
-    (frames : List FrameData) (history : List Version) (before : List PieceData)
-    → LaneStandsFor lane frames history → ArePiecesSoFar lane.settings frames history before
-    → ArePieces lane.settings frames history (before ++ given)
+    (frames : List FrameData) (times : List (List ℕ)) (history : List Version)
+    (before : List PieceData)
+    → LaneStandsFor lane frames times history
+    → ArePiecesSoFar lane.settings frames times history before
+    → ArePieces lane.settings frames times history (before ++ given)
 
--- the pieces begin all pieces, whatever frames follow and whatever versions are installed later
+-- the pieces begin all pieces, whatever frames and time marks follow and whatever versions are
+-- installed later
 abbrev pub AreCertain :
-    LaneSettings → List FrameData → List Version → List PieceData → Type 0
-AreCertain settings frames history so_far =
-    (more : List FrameData) (later : List Version) (all : List PieceData)
+    LaneSettings → List FrameData → List (List ℕ) → List Version → List PieceData → Type 0
+AreCertain settings frames times history so_far =
+    (more : List FrameData) (after : List (List ℕ)) (later : List Version) (all : List PieceData)
     → MarkedFrom (length frames) later
-    → ArePieces settings (frames ++ more) (history ++ later) all → BeginsList so_far all
+    → ArePieces settings (frames ++ more) (times ++ after) (history ++ later) all
+    → BeginsList so_far all
 
 -- what an offer does to offered frames it does to frames and a history
 abbrev pub OffersTakeFrames : Type 0
@@ -146,6 +179,13 @@ OffersTakeFrames =
     → Meets old new (offered_now old version program frame value)
     → MakesCertain old (offered_now old version program frame value) given
     → TakesFrame old new frame version program given
+
+-- and so does a time mark
+abbrev pub TimesTakeTimes : Type 0
+TimesTakeTimes =
+    (old new : LaneState) (counter : ℕ) (given : List PieceData)
+    → MeetsTime old new counter → MakesCertainAt old counter given
+    → TakesTime old new counter given
 
 -- and so does an end
 abbrev pub EndsAreEnds : Type 0

@@ -1,6 +1,7 @@
 pub mod Offered
 pub mod Parts
 pub mod Packets
+pub mod Moments
 pub mod Pieces
 pub mod Settings
 pub mod Lanes

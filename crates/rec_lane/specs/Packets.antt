@@ -14,16 +14,9 @@ abbrev pub has_room : ℕ → List FrameData → FrameData → Bool
 has_room limit frames f =
     nat_le (packet_len (data_len frames + frame_len (length f.bytes))) limit
 
--- the packets of these frames; those that no frame can be added to any more; and the frames of the
--- last one
+-- the packets of these frames
 abbrev pub packets : ℕ → List FrameData → List (List FrameData)
 packets limit frames = parts (has_room limit) frames
-
-abbrev pub full_packets : ℕ → List FrameData → List (List FrameData)
-full_packets limit frames = ended_parts (has_room limit) frames
-
-abbrev pub last_packet : ℕ → List FrameData → List FrameData
-last_packet limit frames = last_part (has_room limit) frames
 
 -- the packet is the longest beginning of these frames that fits the limit, and these are left
 pub record IsLongestFront (limit : ℕ) (frames packet rest : List FrameData) : Type 0 where

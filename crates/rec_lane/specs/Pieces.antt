@@ -1,21 +1,22 @@
 -- The pieces of a channel, in the order in which they are written: for each version that some frame
 -- met its program, and then its accepted frames in packets; last the channel's end.
-use Rattle.std.specs.Prelude.{ℕ, ◌≡◌, ◌≢◌, ◌==◌, Bool, true, false, List, [], ◌∷◌, ◌++◌, length, map, All, Some, slice_get}
+use Rattle.std.specs.Prelude.{ℕ, ◌≡◌, ◌≢◌, ◌==◌, Bool, true, false, List, [], ◌∷◌, ◌++◌, length, map, All, Option, Some, slice_get}
 use Rattle.std.specs.List.{flat_map}
 use Rattle.bpf_insn.specs.declared.insn.Insn.{Insn}
 use Rattle.eth_frame.specs.Frame.{FrameData}
 use Rattle.ch11_packet.specs.Building.{EthernetBody, body_of}
 use Rattle.rec_channel.specs.History.{Version}
-use Rattle.rec_lane.specs.Offered.{OfferedFrame, accepted, frames_of, AllMet}
+use Rattle.rec_lane.specs.Offered.{OfferedFrame, accepted, frames_of, times_of, AllMet}
 use Rattle.rec_lane.specs.Parts.{ended_parts, last_part, parts}
-use Rattle.rec_lane.specs.Packets.{packets, full_packets}
+use Rattle.rec_lane.specs.Moments.{moments_of, closed_packets, open_packet, packets_of}
 
--- what a channel's lane is set to
+-- what a channel's lane is set to; packets may have a span beside their limit
 pub record LaneSettings : Type 0 where
   pub channel : ℕ
   pub net : ℕ
   pub speed : ℕ
   pub limit : ℕ
+  pub span : Option ℕ
 
 -- a piece: a program that came into force, with the counter and the number of the first frame that
 -- met it; a packet of frames; or the channel's end, with the counter of the last frame and the
@@ -69,17 +70,28 @@ abbrev pub data_piece : LaneSettings → List FrameData → PieceData
 data_piece settings frames =
     OfFrames settings.channel (body_of frames settings.net settings.speed settings.limit)
 
+-- the packets of a group's accepted frames: all of them; those that are closed; and the frames of the
+-- last one
+abbrev pub group_packets : LaneSettings → List OfferedFrame → List (List FrameData)
+group_packets settings group = packets_of settings.limit settings.span (moments_of group)
+
+abbrev pub closed_group_packets : LaneSettings → List OfferedFrame → List (List FrameData)
+closed_group_packets settings group =
+    closed_packets settings.limit settings.span (moments_of group)
+
+abbrev pub open_group_packet : LaneSettings → List OfferedFrame → List FrameData
+open_group_packet settings group = open_packet settings.limit settings.span (moments_of group)
+
 -- the pieces of a group: its program, and its accepted frames in packets
 abbrev pub group_pieces : LaneSettings → List OfferedFrame → List PieceData
 group_pieces settings group =
-    program_piece settings group
-    ++ map (data_piece settings) (packets settings.limit (accepted group))
+    program_piece settings group ++ map (data_piece settings) (group_packets settings group)
 
 -- those of a group that may go on: without its last packet
 abbrev pub open_group_pieces : LaneSettings → List OfferedFrame → List PieceData
 open_group_pieces settings group =
     program_piece settings group
-    ++ map (data_piece settings) (full_packets settings.limit (accepted group))
+    ++ map (data_piece settings) (closed_group_packets settings group)
 
 -- the counter of the last frame, or 0
 abbrev pub last_counter_from : ℕ → List OfferedFrame → ℕ
@@ -108,21 +120,24 @@ pieces_so_far settings offered =
     flat_map (group_pieces settings) (ended_groups offered)
     ++ open_group_pieces settings (last_group offered)
 
--- ---- of frames and a history
+-- ---- of frames, time marks and a history
 
--- all pieces of a channel with this history, to which these frames were offered
-abbrev pub ArePieces : LaneSettings → List FrameData → List Version → List PieceData → Type 0
-ArePieces settings frames history pieces =
+-- all pieces of a channel with this history, to which these frames were offered, with these time
+-- marks after each
+abbrev pub ArePieces :
+    LaneSettings → List FrameData → List (List ℕ) → List Version → List PieceData → Type 0
+ArePieces settings frames times history pieces =
     (offered : List OfferedFrame)
     × AllMet history offered × (frames_of offered ≡ frames)
-    × (channel_pieces settings offered ≡ pieces)
+    × (channel_pieces settings offered ≡ pieces) × (times_of offered ≡ times)
 
 -- those that are certain while more frames may come
-abbrev pub ArePiecesSoFar : LaneSettings → List FrameData → List Version → List PieceData → Type 0
-ArePiecesSoFar settings frames history pieces =
+abbrev pub ArePiecesSoFar :
+    LaneSettings → List FrameData → List (List ℕ) → List Version → List PieceData → Type 0
+ArePiecesSoFar settings frames times history pieces =
     (offered : List OfferedFrame)
     × AllMet history offered × (frames_of offered ≡ frames)
-    × (pieces_so_far settings offered ≡ pieces)
+    × (pieces_so_far settings offered ≡ pieces) × (times_of offered ≡ times)
 
 -- the frames in a piece
 abbrev pub piece_frames : PieceData → List FrameData

@@ -8,6 +8,7 @@ use Rattle.ch11_packet.specs.Building.{OpenBody, open_of}
 use Rattle.ch11_packet.specs.declared.limit.TheConstants.{MIN_LIMIT}
 use Rattle.rec_lane.specs.Parts.{as_part}
 use Rattle.rec_lane.specs.Packets.{has_room}
+use Rattle.rec_lane.specs.Moments.{is_span_due}
 use Rattle.rec_lane.specs.Pieces.{LaneSettings, PieceData, data_piece}
 use Rattle.rec_lane.specs.Pieces.PieceData.{OfProgram}
 use Rattle.rec_lane.specs.Lanes.{LaneState, VersionProgram}
@@ -50,12 +51,49 @@ kept_pieces lane f =
 
 -- ---- a frame that is offered
 
+-- whether the open packet is closed at this counter, since that is a span after its first frame
+abbrev pub closes_at : LaneState → (counter : ℕ) → Bool
+closes_at lane counter = is_span_due lane.settings.span lane.pending counter
+
+-- whether a frame with this counter begins a packet where packets have a span: none is open, or one
+-- that is closed at it
+abbrev pub begins : Option ℕ → List FrameData → (counter : ℕ) → Bool
+begins None frames counter = false
+begins (Some span) [] counter = true
+begins (Some span) (f ∷ fs) counter = is_span_due (Some span) (f ∷ fs) counter
+
+-- a packet is open, where packets have a span
+abbrev pub IsBegun : Option ℕ → List FrameData → Type 0
+IsBegun None frames = Unit {0}
+IsBegun (Some span) [] = ⊥
+IsBegun (Some span) (f ∷ fs) = Unit {0}
+
+-- the lane after a frame that closed the open packet so, for which its program returned this value
+abbrev pub frame_begun : LaneState → FrameData → ℕ → LaneState
+frame_begun lane f value =
+    if value == 0 then packet_closed lane else frame_added (packet_closed lane) f
+
 -- the lane after a frame for which its program returned this value
 abbrev pub frame_judged : LaneState → FrameData → ℕ → LaneState
-frame_judged lane f value = if value == 0 then lane else frame_kept lane f
+frame_judged lane f value =
+    if closes_at lane f.counter then frame_begun lane f value
+    else if value == 0 then lane
+    else frame_kept lane f
 
 abbrev pub judged_pieces : LaneState → FrameData → ℕ → List PieceData
-judged_pieces lane f value = if value == 0 then [] else kept_pieces lane f
+judged_pieces lane f value =
+    if closes_at lane f.counter then closed_pieces lane
+    else if value == 0 then []
+    else kept_pieces lane f
+
+-- ---- a time mark
+
+-- the lane after a time mark
+abbrev pub time_met : LaneState → (counter : ℕ) → LaneState
+time_met lane counter = if closes_at lane counter then packet_closed lane else lane
+
+abbrev pub time_pieces : LaneState → (counter : ℕ) → List PieceData
+time_pieces lane counter = if closes_at lane counter then closed_pieces lane else []
 
 -- the lane after a frame is counted
 abbrev pub frame_counted : LaneState → FrameData → LaneState
@@ -95,10 +133,16 @@ abbrev pub program_met : Option VersionProgram → Option (List Insn)
 program_met None = None
 program_met (Some current) = Some current.program
 
+-- where packets have a span, this is the counter of the open packet's first frame
+abbrev pub IsFirst : Option ℕ → List FrameData → (first : ℕ) → Type 0
+IsFirst None frames first = Unit {0}
+IsFirst (Some span) [] first = Unit {0}
+IsFirst (Some span) (f ∷ fs) first = first ≡ f.counter
+
 -- the builders are those of the settings, the spare one has no frames, and the program that is laid
 -- out for running is that of the version
 pub record IsLane
-    (settings : LaneSettings) (offered kept counter : ℕ) (packet : OpenBody)
+    (settings : LaneSettings) (offered kept counter first : ℕ) (packet : OpenBody)
     (spare : Option OpenBody) (current : Option VersionProgram)
     (prepared : Option (List Insn)) : Type 0 where
   pub packet_is : packet ≡ open_of packet.frames settings.net settings.speed settings.limit
@@ -107,4 +151,6 @@ pub record IsLane
   pub roomy : MIN_LIMIT ≤ settings.limit
   pub kept_some : kept ≤ offered
   pub counter_fits : counter < 2 ^ 48
+  pub first_is : IsFirst settings.span packet.frames first
+  pub first_fits : first < 2 ^ 48
   pub prepared_is : prepared ≡ program_met current

@@ -12,7 +12,7 @@ ghost use Rattle.rec_lane.specs.Views.{piece_data, pieces_data, packet_pieces};
 use crate::lane::steps::pieces_of;
 use crate::laws::a_lane_stands_for_frames_and_a_history;
 use crate::offered::{Offered, OfferedKnown};
-use crate::piece::Piece;
+use crate::piece::{DataPiece, Piece};
 use crate::spec::LaneSpec;
 use crate::version::Current;
 use arrayvec::ArrayVec;
@@ -35,6 +35,8 @@ pub struct Lane {
     /// The program of the version that was met last.
     prepared: Prepared,
     packet: DataBuilder,
+    /// The counter of the open packet's first frame, where packets have a span.
+    first: u64,
     spare: Option<DataBuilder>,
 }
 
@@ -57,8 +59,8 @@ impl Model for Lane {
       ready = is_some l.spare;
     } };
 
-    ghost invariant = { λ l. IsLane (spec_data l.spec) l.offered l.kept l.counter l.packet l.spare
-        (current_of l.current) l.prepared };
+    ghost invariant = { λ l. IsLane (spec_data l.spec) l.offered l.kept l.counter l.first l.packet
+        l.spare (current_of l.current) l.prepared };
 }
 
 impl Lane {
@@ -68,9 +70,10 @@ impl Lane {
     ghost use Rattle.eth_frame.specs.Frame.{view};
     ghost use Rattle.eth_frame.specs.Views.{frame_data};
     ghost use Rattle.rec_lane.specs.Packets.{has_room};
+    ghost use Rattle.rec_lane.specs.Moments.{is_span_due};
     ghost use Rattle.rec_lane.specs.Pieces.{has_no_packet};
     ghost use Rattle.rec_lane.specs.Settings.{spec_data};
-    ghost use Rattle.rec_lane.specs.Lanes.{HasMet, is_current, running, offered_now, new_lane, Meets, MakesCertain, AreLeft, TakesFrame, EndsLane};
+    ghost use Rattle.rec_lane.specs.Lanes.{HasMet, is_current, running, offered_now, new_lane, Meets, MakesCertain, MeetsTime, MakesCertainAt, AreLeft, TakesFrame, TakesTime, EndsLane};
     ghost use Rattle.rec_lane.specs.Steps.{RunsAs, packet_closed, closed_pieces, frame_added, frame_judged, judged_pieces, frame_counted, frame_of_new_version, version_begun, begun_piece, begun_pieces};
 
     /// A lane of no frames, which isn't ready.
@@ -88,6 +91,7 @@ impl Lane {
             current: None,
             prepared: Prepared::with_room(alloc)?,
             packet,
+            first: 0,
             spare: None,
         })
     }
@@ -224,6 +228,28 @@ impl Lane {
     {
         a_lane_stands_for_frames_and_a_history();
         self.offer_next(frame)
+    }
+
+    /// A time mark: a time at which no frame came. It closes the open packet if it is a span or more
+    /// after that packet's first frame; without a span it does nothing.
+    pub fn at(&mut self, counter: u64) -> Option<DataPiece>
+        requires { self.old.ready ≡ true }
+        // The lane stands for one time mark more, and the piece is the one that became certain.
+        ensures met { MeetsTime self.old self.new counter }
+        ensures pieces { MakesCertainAt self.old counter (packet_pieces result) }
+        ensures settings { self.new.settings ≡ self.old.settings }
+        ensures offered { self.new.offered ≡ self.old.offered }
+        ensures current { self.new.current ≡ self.old.current }
+        ensures ready { self.new.ready ≡ has_no_packet (packet_pieces result) }
+        // Without a span nothing happens, and with one no frame that is kept waits any more from a
+        // span ago.
+        ensures idle { (self.old.settings.span ≡ None) → self.new ≡ self.old }
+        ensures none_due { is_span_due self.new.settings.span self.new.pending counter ≡ false }
+        // In a history: the time mark is taken.
+        ensures in_history { TakesTime self.old self.new counter (packet_pieces result) }
+    {
+        a_lane_stands_for_frames_and_a_history();
+        self.meet_time(counter)
     }
 
     /// The last pieces: the open packet, if it has frames, and the channel's end.

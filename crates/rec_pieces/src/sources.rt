@@ -8,7 +8,7 @@ ghost use Rattle.rec_pieces.specs.AllSources.{left_of, source_left};
 use crate::channel::ChannelPieces;
 use crate::listing::PieceListing;
 use crate::placed::PlacedRead;
-use ch11_merge::{MergedChannel, PieceFault};
+use ch11_merge::{MergedChannel, MergedChannels, PieceFault};
 use std::alloc::Global;
 
 /// The sources of the pieces of all channels of a recording that is listed, the least channel first. The first
@@ -17,9 +17,9 @@ pub fn channel_sources<'f, F: PlacedRead>(
     alloc: Global,
     file: &'f F,
     listing: &'f PieceListing,
-) -> Result<Vec<MergedChannel<ChannelPieces<'f, F>>>, PieceFault>
+) -> Result<MergedChannels<ChannelPieces<'f, F>>, PieceFault>
     ensures { IfOk result (λ sources. IfSome (F.held file.entry.now) (λ bytes.
-        SayLeft source_left sources.items
+        SayLeft source_left sources
         (map (left_of bytes listing.entry.now) (listed_channels listing.entry.now)))) }
 {
     let channels = listing.channels(alloc)?;
@@ -29,5 +29,5 @@ pub fn channel_sources<'f, F: PlacedRead>(
         let source = ChannelPieces::new(alloc, file, listing.packets_of(channel))?;
         sources.push(MergedChannel { channel, source })?;
     }
-    Ok(sources)
+    MergedChannels::new(alloc, sources)
 }

@@ -11,7 +11,7 @@ use Rattle.std.proofs.lemmas.List.{append-nil, length-map, get_or-map}
 use Rattle.std.proofs.lemmas.List.Elements.{All-cons, All-rest, All-head}
 use Rattle.eth_frame.specs.Source.{Left}
 use Rattle.eth_frame.specs.declared.source.SourceEnding.{SourceEnding}
-use Rattle.rec_lane.specs.Offered.{OfferedFrame, frames_of, accepted, AllMet}
+use Rattle.rec_lane.specs.Offered.{OfferedFrame, frames_of, times_of, accepted, AllMet}
 use Rattle.rec_lane.specs.Pieces.{PieceData, channel_of, channel_pieces, ArePieces}
 use Rattle.rec_lane.specs.Settings.{spec_data}
 use Rattle.rec_writer.specs.Encoding.{writer_output}
@@ -20,7 +20,7 @@ use Rattle.rec_writer.specs.Writers.{WriterState, FinishFails}
 use Rattle.rec_writer.specs.declared.fault.WriteFault.{WriteFault}
 use Rattle.rec_writer.specs.declared.fault.WriteFault.TheVariants.{Output, Failed as FailedBefore}
 use Rattle.rec_run.specs.Writer.{shown}
-use Rattle.rec_run.specs.Endings.{EndsAs, IsOver}
+use Rattle.rec_run.specs.Endings.{EndsAs, TimesEndAs, IsOver}
 use Rattle.rec_run.specs.Endings.{IsOverThen, HasEnding, worker_ending_of}
 use Rattle.rec_run.specs.Jobs.{channels_of_jobs}
 use Rattle.rec_run.specs.Threads.{JoinedOf, AreOver, AreEnded}
@@ -66,7 +66,7 @@ module _ {S : Type 0} (left : S → Option Left) (failures : S → ℕ) (ended_a
     pub report : IsReport left failures ended_as job r channel
     pub id_is : channel.settings.channel ≡ job.spec.channel
     pub begins : BeginsChannel pieces channel
-    pub whole : j.remaining ≡ 0 → IsOverThen j.done.end → ArePieces channel.settings channel.frames channel.history
+    pub whole : j.remaining ≡ 0 → IsOverThen j.done.end → ArePieces channel.settings channel.frames channel.times channel.history
         (filter (is_of channel.settings.channel) pieces)
     pub over : IsOverThen j.done.end → IsOver r.ending
 
@@ -88,7 +88,7 @@ module _ {S : Type 0} (left : S → Option Left) (failures : S → ℕ) (ended_a
       let within : length ran.offered ≤ job.max = ran.within in
       let most = is.most in
       record {
-        channel = record { settings = spec_data job.spec; frames = frames_of ran.offered; history = h };
+        channel = record { settings = spec_data job.spec; frames = frames_of ran.offered; times = times_of ran.offered; history = h };
         report = record {
           settings_are = refl;
           settings_fit = is.settings;
@@ -99,6 +99,9 @@ module _ {S : Type 0} (left : S → Option Left) (failures : S → ℕ) (ended_a
           marks_are = tells.marks_are;
           channel_is = tells.channel_is ∙ of.channel_is;
           framed = ran.framed;
+          timed = length-map ran.offered (λ (f : OfferedFrame). f.times) ∙ sym long;
+          untimed = ran.untimed;
+          times_are = λ some. subst (λ x. TimesEndAs x (left job.source) (times_of ran.offered)) (sym ending) (ran.timed some);
           few_frames = omega (arith, long, within, most);
           offered_is = count ∙ sym long;
           within = omega (arith, within, count);
@@ -109,8 +112,8 @@ module _ {S : Type 0} (left : S → Option Left) (failures : S → ℕ) (ended_a
               (subst (λ x. EndsAs left failures ended_as x job.source j.done.source (frames_of ran.offered) job.max) (sym ending) ran.ends);
         };
         id_is = refl;
-        begins = (all, (ran.offered, met, refl, refl), begins_trans (filter (is_of job.spec.channel) pieces) of.sent all of.begins ran.begins);
-        whole = λ none over. (ran.offered, met, refl, sym (of.whole none ∙ ran.whole (subst (λ x. IsOverThen x) e.1 over)));
+        begins = (all, (ran.offered, met, refl, refl, refl), begins_trans (filter (is_of job.spec.channel) pieces) of.sent all of.begins ran.begins);
+        whole = λ none over. (ran.offered, met, refl, sym (of.whole none ∙ ran.whole (subst (λ x. IsOverThen x) e.1 over)), refl);
         over = λ over. subst (λ x. IsOver x) (sym tells.ending_is) (over_ending j.done.end over);
       }
 
@@ -121,7 +124,7 @@ module _ {S : Type 0} (left : S → Option Left) (failures : S → ℕ) (ended_a
     pub reports : AreReports left failures ended_as jobs rs channels
     pub ids : map (λ (c : RecordedChannel). c.settings.channel) channels ≡ channels_of_jobs jobs
     pub begin : All (BeginsChannel pieces) channels
-    pub whole : AreOver js → All (λ (c : RecordedChannel). ArePieces c.settings c.frames c.history (filter (is_of c.settings.channel) pieces)) channels
+    pub whole : AreOver js → All (λ (c : RecordedChannel). ArePieces c.settings c.frames c.times c.history (filter (is_of c.settings.channel) pieces)) channels
     pub over : AreOver js → All (λ (r : ChannelReport S). IsOver r.ending) rs
 
   none_of : {X : Type 0} (P : X → Type 0) → All P []
@@ -140,7 +143,7 @@ module _ {S : Type 0} (left : S → Option Left) (failures : S → ℕ) (ended_a
     reports = tt;
     ids = refl;
     begin = none_of (BeginsChannel pieces);
-    whole = λ over. none_of (λ (c : RecordedChannel). ArePieces c.settings c.frames c.history (filter (is_of c.settings.channel) pieces));
+    whole = λ over. none_of (λ (c : RecordedChannel). ArePieces c.settings c.frames c.times c.history (filter (is_of c.settings.channel) pieces));
     over =
         λ over. none_of (λ (r : ChannelReport S). IsOver r.ending);
   }
@@ -159,7 +162,8 @@ module _ {S : Type 0} (left : S → Option Left) (failures : S → ℕ) (ended_a
         begin = All-cons (BeginsChannel pieces) one.channel more.channels one.begins more.begin;
         whole = λ over.
             let here = head_of Over j js over in
-            All-cons (λ (c : RecordedChannel). ArePieces c.settings c.frames c.history (filter (is_of c.settings.channel) pieces)) one.channel more.channels
+            All-cons (λ (c : RecordedChannel). ArePieces c.settings c.frames c.times c.history (filter (is_of c.settings.channel) pieces))
+            one.channel more.channels
             (one.whole here.0 here.1) (more.whole (rest_of Over j js over));
         over = λ over. All-cons (λ (x : ChannelReport S). IsOver x.ending) r rs (one.over (head_of Over j js over).1) (more.over (rest_of Over j js over));
       }

@@ -1,14 +1,14 @@
 -- What a worker did in all.
-use Rattle.std.proofs.Common.{◌≡◌, ℕ, List, [], ◌++◌, Option, None, Some, refl, sym, ap, subst, ◌∙◌, arith, inl, inr}
+use Rattle.std.proofs.Common.{◌≡◌, ℕ, List, [], ◌∷◌, ◌++◌, map, Option, None, Some, refl, sym, ap, subst, ◌∙◌, arith, inl, inr}
 use Rattle.std.proofs.lemmas.List.{append-nil, append_assoc, map-append}
 use Rattle.eth_frame.specs.Frame.{FrameData}
-use Rattle.eth_frame.specs.Source.{Left}
+use Rattle.eth_frame.specs.Source.{Left, TimeMark, later_by}
 use Rattle.eth_frame.specs.declared.source.SourceEnding.{SourceEnding}
 use Rattle.eth_frame.specs.declared.source.SourceEnding.TheVariants.{Fault}
 use Rattle.eth_frame.specs.declared.source.SourceFault.{SourceFault as FaultOfSource}
 use Rattle.eth_frame.specs.declared.source.SourceFault.TheVariants.{Device}
 use Rattle.std.specs.Prelude.{◌⊎◌}
-use Rattle.rec_lane.specs.Offered.{OfferedFrame, frames_of}
+use Rattle.rec_lane.specs.Offered.{OfferedFrame, frames_of, times_of}
 use Rattle.rec_lane.specs.Parts.{BeginsList}
 use Rattle.rec_lane.specs.Pieces.{LaneSettings, PieceData, pieces_so_far, channel_pieces}
 use Rattle.rec_lane.specs.Lanes.{LaneState, HasMet, AreLeft, new_lane}
@@ -16,7 +16,7 @@ use Rattle.rec_lane.specs.Views.{piece_data, pieces_data}
 use Rattle.rec_lane.specs.declared.piece.Piece.{Piece}
 use Rattle.rec_lane.proofs.Beginnings.{begin_all}
 use Rattle.rec_run.specs.VersionsMet.{VersionMet}
-use Rattle.rec_run.specs.Endings.{AreFirst, AreAll, AreTaken, HasFailed, EndsAs, IsOver}
+use Rattle.rec_run.specs.Endings.{AreFirst, AreAll, AreTaken, AreTimesTaken, HasFailed, EndsAs, IsOver}
 use Rattle.rec_run.specs.WorkerRuns.{Going, Stopping, Ran, StopsAs, RanAs}
 use Rattle.rec_run.specs.Endings.{IsOverThen}
 use Rattle.rec_run.specs.WorkerThread.{SendsLast}
@@ -24,7 +24,7 @@ use Rattle.rec_run.specs.declared.ending.Ending.{Ending}
 use Rattle.rec_run.specs.declared.ending.Ending.TheVariants.{SourceEnd, SourceFault, Memory, CountFull, Stopped}
 use Rattle.rec_run.specs.declared.ending.WorkerEnd.{WorkerEnd}
 use Rattle.rec_run.specs.declared.ending.WorkerEnd.TheVariants.{Ended, Link, History}
-use Rattle.rec_run.proofs.Sources.{taken_first}
+use Rattle.rec_run.proofs.Sources.{taken_first, times_begin}
 use Rattle.rec_run.proofs.WorkerSteps.{begins_same}
 
 all_first : (before : Option Left) (frames : List FrameData) (ending : SourceEnding) → AreAll before frames ending → AreFirst before frames
@@ -68,6 +68,8 @@ module _ {S : Type 0} (left : S → Option Left) (failures : S → ℕ) (ended_a
           kept_is = s.stands.has_met.kept_is;
           begins = begins_same sent_then (channel_pieces lane.settings s.offered) is;
           whole = λ o. is;
+          untimed = s.untimed;
+          timed = s.timed;
         }
 
     sent_some : (ending : Ending) → IsOver ending → Stopping left failures ended_as ending max before after lane met sent → (given : List PieceData)
@@ -85,6 +87,8 @@ module _ {S : Type 0} (left : S → Option Left) (failures : S → ℕ) (ended_a
           kept_is = s.stands.has_met.kept_is;
           begins = subst (λ ps. BeginsList sent_then ps) is part;
           whole = λ never. absurd never;
+          untimed = s.untimed;
+          timed = λ some. times_begin ending (left before) (times_of s.offered) (s.timed some);
         }
 
     sent_none : (ending : Ending) → (¬ IsOver ending) → Stopping left failures ended_as ending max before after lane met sent → sent_then ≡ sent
@@ -100,6 +104,8 @@ module _ {S : Type 0} (left : S → Option Left) (failures : S → ℕ) (ended_a
           kept_is = s.stands.has_met.kept_is;
           begins = subst (λ ps. BeginsList ps (channel_pieces lane.settings s.offered)) (sym same) (begins_trans sent _ _ s.begins (so_far_begin s.offered));
           whole = λ over. absurd (not_over over);
+          untimed = s.untimed;
+          timed = s.timed;
         }
 
     finished : (stop end : WorkerEnd) → SendsLast lane stop end sent sent_then → StopsAs left failures ended_as stop max before after lane met sent
@@ -170,6 +176,16 @@ taken_none : (l : Option Left) → AreTaken l [] l
 taken_none None = tt
 taken_none (Some l) = (refl, refl)
 
+later_none : (marks : List TimeMark) → map (later_by 0) marks ≡ marks
+later_none [] = refl
+later_none (m ∷ ms) =
+    ap (λ k. let made : TimeMark = record { after = k; counter = m.counter } in made ∷ map (later_by 0) ms) (omega arith)
+    ∙ ap (λ ks. m ∷ ks) (later_none ms)
+
+times_none : (l : Option Left) → AreTimesTaken l [] l
+times_none None = tt
+times_none (Some l) = ([], sym (later_none l.times))
+
 pub starts : {S : Type 0} (left : S → Option Left) (failures : S → ℕ) (ended_as : S
     → Option SourceEnding) (source : S) (max : ℕ) (lane : LaneState) (settings : LaneSettings) (met : List VersionMet) (sent : List PieceData)
     → lane ≡ new_lane settings → met ≡ [] → sent ≡ [] → Going left failures ended_as max source source lane met sent
@@ -186,4 +202,6 @@ starts left failures ended_as source max lane settings met sent lane_is none_met
         last = none_met;
       };
       sent_is = none_sent;
+      untimed = λ none k d low. absurd (omega (arith, low));
+      timed = λ some. times_none (left source);
     })

@@ -8,17 +8,19 @@ use Rattle.bpf_machine.specs.Machine.{Runs}
 use Rattle.eth_frame.specs.Frame.{FrameData, view}
 use Rattle.rec_lane.specs.declared.piece.DataPiece.{DataPiece}
 use Rattle.rec_lane.specs.declared.piece.Piece.{Piece}
-use Rattle.rec_lane.specs.Offered.{OfferedFrame}
+use Rattle.rec_lane.specs.Offered.{OfferedFrame, noted_with}
 use Rattle.rec_lane.specs.Parts.{BeginsList}
 use Rattle.rec_lane.specs.Pieces.{PieceData, has_group_version as same_version_as, last_group, pieces_so_far}
-use Rattle.rec_lane.specs.Lanes.{LaneState, VersionProgram, HasMet, version_of, is_current, running, offered_now, Meets, MakesCertain}
+use Rattle.rec_lane.specs.Lanes.{LaneState, VersionProgram, HasMet, version_of, is_current, running, offered_now}
+use Rattle.rec_lane.specs.Lanes.{Meets, MakesCertain, MeetsTime, MakesCertainAt}
 use Rattle.rec_lane.specs.Views.{piece_data, pieces_data, packet_pieces}
 use Rattle.rec_lane.proofs.Parted.{last_on}
 use Rattle.rec_lane.proofs.Offering.{same_version, version_stays, first_last}
+use Rattle.rec_lane.proofs.Noting.{with_met, with_length}
 use Rattle.rec_run.specs.VersionsMet.{VersionMet}
-use Rattle.rec_run.specs.VersionsMet.{is_last_met, met_after}
+use Rattle.rec_run.specs.VersionsMet.{is_last_met, met_after, AreServed}
 use Rattle.rec_run.specs.WorkerSteps.{Offers}
-use Rattle.rec_run.specs.WorkerRuns.{IsLast, Stands, TakesOne}
+use Rattle.rec_run.specs.WorkerRuns.{IsLast, Stands, TakesOne, TakesMark}
 use Rattle.rec_run.proofs.VersionsServing.{known_more, last_more}
 
 -- ---- the version that the lane met last
@@ -97,6 +99,7 @@ module _ (old new : LaneState) (met met_then : List VersionMet) (frame : FrameDa
     then_stands before stands,
     ap (λ ps. pieces_data ps) went ∙ map-append piece_data sent given
         ∙ pieces_then old new before then_is (pieces_data sent) (pieces_data given) stands.has_met o.settings is o.makes,
+    refl,
   )
 
   pub takes_part : BeginsList sent_then (sent ++ given) → TakesOne old new met met_then (pieces_data sent) (pieces_data sent_then) frame BeginsList
@@ -109,6 +112,7 @@ module _ (old new : LaneState) (met met_then : List VersionMet) (frame : FrameDa
       sym (map-append piece_data sent_then part.0) ∙ ap (λ ps. pieces_data ps) part.1 ∙ map-append piece_data sent given
           ∙ pieces_then old new before then_is (pieces_data sent) (pieces_data given) stands.has_met o.settings is o.makes,
     ),
+    refl,
   )
 
 -- a frame of the version that was met last, with what became certain as pieces
@@ -149,3 +153,42 @@ later_offers old new met met_then frame version number value program given grown
   makes = makes;
   settings = settings;
 }
+
+-- ---- a time mark
+
+time_stands : (old new : LaneState) (met : List VersionMet) (offered : List OfferedFrame) (counter : ℕ) → MeetsTime old new counter
+    → new.current ≡ old.current → Stands old met offered → Stands new met (noted_with old.settings.span offered counter)
+time_stands old new met offered counter meets current stands =
+    let span = old.settings.span in
+    let count = with_length span offered counter in
+    record {
+      has_met = meets offered stands.has_met;
+      known = λ history served. with_met span history offered counter (stands.known history (subst (λ n. AreServed history n met) count served));
+      last = subst (λ c. IsLast c (length (noted_with span offered counter)) met) (sym current)
+          (subst (λ n. IsLast old.current n met) (sym count) stands.last);
+    }
+
+module _ (old new : LaneState) (met : List VersionMet) (counter : ℕ) (sent sent_then given : List Piece) (meets : MeetsTime old new counter)
+    (current : new.current ≡ old.current) (settings : new.settings ≡ old.settings) (makes : MakesCertainAt old counter (pieces_data given)) where
+  pieces_after : (offered : List OfferedFrame) → HasMet old offered → pieces_data sent ≡ pieces_so_far old.settings offered
+      → pieces_data (sent ++ given) ≡ pieces_so_far new.settings (noted_with old.settings.span offered counter)
+  pieces_after offered has is =
+      map-append piece_data sent given
+      ∙ (ap (λ ps. ps ++ pieces_data given) is
+      ∙ (sym (makes offered has) ∙ ap (λ s. pieces_so_far s (noted_with old.settings.span offered counter)) (sym settings)))
+
+  pub marks_whole : sent_then ≡ sent ++ given
+      → TakesMark old new met met (pieces_data sent) (pieces_data sent_then) counter (λ some all. some ≡ all)
+  marks_whole went = λ offered stands is. (
+    time_stands old new met offered counter meets current stands,
+    ap (λ ps. pieces_data ps) went ∙ pieces_after offered stands.has_met is,
+  )
+
+  pub marks_part : BeginsList sent_then (sent ++ given) → TakesMark old new met met (pieces_data sent) (pieces_data sent_then) counter BeginsList
+  marks_part part = λ offered stands is. (
+    time_stands old new met offered counter meets current stands,
+    (
+      pieces_data part.0,
+      sym (map-append piece_data sent_then part.0) ∙ ap (λ ps. pieces_data ps) part.1 ∙ pieces_after offered stands.has_met is,
+    ),
+  )

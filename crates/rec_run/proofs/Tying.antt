@@ -57,7 +57,8 @@ module _ {S : Type 0} (left : S → Option Left) (failures : S → ℕ) (ended_a
   abbrev HasChanged : Job S → ChannelReport S → Type 0
   HasChanged job r = IsChanged job.spec.channel (arc_value job.program) (history_of r) changes answers
 
-  of_spec : (job : Job S) (r : ChannelReport S) (c : RecordedChannel) → IsReport left failures ended_as job r c → HasChanged job r → IsOfSpec (core_spec job) c
+  of_spec : (job : Job S) (r : ChannelReport S) (c : RecordedChannel) → IsReport left failures ended_as job r c → HasChanged job r
+      → IsOfSpec (core_spec job) c
   of_spec job r c report changed =
       let first : slice_get (programs_in c.history) 0 ≡ Some (arc_value job.program) =
       ap (λ h. slice_get (programs_in h) 0) report.history_is ∙ (ap (λ ps. slice_get ps 0) changed.programs_are
@@ -68,6 +69,7 @@ module _ {S : Type 0} (left : S → Option Left) (failures : S → ℕ) (ended_a
         past = subst (λ n. IsHistory n c.history) report.offered_is report.history;
         within = subst (λ n. n ≤ job.max) report.offered_is report.within;
         few = report.few;
+        untimed = report.untimed;
       }
 
   of_specs : (jobs : List (Job S)) (rs : List (ChannelReport S)) (cs : List RecordedChannel) → AreReports left failures ended_as jobs rs cs
@@ -77,7 +79,10 @@ module _ {S : Type 0} (left : S → Option Left) (failures : S → ℕ) (ended_a
   of_specs [] (r ∷ rs) cs reports changed = absurd reports
   of_specs (job ∷ jobs) [] cs reports changed = absurd reports
   of_specs (job ∷ jobs) (r ∷ rs) [] reports changed = absurd reports
-  of_specs (job ∷ jobs) (r ∷ rs) (c ∷ cs) reports changed = (of_spec job r c reports.0 changed.0, of_specs jobs rs cs reports.1 changed.1)
+  of_specs (job ∷ jobs) (r ∷ rs) (c ∷ cs) reports changed = (
+    of_spec job r c reports.0 changed.0,
+    of_specs jobs rs cs reports.1 changed.1,
+  )
 
 -- ---- the recording
 

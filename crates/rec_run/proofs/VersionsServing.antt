@@ -99,6 +99,7 @@ one_more : (current : Option VersionProgram) (met : List VersionMet) (offered : 
       version = version;
       program = running current version program;
       value = value;
+      times = [];
     })
 one_more None met offered frame version value number program count last ran history served =
     let served_one : AreServed history (number + 1) (met ++ record { version = version; first = number; program = program } ∷ []) =
@@ -161,9 +162,10 @@ pub known_more : (current : Option VersionProgram) (met : List VersionMet) (offe
       version = version;
       program = running current version program;
       value = value;
+      times = [];
     } ∷ [])
 known_more current met offered frame version value number program count last ran known = λ history served.
-    let f : OfferedFrame = record { number = number; frame = frame; version = version; program = running current version program; value = value } in
+    let f : OfferedFrame = record { number = number; frame = frame; version = version; program = running current version program; value = value; times = [] } in
     let n : length (offered ++ f ∷ []) ≡ number + 1 = (let l : length (offered ++ f ∷ []) ≡ length offered + 1 = length-append offered (f ∷ []) in
     omega (arith, l, count)) in
     let one = one_more current met offered frame version value number program count last ran history

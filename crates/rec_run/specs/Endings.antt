@@ -1,7 +1,7 @@
 -- How a channel ends, and what its ending says of its source and of the frames that were taken from it.
-use Rattle.std.specs.Prelude.{ℕ, ◌≡◌, ◌<◌, ◌⊎◌, List, ◌++◌, length, Option, Some, IfSome, IsSomeAnd}
+use Rattle.std.specs.Prelude.{ℕ, ◌+◌, ◌≡◌, ◌<◌, ◌⊎◌, List, [], ◌∷◌, ◌++◌, length, map, Option, Some, IfSome, IsSomeAnd}
 use Rattle.eth_frame.specs.Frame.{FrameData}
-use Rattle.eth_frame.specs.Source.{Left}
+use Rattle.eth_frame.specs.Source.{Left, TimeMark, later_by}
 use Rattle.eth_frame.specs.declared.source.SourceEnding.{SourceEnding}
 use Rattle.eth_frame.specs.declared.source.SourceEnding.TheVariants.{End, Fault}
 use Rattle.eth_frame.specs.declared.source.SourceFault.TheVariants.{Device}
@@ -30,6 +30,34 @@ abbrev pub AreTaken : Option Left → List FrameData → Option Left → Type 0
 AreTaken before frames after =
     IfSome before (λ l. IsSomeAnd after (λ rest.
     (l.frames ≡ frames ++ rest.frames) × (l.ending ≡ rest.ending)))
+
+-- the time marks before the first frame that is taken, and then those after each frame
+abbrev pub marks_from : ℕ → List (List ℕ) → List TimeMark
+marks_from after [] = []
+marks_from after (ts ∷ more) =
+    map (λ counter. record { after = after; counter = counter }) ts ++ marks_from (after + 1) more
+
+-- .. it said these time marks after each of the frames, maybe some before them, and then what it says
+-- now
+abbrev pub AreTimesTaken : Option Left → List (List ℕ) → Option Left → Type 0
+AreTimesTaken before times after =
+    IfSome before (λ l. IsSomeAnd after (λ rest. (early : List ℕ)
+    × (l.times ≡ marks_from 0 (early ∷ times) ++ map (later_by (length times)) rest.times)))
+
+-- .. it said these time marks after each of the frames first
+abbrev pub AreFirstTimes : Option Left → List (List ℕ) → Type 0
+AreFirstTimes before times =
+    IfSome before (λ l. (early : List ℕ) × BeginsList (marks_from 0 (early ∷ times)) l.times)
+
+-- .. it said these time marks after each of the frames and no others, but maybe some before the first
+abbrev pub AreAllTimes : Option Left → List (List ℕ) → Type 0
+AreAllTimes before times =
+    IfSome before (λ l. (early : List ℕ) × (l.times ≡ marks_from 0 (early ∷ times)))
+
+-- .. and as this ending has it, these are all of them, or the first
+abbrev pub TimesEndAs : Ending → Option Left → List (List ℕ) → Type 0
+TimesEndAs SourceEnd before times = AreAllTimes before times
+TimesEndAs ending before times = AreFirstTimes before times
 
 -- .. it said these frames and no others, and then this ending
 abbrev pub AreAll : Option Left → List FrameData → SourceEnding → Type 0

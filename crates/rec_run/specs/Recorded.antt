@@ -33,7 +33,7 @@ IsCutOf version pieces (p ∷ q ∷ ps) cut = ⊥
 abbrev pub BeginsChannel : List PieceData → RecordedChannel → Type 0
 BeginsChannel taken c =
     (all : List PieceData)
-    × ArePieces c.settings c.frames c.history all
+    × ArePieces c.settings c.frames c.times c.history all
     × BeginsList (filter (is_of c.settings.channel) taken) all
 
 module _ {S : Type 0}

@@ -1,5 +1,5 @@
 -- What the report of a channel says of its job.
-use Rattle.std.specs.Prelude.{ℕ, List, map, ◌≡◌, ◌<◌, ◌≤◌, ◌^◌, [], ◌∷◌, length, All, Option}
+use Rattle.std.specs.Prelude.{ℕ, List, map, ◌≡◌, ◌<◌, ◌≤◌, ◌^◌, [], ◌∷◌, length, All, Option, None, IsSome}
 use Rattle.std.specs.Arc.{arc_value}
 use Rattle.std.specs.declared.sync.Arc.{Arc}
 use Rattle.std.specs.declared.alloc.Global.{Global}
@@ -10,10 +10,10 @@ use Rattle.eth_frame.specs.Frame.{FrameData, IsFrame}
 use Rattle.eth_frame.specs.Source.{Left}
 use Rattle.eth_frame.specs.declared.source.SourceEnding.{SourceEnding}
 use Rattle.rec_channel.specs.declared.limits.TheConstants.{MAX_VERSIONS}
-use Rattle.rec_lane.specs.Offered.{AreAccepted}
+use Rattle.rec_lane.specs.Offered.{AreAccepted, AreUntimed}
 use Rattle.rec_lane.specs.Settings.{spec_data}
 use Rattle.rec_writer.specs.Recording.{RecordedChannel}
-use Rattle.rec_run.specs.Endings.{EndsAs, worker_ending_of}
+use Rattle.rec_run.specs.Endings.{EndsAs, TimesEndAs, worker_ending_of}
 use Rattle.rec_run.specs.Control.{AreAnswered}
 use Rattle.rec_run.specs.Jobs.{AreLaneSettings}
 use Rattle.rec_run.specs.VersionsMet.{AreServed}
@@ -68,6 +68,11 @@ module _ {S : Type 0}
     pub marks_are : r.marks.items ≡ marks_in channel.history
     pub channel_is : r.channel ≡ job.spec.channel
     pub framed : All IsFrame channel.frames
+    -- each has its time marks, of which there are none where packets have no span
+    pub timed : length channel.times ≡ length channel.frames
+    pub untimed : channel.settings.span ≡ None → AreUntimed channel.times
+    pub times_are : IsSome channel.settings.span
+        → TimesEndAs r.ending (left job.source) channel.times
     pub few_frames : length channel.frames < 2 ^ 64
     pub offered_is : r.offered ≡ length channel.frames
     pub within : r.offered ≤ job.max

@@ -1,16 +1,16 @@
 -- What a worker did with the frames of its source.
-use Rattle.std.specs.Prelude.{ℕ, ◌≡◌, ◌≤◌, List, [], ◌∷◌, ◌++◌, length, map, All, Option, None, Some}
+use Rattle.std.specs.Prelude.{ℕ, ◌≡◌, ◌≤◌, List, [], ◌∷◌, ◌++◌, length, map, All, Option, None, Some, IsSome}
 use Rattle.std.specs.Arc.{arc_value}
 use Rattle.eth_frame.specs.Frame.{FrameData, IsFrame}
 use Rattle.eth_frame.specs.Source.{Left}
 use Rattle.eth_frame.specs.declared.source.SourceEnding.{SourceEnding}
 use Rattle.rec_channel.specs.History.{Version}
-use Rattle.rec_lane.specs.Offered.{OfferedFrame, frames_of, accepted, AllMet}
+use Rattle.rec_lane.specs.Offered.{OfferedFrame, frames_of, times_of, noted_with, AreUntimed, accepted, AllMet}
 use Rattle.rec_lane.specs.Parts.{BeginsList}
 use Rattle.rec_lane.specs.Pieces.{LaneSettings, PieceData, pieces_so_far, channel_pieces}
 use Rattle.rec_lane.specs.Lanes.{LaneState, VersionProgram, HasMet}
 use Rattle.rec_run.specs.VersionsMet.{VersionMet, AreServed}
-use Rattle.rec_run.specs.Endings.{EndsAs, AreTaken, IsOver}
+use Rattle.rec_run.specs.Endings.{EndsAs, AreTaken, AreTimesTaken, TimesEndAs, IsOver}
 use Rattle.rec_run.specs.declared.worker.versions.MetVersion.{MetVersion}
 use Rattle.rec_run.specs.declared.ending.Ending.{Ending}
 use Rattle.rec_run.specs.declared.ending.WorkerEnd.{WorkerEnd}
@@ -42,6 +42,10 @@ pub record Stands (lane : LaneState) (met : List VersionMet) (offered : List Off
   pub known : AreKnown met offered
   pub last : IsLast lane.current (length offered) met
 
+-- where packets have no span, no time mark is noted
+abbrev pub HasNoTimes : LaneSettings → List OfferedFrame → Type 0
+HasNoTimes settings offered = settings.span ≡ None → AreUntimed (times_of offered)
+
 module _ {S : Type 0}
     (left : S → Option Left) (failures : S → ℕ) (ended_as : S → Option SourceEnding) where
   -- a worker that goes on, since its source was as before: the frames that it took, and the pieces
@@ -56,6 +60,9 @@ module _ {S : Type 0}
     pub within : length offered ≤ max
     pub stands : Stands lane met offered
     pub sent_is : sent ≡ pieces_so_far lane.settings offered
+    pub untimed : HasNoTimes lane.settings offered
+    pub timed : IsSome lane.settings.span
+        → AreTimesTaken (left before) (times_of offered) (left after)
 
   -- a worker whose channel ended so
   pub record Stopping
@@ -68,6 +75,8 @@ module _ {S : Type 0}
     pub stands : Stands lane met offered
     pub begins : BeginsList sent (pieces_so_far lane.settings offered)
     pub whole : IsOver ending → sent ≡ pieces_so_far lane.settings offered
+    pub untimed : HasNoTimes lane.settings offered
+    pub timed : IsSome lane.settings.span → TimesEndAs ending (left before) (times_of offered)
 
   -- a worker that came to this end
   abbrev pub StopsAs :
@@ -90,6 +99,8 @@ module _ {S : Type 0}
     pub kept_is : kept ≡ length (accepted offered)
     pub begins : BeginsList sent (channel_pieces settings offered)
     pub whole : IsOver ending → sent ≡ channel_pieces settings offered
+    pub untimed : HasNoTimes settings offered
+    pub timed : IsSome settings.span → TimesEndAs ending (left before) (times_of offered)
 
   -- what a worker did in all that came to this end
   abbrev pub RanAs :
@@ -108,4 +119,15 @@ TakesOne old new met met_then sent sent_then frame AreSent =
     (offered : List OfferedFrame) → Stands old met offered
     → sent ≡ pieces_so_far old.settings offered
     → (f : OfferedFrame) × (f.frame ≡ frame) × Stands new met_then (offered ++ f ∷ [])
-    × AreSent sent_then (pieces_so_far new.settings (offered ++ f ∷ []))
+    × AreSent sent_then (pieces_so_far new.settings (offered ++ f ∷ [])) × (f.times ≡ [])
+
+-- the lane met this time mark more, and these are the versions met and the pieces sent then
+abbrev pub TakesMark :
+    (old new : LaneState) → (met met_then : List VersionMet) → (sent sent_then : List PieceData)
+    → (counter : ℕ) → (List PieceData → List PieceData → Type 0) → Type 0
+TakesMark old new met met_then sent sent_then counter AreSent =
+    (offered : List OfferedFrame) → Stands old met offered
+    → sent ≡ pieces_so_far old.settings offered
+    → Stands new met_then (noted_with old.settings.span offered counter)
+    × AreSent sent_then
+    (pieces_so_far new.settings (noted_with old.settings.span offered counter))

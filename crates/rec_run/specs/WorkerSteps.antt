@@ -14,7 +14,7 @@ use Rattle.eth_frame.specs.Source.{Left}
 use Rattle.eth_frame.specs.declared.source.SourceEnding.{SourceEnding}
 use Rattle.rec_lane.specs.Parts.{BeginsList}
 use Rattle.rec_lane.specs.Views.{pieces_data}
-use Rattle.rec_run.specs.WorkerRuns.{versions_met, Going, StopsAs, TakesOne}
+use Rattle.rec_run.specs.WorkerRuns.{versions_met, Going, StopsAs, TakesOne, TakesMark}
 use Rattle.rec_run.specs.declared.worker.Worker.{Worker}
 
 -- the worker gives up
@@ -67,6 +67,16 @@ module _ {S : Type 0} where
       × (TakesOne old.lane new.lane (met_by old) (met_by new) (sent_by old) (sent_by new) frame
       BeginsList
       ⊎ ((new.lane ≡ old.lane) × (met_by new ≡ met_by old) × (sent_by new ≡ sent_by old))))
+
+  -- the worker was to take this time mark: it did, or it gave up after that
+  abbrev pub RecordsTime : Worker S → Worker S → (counter : ℕ) → Option WorkerEnd → Type 0
+  RecordsTime old new counter result =
+      MatchOption result
+      (TakesMark old.lane new.lane (met_by old) (met_by new) (sent_by old) (sent_by new) counter
+      (λ some all. some ≡ all))
+      (λ end. IsStop end
+      × TakesMark old.lane new.lane (met_by old) (met_by new) (sent_by old) (sent_by new) counter
+      BeginsList)
 
 module _ {S : Type 0}
     (left : S → Option Left) (failures : S → ℕ) (ended_as : S → Option SourceEnding) where

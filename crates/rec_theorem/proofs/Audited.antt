@@ -132,7 +132,7 @@ named_all P (q ∷ qs) (p ∷ ps) all holds =
 
 -- the channel's end is there, and its counts are right
 closes_channel : (packets : List PacketData) (pieces : List PieceData) (c : RecordedChannel) → AllReflect packets pieces → IsRecordable c
-    → ArePieces c.settings c.frames c.history (filter (is_of c.settings.channel) pieces) → Closes packets c.settings.channel None
+    → ArePieces c.settings c.frames c.times c.history (filter (is_of c.settings.channel) pieces) → Closes packets c.settings.channel None
 closes_channel packets pieces c all is are =
     let channel = c.settings.channel in
     let offered = are.0 in
@@ -155,18 +155,19 @@ closes_channel packets pieces c all is are =
 module _ (channels : List RecordedChannel) (packets : List PacketData) (pieces : List PieceData) (all : AllReflect packets pieces)
     (are : AreRecordable channels) (of : AreOfChannels channels pieces) where
   -- what holds of each channel's ID holds of that of each piece
-  each_piece : (P : ℕ → Type 0) → ((c : RecordedChannel) → IsRecordable c → ArePieces c.settings c.frames c.history (filter (is_of c.settings.channel) pieces)
+  each_piece : (P : ℕ → Type 0) → ((c : RecordedChannel) → IsRecordable c
+      → ArePieces c.settings c.frames c.times c.history (filter (is_of c.settings.channel) pieces)
       → P c.settings.channel) → All (λ (p : PieceData). P (channel_of p)) pieces
   each_piece P holds = λ k d within.
       let piece = get_or pieces k d in
-      let each = All_with IsRecordable (λ (c : RecordedChannel). ArePieces c.settings c.frames c.history (filter (is_of c.settings.channel) pieces))
+      let each = All_with IsRecordable (λ (c : RecordedChannel). ArePieces c.settings c.frames c.times c.history (filter (is_of c.settings.channel) pieces))
       (λ (c : RecordedChannel). P c.settings.channel) holds channels are of.each in
       let c = found_among (λ (x : RecordedChannel). P x.settings.channel) (λ (x : RecordedChannel). x.settings.channel ≡ channel_of piece) channels each
       (of.named k d within) in
       subst P c.2 c.1
 
   -- the pieces of a recorded channel pass among themselves
-  channel_pass : (c : RecordedChannel) → IsRecordable c → ArePieces c.settings c.frames c.history (filter (is_of c.settings.channel) pieces)
+  channel_pass : (c : RecordedChannel) → IsRecordable c → ArePieces c.settings c.frames c.times c.history (filter (is_of c.settings.channel) pieces)
       → PassFrom None (filter (is_of c.settings.channel) pieces)
   channel_pass c is pieces_are = subst (PassFrom None) pieces_are.3
       (channel_passes c.settings c.history (length c.frames) pieces_are.0 pieces_are.1 (all_known c pieces_are.0 is pieces_are.1 pieces_are.2))

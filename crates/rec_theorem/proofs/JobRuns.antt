@@ -94,6 +94,7 @@ module _ {S : Type 0} (left : S → Option Left) (failures : S → ℕ) (ended_a
     settings = report.settings_fit;
     framed = report.framed;
     few_frames = report.few_frames;
+    timed = report.timed;
     history = subst (λ n. IsHistory n c.history) report.offered_is report.history;
     few_versions = report.few;
   }

@@ -19,10 +19,10 @@ use Rattle.ch11_packet.specs.FramesRead.{body_frame}
 use Rattle.rec_channel.specs.History.{Version}
 use Rattle.rec_channel.specs.Slots.{programs_in}
 use Rattle.rec_lane.specs.Offered.{OfferedFrame, MetFrom, AllMet, accepted, is_accepted}
-use Rattle.rec_lane.specs.Packets.{packets}
-use Rattle.rec_lane.specs.Pieces.{LaneSettings, PieceData, groups, has_group_version, AreGroups, data_piece, group_pieces, end_piece, channel_pieces}
+use Rattle.rec_lane.specs.Pieces.{LaneSettings, PieceData, groups, has_group_version, AreGroups, data_piece, group_packets}
+use Rattle.rec_lane.specs.Pieces.{group_pieces, end_piece, channel_pieces}
 use Rattle.rec_lane.specs.Pieces.PieceData.{OfProgram, OfFrames, OfEnd}
-use Rattle.rec_lane.proofs.Contents.{parts_whole}
+use Rattle.rec_lane.proofs.Contents.{parts_whole, group_whole}
 use Rattle.rec_lane.proofs.Groups.{groups_are}
 use Rattle.rec_lane.proofs.FramesMet.{some_is}
 use Rattle.rec_reader.specs.declared.audits.channel.ChannelProgram.{ChannelProgram}
@@ -188,8 +188,8 @@ groups_pass s history count number last frames ((f ∷ fs) ∷ gs) more are met 
     let one = All_with (IsKnown history count) (λ (x : OfferedFrame). x.version ≡ are.1.version) (λ (x : OfferedFrame). IsKnown history count x
     × (x.program ≡ f.program))
     (λ x a b. (a, same_program history count f x first a (b ∙ sym version_is))) (f ∷ fs) group are.1.same in
-    let ps = packets s.limit (accepted (f ∷ fs)) in
-    let accepts = All_parts (AcceptsRead s f.program) ps (subst (All (AcceptsRead s f.program)) (sym (parts_whole _ (accepted (f ∷ fs))))
+    let ps = group_packets s (f ∷ fs) in
+    let accepts = All_parts (AcceptsRead s f.program) ps (subst (All (AcceptsRead s f.program)) (sym (group_whole s (f ∷ fs)))
     (group_accepts s history count f.program (f ∷ fs) one)) in
     let next = met_back history number (f ∷ fs) rest begins in
     let goes_next = goes_on history count number are.1.version f fs rest version_is first begins.0 are.1.ended next later in
@@ -230,13 +230,13 @@ no_programs_packed s (p ∷ ps) = no_programs_packed s ps
 
 -- a group has no end, and its one program
 group_ends : (s : LaneSettings) (g : List OfferedFrame) → flat_map ends_by (group_pieces s g) ≡ []
-group_ends s [] = no_ends_packed s (packets s.limit (accepted []))
-group_ends s (f ∷ fs) = no_ends_packed s (packets s.limit (accepted (f ∷ fs)))
+group_ends s [] = no_ends_packed s (group_packets s [])
+group_ends s (f ∷ fs) = no_ends_packed s (group_packets s (f ∷ fs))
 
 group_programs : (s : LaneSettings) (g : List OfferedFrame) → flat_map programs_by (group_pieces s g) ≡ group_program g
 unfolding group_program
-group_programs s [] = no_programs_packed s (packets s.limit (accepted []))
-group_programs s (f ∷ fs) = ap (λ ps. program_in f ∷ ps) (no_programs_packed s (packets s.limit (accepted (f ∷ fs))))
+group_programs s [] = no_programs_packed s (group_packets s [])
+group_programs s (f ∷ fs) = ap (λ ps. program_in f ∷ ps) (no_programs_packed s (group_packets s (f ∷ fs)))
 
 -- so groups have no end, and the program of each
 groups_end : (s : LaneSettings) (gs : List (List OfferedFrame)) → flat_map ends_by (flat_map (group_pieces s) gs) ≡ []

@@ -7,9 +7,8 @@ use Rattle.std.proofs.lemmas.List.Elements.{All-nil, All-cons, All-head, All-tai
 use Rattle.eth_frame.specs.Frame.{FrameData}
 use Rattle.ch11_packet.specs.FramesRead.{body_frame}
 use Rattle.rec_lane.specs.Offered.{OfferedFrame, accepted}
-use Rattle.rec_lane.specs.Packets.{packets}
 use Rattle.rec_lane.specs.Pieces.{LaneSettings, PieceData, channel_of, piece_frames, groups, program_piece}
-use Rattle.rec_lane.specs.Pieces.{data_piece, group_pieces, end_piece, channel_pieces, ArePieces}
+use Rattle.rec_lane.specs.Pieces.{data_piece, group_packets, group_pieces, end_piece, channel_pieces, ArePieces}
 use Rattle.rec_lane.proofs.Contents.{pieces_frames}
 use Rattle.rec_writer.specs.Recording.{RecordedChannel, AreOfChannels, is_of}
 use Rattle.rec_reader.specs.Packets.{PacketData}
@@ -49,7 +48,8 @@ module _ (P : PieceData → Type 0) (channels : List RecordedChannel) (pieces : 
       All_passing (is_of c.0.settings.channel) P pieces c.1 k d within (eq-eqb (channel_of piece) c.0.settings.channel (sym c.2))
 
 -- all pieces of a channel that can be recorded are writable
-pub writable_channel : (c : RecordedChannel) (pieces : List PieceData) → IsRecordable c → ArePieces c.settings c.frames c.history pieces → All IsWritable pieces
+pub writable_channel : (c : RecordedChannel) (pieces : List PieceData) → IsRecordable c → ArePieces c.settings c.frames c.times c.history pieces
+    → All IsWritable pieces
 writable_channel c pieces is are = subst (All IsWritable) are.3 (all_writable c are.0 is are.1 are.2)
 
 -- each piece is of some channel, and stands among its pieces
@@ -57,7 +57,7 @@ pub writable_pieces : (channels : List RecordedChannel) (pieces : List PieceData
     → All IsWritable pieces
 writable_pieces channels pieces are of =
     All_pieces IsWritable channels pieces
-    (All_with IsRecordable (λ (c : RecordedChannel). ArePieces c.settings c.frames c.history (filter (is_of c.settings.channel) pieces))
+    (All_with IsRecordable (λ (c : RecordedChannel). ArePieces c.settings c.frames c.times c.history (filter (is_of c.settings.channel) pieces))
     (λ (c : RecordedChannel). All IsWritable (filter (is_of c.settings.channel) pieces))
     (λ c is pieces_are. writable_channel c (filter (is_of c.settings.channel) pieces) is pieces_are) channels are of.each)
     of.named
@@ -83,8 +83,8 @@ groups_read : (s : LaneSettings) (gs : List (List OfferedFrame)) → All (ReadsA
 groups_read s [] = All-nil (ReadsAs s)
 groups_read s (g ∷ gs) =
     All-append (ReadsAs s) (group_pieces s g) (flat_map (group_pieces s) gs)
-    (All-append (ReadsAs s) (program_piece s g) (map (data_piece s) (packets s.limit (accepted g))) (program_reads s g)
-    (packets_read s (packets s.limit (accepted g))))
+    (All-append (ReadsAs s) (program_piece s g) (map (data_piece s) (group_packets s g)) (program_reads s g)
+    (packets_read s (group_packets s g)))
     (groups_read s gs)
 
 -- and all pieces of a channel
@@ -108,7 +108,7 @@ channel_read s offered = read_as s (channel_pieces s offered) (pieces_read s off
 
 -- packets that reflect the pieces of a recording have the accepted frames of each channel
 has_accepted : (packets : List PacketData) (pieces : List PieceData) (c : RecordedChannel) → AllReflect packets pieces
-    → ArePieces c.settings c.frames c.history (filter (is_of c.settings.channel) pieces) → HasAccepted packets c
+    → ArePieces c.settings c.frames c.times c.history (filter (is_of c.settings.channel) pieces) → HasAccepted packets c
 has_accepted packets pieces c all are = record {
   kept = accepted are.0;
   accepted = (are.0, are.1, are.2, refl);
@@ -119,7 +119,7 @@ has_accepted packets pieces c all are = record {
 pub have_accepted : (packets : List PacketData) (pieces : List PieceData) (channels : List RecordedChannel) → AllReflect packets pieces
     → AreOfChannels channels pieces → All (HasAccepted packets) channels
 have_accepted packets pieces channels all of =
-    All-weaker (λ (c : RecordedChannel). ArePieces c.settings c.frames c.history (filter (is_of c.settings.channel) pieces)) (HasAccepted packets)
+    All-weaker (λ (c : RecordedChannel). ArePieces c.settings c.frames c.times c.history (filter (is_of c.settings.channel) pieces)) (HasAccepted packets)
     (λ c are. has_accepted packets pieces c all are) channels of.each
 
 -- ---- other channels

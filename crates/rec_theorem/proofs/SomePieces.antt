@@ -1,13 +1,13 @@
 -- Channels side by side have pieces: those of the first channel, then those of the next, and so on.
 use Rattle.std.proofs.Common.{ℕ, suc, ◌≡◌, ◌≢◌, List, [], ◌∷◌, ◌++◌, All, refl, sym, ◌∙◌, ap, subst, arith, cond, eq-eqb}
-use Rattle.std.specs.Prelude.{AllPairs, length}
+use Rattle.std.specs.Prelude.{length}
 use Rattle.std.specs.List.{filter, Any}
 use Rattle.std.proofs.lemmas.Bool.{ne_eqb}
 use Rattle.std.proofs.lemmas.List.{append-nil, length-map, get_or-map}
 use Rattle.std.proofs.lemmas.List.Elements.{All-nil, All-cons, All-head, All-tail, All-append, All-weaker, filter-append}
 use Rattle.eth_frame.specs.Frame.{FrameData}
 use Rattle.rec_channel.specs.History.{Version, IsHistory}
-use Rattle.rec_lane.specs.Offered.{OfferedFrame, AllMet, frames_of}
+use Rattle.rec_lane.specs.Offered.{OfferedFrame, AllMet, frames_of, times_of}
 use Rattle.rec_lane.specs.Pieces.{PieceData, channel_of, channel_pieces, ArePieces}
 use Rattle.rec_writer.specs.Numbers.{AreDistinctChannels}
 use Rattle.rec_writer.specs.Recording.{RecordedChannel, is_of, AreOfChannels}
@@ -18,20 +18,25 @@ use Rattle.rec_theorem.proofs.JoinedLists.{All_with}
 
 -- frames of a history meet some versions
 abbrev pub SomeOffered : Type 0
-SomeOffered = (count : ℕ) (history : List Version) (frames : List FrameData) → IsHistory count history
-    → (offered : List OfferedFrame) × AllMet history offered × (frames_of offered ≡ frames)
+SomeOffered = (count : ℕ) (history : List Version) (frames : List FrameData) (times : List (List ℕ)) → IsHistory count history
+    → length times ≡ length frames
+    → (offered : List OfferedFrame) × AllMet history offered × (frames_of offered ≡ frames) × (times_of offered ≡ times)
 
 -- ---- one channel
 
 record Own (c : RecordedChannel) : Type 0 where
   pieces : List PieceData
-  are : ArePieces c.settings c.frames c.history pieces
+  are : ArePieces c.settings c.frames c.times c.history pieces
   own : All (λ (p : PieceData). channel_of p ≡ c.settings.channel) pieces
 
 own_pieces : SomeOffered → OfTheirChannel → (c : RecordedChannel) → IsRecordable c → Own c
 own_pieces some theirs c is =
-    let offered = some (length c.frames) c.history c.frames is.history in
-    record { pieces = channel_pieces c.settings offered.0; are = (offered.0, offered.1, offered.2, refl); own = theirs c.settings offered.0 }
+    let offered = some (length c.frames) c.history c.frames c.times is.history is.timed in
+    record {
+      pieces = channel_pieces c.settings offered.0;
+      are = (offered.0, offered.1, offered.2, refl, offered.3);
+      own = theirs c.settings offered.0;
+    }
 
 -- ---- which of the pieces are of a channel
 
@@ -60,7 +65,7 @@ module _ (c : RecordedChannel) (cs : List RecordedChannel) (own : Own c) (rest :
   Named p = Any (λ (d : RecordedChannel). d.settings.channel ≡ channel_of p) (c ∷ cs)
 
   abbrev Each : RecordedChannel → Type 0
-  Each d = ArePieces d.settings d.frames d.history (filter (is_of d.settings.channel) both)
+  Each d = ArePieces d.settings d.frames d.times d.history (filter (is_of d.settings.channel) both)
 
   -- pieces of the other channels are none of this one
   others : All (λ (p : PieceData). channel_of p ≢ c.settings.channel) rest
@@ -88,10 +93,10 @@ module _ (c : RecordedChannel) (cs : List RecordedChannel) (own : Own c) (rest :
         (All-weaker (λ (p : PieceData). channel_of p ≡ c.settings.channel) Named (λ p e. (0, c, omega arith, refl, sym e)) own.pieces own.own)
         (All-weaker (λ (p : PieceData). Any (λ (d : RecordedChannel). d.settings.channel ≡ channel_of p) cs) Named
         (λ p any. (let within = any.2 in (suc any.0, any.1, omega (arith, within), any.3, any.4))) rest of.named);
-    each = All-cons Each c cs (subst (ArePieces c.settings c.frames c.history) (sym here) own.are)
+    each = All-cons Each c cs (subst (ArePieces c.settings c.frames c.times c.history) (sym here) own.are)
         (All_with (λ (d : RecordedChannel). d.settings.channel ≢ c.settings.channel)
-        (λ (d : RecordedChannel). ArePieces d.settings d.frames d.history (filter (is_of d.settings.channel) rest)) Each
-        (λ d differs are. subst (ArePieces d.settings d.frames d.history) (sym (there d differs)) are) cs apart of.each);
+        (λ (d : RecordedChannel). ArePieces d.settings d.frames d.times d.history (filter (is_of d.settings.channel) rest)) Each
+        (λ d differs are. subst (ArePieces d.settings d.frames d.times d.history) (sym (there d differs)) are) cs apart of.each);
   }
 
 -- ---- all channels
@@ -112,7 +117,7 @@ some_pieces some theirs [] are distinct = (
     named =
         All-nil (λ (p : PieceData). Any (λ (d : RecordedChannel). d.settings.channel ≡ channel_of p) []);
     each =
-        All-nil (λ (d : RecordedChannel). ArePieces d.settings d.frames d.history []);
+        All-nil (λ (d : RecordedChannel). ArePieces d.settings d.frames d.times d.history []);
   },
 )
 some_pieces some theirs (c ∷ cs) are distinct =

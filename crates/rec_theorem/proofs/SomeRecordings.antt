@@ -11,7 +11,7 @@ use Rattle.bpf_insn.specs.Forms.{form}
 use Rattle.bpf_insn.specs.Uses.{FormReadsWord, FormWritesWord}
 use Rattle.bpf_verify.specs.Validity.{Valid, FormDividesByZero}
 use Rattle.eth_frame.specs.Frame.{FrameData, IsFrame}
-use Rattle.rec_channel.specs.History.{Version, IsHistory}
+use Rattle.rec_channel.specs.History.{Version}
 use Rattle.rec_channel.specs.declared.limits.TheConstants.{MAX_VERSIONS}
 use Rattle.rec_lane.specs.Pieces.{LaneSettings}
 use Rattle.rec_lane.proofs.FramesMet.{some_is}
@@ -37,17 +37,18 @@ some_recording some theirs version channels are distinct =
 -- ---- channels
 
 -- a program with mark 0, and versions after it, whose marks rise up to the number of frames
-pub some_channel : (settings : LaneSettings) (frames : List FrameData) (first : List Insn) (later : List Version) → AreLaneSettings settings
-    → All IsFrame frames → length frames < 2 ^ 64 → IsFilter first
+pub some_channel : (settings : LaneSettings) (frames : List FrameData) (times : List (List ℕ)) (first : List Insn) (later : List Version)
+    → AreLaneSettings settings → All IsFrame frames → length frames < 2 ^ 64 → length times ≡ length frames → IsFilter first
     → All (λ (v : Version). IsFilter v.program) later → AllPairs (λ (v w : Version). v.mark ≤ w.mark) later
     → All (λ (v : Version). v.mark ≤ length frames) later → length later < MAX_VERSIONS
-    → IsRecordable (record { settings = settings; frames = frames; history = record { program = first; mark = 0 } ∷ later })
-some_channel settings frames first later is framed few filter filters rise past short =
+    → IsRecordable (record { settings = settings; frames = frames; times = times; history = record { program = first; mark = 0 } ∷ later })
+some_channel settings frames times first later is framed few timed filter filters rise past short =
     let v : Version = record { program = first; mark = 0 } in
     record {
       settings = is;
       framed = framed;
       few_frames = few;
+      timed = timed;
       history = record {
         some = omega arith;
         valid = All-cons (λ (w : Version). Valid w.program) v later filter.valid

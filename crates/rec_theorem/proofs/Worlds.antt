@@ -2,7 +2,7 @@
 -- beginning of their recording.
 -- idea: numbers in range stay so with each event, since each count grows by one and is bounded by what it counts; so the
 -- channels of every world that events lead to are those of a recording.
-use Rattle.std.proofs.Common.{Some, true, ℕ, ◌^◌, ◌≡◌, ◌<◌, inl, inr, List, [], ◌∷◌, ◌++◌, length, map, All, refl, sym, subst, arith}
+use Rattle.std.proofs.Common.{Some, true, ℕ, ◌^◌, ◌≡◌, ◌<◌, inl, inr, List, [], ◌∷◌, ◌++◌, length, map, All, refl, sym, ◌∙◌, subst, arith}
 use Rattle.std.specs.Prelude.{slice_set, Result, Ok, Err}
 use Rattle.std.specs.List.{Any}
 use Rattle.std.proofs.lemmas.Bool.{cases_Bool}
@@ -19,13 +19,14 @@ use Rattle.rec_writer.specs.Encoding.{piece_bytes, piece_header, writer_output}
 use Rattle.rec_writer.specs.Recording.{RecordedChannel}
 use Rattle.rec_writer.specs.Writers.{WriterState}
 use Rattle.rec_core.specs.declared.reply.Reply.{Reply}
-use Rattle.rec_core.specs.declared.reply.Reply.TheVariants.{Took, Installed, Sent, Wrote, Closed as HasClosed}
+use Rattle.rec_core.specs.declared.reply.Reply.TheVariants.{Took, Timed, Installed, Sent, Wrote, Closed as HasClosed}
+use Rattle.rec_lane.proofs.Noting.{with_frames_same}
 use Rattle.rec_core.specs.declared.fault.CoreFault.{CoreFault}
 use Rattle.rec_core.specs.declared.fault.CoreFault.TheVariants.{NoChannel}
 use Rattle.rec_core.specs.Openings.{SpecData}
 use Rattle.rec_core.specs.World.{ChannelState, WorldState, EventData, ChannelDoes, IsInOrder, WorldStep}
 use Rattle.rec_core.specs.World.{WorldRun, opening_channel, opening_world, piece_written, world_after}
-use Rattle.rec_core.specs.World.EventData.{OfTake, OfInstall, OfSend, OfWrite, OfClose}
+use Rattle.rec_core.specs.World.EventData.{OfTake, OfTime, OfInstall, OfSend, OfWrite, OfClose}
 use Rattle.rec_core.specs.Worlds.{CoreState, StandsForWorld}
 use Rattle.rec_core.specs.Written.{RunsFromOpening, recorded_channel, recorded_channels, IsCutShort}
 use Rattle.rec_core.proofs.ListPlaces.{set_cases, set_unseen, map_there, there_map, All_there, All_from_places, Any_there}
@@ -60,6 +61,12 @@ fit_after ring c (OfTake channel frame) (Took number version value) d more does 
       settings = fit.settings;
       most = fit.most;
       framed = framed_more c.offered does.0 fit.framed (subst IsFrame (sym does.4) is);
+    })
+fit_after ring c (OfTime channel counter) Timed d more does is fit =
+    subst IsFit (sym does.1) (record {
+      settings = fit.settings;
+      most = fit.most;
+      framed = subst (All IsFrame) (sym (with_frames_same c.settings.span c.offered counter)) fit.framed;
     })
 fit_after ring c (OfInstall channel program) (Installed version mark) d more does is fit =
     subst IsFit (sym does.4) (record { settings = fit.settings; most = fit.most; framed = fit.framed })
@@ -118,6 +125,7 @@ channel_recordable c fit order =
       settings = fit.settings;
       framed = fit.framed;
       few_frames = omega (arith, long, within, most);
+      timed = length-map c.offered (λ (f : OfferedFrame). f.times) ∙ sym long;
       history = subst (λ n. IsHistory n c.history) (sym long) order.history;
       few_versions = order.few;
     }
@@ -186,7 +194,7 @@ begin_recorded : (w : WorldState) → SoundWorld w → All (BeginsChannel w.out)
 begin_recorded w s =
     All-map (BeginsChannel w.out) recorded_channel w.channels
     (All_from_places (λ (c : ChannelState). BeginsChannel w.out (recorded_channel c)) w.channels
-    (λ k c is. let sound = s.each k c is in (channel_pieces c.settings c.offered, (c.offered, sound.order.met, refl, refl), sound.begins)))
+    (λ k c is. let sound = s.each k c is in (channel_pieces c.settings c.offered, (c.offered, sound.order.met, refl, refl, refl), sound.begins)))
 
 -- what a world has written of its channels, and then perhaps a part of a piece, is a recording that
 -- was cut short

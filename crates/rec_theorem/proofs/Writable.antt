@@ -13,11 +13,10 @@ use Rattle.eth_frame.specs.Frame.{FrameData, IsFrame}
 use Rattle.ch11_packet.proofs.Bodies.{few_frames}
 use Rattle.rec_channel.specs.History.{Version, IsHistory}
 use Rattle.rec_lane.specs.Offered.{OfferedFrame, Met, MetFrom, AllMet, frames_of, accepted, is_accepted}
-use Rattle.rec_lane.specs.Packets.{FitsLimit, AreLongestFronts, packets}
 use Rattle.rec_lane.specs.Pieces.{LaneSettings, has_group_version, groups, program_piece, data_piece}
-use Rattle.rec_lane.specs.Pieces.{group_pieces, last_counter_from, end_piece, channel_pieces}
-use Rattle.rec_lane.proofs.Contents.{parts_whole}
-use Rattle.rec_lane.proofs.Fronts.{packets_longest}
+use Rattle.rec_lane.specs.Pieces.{group_packets, group_pieces, last_counter_from, end_piece, channel_pieces}
+use Rattle.rec_lane.proofs.Contents.{parts_whole, group_whole}
+use Rattle.rec_lane.proofs.LongestParts.{Packs, group_packs}
 use Rattle.rec_core.proofs.ListPlaces.{map_there, All_there}
 use Rattle.rec_writer.specs.Recording.{RecordedChannel}
 use Rattle.rec_run.specs.Jobs.{AreLaneSettings}
@@ -76,19 +75,10 @@ all_known c offered is met same =
 
 -- ---- packets of frames
 
--- frames that fit the limit, and some
-abbrev Packs : ℕ → List FrameData → Type 0
-Packs limit frames = FitsLimit limit frames × (0 < length frames)
-
 -- a list that is not empty has an element
 pub some_long : {X : Type 0} (xs : List X) → (xs ≡ [] → ⊥) → 0 < length xs
 some_long [] some = absurd (some refl)
 some_long (x ∷ xs) some = omega arith
-
--- the longest fronts of frames are such
-all_pack : (limit : ℕ) (frames : List FrameData) (ps : List (List FrameData)) → AreLongestFronts limit frames ps → All (Packs limit) ps
-all_pack limit frames [] are = All-nil (Packs limit)
-all_pack limit frames (p ∷ ps) are = All-cons (Packs limit) p ps (are.1.fits, some_long p are.1.some) (all_pack limit are.0 ps are.2)
 
 -- a packet of such frames is writable: at 30 bytes and more for each frame they are few
 writable_packet : (s : LaneSettings) (frames : List FrameData) → AreLaneSettings s → Packs s.limit frames → All IsFrame frames
@@ -150,12 +140,12 @@ module _ (s : LaneSettings) (history : List Version) (count : ℕ) (is : AreLane
   writable_group : (group : List OfferedFrame) → All (IsKnown history count) group → All IsWritable (group_pieces s group)
   writable_group group known =
       let framed = accepted_framed history count group known in
-      let ps = packets s.limit (accepted group) in
+      let ps = group_packets s group in
       All-append IsWritable (program_piece s group) (map (data_piece s) ps)
       (writable_program group known)
       (writable_packets s ps is
-      (all_pack s.limit (accepted group) ps (packets_longest s.limit (accepted group) is.least framed))
-      (All_parts IsFrame ps (subst (All IsFrame) (sym (parts_whole _ (accepted group))) framed)))
+      (group_packs s group is.least framed)
+      (All_parts IsFrame ps (subst (All IsFrame) (sym (group_whole s group)) framed)))
 
   -- the last counter is one of a frame, or 0
   last_counter_fits : (counter : ℕ) (offered : List OfferedFrame) → counter < 2 ^ 48 → All (IsKnown history count) offered

@@ -107,15 +107,7 @@ fn write_with_setup<F: PlacedRead, W: Write>(
         return Err(WholeEnd::Recording);
     }
     let mut sources = channel_sources(alloc, file, listing)?;
-    match write_file(
-        alloc,
-        sources.as_mut_slice(),
-        setup,
-        clock,
-        least,
-        most,
-        out,
-    ) {
+    match write_file(alloc, &mut sources, setup, clock, least, most, out) {
         Ok(counts) => Ok(counts),
         Err(end) => Err(WholeEnd::from(end)),
     }

@@ -20,7 +20,7 @@ use Rattle.rec_words.specs.Settings.{Fault, syntax, missing, value, only, number
 use Rattle.rec_words.specs.Settings.{most_of_8_bits, most_of_16_bits}
 use Rattle.rec_words.specs.Format.{AreDistinctIds}
 use Rattle.rec_words.specs.SetupFile.{OriginData, ChannelSetupData, FileData, file_keys, origin_keys, setup_channel_keys, most_of_48_bits, most_origins}
-use Rattle.rec_words.specs.SetupFile.{text_or, truth_or, truth_in, tables_of, each_after, time_in, origin_in, enough_origins, noted_origins, single_origin}
+use Rattle.rec_words.specs.SetupFile.{text_or, truth_or, truth_in, tables_of, each_after, time_told_in, origin_in, enough_origins, noted_origins, single_origin}
 use Rattle.rec_words.specs.SetupFile.{origins_by, origins_in, new_id, setup_channel_in, setup_channels_of}
 use Rattle.rec_words.specs.SetupFile.{setup_channels_in, attributes_in, file_in, setup_file}
 use Rattle.rec_words.specs.SetupFormat.{IsText, IsTruth, SaysTime, IsNotedOrigin, AreOrigins, AreAdded, IsFileChannel, AreFileChannels}
@@ -90,7 +90,7 @@ tables_say key (table_data ms) = tt
 abbrev SaysIt : Data → ℤ → Type 0
 SaysIt d nanos = (written : List ℕ) × (d ≡ string written) × SaysOrigin written nanos
 
-time_says : (key : List ℕ) (d : Data) → MatchResult (time_in key d) (SaysIt d) Whatever
+time_says : (key : List ℕ) (d : Data) → MatchResult (time_told_in key d) (SaysIt d) Whatever
 time_says key (string t) = by (origin_said t) refl
   where
     by : (found : Option ℤ) → origin_said t ≡ found
@@ -104,13 +104,13 @@ time_says key (datetime t) = tt
 time_says key (array items) = tt
 time_says key (table_data ms) = tt
 
-time_required : (m : Members) → MatchResult (required (time_in (codes "origin")) (codes "origin") m) (SaysTime m) Whatever
+time_required : (m : Members) → MatchResult (required (time_told_in (codes "origin")) (codes "origin") m) (SaysTime m) Whatever
 time_required m = by (get_member (codes "origin") m) refl
   where
     by : (found : Option Data) → get_member (codes "origin") m ≡ found
-        → MatchResult (unwrap_or (option_map (time_in (codes "origin")) found) (Err (missing (codes "origin")))) (SaysTime m) Whatever
+        → MatchResult (unwrap_or (option_map (time_told_in (codes "origin")) found) (Err (missing (codes "origin")))) (SaysTime m) Whatever
     by None is = tt
-    by (Some d) is = outcome (time_in (codes "origin") d) (λ nanos says. (says.0, is ∙ ap (λ x. Some x) says.1, says.2)) (λ f _. tt)
+    by (Some d) is = outcome (time_told_in (codes "origin") d) (λ nanos says. (says.0, is ∙ ap (λ x. Some x) says.1, says.2)) (λ f _. tt)
         (time_says (codes "origin") d)
 
 noted : (m : Members) → MatchResult (origin_in m) (IsNotedOrigin m) Whatever
@@ -118,7 +118,7 @@ noted m =
     then_says (IsNotedOrigin m) (only origin_keys m) _ (only_says origin_keys m) (λ ms has.
     then_says (IsNotedOrigin m) (required (number_in 0 most_of_48_bits (codes "counter")) (codes "counter") m) _
     (number_required 0 most_of_48_bits (codes "counter") m) (λ counter n.
-    then_says (IsNotedOrigin m) (required (time_in (codes "origin")) (codes "origin") m) _ (time_required m) (λ nanos t.
+    then_says (IsNotedOrigin m) (required (time_told_in (codes "origin")) (codes "origin") m) _ (time_required m) (λ nanos t.
     record { only = has; counter_is = n.1 ∙ ap (λ x. Some x) n.2.0; counter_fits = n.2.2; time_is = t })
     (λ f _. tt)) (λ f _. tt)) (λ f _. tt)
 
@@ -167,7 +167,7 @@ noted_say d =
 
 single_says : (d : Data) → MatchResult (single_origin d) (λ origins. (nanos : ℤ) × SaysIt d nanos × (origins ≡ record { counter = 0; nanos = nanos } ∷ []))
     Whatever
-single_says d = then_says (λ origins. (nanos : ℤ) × SaysIt d nanos × (origins ≡ record { counter = 0; nanos = nanos } ∷ [])) (time_in (codes "origin") d) _
+single_says d = then_says (λ origins. (nanos : ℤ) × SaysIt d nanos × (origins ≡ record { counter = 0; nanos = nanos } ∷ [])) (time_told_in (codes "origin") d) _
     (time_says (codes "origin") d) (λ nanos says. (nanos, says, refl)) (λ f _. tt)
 
 origins_say : (m : Members) → MatchResult (origins_in m) (AreOrigins m) Whatever

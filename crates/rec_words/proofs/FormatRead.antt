@@ -18,7 +18,7 @@ use Rattle.ch11_packet.specs.declared.frames.word.TheConstants.{MAX_SPEED}
 use Rattle.rec_channel.specs.declared.limits.TheConstants.{MAX_CHANNELS, MAX_RING}
 use Rattle.rec_words.specs.Settings.{Fault, syntax, value, channels, same_channel, ChannelData, SettingsData, top_keys, channel_keys, only}
 use Rattle.rec_words.specs.Settings.{number_in, text_in, required, number_or, channel_in, tables_in, enough, tables_of, channel_tables, channels_in}
-use Rattle.rec_words.specs.Settings.{repeated, distinct, settings_in, settings, most_of_8_bits, most_of_16_bits, most_of_63_bits}
+use Rattle.rec_words.specs.Settings.{repeated, distinct, settings_in, settings, most_of_8_bits, most_of_16_bits, most_of_48_bits, most_of_63_bits}
 use Rattle.rec_words.specs.Format.{Key, of_number, of_text, document_format, channel_format, IsWell, IsWrong, HasOnly, HasTableFault}
 use Rattle.rec_words.specs.Format.{IsChannel, AreTables, ids_of, AreDistinctIds, AreDocumentSettings, AreNoTables, IsOfFirstTable}
 use Rattle.rec_words.specs.Format.{IsFirstRepeated, RepeatsId, IsDocumentFault, IsFaultOfText, AreSettingsOf}
@@ -45,6 +45,9 @@ speed_key = record { name = codes "speed"; kind = of_number 0 MAX_SPEED; needed 
 abbrev max_key : Key
 max_key = record { name = codes "max"; kind = of_number 0 most_of_63_bits; needed = false }
 
+abbrev span_key : Key
+span_key = record { name = codes "span"; kind = of_number 0 most_of_48_bits; needed = false }
+
 -- a key that is wrong, after others that are well
 wrong_at : (known : List (List ℕ)) (keys : List Key) (m : Members) (before : List Key) (key : Key) (after : List Key) (fault : Fault) → HasOnly known m
     → keys ≡ before ++ key ∷ after → All (IsWell m) before → IsWrong m key fault
@@ -68,6 +71,9 @@ channel_says m =
     let five = All-push (IsWell m) (id_key ∷ feed_key ∷ filter_key ∷ net_key ∷ []) speed_key four (well_or 0 0 MAX_SPEED speed (codes "speed") m s) in
     then_says (IsChannel m) (number_or most_of_63_bits 0 most_of_63_bits (codes "max") m) _ (number_or_says most_of_63_bits 0 most_of_63_bits (codes "max") m)
     (λ max x.
+    let six = All-push (IsWell m) (id_key ∷ feed_key ∷ filter_key ∷ net_key ∷ speed_key ∷ []) max_key five
+    (well_or most_of_63_bits 0 most_of_63_bits max (codes "max") m x) in
+    then_says (IsChannel m) (number_or 0 0 most_of_48_bits (codes "span") m) _ (number_or_says 0 0 most_of_48_bits (codes "span") m) (λ span a.
     record {
       only = has;
       id_is = i.1 ∙ ap (λ y. Some y) i.2.0;
@@ -78,13 +84,15 @@ channel_says m =
       net_is = n;
       speed_is = s;
       max_is = x;
+      span_is = a;
     })
-    (λ f bad. wrong (id_key ∷ feed_key ∷ filter_key ∷ net_key ∷ speed_key ∷ []) max_key [] f has refl five bad))
-    (λ f bad. wrong (id_key ∷ feed_key ∷ filter_key ∷ net_key ∷ []) speed_key (max_key ∷ []) f has refl four bad))
-    (λ f bad. wrong (id_key ∷ feed_key ∷ filter_key ∷ []) net_key (speed_key ∷ max_key ∷ []) f has refl three bad))
-    (λ f bad. wrong (id_key ∷ feed_key ∷ []) filter_key (net_key ∷ speed_key ∷ max_key ∷ []) f has refl two bad))
-    (λ f bad. wrong (id_key ∷ []) feed_key (filter_key ∷ net_key ∷ speed_key ∷ max_key ∷ []) f has refl one bad))
-    (λ f bad. wrong [] id_key (feed_key ∷ filter_key ∷ net_key ∷ speed_key ∷ max_key ∷ []) f has refl (All-nil (IsWell m)) bad))
+    (λ f bad. wrong (id_key ∷ feed_key ∷ filter_key ∷ net_key ∷ speed_key ∷ max_key ∷ []) span_key [] f has refl six bad))
+    (λ f bad. wrong (id_key ∷ feed_key ∷ filter_key ∷ net_key ∷ speed_key ∷ []) max_key (span_key ∷ []) f has refl five bad))
+    (λ f bad. wrong (id_key ∷ feed_key ∷ filter_key ∷ net_key ∷ []) speed_key (max_key ∷ span_key ∷ []) f has refl four bad))
+    (λ f bad. wrong (id_key ∷ feed_key ∷ filter_key ∷ []) net_key (speed_key ∷ max_key ∷ span_key ∷ []) f has refl three bad))
+    (λ f bad. wrong (id_key ∷ feed_key ∷ []) filter_key (net_key ∷ speed_key ∷ max_key ∷ span_key ∷ []) f has refl two bad))
+    (λ f bad. wrong (id_key ∷ []) feed_key (filter_key ∷ net_key ∷ speed_key ∷ max_key ∷ span_key ∷ []) f has refl one bad))
+    (λ f bad. wrong [] id_key (feed_key ∷ filter_key ∷ net_key ∷ speed_key ∷ max_key ∷ span_key ∷ []) f has refl (All-nil (IsWell m)) bad))
     (λ f bad. inl bad)
 
 channel_ok : (m : Members) (c : ChannelData) → IsChannel m c → channel_in m ≡ Ok c
@@ -97,7 +105,9 @@ channel_ok m c is =
     (then_ok (number_or 0 0 most_of_8_bits (codes "net") m) c.net _ _ (number_or_ok 0 0 most_of_8_bits c.net (codes "net") m is.net_is)
     (then_ok (number_or 0 0 MAX_SPEED (codes "speed") m) c.speed _ _ (number_or_ok 0 0 MAX_SPEED c.speed (codes "speed") m is.speed_is)
     (then_ok (number_or most_of_63_bits 0 most_of_63_bits (codes "max") m) c.max _ _
-    (number_or_ok most_of_63_bits 0 most_of_63_bits c.max (codes "max") m is.max_is) refl))))))
+    (number_or_ok most_of_63_bits 0 most_of_63_bits c.max (codes "max") m is.max_is)
+    (then_ok (number_or 0 0 most_of_48_bits (codes "span") m) c.span _ _ (number_or_ok 0 0 most_of_48_bits c.span (codes "span") m is.span_is)
+    refl)))))))
 
 -- ---- all channels
 

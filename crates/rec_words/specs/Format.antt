@@ -8,7 +8,7 @@ use Rattle.ch11_packet.specs.declared.limit.TheConstants.{MIN_LIMIT, MAX_LIMIT}
 use Rattle.ch11_packet.specs.declared.frames.word.TheConstants.{MAX_SPEED}
 use Rattle.rec_channel.specs.declared.limits.TheConstants.{MAX_CHANNELS, MAX_RING}
 use Rattle.rec_words.specs.Settings.{Fault, syntax, unknown, missing, value, channels, same_channel, ChannelData, SettingsData, top_keys}
-use Rattle.rec_words.specs.Settings.{channel_keys, keys_of, tables_in, most_of_8_bits, most_of_16_bits, most_of_63_bits}
+use Rattle.rec_words.specs.Settings.{channel_keys, keys_of, tables_in, most_of_8_bits, most_of_16_bits, most_of_48_bits, most_of_63_bits}
 
 -- ---- keys
 
@@ -40,6 +40,7 @@ channel_format =
     ∷ record { name = codes "net"; kind = of_number 0 most_of_8_bits; needed = false }
     ∷ record { name = codes "speed"; kind = of_number 0 MAX_SPEED; needed = false }
     ∷ record { name = codes "max"; kind = of_number 0 most_of_63_bits; needed = false }
+    ∷ record { name = codes "span"; kind = of_number 0 most_of_48_bits; needed = false }
     ∷ []
 
 -- what was found is of this kind
@@ -113,6 +114,7 @@ pub record IsChannel (members : Members) (channel : ChannelData) : Type 0 where
   pub speed_is : IsNumber members (codes "speed") 0 MAX_SPEED 0 channel.speed
   pub max_is :
       IsNumber members (codes "max") 0 most_of_63_bits most_of_63_bits channel.max
+  pub span_is : IsNumber members (codes "span") 0 most_of_48_bits 0 channel.span
 
 -- the key `channel` is set to these tables
 abbrev pub AreTables : Members → List Members → Type 0

@@ -1,9 +1,10 @@
 -- The names of attributes that a setup record writes, so that no user may add one.
-use Rattle.std.specs.Prelude.{ℕ, ◌≡◌, ◌≢◌, ◌⊎◌, ◌&&◌, ◌||◌, ◌==◌, nat_le, not, Bool, true, false, List, [], ◌∷◌, ◌++◌}
-use Rattle.std.specs.Prelude.{option_map, unwrap_or, bytes_eq, codes}
-use Rattle.std.specs.List.{list_all, AllByRecursion}
+use Rattle.std.specs.Prelude.{ℕ, ◌-◌, ◌≡◌, ◌≢◌, ◌⊎◌, ◌&&◌, ◌||◌, ◌==◌, nat_le, not, Bool, false, if◌then◌else◌}
+use Rattle.std.specs.Prelude.{List, [], ◌∷◌, ◌++◌, reverse, bytes_eq, codes}
+use Rattle.std.specs.List.{list_any, starts_with, AllByRecursion}
 use Rattle.ch11_setup.specs.declared.setup.Setup.{Setup}
-use Rattle.ch11_setup.specs.Attributes.{AttributeData, cut_at}
+use Rattle.ch11_setup.specs.Attributes.{AttributeData}
+use Rattle.ch11_setup.specs.Names.{without_blanks}
 use Rattle.ch11_setup.specs.Lines.{comment_attribute}
 use Rattle.ch11_setup.specs.Setups.{recording_attributes, source_attributes}
 use Rattle.rec_words.specs.Settings.{is_among}
@@ -20,76 +21,73 @@ single_names =
     ∷ codes "R-1\\IDX\\IT" ∷ codes "R-1\\IDX\\ICV" ∷ codes "R-1\\EV\\E" ∷ codes "R-1\\N"
     ∷ codes "R-1\\COM" ∷ []
 
--- names that are written for a channel, as `TK1` in `R-1\TK1-2`
-abbrev pub channel_words : List (List ℕ)
-channel_words =
-    codes "TK1" ∷ codes "TK4" ∷ codes "CHE" ∷ codes "DSI" ∷ codes "CDT" ∷ codes "TTF"
-    ∷ codes "TFMT" ∷ codes "TSRC" ∷ codes "ENTF" ∷ codes "NNET" ∷ []
+-- with what names begin that are written for a channel or its network, as `R-1\TK1-` of `R-1\TK1-2`
+abbrev pub channel_beginnings : List (List ℕ)
+channel_beginnings =
+    codes "R-1\\TK1-" ∷ codes "R-1\\TK4-" ∷ codes "R-1\\CHE-" ∷ codes "R-1\\DSI-"
+    ∷ codes "R-1\\CDT-" ∷ codes "R-1\\TTF-" ∷ codes "R-1\\TFMT-" ∷ codes "R-1\\TSRC-"
+    ∷ codes "R-1\\ENTF-" ∷ codes "R-1\\NNET-" ∷ codes "R-1\\ENBR-" ∷ codes "R-1\\ENAM-" ∷ []
 
--- names that are written for a channel's network, as `ENBR` in `R-1\ENBR-2-1`
-abbrev pub network_words : List (List ℕ)
-network_words = codes "ENBR" ∷ codes "ENAM" ∷ []
+-- the name of the test, which a user may say
+abbrev pub test_attribute : List ℕ
+test_attribute = codes "G\\PN"
 
--- ---- what they are
+-- ---- how a reader may take a name
 
 -- a decimal digit
 abbrev pub is_decimal_digit : ℕ → Bool
 is_decimal_digit byte = nat_le 48 byte && nat_le byte 57
 
--- decimal digits of a number from 1 on, which doesn't begin with a zero
-pub record IsNumberText (text : List ℕ) : Type 0 where
-  pub first : ℕ
-  pub rest : List ℕ
-  pub parts : text ≡ first ∷ rest
-  pub digits : AllByRecursion (λ byte. is_decimal_digit byte ≡ true) text
-  pub positive : first ≢ 48
+-- a letter as a capital
+abbrev pub capital : ℕ → ℕ
+capital byte = if nat_le 97 byte && nat_le byte 122 then byte - 32 else byte
 
--- the name of an attribute of the recorder: of this channel's, or of its first network's
-abbrev pub channel_attribute : (word number : List ℕ) → List ℕ
-channel_attribute word number = codes "R-1" ++ (92 ∷ (word ++ (45 ∷ number)))
+-- whether a digit stands first
+abbrev pub starts_with_digit : List ℕ → Bool
+starts_with_digit [] = false
+starts_with_digit (byte ∷ bytes) = is_decimal_digit byte
 
-abbrev pub network_attribute : (word number : List ℕ) → List ℕ
-network_attribute word number = channel_attribute word (number ++ (45 ∷ codes "1"))
+-- whether this byte is a zero ahead of a number: no digit stands before it, and one behind it
+abbrev pub is_leading_zero : (within : Bool) → (byte : ℕ) → (bytes : List ℕ) → Bool
+is_leading_zero within byte bytes = byte == 48 && (not within && starts_with_digit bytes)
 
--- a setup record writes an attribute of this name, for some number of a channel
-abbrev pub IsReserved : List ℕ → Type 0
-IsReserved name =
-    IsOneOfNames single_names name
-    ⊎ (((word number : List ℕ) × IsOneOfNames channel_words word × IsNumberText number
-    × (name ≡ channel_attribute word number))
-    ⊎ ((word number : List ℕ) × IsOneOfNames network_words word × IsNumberText number
-    × (name ≡ network_attribute word number)))
+-- in capitals and without zeros ahead of numbers; `within` says whether a digit stands before
+abbrev pub plain_form : (within : Bool) → List ℕ → List ℕ
+plain_form within [] = []
+plain_form within (byte ∷ bytes) =
+    if is_leading_zero within byte bytes then plain_form false bytes
+    else capital byte ∷ plain_form (is_decimal_digit byte) bytes
+
+-- the same of a name, without the blanks ahead
+abbrev pub plain_name : List ℕ → List ℕ
+plain_name name = plain_form false (without_blanks name)
+
+-- without the blanks behind
+abbrev pub without_last_blanks : List ℕ → List ℕ
+without_last_blanks name = reverse (without_blanks (reverse name))
+
+-- ---- what they are
+
+-- a reader may take the name for one that a setup record writes once, or for one of a channel's: so
+-- that of the test too, but where it is written as it is
+pub record IsReserved (name : List ℕ) : Type 0 where
+  pub other : name ≢ test_attribute
+  pub taken : IsOneOfNames single_names (without_last_blanks (plain_name name))
+      ⊎ ((beginning rest : List ℕ) × IsOneOfNames channel_beginnings beginning
+      × (plain_name name ≡ beginning ++ rest))
 
 -- ---- how they are found
 
-abbrev pub starts_positive : List ℕ → Bool
-starts_positive [] = false
-starts_positive (first ∷ rest) = not (first == 48)
+abbrev pub begins_as_one : List ℕ → (beginnings : List (List ℕ)) → Bool
+begins_as_one name beginnings =
+    list_any (λ beginning. starts_with (λ x y. x == y) name beginning) beginnings
 
-abbrev pub is_number_text : List ℕ → Bool
-is_number_text text = starts_positive text && list_all is_decimal_digit text
-
--- a number, `-` and `1`
-abbrev pub is_network_number : List ℕ → Bool
-is_network_number text =
-    unwrap_or (option_map (λ parts. is_number_text parts.0 && bytes_eq parts.1 (codes "1"))
-    (cut_at 45 text)) false
-
--- the two parts of a name, which `-` parts, are a word and a number
-abbrev pub is_numbered : (parts : List ℕ × List ℕ) → Bool
-is_numbered parts =
-    (is_among channel_words parts.0 && is_number_text parts.1)
-    || (is_among network_words parts.0 && is_network_number parts.1)
-
--- the two parts of a name, which its first `\` parts, are the recorder and a numbered name
-abbrev pub is_recorder_name : (parts : List ℕ × List ℕ) → Bool
-is_recorder_name parts =
-    bytes_eq parts.0 (codes "R-1")
-    && unwrap_or (option_map is_numbered (cut_at 45 parts.1)) false
+abbrev pub is_taken : List ℕ → Bool
+is_taken name =
+    begins_as_one name channel_beginnings || is_among single_names (without_last_blanks name)
 
 abbrev pub is_reserved : List ℕ → Bool
-is_reserved name =
-    is_among single_names name || unwrap_or (option_map is_recorder_name (cut_at 92 name)) false
+is_reserved name = not (bytes_eq name test_attribute) && is_taken (plain_name name)
 
 -- ---- what a setup record writes
 
@@ -98,6 +96,7 @@ abbrev pub own_attributes : Setup → List AttributeData
 own_attributes setup =
     recording_attributes setup ++ (source_attributes setup ++ (comment_attribute ∷ []))
 
--- each has a reserved name
+-- each has a reserved name, or is the name of the test
 abbrev pub AreReserved : List AttributeData → Type 0
-AreReserved attributes = AllByRecursion (λ attribute. IsReserved attribute.name) attributes
+AreReserved attributes =
+    AllByRecursion (λ attribute. IsReserved attribute.name ⊎ (attribute.name ≡ test_attribute)) attributes

@@ -25,6 +25,7 @@ pub record ChannelData : Type 0 where
   pub net : ℕ
   pub speed : ℕ
   pub max : ℕ
+  pub span : ℕ
 
 -- what is set of a recording
 pub record SettingsData : Type 0 where
@@ -45,7 +46,8 @@ top_keys = codes "limit" ∷ codes "ring" ∷ codes "version" ∷ codes "channel
 
 abbrev pub channel_keys : List (List ℕ)
 channel_keys =
-    codes "id" ∷ codes "feed" ∷ codes "filter" ∷ codes "net" ∷ codes "speed" ∷ codes "max" ∷ []
+    codes "id" ∷ codes "feed" ∷ codes "filter" ∷ codes "net" ∷ codes "speed" ∷ codes "max" ∷
+    codes "span" ∷ []
 
 -- the keys of a table, which ascend by their bytes
 abbrev pub keys_of : Members → List (List ℕ)
@@ -67,12 +69,15 @@ only known members =
     unwrap_or (option_map (λ key. Err (unknown key)) (other_key known (keys_of members)))
     (Ok members)
 
--- the greatest numbers of 8, of 16 and of 63 bits
+-- the greatest numbers of 8, of 16, of 48 and of 63 bits
 abbrev pub most_of_8_bits : ℕ
 most_of_8_bits = 255
 
 abbrev pub most_of_16_bits : ℕ
 most_of_16_bits = 65535
+
+abbrev pub most_of_48_bits : ℕ
+most_of_48_bits = 281474976710655
 
 abbrev pub most_of_63_bits : ℕ
 most_of_63_bits = 9223372036854775807
@@ -108,7 +113,16 @@ channel_in members = do
   net ← number_or 0 0 most_of_8_bits (codes "net") members
   speed ← number_or 0 0 MAX_SPEED (codes "speed") members
   max ← number_or most_of_63_bits 0 most_of_63_bits (codes "max") members
-  Ok (record { id = id; feed = feed; filter = filter; net = net; speed = speed; max = max })
+  span ← number_or 0 0 most_of_48_bits (codes "span") members
+  Ok (record {
+    id = id;
+    feed = feed;
+    filter = filter;
+    net = net;
+    speed = speed;
+    max = max;
+    span = span;
+  })
 
 -- items that are tables
 abbrev pub tables_in : Items → Option (List Members)

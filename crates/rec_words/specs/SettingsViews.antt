@@ -17,6 +17,7 @@ channel_data channel =
       net = channel.net;
       speed = channel.speed;
       max = channel.max;
+      span = channel.span;
     }
 
 abbrev pub settings_data : Settings → SettingsData

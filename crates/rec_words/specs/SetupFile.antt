@@ -68,10 +68,10 @@ truth_or default key members =
     unwrap_or (option_map (truth_in key) (get_member key members)) (Ok default)
 
 -- a time, in nanoseconds since 1970, in the text of an origin
-abbrev pub time_in : (key : List ℕ) → Data → Result ℤ Fault
-time_in key (string text) =
+abbrev pub time_told_in : (key : List ℕ) → Data → Result ℤ Fault
+time_told_in key (string text) =
     unwrap_or (option_map (λ nanos. Ok nanos) (origin_said text)) (Err (value key))
-time_in key _ = Err (value key)
+time_told_in key _ = Err (value key)
 
 -- a list of tables
 abbrev pub tables_of : (key : List ℕ) → Data → Result (List Members) Fault
@@ -94,7 +94,7 @@ abbrev pub origin_in : Members → Result OriginData Fault
 origin_in members = do
   _ ← only origin_keys members
   counter ← required (number_in 0 most_of_48_bits (codes "counter")) (codes "counter") members
-  nanos ← required (time_in (codes "origin")) (codes "origin") members
+  nanos ← required (time_told_in (codes "origin")) (codes "origin") members
   Ok (record { counter = counter; nanos = nanos })
 
 -- from one table to as many as there may be origins
@@ -113,7 +113,7 @@ noted_origins found = do
 -- the one origin that holds from counter 0 on
 abbrev pub single_origin : Data → Result (List OriginData) Fault
 single_origin found = do
-  nanos ← time_in (codes "origin") found
+  nanos ← time_told_in (codes "origin") found
   Ok (record { counter = 0; nanos = nanos } ∷ [])
 
 -- the origins, by what `origin` and `origins` have: one of the two must be set, and not both

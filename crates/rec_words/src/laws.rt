@@ -21,8 +21,9 @@ pub fn settings_are_those_of_the_format()
         → settings text ≡ Err fault → IsFaultOfText text fault }
 {}
 
-/// Law: a name is found to be reserved exactly where it is one of those that a setup record writes
-/// once, or for some number of a channel; and each name that a setup record writes is.
+/// Law: a name is found to be reserved exactly where a reader may take it for one that a setup record
+/// writes once, or for one of a channel's; and each name that a setup record writes is, but that of
+/// the test.
 pub fn a_setup_record_writes_reserved_names()
     ensures is { (name : List ℕ) → (is_reserved name ≡ true) ↔ IsReserved name }
     ensures written { (setup : Setup) → IsSetup setup → AreReserved (own_attributes setup) }

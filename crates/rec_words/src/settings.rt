@@ -1,6 +1,6 @@
 //! The settings of a recording, and of its channels.
 
-ghost use Rattle.std.specs.Prelude.{◌≤◌, ◌<◌};
+ghost use Rattle.std.specs.Prelude.{◌≤◌, ◌<◌, ◌^◌};
 ghost use Rattle.rec_channel.specs.declared.limits.TheConstants.{MAX_RING};
 ghost use Rattle.ch11_packet.specs.declared.frames.word.TheConstants.{MAX_SPEED};
 
@@ -42,6 +42,10 @@ pub struct ChannelSettings {
     pub speed: u8,
     /// How many frames may be taken: 0 to 9,223,372,036,854,775,807, and that if it isn't set.
     pub max: u64,
+    /// How old a packet of frames may get, in units of the counter, 100 ns each: 0 to
+    /// 281,474,976,710,655; 0 if it isn't set, and then no packet is closed by its age.
+    pub span: u64,
     pub ghost named: { 0 < id },
     pub ghost speed_fits: { speed ≤ MAX_SPEED },
+    pub ghost span_fits: { span < 2 ^ 48 },
 }

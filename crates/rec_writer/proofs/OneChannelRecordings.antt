@@ -72,9 +72,9 @@ one_recorded theirs version c bytes o =
         named = All-weaker (λ (piece : PieceData). channel_of piece ≡ c.settings.channel)
             (λ (piece : PieceData). Any (λ (d : RecordedChannel). d.settings.channel ≡ channel_of piece) (c ∷ []))
             (λ piece e. (0, c, omega arith, refl, sym e)) pieces all;
-        each = All-cons (λ (d : RecordedChannel). ArePieces d.settings d.frames d.history (filter (is_of d.settings.channel) pieces)) c []
-            (subst (ArePieces c.settings c.frames c.history) (sym kept) o.1)
-            (All-nil (λ (d : RecordedChannel). ArePieces d.settings d.frames d.history (filter (is_of d.settings.channel) pieces)));
+        each = All-cons (λ (d : RecordedChannel). ArePieces d.settings d.frames d.times d.history (filter (is_of d.settings.channel) pieces)) c []
+            (subst (ArePieces c.settings c.frames c.times c.history) (sym kept) o.1)
+            (All-nil (λ (d : RecordedChannel). ArePieces d.settings d.frames d.times d.history (filter (is_of d.settings.channel) pieces)));
       },
     )
 
@@ -87,7 +87,7 @@ only_recorded version c bytes r =
     (c ∷ [])) (λ (piece : PieceData). is_of c.settings.channel piece ≡ true)
     (λ piece a. eq-eqb (channel_of piece) c.settings.channel (sym (any_of_one (λ (d : RecordedChannel). d.settings.channel ≡ channel_of piece) c a)))
     pieces of.named) in
-    (pieces, subst (ArePieces c.settings c.frames c.history) kept (of.each 0 c (omega arith)), r.1)
+    (pieces, subst (ArePieces c.settings c.frames c.times c.history) kept (of.each 0 c (omega arith)), r.1)
 
 -- ---- no frames
 
@@ -101,16 +101,16 @@ end_alone version settings = append-nil (piece_packet (OfEnd settings.channel 0 
 
 pub end_recorded : OfTheirChannel → (version : ℕ) (settings : LaneSettings) (history : List Version) (bytes : List ℕ)
     → bytes ≡ piece_packet (OfEnd settings.channel 0 0 0) version 0
-    → IsRecording version (record { settings = settings; frames = []; history = history } ∷ []) bytes
+    → IsRecording version (record { settings = settings; frames = []; times = []; history = history } ∷ []) bytes
 end_recorded theirs version settings history bytes is =
-    one_recorded theirs version (record { settings = settings; frames = []; history = history }) bytes
-    (OfEnd settings.channel 0 0 0 ∷ [], ([], tt, refl, refl), is ∙ sym (end_alone version settings))
+    one_recorded theirs version (record { settings = settings; frames = []; times = []; history = history }) bytes
+    (OfEnd settings.channel 0 0 0 ∷ [], ([], tt, refl, refl, refl), is ∙ sym (end_alone version settings))
 
 pub only_end : (version : ℕ) (settings : LaneSettings) (history : List Version) (bytes : List ℕ)
-    → IsRecording version (record { settings = settings; frames = []; history = history } ∷ []) bytes
+    → IsRecording version (record { settings = settings; frames = []; times = []; history = history } ∷ []) bytes
     → bytes ≡ piece_packet (OfEnd settings.channel 0 0 0) version 0
 only_end version settings history bytes r =
-    let o = only_recorded version (record { settings = settings; frames = []; history = history }) bytes r in
+    let o = only_recorded version (record { settings = settings; frames = []; times = []; history = history }) bytes r in
     let none = no_frames o.1.0 o.1.2 in
     let pieces : OfEnd settings.channel 0 0 0 ∷ [] ≡ o.0 = ap (channel_pieces settings) (sym none) ∙ o.1.3 in
     o.2 ∙ (ap (writer_output version) (sym pieces) ∙ end_alone version settings)

@@ -6,11 +6,12 @@ use Rattle.rec_channel.specs.History.{Version}
 use Rattle.rec_lane.specs.Pieces.{LaneSettings, PieceData, channel_of, ArePieces}
 use Rattle.rec_writer.specs.Encoding.{writer_output}
 
--- a channel as it was recorded: what its lane was set to, the frames that were offered, and the
--- history of its filter
+-- a channel as it was recorded: what its lane was set to, the frames that were offered, the time marks
+-- after each, and the history of its filter
 pub record RecordedChannel : Type 0 where
   pub settings : LaneSettings
   pub frames : List FrameData
+  pub times : List (List ℕ)
   pub history : List Version
 
 -- a piece is of this channel
@@ -22,7 +23,7 @@ pub record AreOfChannels (channels : List RecordedChannel) (pieces : List PieceD
   pub named : All (λ (piece : PieceData).
       Any (λ (c : RecordedChannel). c.settings.channel ≡ channel_of piece) channels) pieces
   pub each : All (λ (c : RecordedChannel).
-      ArePieces c.settings c.frames c.history (filter (is_of c.settings.channel) pieces)) channels
+      ArePieces c.settings c.frames c.times c.history (filter (is_of c.settings.channel) pieces)) channels
 
 -- the bytes are a recording of these channels
 abbrev pub IsRecording : (version : ℕ) → List RecordedChannel → List ℕ → Type 0
@@ -34,5 +35,5 @@ IsRecording version channels bytes =
 abbrev pub IsOutputOf : (version : ℕ) → RecordedChannel → List ℕ → Type 0
 IsOutputOf version channel bytes =
     (pieces : List PieceData)
-    × ArePieces channel.settings channel.frames channel.history pieces
+    × ArePieces channel.settings channel.frames channel.times channel.history pieces
     × (bytes ≡ writer_output version pieces)

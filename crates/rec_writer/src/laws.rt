@@ -46,7 +46,7 @@ pub fn a_recording_of_one_channel_is_of_its_pieces()
 pub fn a_channel_of_no_frames_is_recorded_as_its_end()
     ensures { (version : ℕ) (settings : LaneSettings) (history : List Version) (bytes : List ℕ)
         → IsRecording version
-        (record { settings = settings; frames = []; history = history } ∷ []) bytes
+        (record { settings = settings; frames = []; times = []; history = history } ∷ []) bytes
         ↔ (bytes ≡ piece_packet (OfEnd settings.channel 0 0 0) version 0) }
 {
     pieces_are_of_their_channel();

@@ -7,14 +7,14 @@ ghost use Rattle.ch11_file.specs.OwnedPieces.{owned_data};
 use ch11_clock::Clock;
 use ch11_file::{FileEnd, FileSetup, OwnedPiece, write_file};
 use ch11_index::MOST_NAMED;
-use ch11_merge::{MergedChannel, PieceSource};
+use ch11_merge::{MergedChannels, PieceSource};
 use std::alloc::Global;
 
 /// The whole file of the pieces that these sources give, in memory. It has the time packets of a recording
 /// with this least counter.
 pub fn file_in_memory<S: PieceSource<Piece = OwnedPiece>>(
     alloc: Global,
-    sources: &mut [MergedChannel<S>],
+    sources: &mut MergedChannels<S>,
     setup: &FileSetup<'_>,
     clock: &Clock,
     least: u64,

@@ -1,27 +1,21 @@
 //! A caller of `ch11_merge`, as its page has it.
 
-use ch11_merge::{
-    FramesSource, MergeEnd, MergedChannel, PieceFault, PlacedSink, TimeTicks, merge_into,
-};
+use ch11_merge::{FramesSource, MergedChannel, MergedChannels, PieceFault, Placed, next_placed};
 use ch11_packet::ReadFrame;
 use std::alloc::Global;
 
-/// Gives the frames of two channels to a sink, merged, where the first time packet that may go out has
+/// Takes what comes first of the frames of two channels, where the first time packet that may go out has
 /// this tick.
-pub fn merge_two<'a, T: TimeTicks, K: PlacedSink<Piece = &'a [ReadFrame<'a>]>>(
+pub fn first_of_two<'a>(
     alloc: Global,
     frames: [&'a [ReadFrame<'a>]; 2],
-    ticks: &T,
-    first: u64,
-    sink: &mut K,
-) -> Result<(), MergeEnd<K::Fault>> {
+    tick: u64,
+) -> Result<Option<Placed<&'a [ReadFrame<'a>]>>, PieceFault> {
     let [one, two] = frames;
     let mut channels = Vec::new(alloc);
     for (channel, frames) in [(1, one), (2, two)] {
         let source = FramesSource::new(frames);
-        if channels.push(MergedChannel { channel, source }).is_err() {
-            return Err(MergeEnd::Pieces(PieceFault::Memory));
-        }
+        channels.push(MergedChannel { channel, source })?;
     }
-    merge_into(channels.as_mut_slice(), ticks, first, sink)
+    next_placed(&mut MergedChannels::new(alloc, channels)?, tick)
 }

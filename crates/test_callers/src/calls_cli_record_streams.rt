@@ -14,6 +14,13 @@ pub fn channel_of<'a, R: AllocGlobal + Files>(
     feeds: &mut Inputs,
 ) -> Result<(Verified, Source<R::File>), CommandEnding<'a>> {
     let program = read_filter(rt, settings.filter, inputs)?;
-    let source = open_feed(rt, settings.feed, settings.max, inputs, feeds)?;
+    let source = open_feed(
+        rt,
+        settings.feed,
+        settings.max,
+        settings.span != 0,
+        inputs,
+        feeds,
+    )?;
     Ok((program, source))
 }

@@ -1,11 +1,8 @@
 //! Tests of pieces and of their order. Where they are cut and which comes next is worked by hand.
 
-ghost use Rattle.std.specs.Prelude.{IfOk};
-ghost use Rattle.ch11_merge.specs.Placing.{TakesNext};
-
 use ch11_merge::*;
 use ch11_packet::ReadFrame;
-use std::alloc::{AllocError, Global};
+use std::alloc::Global;
 use std::test::Fail;
 
 /// A frame with this counter and these bytes, of which there are at most 16,383.
@@ -119,30 +116,18 @@ fn lens_behind<'a>(alloc: Global, bytes: &'a [u8], last: &'a [u8]) -> Result<Vec
 /// Lengths of a frame behind 32 of 16,370 bytes, and the numbers of frames of the pieces.
 const LAST_FRAMES: [(usize, &[usize]); 3] = [(19, &[33]), (20, &[33]), (21, &[32, 1])];
 
-/// Time packets of the ticks 100 and 200, and no more.
-struct TwoTicks;
-
-impl TimeTicks for TwoTicks {
-    ghost use Rattle.std.specs.Prelude.{◌^◌, if◌then◌else◌, nat_lt};
-
-    ghost after = { λ _ tick.
-        if nat_lt tick 100 then 100 else if nat_lt tick 200 then 200 else 2 ^ 48 };
-
-    fn after(&self, tick: u64) -> u64 {
-        if tick < 100 {
-            return 100;
-        }
-        if tick < 200 { 200 } else { 1 << 48 }
+/// The tick of the time packet behind that of a tick: there are those of 100 and 200, and no more.
+fn tick_behind(tick: u64) -> u64 {
+    match tick {
+        0..100 => 100,
+        100..200 => 200,
+        _ => NEVER,
     }
 }
 
 /// What has a place: the channel, 0 of a time packet; the tick or the counter, 999 where there is none; the
 /// number of frames.
 type Row = (u16, u64, usize);
-
-/// Takes the records that have a place, as rows.
-#[derive(Drop)]
-struct RecordRows(Vec<Row>);
 
 /// A source of the records of one channel, among those of others: channels, each with a counter, if it has
 /// one.
@@ -203,25 +188,30 @@ impl<'a> PieceSource for Records<'a> {
     ghost stands_first = { λ _. tt };
 }
 
-impl PlacedSink for RecordRows {
-    type Piece = Head;
-
-    type Fault = AllocError;
-
-    ghost took = { λ _ _. Unit {0} };
-
-    fn put(&mut self, placed: Placed<Head>) -> Result<(), AllocError>
-        ensures { IfOk result (λ _. TakesNext (λ _. Unit {0}) (λ _. Unit {0}) placed) }
-    {
-        let row = match placed {
-            Placed::Time { tick } => (0, tick, 0),
-            Placed::Piece { channel, piece } => match piece {
-                Head::At(counter) => (channel, counter, 0),
-                _ => (channel, 999, 0),
-            },
-        };
-        Ok(self.0.push(row)?)
+/// What has a place of these records, row by row, until nothing is left.
+fn rows_of(alloc: Global, records: &[(u16, Option<u64>)]) -> Result<Vec<Row>, Fail> {
+    let mut sources = Vec::new(alloc);
+    for channel in [9, 3, 1, 2, 4] {
+        let source = Records::new(channel, records);
+        sources.push(MergedChannel { channel, source })?;
     }
+    let mut channels = MergedChannels::new(alloc, sources)?;
+    let mut tick = 100;
+    let mut rows = Vec::new(alloc);
+    for _ in 0..2 * records.len() + 3 {
+        match next_placed(&mut channels, tick)? {
+            Some(Placed::Time { tick: time }) => {
+                rows.push((0, time, 0))?;
+                tick = tick_behind(time);
+            }
+            Some(Placed::Piece { channel, piece }) => match piece {
+                Head::At(counter) => rows.push((channel, counter, 0))?,
+                _ => rows.push((channel, 999, 0))?,
+            },
+            None => return Ok(rows),
+        }
+    }
+    Err("an end of the merge".into())
 }
 
 /// The records of channels, and what has a place where time packets stand at 100 and 200.
@@ -281,15 +271,8 @@ const MERGES: [(&[(u16, Option<u64>)], &[Row]); 7] = [
 #[test]
 fn records_are_merged_by_counter_and_then_by_channel(rt: HostRuntime) -> Result<(), Fail> {
     for &(records, wanted) in &MERGES {
-        let mut sources = Vec::new(rt.alloc());
-        for channel in [9, 3, 1, 2, 4] {
-            let source = Records::new(channel, records);
-            sources.push(MergedChannel { channel, source })?;
-        }
-        let mut rows = RecordRows(Vec::new(rt.alloc()));
-        let merged = merge_into(sources.as_mut_slice(), &TwoTicks, 100, &mut rows);
-        assert!(rt; merged.is_ok());
-        assert!(rt; rows.0.as_slice() == wanted);
+        let rows = rows_of(rt.alloc(), records)?;
+        assert!(rt; rows.as_slice() == wanted);
     }
     Ok(())
 }
@@ -303,13 +286,14 @@ fn frames_are_merged_and_cut_by_time_packets(rt: HostRuntime) -> Result<(), Fail
         let source = FramesSource::new(frames);
         sources.push(MergedChannel { channel, source })?;
     }
+    let mut channels = MergedChannels::new(rt.alloc(), sources)?;
     let mut tick = 100;
     let mut rows = Vec::new(rt.alloc());
     for _ in 0..8 {
-        match next_placed(sources.as_mut_slice(), tick)? {
+        match next_placed(&mut channels, tick)? {
             Some(Placed::Time { tick: time }) => {
                 rows.push((0, time, 0))?;
-                tick = TwoTicks.after(time);
+                tick = tick_behind(time);
             }
             Some(Placed::Piece { channel, piece }) => {
                 if let Some(frame) = piece.first() {

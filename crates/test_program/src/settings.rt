@@ -33,9 +33,10 @@ fn shown(alloc: Global, settings: &Settings) -> Result<String, Fail> {
             net,
             speed,
             max,
+            span,
             ..
         } = channel;
-        let part = format!(in alloc; " / {id} {feed} {filter} {net} {speed} {max}")?;
+        let part = format!(in alloc; " / {id} {feed} {filter} {net} {speed} {max} {span}")?;
         line.push_str(part.as_str())?;
     }
     Ok(line)
@@ -52,17 +53,17 @@ fn what_is_not_set_has_its_default(rt: HostRuntime) -> Result<(), Fail> {
     check(
         &rt,
         "limit = 16424\n[[channel]]\nid = 1\nfeed = \"a.feed\"\nfilter = \"a.bpf\"\nspeed = 3",
-        "16424 64 8 / 1 a.feed a.bpf 0 3 9223372036854775807",
+        "16424 64 8 / 1 a.feed a.bpf 0 3 9223372036854775807 0",
     )?;
     check(
         &rt,
         CHANNEL,
-        "65536 64 8 / 1 a.feed a.bpf 0 0 9223372036854775807",
+        "65536 64 8 / 1 a.feed a.bpf 0 0 9223372036854775807 0",
     )?;
     check(
         &rt,
         "channel = [{max = 0, speed = 15, net = 255, filter = \"\", feed = \"b\", id = 65535}]",
-        "65536 64 8 / 65535 b  255 15 0",
+        "65536 64 8 / 65535 b  255 15 0 0",
     )
 }
 
@@ -97,7 +98,7 @@ fn keys_of_a_channel_are_taken_to_their_limits(rt: HostRuntime) -> Result<(), Fa
     let table = &[
         (
             "id = 65535",
-            "65536 64 8 / 65535 f l 0 0 9223372036854775807",
+            "65536 64 8 / 65535 f l 0 0 9223372036854775807 0",
         ),
         ("id = 0", "settings 4 Value id"),
         ("id = 65536", "settings 4 Value id"),
@@ -107,11 +108,19 @@ fn keys_of_a_channel_are_taken_to_their_limits(rt: HostRuntime) -> Result<(), Fa
         ("id = 1\nspeed = 16", "settings 4 Value speed"),
         (
             "id = 1\nmax = 9223372036854775807",
-            "65536 64 8 / 1 f l 0 0 9223372036854775807",
+            "65536 64 8 / 1 f l 0 0 9223372036854775807 0",
         ),
-        ("id = 1\nmax = 0", "65536 64 8 / 1 f l 0 0 0"),
+        ("id = 1\nmax = 0", "65536 64 8 / 1 f l 0 0 0 0"),
         ("id = 1\nmax = -1", "settings 4 Value max"),
         ("id = 1\nmax = 9223372036854775808", "settings 1 Syntax"),
+        (
+            "id = 1\nmax = 1\nspan = 281474976710655",
+            "65536 64 8 / 1 f l 0 0 1 281474976710655",
+        ),
+        ("id = 1\nmax = 1\nspan = 0", "65536 64 8 / 1 f l 0 0 1 0"),
+        ("id = 1\nspan = -1", "settings 4 Value span"),
+        ("id = 1\nspan = 281474976710656", "settings 4 Value span"),
+        ("id = 1\nspan = 0.1", "settings 4 Value span"),
         ("net = 256", "settings 3 Missing id"),
         ("id = 1\nport = 7\nnet = 256", "settings 2 Unknown port"),
     ];
@@ -222,7 +231,7 @@ fn settings_of_64_channels_with_paths_up_to_the_longest_are_read(
             "[[channel]]\nid = {id}\nfeed = \"{feed}\"\nfilter = \"{longest}\"\n"
         )?;
         text.push_str(channel.as_str())?;
-        let part = format!(in alloc; " / {id} {feed} {longest} 0 0 9223372036854775807")?;
+        let part = format!(in alloc; " / {id} {feed} {longest} 0 0 9223372036854775807 0")?;
         line.push_str(part.as_str())?;
         if id.is_power_of_two() {
             let told = told(alloc, text.as_str())?;

@@ -254,7 +254,7 @@ fn check_behind_origin<R: AllocGlobal + Abort>(
 }
 
 /// Texts of `attributes`, and what is read.
-const ATTRIBUTES: [(&str, &str); 37] = [
+const ATTRIBUTES: [(&str, &str); 41] = [
     ("'G\\SC:U'", " / G\\SC=U"),
     ("'V-1\\ID:'", " / V-1\\ID="),
     ("'A:b:c', ' :~ '", " / A=b:c /  =~ "),
@@ -270,7 +270,10 @@ const ATTRIBUTES: [(&str, &str); 37] = [
     ("\"A:\\u007f\"", "setup 4 Value attributes"),
     ("'A:1', 2", "setup 4 Value attributes"),
     ("'A:1', ['B:2']", "setup 4 Value attributes"),
-    ("'G\\PN:x'", "setup 4 Value attributes"),
+    ("'G\\PN:x'", " / G\\PN=x"),
+    ("'g\\PN:x'", "setup 4 Value attributes"),
+    ("'R-1\\N :3'", "setup 4 Value attributes"),
+    ("'R-01\\N:3'", "setup 4 Value attributes"),
     ("'G\\DSI\\N:2'", "setup 4 Value attributes"),
     ("'G\\DSI-1:x'", "setup 4 Value attributes"),
     ("'R-1\\COM:x'", "setup 4 Value attributes"),
@@ -286,18 +289,16 @@ const ATTRIBUTES: [(&str, &str); 37] = [
     ("'R-1\\TSRC-1:E'", "setup 4 Value attributes"),
     ("'R-1\\ENBR-2-1:9'", "setup 4 Value attributes"),
     ("'R-1\\ENAM-10-1:'", "setup 4 Value attributes"),
-    ("'R-1\\TK1-01:9'", " / R-1\\TK1-01=9"),
-    ("'R-1\\TK1-0:9'", " / R-1\\TK1-0=9"),
-    ("'R-1\\TK1-:9'", " / R-1\\TK1-=9"),
-    ("'R-1\\TK1-1 :9'", " / R-1\\TK1-1 =9"),
+    ("'R-1\\TK1-01:9'", "setup 4 Value attributes"),
+    ("'R-1\\TK1-0:9'", "setup 4 Value attributes"),
+    ("'R-1\\TK1-:9'", "setup 4 Value attributes"),
+    ("'R-1\\TK1-1 :9'", "setup 4 Value attributes"),
     ("'R-1\\TK2-1:9'", " / R-1\\TK2-1=9"),
     ("'R-2\\TK1-1:9'", " / R-2\\TK1-1=9"),
-    ("'R-1\\ENBR-2:9'", " / R-1\\ENBR-2=9"),
-    ("'R-1\\ENBR-2-2:9'", " / R-1\\ENBR-2-2=9"),
-    (
-        "'r-1\\tk1-1:9', 'G\\PN\\X:1'",
-        " / r-1\\tk1-1=9 / G\\PN\\X=1",
-    ),
+    ("'R-1\\ENBR-2:9'", "setup 4 Value attributes"),
+    ("'R-1\\ENBR-2-2:9'", "setup 4 Value attributes"),
+    ("'r-1\\tk1-1:9'", "setup 4 Value attributes"),
+    ("'G\\PN\\X:1'", " / G\\PN\\X=1"),
 ];
 
 #[test]

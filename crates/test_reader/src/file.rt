@@ -137,15 +137,7 @@ fn file_of(
         bytes: Vec::new(alloc),
         room,
     };
-    let ending = write_file(
-        alloc,
-        sources.as_mut_slice(),
-        &setup,
-        clock,
-        least,
-        most,
-        &mut out,
-    );
+    let ending = write_file(alloc, &mut sources, &setup, clock, least, most, &mut out);
     Ok((ending, out.bytes))
 }
 

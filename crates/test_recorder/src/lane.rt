@@ -84,6 +84,8 @@ fn all_words(alloc: Global, pieces: &[Piece]) -> Result<String, Fail> {
 enum Step {
     /// A frame of so many bytes comes at a counter.
     Frame(u64, usize),
+    /// A time mark comes.
+    Time(u64),
     /// A program that accepts each frame is installed.
     Accept,
     /// A program that drops each frame is installed.
@@ -93,8 +95,12 @@ enum Step {
 /// The pieces that a lane gives from its first program on, in words: those of each frame, and last
 /// those of the end, with a semicolon after each frame's.
 fn pieces_of(alloc: Global, first: &str, steps: &[Step]) -> Result<String, Fail> {
-    let mut slot = Slot::new(alloc, program(alloc, first)?, 3)?;
-    let mut lane = lane(alloc, LEAST)?;
+    pieces_from(alloc, lane(alloc, LEAST)?, first, steps)
+}
+
+/// The same of a lane that has met nothing.
+fn pieces_from(alloc: Global, mut lane: Lane, first: &str, steps: &[Step]) -> Result<String, Fail> {
+    let mut slot = Slot::new(alloc, program(alloc, first)?, 9)?;
     let mut text = String::new(alloc);
     for step in steps {
         match *step {
@@ -103,6 +109,13 @@ fn pieces_of(alloc: Global, first: &str, steps: &[Step]) -> Result<String, Fail>
             Step::Frame(counter, len) => {
                 let given = given_for(alloc, &mut lane, &mut slot, counter, len)?;
                 text.push_str(given.as_str())?;
+            }
+            Step::Time(counter) => {
+                lane.ready()?;
+                if let Some(packet) = lane.at(counter) {
+                    text.push_str(words(alloc, &Piece::Data(packet))?.as_str())?;
+                }
+                text.push_str("; ")?;
             }
         }
     }
@@ -186,6 +199,59 @@ const ENDED: [(&str, &[Step], &str); 2] = [
 fn versions_end_packets_and_counters_may_fall(rt: HostRuntime) -> Result<(), Fail> {
     for &(first, steps, text) in &ENDED {
         assert_same!(rt; pieces_of(rt.alloc(), first, steps)?.as_str(), text);
+    }
+    Ok(())
+}
+
+/// Accepts a frame of 60 bytes.
+const SIXTY: &str = "4,128 0 0 0,21 0 1 56,6 0 0 1,6 0 0 0,";
+
+/// The same of a lane with a span of 100.
+const AGED: [(&str, &[Step], &str); 3] = [
+    (
+        ACCEPT,
+        &[
+            Step::Time(7),
+            Step::Frame(1_000, 60),
+            Step::Frame(1_099, 60),
+            Step::Time(1_100),
+            Step::Frame(1_150, 60),
+            Step::Time(1_249),
+            Step::Time(1_250),
+            Step::Time(5_000),
+            Step::Frame(6_000, 60),
+        ],
+        "; program 1 1000 0 0 1; ; data 1 1000 2 148; ; ; data 1 1150 1 76; ; ; \
+         data 1 6000 1 76, end 1 6000 4 4",
+    ),
+    (
+        SIXTY,
+        &[
+            Step::Frame(1_000, 60),
+            Step::Frame(1_099, 64),
+            Step::Time(1_100),
+            Step::Frame(1_150, 64),
+        ],
+        "program 1 1000 0 0 0; ; data 1 1000 1 76; ; end 1 1150 3 1",
+    ),
+    (
+        SIXTY,
+        &[
+            Step::Frame(1_000, 60),
+            Step::Frame(1_099, 64),
+            Step::Frame(1_150, 64),
+        ],
+        "program 1 1000 0 0 0; ; data 1 1000 1 76; end 1 1150 3 1",
+    ),
+];
+
+#[test]
+fn a_frame_or_a_mark_a_span_later_ends_a_packet(rt: HostRuntime) -> Result<(), Fail> {
+    let limit = Limit::new(LEAST).ok_or("a limit in range")?;
+    let spec = LaneSpec::new(1, 7, 3, limit).ok_or("settings in range")?;
+    for &(first, steps, text) in &AGED {
+        let lane = Lane::new(rt.alloc(), spec.with_span(100))?;
+        assert_same!(rt; pieces_from(rt.alloc(), lane, first, steps)?.as_str(), text);
     }
     Ok(())
 }

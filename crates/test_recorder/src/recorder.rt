@@ -4,3 +4,4 @@ mod parts;
 mod rings;
 mod runs;
 mod script;
+mod spans;

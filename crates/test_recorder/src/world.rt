@@ -28,6 +28,8 @@ const REJECT: &str = "1,6 0 0 0,";
 enum Step {
     /// The ARP frame comes at a counter.
     Take(u64),
+    /// A time mark comes.
+    Time(u64),
     /// The program of a listing is installed.
     Install(&'static str),
     Send,
@@ -63,6 +65,7 @@ fn event_of(alloc: Global, channel: u16, step: Step) -> Result<Event, Fail> {
                 frame: frame.to_owned(alloc)?,
             }
         }
+        Step::Time(counter) => Event::Time { channel, counter },
         Step::Install(listing) => Event::Install {
             channel,
             program: program(alloc, listing)?,
@@ -89,6 +92,7 @@ fn reply_words(alloc: Global, reply: &Reply) -> Result<String, Fail> {
             version,
             value,
         } => format!(in alloc; "took {number} {version} {value}")?,
+        Reply::Timed => String::from_str(alloc, "timed")?,
         Reply::Installed { version, mark } => format!(in alloc; "installed {version} {mark}")?,
         Reply::Sent(Which::Program(version)) => format!(in alloc; "sent program {version}")?,
         Reply::Sent(Which::Frames(count)) => format!(in alloc; "sent frames {count}")?,
@@ -158,6 +162,29 @@ fn an_interleaving_is_written_to_the_byte(rt: HostRuntime) -> Result<(), Fail> {
     Ok(())
 }
 
+/// A mark ahead of the first frame, one that is not due, one that is, and one where nothing is open.
+#[test]
+fn a_mark_that_is_due_ends_the_packet(rt: HostRuntime) -> Result<(), Fail> {
+    let mut spec = spec_of(rt.alloc(), 1, 100, ACCEPT)?;
+    spec.lane = spec.lane.with_span(100);
+    let specs = [spec];
+    let mut world = core_of(rt.alloc(), &specs, 4, Vec::new(rt.alloc()))?;
+    let steps = &[
+        (Step::Time(7), "timed"),
+        (Step::Take(16), "took 0 0 1"),
+        (Step::Send, "sent program 0"),
+        (Step::Time(115), "timed"),
+        (Step::Send, "refused 4 NothingToSend"),
+        (Step::Time(116), "timed"),
+        (Step::Send, "sent frames 1"),
+        (Step::Time(500), "timed"),
+        (Step::Send, "refused 4 NothingToSend"),
+        (Step::Close, "closed 1 1"),
+        (Step::Send, "sent end"),
+    ];
+    run_steps(&rt, rt.alloc(), &mut world, 1, steps)
+}
+
 #[test]
 fn refusals_come_in_their_order(rt: HostRuntime) -> Result<(), Fail> {
     let specs = [spec_of(rt.alloc(), 7, 1, ACCEPT)?];
@@ -171,6 +198,7 @@ fn refusals_come_in_their_order(rt: HostRuntime) -> Result<(), Fail> {
         (Step::Send, "refused 3 RingFull"),
         (Step::Close, "refused 2 Closed"),
         (Step::Take(3), "refused 2 Closed"),
+        (Step::Time(4), "refused 2 Closed"),
         (Step::Install(REJECT), "installed 1 1"),
     ];
     run_steps(&rt, rt.alloc(), &mut world, 7, steps)?;
@@ -182,6 +210,7 @@ fn refusals_come_in_their_order(rt: HostRuntime) -> Result<(), Fail> {
         &[
             (Step::Send, "refused 1 NoChannel"),
             (Step::Take(1), "refused 1 NoChannel"),
+            (Step::Time(1), "refused 1 NoChannel"),
             (Step::Install(ACCEPT), "refused 1 NoChannel"),
             (Step::Write, "refused 1 NoChannel"),
             (Step::Close, "refused 1 NoChannel"),

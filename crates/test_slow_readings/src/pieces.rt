@@ -25,6 +25,8 @@ pub(crate) struct PlainFrame {
     pub(crate) crc_error: bool,
     pub(crate) frame_error: bool,
     pub(crate) bytes: Vec<u8>,
+    /// The counters of the time marks after it, before the next frame.
+    pub(crate) times: Vec<u64>,
     ghost short: { vec_len bytes ≤ 16_383 },
 }
 
@@ -42,6 +44,8 @@ pub(crate) struct Channel {
     pub(crate) limit: usize,
     pub(crate) net: u8,
     pub(crate) speed: u8,
+    /// How old a packet may get, if there is such a limit.
+    pub(crate) span: Option<u64>,
 }
 
 /// A piece as it is read: its channel, its counter, and what it holds.
@@ -82,6 +86,13 @@ struct Met<'a> {
     program: &'a Verified,
 }
 
+/// A moment of a channel, a frame or a time mark: its counter, and the frame if it was kept.
+#[derive(Clone, Copy)]
+struct Moment<'a> {
+    counter: u64,
+    kept: Option<&'a PlainFrame>,
+}
+
 /// All pieces of a channel that was offered these frames under these versions.
 pub(crate) fn all_pieces(
     alloc: Global,
@@ -92,7 +103,7 @@ pub(crate) fn all_pieces(
     let met = all_met(alloc, frames, versions)?;
     let mut pieces = Vec::new(alloc);
     for group in met.chunk_by(|one, next| one.version == next.version) {
-        add_group(alloc, channel, group, &mut pieces)?;
+        add_group(alloc, channel, group, false, &mut pieces)?;
     }
     pieces.push(ReadPiece {
         channel: channel.id,
@@ -105,24 +116,20 @@ pub(crate) fn all_pieces(
     Ok(pieces)
 }
 
-/// The pieces that stand however the channel goes on: all but its end, and but the last packet of
-/// the last version's frames.
+/// The pieces that stand however the channel goes on: all but its end, and but the last part of the
+/// last version's moments.
 pub(crate) fn pieces_so_far(
     alloc: Global,
     channel: Channel,
     frames: &[PlainFrame],
     versions: &[PlainVersion],
 ) -> Result<Vec<ReadPiece>, AllocError> {
-    let mut pieces = all_pieces(alloc, channel, frames, versions)?;
-    let _end = pieces.pop();
-    if matches!(
-        pieces.last(),
-        Some(ReadPiece {
-            holds: Holds::Data { .. },
-            ..
-        })
-    ) {
-        let _open = pieces.pop();
+    let met = all_met(alloc, frames, versions)?;
+    let last = met.last().map(|one| one.version);
+    let mut pieces = Vec::new(alloc);
+    for group in met.chunk_by(|one, next| one.version == next.version) {
+        let is_open = group.first().map(|one| one.version) == last;
+        add_group(alloc, channel, group, is_open, &mut pieces)?;
     }
     Ok(pieces)
 }
@@ -182,25 +189,62 @@ fn kept_frames<'a>(alloc: Global, met: &[Met<'a>]) -> Result<Vec<&'a PlainFrame>
 }
 
 /// Adds the pieces of frames that met the same version, one after the other: its program, and its
-/// packets.
+/// packets; without the last part, if the version is still open.
 fn add_group(
     alloc: Global,
     channel: Channel,
     group: &[Met<'_>],
+    is_open: bool,
     pieces: &mut Vec<ReadPiece>,
 ) -> Result<(), AllocError> {
     if let Some(first) = group.first() {
         pieces.push(program_piece(alloc, channel, first)?)?;
     }
-    let kept = kept_frames(alloc, group)?;
+    let moments = moments_of(alloc, group)?;
     let mut from = 0;
-    while from < kept.len() {
-        let rest = &kept[from..];
-        let count = longest_front(channel.limit, rest);
-        pieces.push(data_piece(alloc, channel, &rest[..count])?)?;
+    while from < moments.len() {
+        let rest = &moments[from..];
+        let count = longest_part(channel, rest);
+        let kept = kept_at(alloc, &rest[..count])?;
+        let is_certain = !is_open || count < rest.len();
+        if is_certain && !kept.is_empty() {
+            pieces.push(data_piece(alloc, channel, kept.as_slice())?)?;
+        }
         from += count;
     }
     Ok(())
+}
+
+/// The moments of frames: each frame, and the time marks after it.
+fn moments_of<'a>(alloc: Global, group: &[Met<'a>]) -> Result<Vec<Moment<'a>>, AllocError> {
+    let mut moments = Vec::new(alloc);
+    for one in group {
+        let frame = one.frame;
+        let is_kept = value_of(one.program, frame) != 0;
+        let kept = if is_kept { Some(frame) } else { None };
+        moments.push(Moment {
+            counter: frame.counter,
+            kept,
+        })?;
+        for counter in &frame.times {
+            moments.push(Moment {
+                counter: *counter,
+                kept: None,
+            })?;
+        }
+    }
+    Ok(moments)
+}
+
+/// The frames that were kept at these moments.
+fn kept_at<'a>(alloc: Global, moments: &[Moment<'a>]) -> Result<Vec<&'a PlainFrame>, AllocError> {
+    let mut kept = Vec::new(alloc);
+    for moment in moments {
+        if let Some(frame) = moment.kept {
+            kept.push(frame)?;
+        }
+    }
+    Ok(kept)
 }
 
 /// The piece of the program that a frame is the first to meet.
@@ -216,24 +260,48 @@ fn program_piece(alloc: Global, channel: Channel, met: &Met<'_>) -> Result<ReadP
     })
 }
 
-/// How many of the frames the next packet holds: the most, from the first on, whose packet is
-/// within the limit.
-fn longest_front(limit: usize, frames: &[&PlainFrame]) -> usize
-    requires { 0 < length frames.now }
-    ensures { (1 ≤ result) × (result ≤ length frames.now) }
+/// How many of the moments are of the next part: the most, from the first on, whose packet is within
+/// the limit, and none of which is a span after the first frame.
+fn longest_part(channel: Channel, moments: &[Moment<'_>]) -> usize
+    requires { 0 < length moments.now }
+    ensures { (1 ≤ result) × (result ≤ length moments.now) }
 {
-    (1..=frames.len())
+    (1..=moments.len())
         .rev()
-        .find(|count| packet_len(&frames[..*count]) <= limit)
+        .find(|count| are_together(channel, &moments[..*count]))
         .unwrap_or(1)
 }
 
-/// The bytes of a packet of these frames, with the filler after them.
-fn packet_len(frames: &[&PlainFrame]) -> usize {
+/// Whether these moments are of one packet.
+fn are_together(channel: Channel, moments: &[Moment<'_>]) -> bool {
+    packet_len(moments) <= channel.limit && channel.span.is_none_or(|span| are_young(span, moments))
+}
+
+/// Whether no moment is a span after the first frame that was kept before it.
+fn are_young(span: u64, moments: &[Moment<'_>]) -> bool {
+    let mut first = None;
+    for moment in moments {
+        if first.is_some_and(|first| age(first, moment.counter) >= span) {
+            return false;
+        }
+        first = first.or(moment.kept.map(|frame| frame.counter));
+    }
+    true
+}
+
+/// How much later a counter of 48 bits is than another one, as they go round.
+fn age(first: u64, counter: u64) -> u64 {
+    counter.wrapping_sub(first) % (1 << 48)
+}
+
+/// The bytes of a packet of the frames that were kept at these moments, with the filler after them.
+fn packet_len(moments: &[Moment<'_>]) -> usize {
     let mut len = BEFORE_FRAMES;
-    for frame in frames {
-        let bytes = frame.bytes.len();
-        len = len.saturating_add(BEFORE_FRAME + bytes + bytes % 2);
+    for moment in moments {
+        if let Some(frame) = moment.kept {
+            let bytes = frame.bytes.len();
+            len = len.saturating_add(BEFORE_FRAME + bytes + bytes % 2);
+        }
     }
     len.div_ceil(4).saturating_mul(4)
 }

@@ -66,6 +66,7 @@ pub(crate) fn drawn_frame(alloc: Global, draws: &mut Draws, len: usize) -> Resul
         crc_error: draws.below(4) == 0,
         frame_error: draws.below(4) == 0,
         bytes,
+        times: Vec::new(alloc),
     })
 }
 
@@ -73,7 +74,11 @@ pub(crate) fn drawn_frame(alloc: Global, draws: &mut Draws, len: usize) -> Resul
 pub(crate) fn lane_spec(channel: Channel) -> Result<LaneSpec, Fail> {
     let limit = Limit::new(u32::try_from(channel.limit)?).ok_or("a limit in range")?;
     let spec = LaneSpec::new(channel.id, channel.net, channel.speed, limit);
-    Ok(spec.ok_or("settings in range")?)
+    let spec = spec.ok_or("settings in range")?;
+    Ok(match channel.span {
+        Some(span) if span > 0 && span < 1 << 48 => spec.with_span(span),
+        _ => spec,
+    })
 }
 
 /// The frame with these parts, which are in range.

@@ -3,6 +3,7 @@
 mod audit;
 mod lane;
 mod machine;
+mod spans;
 mod standing;
 mod strangers;
 mod sums;

@@ -18,6 +18,8 @@ const MOST_VERSIONS: usize = 1_024;
 pub(crate) enum PlainEvent {
     /// A frame comes.
     Take(PlainFrame),
+    /// A time mark comes.
+    Time(u64),
     /// The filter is changed.
     Install(Arc<Verified, Global>),
     /// A piece goes into the ring.
@@ -37,6 +39,8 @@ pub(crate) enum PlainReply {
         version: Option<usize>,
         value: Option<u32>,
     },
+    /// The time mark was taken.
+    Timed,
     /// The new version, and the number of frames before it.
     Installed {
         version: usize,
@@ -143,6 +147,7 @@ impl PlainWorld {
         };
         match event {
             PlainEvent::Take(frame) => found.take(frame),
+            PlainEvent::Time(counter) => found.meet_time(counter),
             PlainEvent::Install(program) => found.install(program),
             PlainEvent::Send => found.send(alloc, self.ring),
             PlainEvent::Write => found.write(alloc, &mut self.out),
@@ -193,6 +198,17 @@ impl PlainChannel {
             version: in_force(versions, number).map(|(version, _)| version),
             value: last_value(self.frames.as_slice(), versions),
         }))
+    }
+
+    /// A time mark comes. One ahead of the first frame is of none.
+    fn meet_time(&mut self, counter: u64) -> Result<PlainAnswer, AllocError> {
+        if self.closed {
+            return Ok(Err(Refusal::Closed));
+        }
+        if let Some(frame) = self.frames.last_mut() {
+            frame.times.push(counter)?;
+        }
+        Ok(Ok(PlainReply::Timed))
     }
 
     /// The filter is changed for the frames to come.

@@ -1,8 +1,10 @@
 //! How a feed is read from a reader with a buffer.
-ghost use Rattle.std.specs.Prelude.{ℕ, ◌≡◌, ◌↔◌, ◌≤◌, ◌++◌, List, length, take, IsSome, IfSome, None, Some, Ok};
+ghost use Rattle.std.specs.Prelude.{ℕ, ◌≡◌, ◌↔◌, ◌≤◌, ◌⊎◌, ◌++◌, List, length, take, IsSome, IfSome, IfErr, None, Some, Ok, false};
 ghost use Rattle.std.specs.Option.{option_map};
-ghost use Rattle.eth_frame.specs.Feed.{left_of_feed, left_of_source, failures_before};
+ghost use Rattle.eth_frame.specs.Feed.{left_of_feed, failures_before};
+ghost use Rattle.eth_frame.specs.FeedRecord.{mark_at};
 ghost use Rattle.eth_frame.specs.FeedTaking.{TakesRecord};
+ghost use Rattle.eth_frame.specs.TimedFeed.{left_of_timed_feed, left_given};
 
 use crate::buffer::FrameBuf;
 use crate::feed::head::{HEAD_LEN, decode_head};
@@ -16,6 +18,7 @@ use std::io::BufRead;
 #[derive(Debug, Drop)]
 pub struct BufferedFeedSource<R> {
     reader: R,
+    timed: bool,
     ending: Option<SourceEnding>,
 }
 
@@ -30,13 +33,29 @@ impl<R: BufRead> BufferedFeedSource<R> {
     {
         BufferedFeedSource {
             reader,
+            timed: false,
+            ending: None,
+        }
+    }
+
+    /// The source of the frames and the time marks that the reader has left. A time mark is a record
+    /// without bytes: its marks and its length are 0.
+    pub fn with_times(reader: R) -> BufferedFeedSource<R>
+        ensures told { ⟦<BufferedFeedSource<R> as FrameSource>⟧.left result
+            ≡ option_map left_of_timed_feed (R.remaining reader) }
+        ensures open { ⟦<BufferedFeedSource<R> as FrameSource>⟧.ending result ≡ None }
+        ensures no_failure { ⟦<BufferedFeedSource<R> as FrameSource>⟧.failures result ≡ 0 }
+    {
+        BufferedFeedSource {
+            reader,
+            timed: true,
             ending: None,
         }
     }
 }
 
 impl<R: BufRead> FrameSource for BufferedFeedSource<R> {
-    ghost left = { λ s. left_of_source s.ending (R.remaining s.reader) };
+    ghost left = { λ s. left_given s.timed s.ending (R.remaining s.reader) };
 
     ghost failures = { λ s. failures_before s.ending };
 
@@ -47,24 +66,33 @@ impl<R: BufRead> FrameSource for BufferedFeedSource<R> {
         if let Some(ending) = self.ending {
             return ending.answer();
         }
-        let answer = take_buffered(&mut self.reader, buffer);
+        let answer = take_buffered(&mut self.reader, buffer, self.timed);
         self.ending = SourceEnding::of(answer);
         answer
     }
 
-    ghost use Rattle.eth_frame.specs.FeedLaws.{left_once_ended, failed_once_ended};
+    ghost use Rattle.eth_frame.specs.FeedLaws.{given_once_ended, failed_once_given};
 
-    ghost nothing_left = { λ s last e. left_once_ended s.ending (R.remaining s.reader) last e };
+    ghost nothing_left = { λ s last e.
+        given_once_ended s.timed s.ending (R.remaining s.reader) last e };
 
-    ghost device_failed = { λ s. failed_once_ended s.ending (R.remaining s.reader) };
+    ghost device_failed = { λ s. failed_once_given s.timed s.ending (R.remaining s.reader) };
 }
 
 /// Takes a whole record from the front of what the reader has left: in one step if its buffer has all of it.
-fn take_buffered<R: BufRead>(reader: &mut R, buffer: &mut FrameBuf) -> Result<Next, SourceFault>
+fn take_buffered<R: BufRead>(
+    reader: &mut R,
+    buffer: &mut FrameBuf,
+    timed: bool,
+) -> Result<Next, SourceFault>
     requires { buffer.old ≡ None }
     ensures held { IsSome buffer.new ↔ (result ≡ Ok Next.Frame) }
     ensures record { IfSome (R.remaining reader.old) (λ bytes.
         TakesRecord bytes result buffer.new (R.remaining reader.new)) }
+    // Of time marks, where there may be some.
+    ensures time { timed ≡ false → (counter : ℕ) → ¬ (result ≡ Ok (Next.Time counter)) }
+    ensures unmarked { IfErr result (λ fault. (fault ≡ SourceFault.Device)
+        ⊎ IfSome (R.remaining reader.old) (λ bytes. mark_at timed bytes ≡ None)) }
 {
     let bytes = match reader.fill_buf() {
         Ok(bytes) => bytes,
@@ -77,7 +105,7 @@ fn take_buffered<R: BufRead>(reader: &mut R, buffer: &mut FrameBuf) -> Result<Ne
         reader.consume(taken);
         return Ok(Next::Frame);
     }
-    take_record(reader, buffer)
+    take_record(reader, buffer, timed)
 }
 
 /// Puts the frame of the record at the front into the buffer, which is empty, if all of the record is

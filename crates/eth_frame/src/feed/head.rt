@@ -1,7 +1,7 @@
 //! The 9 bytes of a feed's record before its frame's bytes, both ways.
 ghost use Rattle.std.specs.Prelude.{◌≡◌, IfOk};
 ghost use Rattle.std.specs.Result.{result_err};
-ghost use Rattle.eth_frame.specs.FeedRecord.{head_bytes, counter_field, marks_field, length_field, has_crc_error, has_frame_error, head_fault};
+ghost use Rattle.eth_frame.specs.FeedRecord.{head_bytes, counter_field, marks_field, length_field, has_crc_error, has_frame_error, head_fault, time_in};
 
 use crate::counter::{counter_bytes, counter_of};
 use crate::frame::{FrameHead, MAX_FRAME_LEN, MIN_FRAME_LEN};
@@ -29,6 +29,19 @@ pub(crate) fn encode_head(head: FrameHead) -> [u8; HEAD_LEN]
     let frame_error = if head.frame_error { FRAME_ERROR } else { 0 };
     let [low, high] = (head.len as u16).to_le_bytes();
     [c0, c1, c2, c3, c4, c5, crc_error + frame_error, low, high]
+}
+
+/// The counter of the time mark that these bytes are: a head with marks 0 and length 0.
+pub(crate) fn time_of(bytes: &[u8; HEAD_LEN]) -> Option<u64>
+    ensures { result ≡ time_in bytes.now }
+{
+    let [c0, c1, c2, c3, c4, c5, marks, low, high] = *bytes;
+    let len = u16::from_le_bytes([low, high]);
+    if len == 0 && marks == 0 {
+        Some(counter_of([c0, c1, c2, c3, c4, c5]))
+    } else {
+        None
+    }
 }
 
 /// The head of these bytes, or the first fault: the length, then the marks.

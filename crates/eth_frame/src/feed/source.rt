@@ -1,13 +1,14 @@
 //! How a feed is read.
-ghost use Rattle.std.specs.Prelude.{◌≡◌, ◌↔◌, ◌<◌, ◌⊎◌, length, IsSome, IfSome, IsSomeAnd, OnOk, OnErr, IfErr, None, Ok};
+ghost use Rattle.std.specs.Prelude.{ℕ, ◌≡◌, ◌↔◌, ◌<◌, ◌⊎◌, length, IsSome, IfSome, IsSomeAnd, OnOk, OnErr, IfErr, None, Ok, false};
 ghost use Rattle.std.specs.Io.KnownBytes.{Consumes};
 ghost use Rattle.std.specs.Option.{option_map};
 ghost use Rattle.eth_frame.specs.Heads.{HasFrameHead};
 ghost use Rattle.eth_frame.specs.Feed.{left_of_feed, left_of_source, failures_before};
+ghost use Rattle.eth_frame.specs.FeedRecord.{mark_at};
 ghost use Rattle.eth_frame.specs.FeedTaking.{TakesRecord};
 
 use crate::buffer::{FrameBuf, fill};
-use crate::feed::head::{HEAD_LEN, decode_head};
+use crate::feed::head::{HEAD_LEN, decode_head, time_of};
 use crate::frame::FrameHead;
 use crate::source::{FrameSource, Next, SourceEnding, SourceFault};
 use std::io::Read;
@@ -54,7 +55,7 @@ impl<R: Read> FrameSource for FeedSource<R> {
         if let Some(ending) = self.ending {
             return ending.answer();
         }
-        let answer = take_record(&mut self.reader, buffer);
+        let answer = take_record(&mut self.reader, buffer, false);
         self.ending = SourceEnding::of(answer);
         answer
     }
@@ -66,15 +67,20 @@ impl<R: Read> FrameSource for FeedSource<R> {
     ghost device_failed = { λ s. failed_once_ended s.ending (R.remaining s.reader) };
 }
 
-/// Takes a whole record from the front of what the reader has left.
+/// Takes a whole record from the front of what the reader has left; a time mark too, where there may be some.
 pub(super) fn take_record<R: Read>(
     reader: &mut R,
     buffer: &mut FrameBuf,
+    timed: bool,
 ) -> Result<Next, SourceFault>
     requires { buffer.old ≡ None }
     ensures held { IsSome buffer.new ↔ (result ≡ Ok Next.Frame) }
     ensures record { IfSome (R.remaining reader.old) (λ bytes.
         TakesRecord bytes result buffer.new (R.remaining reader.new)) }
+    // Of time marks, where there may be some.
+    ensures time { timed ≡ false → (counter : ℕ) → ¬ (result ≡ Ok (Next.Time counter)) }
+    ensures unmarked { IfErr result (λ fault. (fault ≡ SourceFault.Device)
+        ⊎ IfSome (R.remaining reader.old) (λ bytes. mark_at timed bytes ≡ None)) }
 {
     let mut bytes = [0; HEAD_LEN];
     let filled = fill(reader, &mut bytes)?;
@@ -84,9 +90,19 @@ pub(super) fn take_record<R: Read>(
     if filled < HEAD_LEN {
         return Err(SourceFault::Truncated);
     }
+    if let Some(counter) = mark_of(timed, &bytes) {
+        return Ok(Next::Time(counter));
+    }
     let head = decode_head(&bytes)?;
     take_body(head, reader, buffer)?;
     Ok(Next::Frame)
+}
+
+/// The counter of the time mark that these bytes are, where there may be some.
+fn mark_of(timed: bool, bytes: &[u8; HEAD_LEN]) -> Option<u64>
+    ensures { result ≡ mark_at timed bytes.now }
+{
+    if timed { time_of(bytes) } else { None }
 }
 
 /// Takes the bytes of the frame with this head, which come next.

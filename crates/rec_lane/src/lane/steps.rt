@@ -1,8 +1,9 @@
 //! What a lane does with a frame, step by step.
 
-ghost use Rattle.std.specs.Prelude.{ℕ, if◌then◌else◌, ◌≡◌, ◌+◌, ◌-◌, ◌^◌, ◌<◌, ◌==◌, true, false, [], ◌∷◌, ◌++◌, map, List, Option, None, Some, IsSome, IsNone, IfSome, IfNone, ◌↔◌, IsOk, IfOk, OnErr};
+ghost use Rattle.std.specs.Prelude.{ℕ, if◌then◌else◌, ◌≡◌, ◌≢◌, ◌+◌, ◌-◌, ◌^◌, ◌<◌, ◌==◌, true, false, [], ◌∷◌, ◌++◌, map, List, Option, None, Some, IsSome, IsNone, IfSome, IfNone, ◌↔◌, IsOk, IfOk, OnErr};
 ghost use Rattle.arrayvec.specs.ArrayVec.{array_vec_len};
 ghost use Rattle.ch11_packet.specs.Building.{open_of};
+ghost use Rattle.rec_lane.specs.Moments.{age};
 ghost use Rattle.rec_lane.specs.Parts.{as_part};
 ghost use Rattle.rec_lane.specs.Pieces.{data_piece};
 ghost use Rattle.rec_lane.specs.Settings.{spec_data};
@@ -15,9 +16,12 @@ use crate::spec::LaneSpec;
 use crate::version::Current;
 use arrayvec::ArrayVec;
 use ch11_packet::DataBuilder;
-use eth_frame::Frame;
+use eth_frame::{COUNTER_BITS, Frame};
 use rec_channel::Drawn;
 use std::mem;
+
+/// How many counters there are.
+const TURN: u64 = 1 << COUNTER_BITS;
 
 impl Lane {
     ghost use Rattle.std.specs.Arc.{arc_value};
@@ -26,10 +30,11 @@ impl Lane {
     ghost use Rattle.eth_frame.specs.Frame.{view};
     ghost use Rattle.eth_frame.specs.Views.{frame_data};
     ghost use Rattle.rec_lane.specs.Packets.{has_room};
+    ghost use Rattle.rec_lane.specs.Moments.{is_span_due};
     ghost use Rattle.rec_lane.specs.Pieces.{has_no_packet};
     ghost use Rattle.rec_lane.specs.Settings.{spec_data};
     ghost use Rattle.rec_lane.specs.Lanes.{HasMet, is_current, running, offered_now, new_lane, Meets, MakesCertain, AreLeft, TakesFrame, EndsLane};
-    ghost use Rattle.rec_lane.specs.Steps.{RunsAs, packet_closed, closed_pieces, frame_added, frame_judged, judged_pieces, frame_counted, frame_of_new_version, version_begun, begun_piece, begun_pieces};
+    ghost use Rattle.rec_lane.specs.Steps.{RunsAs, packet_closed, closed_pieces, begins, closes_at, IsBegun, time_met, time_pieces, frame_added, frame_begun, frame_judged, judged_pieces, frame_counted, frame_of_new_version, version_begun, begun_piece, begun_pieces};
 
     /// What [`Lane::end`] gives.
     pub(super) fn last_pieces(self) -> ArrayVec<Piece, 2>
@@ -67,11 +72,28 @@ impl Lane {
     {
         self.count(frame);
         let value = self.value_on(frame);
+        if self.begins_packet(frame.counter) {
+            let packet = self.begin_packet(frame, value);
+            return OfferedKnown { value, packet };
+        }
         let mut packet = None;
         if value != 0 && !self.keep(frame) {
             packet = self.keep_in_next(frame);
         }
         OfferedKnown { value, packet }
+    }
+
+    /// What [`Lane::at`] does.
+    pub(super) fn meet_time(&mut self, counter: u64) -> Option<DataPiece>
+        requires { self.old.ready ≡ true }
+        ensures lane { self.new ≡ time_met self.old counter }
+        ensures packet { packet_pieces result ≡ time_pieces self.old counter }
+    {
+        if self.is_due(counter) {
+            self.close_packet()
+        } else {
+            None
+        }
     }
 
     /// The first frame of a version.
@@ -96,7 +118,7 @@ impl Lane {
         self.count(frame);
         let value = self.value_on(frame);
         if value != 0 {
-            self.add(frame);
+            self.begin(frame);
         }
         Offered { value, pieces }
     }
@@ -150,7 +172,8 @@ impl Lane {
 
     /// Adds an accepted frame to the open packet, if it fits.
     fn keep(&mut self, frame: &Frame<'_>) -> bool
-        requires { self.old.kept < self.old.offered }
+        requires counted { self.old.kept < self.old.offered }
+        requires begun { IsBegun self.old.settings.span self.old.pending }
         ensures fits { result
             ≡ has_room self.old.settings.limit self.old.pending (frame_data frame.now) }
         ensures lane { self.new
@@ -176,7 +199,7 @@ impl Lane {
         ensures packet { packet_pieces result ≡ closed_pieces self.old }
     {
         let packet = self.close_packet();
-        self.add(frame);
+        self.begin(frame);
         packet
     }
 
@@ -185,10 +208,74 @@ impl Lane {
         requires fits { has_room self.old.settings.limit self.old.pending (frame_data frame.now)
             ≡ true }
         requires counted { self.old.kept < self.old.offered }
+        requires begun { IsBegun self.old.settings.span self.old.pending }
         ensures { self.new ≡ frame_added self.old (frame_data frame.now) }
     {
         self.packet.push(frame);
         self.kept += 1;
+    }
+
+    /// Adds an accepted frame to the next packet, as its first.
+    fn begin(&mut self, frame: &Frame<'_>)
+        requires empty { self.old.pending ≡ [] }
+        requires roomy { has_room self.old.settings.limit [] (frame_data frame.now) ≡ true }
+        requires counted { self.old.kept < self.old.offered }
+        ensures { self.new ≡ frame_added self.old (frame_data frame.now) }
+    {
+        self.packet.push(frame);
+        self.kept += 1;
+        self.first = frame.counter;
+    }
+
+    /// Whether a frame with this counter begins a packet, since no packet is open or that one is a span
+    /// old; never, where packets have no span.
+    #[inline(always)]
+    fn begins_packet(&self, counter: u64) -> bool
+        ensures begins { result ≡ begins self.now.settings.span self.now.pending counter }
+        ensures begun { result ≡ false → IsBegun self.now.settings.span self.now.pending }
+    {
+        match self.spec.span {
+            None => false,
+            Some(span) => self.packet.is_empty() || self.is_old(span, counter),
+        }
+    }
+
+    /// Whether this counter closes the open packet.
+    fn is_due(&self, counter: u64) -> bool
+        ensures { result ≡ closes_at self.now counter }
+    {
+        match self.spec.span {
+            None => false,
+            Some(span) => !self.packet.is_empty() && self.is_old(span, counter),
+        }
+    }
+
+    /// Whether this counter is a span or more after that of the open packet's first frame.
+    #[inline(always)]
+    fn is_old(&self, span: u64, counter: u64) -> bool
+        requires span { self.now.settings.span ≡ Some span }
+        requires some { self.now.pending ≢ [] }
+        ensures { result ≡ is_span_due (Some span) self.now.pending counter }
+    {
+        age(self.first, counter) >= span
+    }
+
+    /// Closes the open packet, if it has frames, and begins the next one with the frame if it is accepted.
+    // once a span, and apart as the first frame of a version
+    #[cold]
+    #[inline(never)]
+    fn begin_packet(&mut self, frame: &Frame<'_>, value: u32) -> Option<DataPiece>
+        requires ready { self.old.ready ≡ true }
+        requires counted { self.old.kept < self.old.offered }
+        requires roomy { has_room self.old.settings.limit [] (frame_data frame.now) ≡ true }
+        ensures lane { self.new ≡ frame_begun self.old (frame_data frame.now) value }
+        ensures packet { packet_pieces result ≡ closed_pieces self.old }
+    {
+        let packet = self.close_packet();
+        if value != 0 {
+            self.begin(frame);
+        }
+        packet
     }
 
     /// The open packet, if it has frames.
@@ -209,6 +296,14 @@ impl Lane {
             body: packet.seal(),
         })
     }
+}
+
+/// How much later a counter is than a first one of 48 bits, as such counters go round.
+fn age(first: u64, counter: u64) -> u64
+    requires { first < 2 ^ 48 }
+    ensures { result ≡ age first counter }
+{
+    (counter % TURN + TURN - first) % TURN
 }
 
 /// A packet, if there is one, as pieces.

@@ -1,9 +1,9 @@
-//! A turn of a worker: one frame.
+//! A turn of a worker: one frame, or one time mark.
 
 ghost use Rattle.std.specs.Prelude.{◌≡◌, ◌-◌, ◌^◌, ◌<◌, true};
 ghost use Rattle.rtrb.specs.Ring.{SameProducer};
 ghost use Rattle.eth_frame.specs.Views.{frame_data};
-ghost use Rattle.rec_run.specs.WorkerSteps.{RecordsFrame, StepsOn};
+ghost use Rattle.rec_run.specs.WorkerSteps.{RecordsFrame, RecordsTime, StepsOn};
 
 use crate::ending::{Ending, WorkerEnd};
 use crate::pause::Pause;
@@ -19,8 +19,9 @@ use rtrb::{Consumer, Producer};
 use std::sync::Wait;
 use std::sync::atomic::AtomicU64;
 
-/// Takes one frame from the source, and sends the pieces that are certain then; or tells why the
-/// worker does not go on.
+/// Takes one frame or time mark from the source, and sends the pieces that are certain then; or tells
+/// why the worker does not go on.
+#[tactic(auto, using(crate::proofs::Sources::times_first, crate::proofs::Sources::times_all))]
 pub(crate) fn step<S: FrameSource + Drop, R: Wait>(
     worker: &mut Worker<S>,
     buffer: &mut FrameBuf,
@@ -44,6 +45,7 @@ pub(crate) fn step<S: FrameSource + Drop, R: Wait>(
     }
     match worker.source.next(buffer) {
         Ok(Next::Frame) => {}
+        Ok(Next::Time(counter)) => return record_time(worker, counter, rt, stop),
         Ok(Next::End) => return Some(WorkerEnd::Ended(Ending::SourceEnd)),
         Err(fault) => return Some(WorkerEnd::Ended(Ending::SourceFault(fault))),
     }
@@ -51,6 +53,36 @@ pub(crate) fn step<S: FrameSource + Drop, R: Wait>(
         unreachable!()
     };
     record_frame(worker, &frame, rt, slot, stop)
+}
+
+/// Gives a time mark to the lane, and sends the packet that is certain then.
+// rare, and apart so that frames pay nothing for it
+#[cold]
+#[inline(never)]
+fn record_time<S: Drop, R: Wait>(
+    worker: &mut Worker<S>,
+    counter: u64,
+    rt: &R,
+    stop: &AtomicU64,
+) -> Option<WorkerEnd>
+    requires { worker.old.lane.ready ≡ true }
+    ensures ring { SameProducer worker.old.ring worker.new.ring }
+    ensures max { worker.new.max ≡ worker.old.max }
+    ensures source { worker.new.source ≡ worker.old.source }
+    ensures settings { worker.new.lane.settings ≡ worker.old.lane.settings }
+    ensures records { RecordsTime worker.old worker.new counter result }
+{
+    let packet = worker.lane.at(counter);
+    match packet {
+        None => None,
+        Some(packet) => {
+            if send(rt, stop, &mut worker.ring, Piece::Data(packet)) {
+                None
+            } else {
+                Some(WorkerEnd::Ended(Ending::Stopped))
+            }
+        }
+    }
 }
 
 /// Draws for a frame, offers it to the lane, and sends the pieces that are certain then.

@@ -197,14 +197,17 @@ event after another, in any order. Prints the answer of each event on standard o
 a line are separated by one space, and a listing takes the rest of its line:
   recorder <limit> <ring> <version>                the first line, as in the settings of record
   channel <id> <net> <speed> <max> <listing>       1 to 64 of them, each with an id of its own
+  span <channel> <ticks>                           behind them: a channel's span, as in the settings
   take <channel> <counter> <marks> <frame>         a frame comes, in hexadecimal with its FCS;
                                                    marks: 1 CRC error, 2 frame error
+  time <channel> <counter>                         a time mark: no frame came up to this counter
   install <channel> <listing>                      the channel's filter is changed
   send <channel>                                   its next piece goes to its ring
   write <channel>                                  the first piece of its ring is written
   close <channel>                                  no more frames come
 Each event is answered by a line:
   took <number> <version> <value>                  a value of 0 drops the frame
+  timed
   installed <version> <first>                      from frame <first> on
   sent program <version>, sent frames <n>, or sent end
   wrote <packet>                                   its bytes in hexadecimal
@@ -305,6 +308,8 @@ standard input. SETTINGS is a TOML document:
   net = 0                          the network identifier of its frames, 0 to 255
   speed = 0                        their Ethernet speed, 0 to 15
   max = 9223372036854775807        how many frames are taken at most, 0 to this number
+  span = 0                         the age at which a packet of frames is closed, in units of 100 ns,
+                                   0 to 281474976710655; 0 is for no age
 Only id, feed and filter must be set; the numbers above are the others' defaults. Filters and
 feeds are opened channel by channel, and then OUT is created, or overwritten if it exists; the opening
 of a pipe waits for its writer. No pipe may feed two channels. OUT may be none of these files, nor

@@ -17,6 +17,9 @@ use rec_channel::{MAX_CHANNELS, MAX_RING};
 use std::alloc::Global;
 use toml::{Table, Value};
 
+/// The greatest span: that of the greatest counter of 48 bits.
+const MAX_SPAN: u64 = 281_474_976_710_655;
+
 /// The settings that a text has.
 ///
 /// # Errors
@@ -112,7 +115,7 @@ fn channel_in(alloc: Global, table: &Table) -> Result<ChannelSettings, KeyFault>
     only(
         alloc,
         table,
-        &["id", "feed", "filter", "net", "speed", "max"],
+        &["id", "feed", "filter", "net", "speed", "max", "span"],
     )?;
     let most = i64::MAX as u64;
     Ok(ChannelSettings {
@@ -122,6 +125,7 @@ fn channel_in(alloc: Global, table: &Table) -> Result<ChannelSettings, KeyFault>
         net: number_or(table, "net", 0, u64::from(u8::MAX), 0)? as u8,
         speed: number_or(table, "speed", 0, u64::from(MAX_SPEED), 0)? as u8,
         max: number_or(table, "max", 0, most, most)?,
+        span: number_or(table, "span", 0, MAX_SPAN, 0)?,
     })
 }
 

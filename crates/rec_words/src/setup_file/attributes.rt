@@ -1,6 +1,6 @@
 //! The attributes that a user adds.
 
-ghost use Rattle.std.specs.Prelude.{◌≡◌, Ok, MatchResult, map, option_map, option_and_then};
+ghost use Rattle.std.specs.Prelude.{◌≡◌, Ok, IfOk, MatchResult, map, option_map, option_and_then};
 ghost use Rattle.std.specs.List.{list_all};
 ghost use Rattle.toml.specs.Data.{as_str};
 ghost use Rattle.toml.specs.View.{table_view, view, items_view};
@@ -14,7 +14,7 @@ use super::AddedAttribute;
 use super::parts::cut_at;
 use super::reserved::is_reserved;
 use crate::keys::{KeyFault, value_at};
-use std::alloc::Global;
+use std::alloc::{AllocError, Global};
 use toml::{Table, Value};
 
 /// The attributes in a document's table.
@@ -50,7 +50,7 @@ fn attributes_of(alloc: Global, values: &[Value]) -> Result<Vec<AddedAttribute>,
 {
     let mut attributes = Vec::new(alloc);
     'values: for value in values {
-        let Some((name, value)) = attribute_in(value) else {
+        let Some((name, value)) = attribute_in(alloc, value)? else {
             return Err(KeyFault::Value { key: "attributes" });
         };
         attributes.push(AddedAttribute {
@@ -62,39 +62,43 @@ fn attributes_of(alloc: Global, values: &[Value]) -> Result<Vec<AddedAttribute>,
 }
 
 /// The name and the value of the attribute that a value says.
-fn attribute_in(value: &Value) -> Option<(&str, &str)>
-    ensures { option_map (λ parts. attribute_of parts.0.now parts.1.now) result
-        ≡ option_and_then attribute_said (as_str (view value.now)) }
+fn attribute_in(alloc: Global, value: &Value) -> Result<Option<(&str, &str)>, AllocError>
+    ensures { IfOk result (λ found. option_map (λ parts. attribute_of parts.0.now parts.1.now) found
+        ≡ option_and_then attribute_said (as_str (view value.now))) }
 {
     match value.as_str() {
-        Some(text) => attribute_said(text),
-        None => None,
+        Some(text) => attribute_said(alloc, text),
+        None => Ok(None),
     }
 }
 
 /// The name and the value of the attribute that a text says.
-fn attribute_said(text: &str) -> Option<(&str, &str)>
-    ensures { option_map (λ parts. attribute_of parts.0.now parts.1.now) result
-        ≡ attribute_said text.now }
+fn attribute_said(alloc: Global, text: &str) -> Result<Option<(&str, &str)>, AllocError>
+    ensures { IfOk result (λ found. option_map (λ parts. attribute_of parts.0.now parts.1.now) found
+        ≡ attribute_said text.now) }
 {
     if !are_attribute_bytes(text.as_bytes()) {
-        return None;
+        return Ok(None);
     }
     match cut_at(text, ':') {
-        Some((name, value)) => attribute_with(name, value),
-        None => None,
+        Some((name, value)) => attribute_with(alloc, name, value),
+        None => Ok(None),
     }
 }
 
 /// An attribute by its name and its value, if it may be added.
-fn attribute_with<'t>(name: &'t str, value: &'t str) -> Option<(&'t str, &'t str)>
-    ensures { option_map (λ parts. attribute_of parts.0.now parts.1.now) result
-        ≡ attribute_with (name.now, value.now) }
+fn attribute_with<'t>(
+    alloc: Global,
+    name: &'t str,
+    value: &'t str,
+) -> Result<Option<(&'t str, &'t str)>, AllocError>
+    ensures { IfOk result (λ found. option_map (λ parts. attribute_of parts.0.now parts.1.now) found
+        ≡ attribute_with (name.now, value.now)) }
 {
-    if name.is_empty() || is_reserved(name) {
-        return None;
+    if name.is_empty() || is_reserved(alloc, name)? {
+        return Ok(None);
     }
-    Some((name, value))
+    Ok(Some((name, value)))
 }
 
 /// Whether all bytes may stand in an attribute.

@@ -5,7 +5,7 @@ ghost use Rattle.toml.specs.Data.{Members};
 ghost use Rattle.toml.specs.View.{table_view, view, items_view};
 ghost use Rattle.ch11_clock.specs.OriginRange.{IsOrigin};
 ghost use Rattle.rec_words.specs.Settings.{tables_in, required};
-ghost use Rattle.rec_words.specs.SetupFile.{origins_in, noted_origins, single_origin, origin_in, time_in, each_after};
+ghost use Rattle.rec_words.specs.SetupFile.{origins_in, noted_origins, single_origin, origin_in, time_told_in, each_after};
 ghost use Rattle.rec_words.specs.SetupViews.{origin_data};
 ghost use Rattle.rec_words.specs.KeyViews.{KeyReports};
 
@@ -100,8 +100,8 @@ fn origin_in(alloc: Global, table: &Table) -> Result<Origin, KeyFault>
 fn origin_from(counter: u64, value: &Value) -> Result<Origin, KeyFault>
     requires { counter < 2 ^ 48 }
     ensures time { MatchResult result
-        (λ found. time_in (codes "origin") (view value.now) ≡ Ok found.nanos)
-        (KeyReports (time_in (codes "origin") (view value.now))) }
+        (λ found. time_told_in (codes "origin") (view value.now) ≡ Ok found.nanos)
+        (KeyReports (time_told_in (codes "origin") (view value.now))) }
     ensures counter { IfOk result (λ found. found.counter ≡ counter) }
 {
     let fault = KeyFault::Value { key: "origin" };

@@ -1,105 +1,131 @@
 //! The names of attributes that a setup record writes.
 
-ghost use Rattle.std.specs.Prelude.{◌≡◌, option_map, unwrap_or, false};
-ghost use Rattle.std.specs.List.{list_all};
-ghost use Rattle.ch11_setup.specs.Attributes.{cut_at};
-ghost use Rattle.rec_words.specs.ReservedNames.{is_reserved, is_recorder_name, is_numbered, is_network_number};
-ghost use Rattle.rec_words.specs.ReservedNames.{is_number_text, is_decimal_digit};
+ghost use Rattle.std.specs.Prelude.{◌≡◌, ◌&&◌, not, bytes_eq, IfOk, map};
+ghost use Rattle.rec_words.specs.ReservedNames.{is_reserved, is_taken, test_attribute, begins_as_one, plain_name, plain_form};
+ghost use Rattle.rec_words.specs.ReservedNames.{is_leading_zero, is_decimal_digit, starts_with_digit, capital};
+ghost use Rattle.rec_words.specs.Settings.{is_among};
+ghost use Rattle.ch11_setup.specs.Names.{without_blanks};
 
-use super::parts::cut_at;
-use crate::keys::is_among;
+use ch11_setup::{trim_end, trim_start};
+use std::alloc::{AllocError, Global};
+
+/// The name of the test, which a user may say.
+const TEST_NAME: &str = "G\\PN";
 
 /// The names that it writes once.
-const SINGLE_NAMES: [&str; 19] = [
-    "G\\PN",
-    "G\\106",
-    "G\\OD",
-    "G\\DSI\\N",
-    "G\\DSI-1",
-    "G\\DST-1",
-    "R-1\\ID",
-    "R-1\\RID",
-    "R-1\\R1",
-    "R-1\\TC1",
-    "R-1\\RI3",
-    "R-1\\RI4",
-    "R-1\\NSB",
-    "R-1\\IDX\\E",
-    "R-1\\IDX\\IT",
-    "R-1\\IDX\\ICV",
-    "R-1\\EV\\E",
-    "R-1\\N",
-    "R-1\\COM",
+const SINGLE_NAMES: [&[u8]; 19] = [
+    b"G\\PN",
+    b"G\\106",
+    b"G\\OD",
+    b"G\\DSI\\N",
+    b"G\\DSI-1",
+    b"G\\DST-1",
+    b"R-1\\ID",
+    b"R-1\\RID",
+    b"R-1\\R1",
+    b"R-1\\TC1",
+    b"R-1\\RI3",
+    b"R-1\\RI4",
+    b"R-1\\NSB",
+    b"R-1\\IDX\\E",
+    b"R-1\\IDX\\IT",
+    b"R-1\\IDX\\ICV",
+    b"R-1\\EV\\E",
+    b"R-1\\N",
+    b"R-1\\COM",
 ];
 
-/// What stands in the names that it writes for a channel, as `TK1` in `R-1\TK1-2`.
-const CHANNEL_WORDS: [&str; 10] = [
-    "TK1", "TK4", "CHE", "DSI", "CDT", "TTF", "TFMT", "TSRC", "ENTF", "NNET",
+/// With what names begin that it writes for a channel or its network, as `R-1\TK1-` of `R-1\TK1-2`.
+const CHANNEL_BEGINNINGS: [&[u8]; 12] = [
+    b"R-1\\TK1-",
+    b"R-1\\TK4-",
+    b"R-1\\CHE-",
+    b"R-1\\DSI-",
+    b"R-1\\CDT-",
+    b"R-1\\TTF-",
+    b"R-1\\TFMT-",
+    b"R-1\\TSRC-",
+    b"R-1\\ENTF-",
+    b"R-1\\NNET-",
+    b"R-1\\ENBR-",
+    b"R-1\\ENAM-",
 ];
 
-/// What stands in those that it writes for a channel's network, as `ENBR` in `R-1\ENBR-2-1`.
-const NETWORK_WORDS: [&str; 2] = ["ENBR", "ENAM"];
-
-/// Whether a setup record writes an attribute of this name, for some number of a channel.
-pub(super) fn is_reserved(name: &str) -> bool
-    ensures { result ≡ is_reserved name.now }
+/// Whether a reader of the setup record may take an attribute of this name for one that it writes.
+pub(super) fn is_reserved(alloc: Global, name: &str) -> Result<bool, AllocError>
+    ensures { IfOk result (λ is. is ≡ is_reserved name.now) }
 {
-    is_among(&SINGLE_NAMES, name) || is_recorder_name(name)
+    let plain = plain_name(alloc, name.as_bytes())?;
+    Ok(is_taken_name(name, &plain))
 }
 
-/// Whether it does so for a channel, in the recorder's group.
-fn is_recorder_name(name: &str) -> bool
-    ensures { result ≡ unwrap_or (option_map is_recorder_name (cut_at 92 name.now)) false }
+/// Whether it may, where the name's plain form is this.
+fn is_taken_name(name: &str, plain: &[u8]) -> bool
+    ensures { result ≡ (not (bytes_eq name.now test_attribute) && is_taken plain.now) }
 {
-    match cut_at(name, '\\') {
-        Some((group, rest)) => group == "R-1" && is_numbered(rest),
-        None => false,
-    }
+    name != TEST_NAME && is_taken(plain)
 }
 
-/// Whether a name without its group is that of a channel or of its network.
-fn is_numbered(name: &str) -> bool
-    ensures { result ≡ unwrap_or (option_map is_numbered (cut_at 45 name.now)) false }
+/// Whether a name in its plain form is one that a setup record writes, or begins as one of a channel's.
+fn is_taken(name: &[u8]) -> bool
+    ensures { result ≡ is_taken name.now }
 {
-    match cut_at(name, '-') {
-        Some((word, number)) => {
-            is_among(&CHANNEL_WORDS, word) && is_number_text(number.as_bytes())
-                || is_among(&NETWORK_WORDS, word) && is_network_number(number)
+    begins_as_one(name, &CHANNEL_BEGINNINGS) || is_one(trim_end(name), &SINGLE_NAMES)
+}
+
+/// Whether a name begins as one of these.
+fn begins_as_one(name: &[u8], beginnings: &[&[u8]]) -> bool
+    ensures { result ≡ begins_as_one name.now (map (λ k. k.now) beginnings.now) }
+{
+    'beginnings: for beginning in beginnings {
+        if name.starts_with(beginning) {
+            return true;
         }
-        None => false,
     }
+    false
 }
 
-/// Whether a text is the number of a channel and that of its one network.
-fn is_network_number(text: &str) -> bool
-    ensures { result ≡ is_network_number text.now }
+/// Whether a name is one of these.
+fn is_one(name: &[u8], names: &[&[u8]]) -> bool
+    ensures { result ≡ is_among (map (λ k. k.now) names.now) name.now }
 {
-    match cut_at(text, '-') {
-        Some((number, network)) => is_number_text(number.as_bytes()) && network == "1",
-        None => false,
-    }
+    names.contains(&name)
 }
 
-/// Whether a text is a number from 1 on in decimal digits, with no zero ahead.
-fn is_number_text(text: &[u8]) -> bool
-    ensures { result ≡ is_number_text text.now }
+/// A name in capitals, without blanks ahead of it and zeros ahead of its numbers.
+fn plain_name(alloc: Global, name: &[u8]) -> Result<Vec<u8>, AllocError>
+    ensures { IfOk result (λ plain. plain.items ≡ plain_name name.now) }
+{
+    let mut plain = Vec::new(alloc);
+    let mut left = trim_start(name);
+    let mut within = false;
+    'bytes: while let Some((byte, rest)) = left.split_first() {
+        if is_leading_zero(within, *byte, rest) {
+            within = false;
+        } else {
+            plain.push(capital(*byte))?;
+            within = is_decimal_digit(*byte);
+        }
+        left = rest;
+    }
+    Ok(plain)
+}
+
+/// Whether a byte is a zero ahead of a number, where `within` says that a digit stands before it.
+fn is_leading_zero(within: bool, byte: u8, rest: &[u8]) -> bool
+    ensures { result ≡ is_leading_zero within byte rest.now }
+{
+    byte == b'0' && !within && starts_with_digit(rest)
+}
+
+/// Whether a digit stands first.
+fn starts_with_digit(text: &[u8]) -> bool
+    ensures { result ≡ starts_with_digit text.now }
 {
     match text.first() {
-        Some(first) => *first != b'0' && are_digits(text),
+        Some(byte) => is_decimal_digit(*byte),
         None => false,
     }
-}
-
-/// Whether all bytes are decimal digits.
-fn are_digits(text: &[u8]) -> bool
-    ensures { result ≡ list_all is_decimal_digit text.now }
-{
-    'bytes: for byte in text {
-        if !is_decimal_digit(*byte) {
-            return false;
-        }
-    }
-    true
 }
 
 /// Whether a byte is a decimal digit.
@@ -107,4 +133,15 @@ fn is_decimal_digit(byte: u8) -> bool
     ensures { result ≡ is_decimal_digit byte }
 {
     (b'0'..=b'9').contains(&byte)
+}
+
+/// A letter as a capital.
+fn capital(byte: u8) -> u8
+    ensures { result ≡ capital byte }
+{
+    if (b'a'..=b'z').contains(&byte) {
+        byte - 32
+    } else {
+        byte
+    }
 }

@@ -1,6 +1,6 @@
 //! Feeds: what is written and what is read.
 use super::*;
-use test_samples::assert_same;
+use test_samples::{assert_same, joined_bytes};
 
 #[test]
 fn a_record_is_written_and_read(rt: HostRuntime) -> Result<(), Fail> {
@@ -239,6 +239,55 @@ fn each_record_cut_in_a_buffer_is_truncated(rt: HostRuntime) -> Result<(), Fail>
             "cut after {cut} bytes"
         );
         assert!(rt; buffer.frame().is_none());
+    }
+    Ok(())
+}
+
+/// A mark ahead of a frame, two behind it, and one behind another frame.
+#[test]
+fn time_marks_are_read_among_frames(rt: HostRuntime) -> Result<(), Fail> {
+    let mark = "100000000000 00 0000";
+    let feed = joined_bytes(
+        rt.alloc(),
+        &[mark, RECORD, mark, "ffffffffffff 00 0000", RECORD, mark],
+    )?;
+    for room in [1, 9, 27, 4_096] {
+        let reader = BufReader::with_capacity(rt.alloc(), room, Pieces::of(&feed, 7))?;
+        let mut source = BufferedFeedSource::with_times(reader);
+        let mut buffer = FrameBuf::new();
+        for answer in [
+            Next::Time(16),
+            Next::Frame,
+            Next::Time(16),
+            Next::Time((1 << 48) - 1),
+            Next::Frame,
+            Next::Time(16),
+        ] {
+            assert_same!(rt; source.next(&mut buffer), Ok(answer), "room {room}");
+            assert_same!(rt; buffer.frame().is_some(), answer == Next::Frame);
+        }
+        assert_same!(rt; answers(&mut source, &mut buffer), [Ok(Next::End); 3]);
+    }
+    Ok(())
+}
+
+#[test]
+fn a_mark_with_error_flags_is_refused(rt: HostRuntime) -> Result<(), Fail> {
+    for &(record, timed, fault) in &[
+        ("100000000000 01 0000", true, SourceFault::Length),
+        ("100000000000 00 0000", false, SourceFault::Length),
+        ("100000000000 00 0100 00", true, SourceFault::Length),
+        ("100000000000 00 00", true, SourceFault::Truncated),
+    ] {
+        let feed = all_bytes(rt.alloc(), record)?;
+        let reader = BufReader::with_capacity(rt.alloc(), 64, Pieces::of(&feed, 64))?;
+        let mut source = if timed {
+            BufferedFeedSource::with_times(reader)
+        } else {
+            BufferedFeedSource::new(reader)
+        };
+        let mut buffer = FrameBuf::new();
+        assert_same!(rt; answers(&mut source, &mut buffer), [Err(fault); 3], "{record}");
     }
     Ok(())
 }

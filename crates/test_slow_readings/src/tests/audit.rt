@@ -442,6 +442,7 @@ fn drawn_pieces(
         limit: 16_424,
         net: 2,
         speed: 3,
+        span: None,
     };
     let mut slot = Slot::new(alloc, drawn_program(draws, programs)?, u64::MAX)?;
     let mut lane = Lane::new(alloc, lane_spec(channel)?)?;

@@ -150,6 +150,7 @@ fn channel(limit: usize) -> Channel {
         limit,
         net: 0xa7,
         speed: 0xb,
+        span: None,
     }
 }
 
@@ -159,7 +160,7 @@ fn sixteenths_of(frames: usize) -> [usize; 10] {
 }
 
 /// Drawn marks that begin with 0 and never fall. Many are equal, and some come after 96 frames.
-fn drawn_marks(draws: &mut Draws) -> [usize; 10] {
+pub(super) fn drawn_marks(draws: &mut Draws) -> [usize; 10] {
     let mut last = 0usize;
     let mut marks = [0; 10];
     for mark in marks[1..].iter_mut() {
@@ -171,7 +172,7 @@ fn drawn_marks(draws: &mut Draws) -> [usize; 10] {
 }
 
 /// The ten programs as versions with these marks.
-fn ten_versions(alloc: Global, marks: [usize; 10]) -> Result<Vec<PlainVersion>, Fail> {
+pub(super) fn ten_versions(alloc: Global, marks: [usize; 10]) -> Result<Vec<PlainVersion>, Fail> {
     let mut versions = Vec::new(alloc);
     for (mark, listing) in marks.iter().zip(PROGRAMS) {
         versions.push(version(alloc, *mark, listing)?)?;
@@ -233,13 +234,17 @@ fn compare(
 }
 
 /// A slot whose first version is that of the list.
-fn new_slot(alloc: Global, versions: &[PlainVersion]) -> Result<Slot, Fail> {
+pub(super) fn new_slot(alloc: Global, versions: &[PlainVersion]) -> Result<Slot, Fail> {
     let first = versions.first().ok_or("a first version")?;
     Ok(Slot::new(alloc, Arc::try_clone(&first.program)?, u64::MAX)?)
 }
 
 /// Installs the versions, from the second one on, whose mark is this number of frames.
-fn install_at(slot: &mut Slot, versions: &[PlainVersion], number: usize) -> Result<(), Fail> {
+pub(super) fn install_at(
+    slot: &mut Slot,
+    versions: &[PlainVersion],
+    number: usize,
+) -> Result<(), Fail> {
     for version in versions.iter().skip(1) {
         if version.mark == number {
             slot.install(Arc::try_clone(&version.program)?)?;
@@ -250,7 +255,7 @@ fn install_at(slot: &mut Slot, versions: &[PlainVersion], number: usize) -> Resu
 
 /// The index of the first piece that isn't the one that is read there, or that one of the two
 /// lists lacks.
-fn first_difference(given: &[Piece], read: &[ReadPiece]) -> Option<usize> {
+pub(super) fn first_difference(given: &[Piece], read: &[ReadPiece]) -> Option<usize> {
     let longest = given.len().max(read.len());
     (0..longest).find(|at| match (given.get(*at), read.get(*at)) {
         (Some(piece), Some(read)) => !is_same(piece, read),

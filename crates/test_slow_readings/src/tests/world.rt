@@ -81,6 +81,7 @@ enum Written {
 #[derive(Clone, Copy, Debug, PartialEq, Eq)]
 enum Sort {
     Took,
+    Timed,
     Installed,
     SentProgram,
     SentFrames,
@@ -97,8 +98,9 @@ enum Sort {
 }
 
 /// The answers that come up in drawn lists: all but that a channel has too many versions.
-const SORTS: [Sort; 13] = [
+const SORTS: [Sort; 14] = [
     Sort::Took,
+    Sort::Timed,
     Sort::Installed,
     Sort::SentProgram,
     Sort::SentFrames,
@@ -275,7 +277,7 @@ fn drawn_events(
             1..=7 => KNOWN[0],
             _ => KNOWN[1],
         };
-        let event = match draws.below(24) {
+        let event = match draws.below(28) {
             0..=7 => {
                 let len = drawn_length(draws, &LENGTHS)?.min(MAX_FRAME_LEN);
                 PlainEvent::Take(drawn_frame(alloc, draws, len)?)
@@ -283,6 +285,7 @@ fn drawn_events(
             8..=10 => PlainEvent::Install(drawn_program(draws, programs)?),
             11..=16 => PlainEvent::Send,
             17..=22 => PlainEvent::Write,
+            23..=26 => PlainEvent::Time(drawn_frame(alloc, draws, 0)?.counter),
             _ => PlainEvent::Close,
         };
         events.push((channel, event))?;
@@ -381,6 +384,10 @@ fn core_event(alloc: Global, channel: u16, event: &PlainEvent) -> Result<Event, 
             channel,
             frame: frame_of(frame)?.to_owned(alloc)?,
         },
+        PlainEvent::Time(counter) => Event::Time {
+            channel,
+            counter: *counter,
+        },
         PlainEvent::Install(program) => Event::Install {
             channel,
             program: Arc::try_clone(program)?,
@@ -411,6 +418,7 @@ fn plain_reply(reply: Reply) -> PlainReply {
             version: Some(version as usize),
             value: Some(value),
         },
+        Reply::Timed => PlainReply::Timed,
         Reply::Installed { version, mark } => PlainReply::Installed {
             version: version as usize,
             mark: mark as usize,
@@ -462,6 +470,7 @@ fn channels() -> [Channel; 2] {
             limit: 20_001,
             net: 0xa7,
             speed: 0xb,
+            span: Some(1 << 46),
         },
     ]
 }
@@ -470,6 +479,7 @@ fn channels() -> [Channel; 2] {
 fn sort_of(answer: &PlainAnswer) -> Sort {
     match answer {
         Ok(PlainReply::Took { .. }) => Sort::Took,
+        Ok(PlainReply::Timed) => Sort::Timed,
         Ok(PlainReply::Installed { .. }) => Sort::Installed,
         Ok(PlainReply::SentProgram(_)) => Sort::SentProgram,
         Ok(PlainReply::SentFrames(_)) => Sort::SentFrames,
@@ -493,6 +503,7 @@ fn channel(id: u16, speed: u8) -> Channel {
         limit: 16_424,
         net: 0,
         speed,
+        span: None,
     }
 }
 
@@ -557,5 +568,6 @@ fn arp_frame(alloc: Global, counter: u64) -> Result<PlainFrame, Fail> {
         crc_error: false,
         frame_error: false,
         bytes,
+        times: Vec::new(alloc),
     })
 }

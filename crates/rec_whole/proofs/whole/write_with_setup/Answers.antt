@@ -15,9 +15,8 @@ returns-in-Ok g c = λ recording packets is reads had. (
     (g.W.Write.contents c.args.out.now) (g.W.Write.contents c.write_file.new.out) c.in-Ok.counts)
     (c.least_counter-least.ensures ∙ ap (λ least. unwrap_or least 0) had.least)
     (c.in-Ok.ensures (channels_of_packets packets)
-    (subst (λ items. SayLeft source_left items (channels_of_packets packets)) (sym c.as_mut_slice.ensures.value)
     (said_of_packets (g.F.PlacedRead.held c.args.file.now) recording packets c.args.listing.now
-    (SayLeft source_left c.in_ok-sources.sources.items) is reads had c.in_ok-sources.ensures))))
+    (SayLeft source_left c.in_ok-sources.sources) is reads had c.in_ok-sources.ensures)))
 
 pub returns : goal.returns
 returns g c = λ recording packets is reads had. (
@@ -28,6 +27,5 @@ returns g c = λ recording packets is reads had. (
     (g.W.Write.contents c.args.out.now) (g.W.Write.contents c.write_file.new.out) (end_of_file c.in-Err.end))
     (c.least_counter-least.ensures ∙ ap (λ least. unwrap_or least 0) had.least)
     (ends_early _ _ _ _ (c.in-Err.ensures (channels_of_packets packets)
-    (subst (λ items. SayLeft source_left items (channels_of_packets packets)) (sym c.as_mut_slice.ensures.value)
     (said_of_packets (g.F.PlacedRead.held c.args.file.now) recording packets c.args.listing.now
-    (SayLeft source_left c.in_ok-sources.sources.items) is reads had c.in_ok-sources.ensures))))))
+    (SayLeft source_left c.in_ok-sources.sources) is reads had c.in_ok-sources.ensures)))))

@@ -1,10 +1,10 @@
 use Rattle.std.proofs.Common.{ℕ, subst, sym}
 use Rattle.std.specs.Arc.{arc_value}
 use Rattle.rec_core.specs.declared.event.Event.{Event}
-use Rattle.rec_core.specs.World.EventData.{OfTake, OfInstall, OfSend, OfClose}
+use Rattle.rec_core.specs.World.EventData.{OfTake, OfTime, OfInstall, OfSend, OfClose}
 use Rattle.rec_core.specs.Steps.{AnswersEvent, Serves}
 use Rattle.rec_core.specs.Views.{channel_parts, event_data}
-use Rattle.rec_core.proofs.EventsServed.{serves_quietly, no_output_take, no_output_install, no_output_send, no_output_close}
+use Rattle.rec_core.proofs.EventsServed.{serves_quietly, no_output_take, no_output_time, no_output_install, no_output_send, no_output_close}
 use Rattle.rec_core.proofs.channel.Channel.serve.Goals as goal
 
 pub returns-in-Take-clause-serves : goal.returns-in-Take-clause-serves
@@ -16,6 +16,14 @@ returns-in-Take-clause-serves g c =
     (no_output_take c.in-Take.channel c.in-Take.frame)
     (λ size. subst (λ f. AnswersEvent size old new (OfTake c.in-Take.channel f) c.take.result) c.frame.ensures.same
     (c.take.ensures.answers size c.in-Take.channel)))
+
+pub returns-in-Time-clause-serves : goal.returns-in-Time-clause-serves
+returns-in-Time-clause-serves g c =
+    let old = channel_parts c.args.self.now in
+    let new = channel_parts c.meet_time.new.self in
+    subst (λ (e : Event). (size : ℕ) → Serves size old new c.args.writer.now c.args.writer.now (event_data e) c.meet_time.result) (sym c.in-Time.is)
+    (serves_quietly old new c.args.writer.now (OfTime c.in-Time.channel c.in-Time.counter) c.meet_time.result c.requires.held
+    (no_output_time c.in-Time.channel c.in-Time.counter) (λ size. c.meet_time.ensures.answers size c.in-Time.channel))
 
 pub returns-in-Install-clause-serves : goal.returns-in-Install-clause-serves
 returns-in-Install-clause-serves g c =

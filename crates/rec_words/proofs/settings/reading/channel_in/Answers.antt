@@ -10,4 +10,5 @@ returns c =
       (rw c.from-2.ensures at c.in_ok-number_or.ensures.number),
       (rw c.from-3.ensures at c.in_ok-number_or-2.ensures.number),
       c.in_ok-number_or-3.ensures.number,
+      c.in_ok-number_or-4.ensures.number,
     )
