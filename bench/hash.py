@@ -19,7 +19,7 @@ from typing import Any, cast
 
 ROOT = Path(__file__).resolve().parent.parent
 sys.path.insert(0, str(ROOT / "host"))
-from bpfrec_host.live.hashes import Ended, File, Hashes
+from bpfrec_host.live.hashes import Ended, File, Hashes, Job
 
 MEBIBYTE = 1 << 20
 
@@ -40,13 +40,13 @@ def main() -> None:
     parser.add_argument("--rounds", type=int, default=3)
     given = parser.parse_args()
     nobody = cast(Any, None)
-    hashes = Hashes(nobody, nobody, None, nobody, nobody)
+    hashes = Hashes(nobody, nobody, None, nobody, nobody, nobody)
     with tempfile.NamedTemporaryFile() as file:
         for _ in range(given.megabytes):
             file.write(os.urandom(MEBIBYTE))
         file.flush()
-        ended = Ended(file.name, File.of(os.stat(file.name)))
-        own = seconds_of(lambda: hashes.digest_of(ended), given.rounds)
+        job = Job(Ended(file.name, File.of(os.stat(file.name))), None, nobody)
+        own = seconds_of(lambda: hashes.digest_of(job), given.rounds)
         other = seconds_of(
             lambda: subprocess.run(["sha256sum", file.name], stdout=subprocess.DEVNULL, check=True), given.rounds
         )

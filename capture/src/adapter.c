@@ -99,6 +99,16 @@ bool is_interface_up(const char *name) {
     return is_up;
 }
 
+bool has_carrier(const char *name) {
+    struct ethtool_value link = {.cmd = ETHTOOL_GLINK};
+    int socket_fd = socket(AF_INET, SOCK_DGRAM | SOCK_CLOEXEC, 0);
+    if (socket_fd < 0)
+        return true;
+    bool is_known = ask(socket_fd, name, &link) == 0;
+    close(socket_fd);
+    return !is_known || link.data != 0;
+}
+
 uint64_t ring_len(int socket) {
     char line[512], name[64];
     struct stat kind;

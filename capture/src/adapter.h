@@ -28,6 +28,9 @@ void ask_adapter(const char *interface, struct adapter *adapter);
 /* Whether there is an interface of this name, and it is up. */
 bool is_interface_up(const char *name);
 
+/* Whether an interface has a carrier, as a plugged cable gives it; so has one of which the kernel doesn't know. */
+bool has_carrier(const char *name);
+
 /* How many bytes of memory the kernel has for the frames of a packet socket; 0 where it doesn't say. */
 uint64_t ring_len(int socket);
 

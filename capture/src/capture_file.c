@@ -8,6 +8,26 @@
 #include <string.h>
 
 enum { LINK_TYPE_ETHERNET = 1, MAGIC_LEN = 4 };
+static const unsigned char GZIP_MAGIC[] = {0x1F, 0x8B};
+
+/* What is captured beside Ethernet, mostly. */
+static const struct {
+    uint16_t number;
+    const char *name;
+} LINK_TYPES[] = {
+    {0, "NULL"},
+    {9, "PPP"},
+    {101, "RAW"},
+    {105, "IEEE802_11"},
+    {113, "LINUX_SLL"},
+    {127, "IEEE802_11_RADIOTAP"},
+    {220, "USB_LINUX_MMAPPED"},
+    {227, "CAN_SOCKETCAN"},
+    {228, "IPV4"},
+    {229, "IPV6"},
+    {249, "USBPCAP"},
+    {276, "LINUX_SLL2"},
+};
 
 /* ---- interfaces */
 
@@ -15,11 +35,19 @@ bool is_interface_read(const struct capture_file *file, uint32_t number) {
     return file->chosen == EVERY_INTERFACE || (uint32_t)file->chosen == number;
 }
 
+/* The name of a link type, as tcpdump.org lists them. */
+static const char *link_type_name(uint16_t number) {
+    for (size_t i = 0; i < sizeof LINK_TYPES / sizeof *LINK_TYPES; i++)
+        if (LINK_TYPES[i].number == number)
+            return LINK_TYPES[i].name;
+    return "unknown";
+}
+
 bool judge_interface(struct capture_file *file, uint32_t number) {
     const struct file_interface *interface = &file->interfaces[number];
     if (interface->link_type != LINK_TYPE_ETHERNET)
-        return refuse(&file->input, "link type %u of interface %" PRIu32 ", where Ethernet is 1", interface->link_type,
-                      number);
+        return refuse(&file->input, "link type %u (%s) of interface %" PRIu32 ", where Ethernet is 1",
+                      interface->link_type, link_type_name(interface->link_type), number);
     if (interface->units_per_second == 0)
         return refuse(&file->input, "time resolution %u of interface %" PRIu32, interface->resolution, number);
     return true;
@@ -58,6 +86,8 @@ bool open_file(struct capture_file *file, const char *path, int chosen) {
         return false;
     if (magic == READING_SOME && is_pcap(file))
         return open_pcap(file);
+    if (magic == READING_SOME && memcmp(next_bytes(input), GZIP_MAGIC, sizeof GZIP_MAGIC) == 0)
+        return refuse(input, "compressed by gzip: zcat makes a capture of it");
     return (magic == READING_SOME && is_pcapng(file)) || refuse(input, "no pcap or pcapng file");
 }
 

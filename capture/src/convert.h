@@ -16,11 +16,14 @@ struct conversion {
     struct feed feed;
     struct origin origin;
     uint64_t counter; /* of the frame before */
+    uint64_t before;  /* frames before the origin */
+    nanoseconds least;
+    uint64_t cut, too_short; /* of the frames that are left out */
     bool is_well;
 };
 
-/* Finds the earliest first frame of several files, where their origin is that. Whether it is known;
- * else a line has said why not. */
+/* Finds the least moment of all frames, where the origin is that; of one pipe it is its first frame's. Whether it is
+ * known; else a line has said why not. */
 bool find_origin(struct arguments *arguments);
 
 /* Writes the feed and logs the counts. */

@@ -103,6 +103,17 @@ void note_counts(struct counts *counts) {
     note_event("%s", object);
 }
 
+bool note_link(struct counts *counts, const char *away) {
+    char name[JSON_NAME_LEN];
+    if (counts->away == away)
+        return false;
+    counts->away = away;
+    print_json_name(counts->interface, name);
+    note_event("{\"link\": \"%s\", \"counter\": %" PRIu64 ", \"away\": %s%s%s, \"feed\": %d}", name, counter_now(),
+               away ? "\"" : "", away ? away : "null", away ? "\"" : "", counts->feed->switched);
+    return true;
+}
+
 /* ---- in time */
 
 /* Whether a moment has come; then the next one is so much later. */

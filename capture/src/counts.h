@@ -18,6 +18,7 @@ struct counts {
     int64_t next_report;
     int64_t next_note;
     unsigned notes;
+    const char *away; /* why it brings no frames, as noted last; NULL while it does */
     struct {
         uint64_t counter, dropped, missed, skipped;
     } noted; /* up to then losses are noted */
@@ -37,6 +38,10 @@ void report_in_time(struct counts *counts);
 
 /* Notes what was lost until now, and the counts, for the facts. */
 void note_counts(struct counts *counts);
+
+/* Notes, where that is new, why an interface brings no frames from now on, or by NULL that it does. Whether it is new.
+ */
+bool note_link(struct counts *counts, const char *away);
 
 /* Reports and notes the counts at the end of a feed. */
 void report_last(struct counts *counts);

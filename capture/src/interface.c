@@ -19,10 +19,14 @@ enum {
 /* By then the kernel has handed over the frames that wait in a block. */
 static const int64_t LAST_BLOCK = 50 * (int64_t)NANOSECONDS_PER_MS;
 
-/* Whether it is up, by whichever name it has by now. */
+/* Why an interface brings no frames, as it is noted. */
+static const char DOWN[] = "down", UNPLUGGED[] = "no carrier", GONE[] = "gone", UNREAD[] = "unread",
+                  FAILED[] = "failed";
+
+/* Whether it is up and has a carrier, by whichever name it has by now. */
 static bool is_up(const struct interface *interface) {
     char name[IF_NAMESIZE];
-    return if_indextoname(interface->number, name) != NULL && is_interface_up(name);
+    return if_indextoname(interface->number, name) != NULL && is_interface_up(name) && has_carrier(name);
 }
 
 /* ---- frames */
@@ -32,6 +36,13 @@ static bool may_have_waited(const struct interface *interface) {
     return steady_now() - interface->clock.none_before > NANOSECONDS_PER_SECOND;
 }
 
+/* It was down, or had no carrier. */
+static void find_up(struct interface *interface) {
+    interface->is_down = false;
+    log_line("%s: it is up again", interface->name);
+    note_link(&interface->counts, NULL);
+}
+
 static void take_frame(unsigned char *user, const struct pcap_pkthdr *head, const unsigned char *bytes) {
     struct interface *interface = (struct interface *)user;
     const struct captured captured = {bytes, head->caplen, head->caplen >= head->len, interface->has_check_sequences,
@@ -39,10 +50,8 @@ static void take_frame(unsigned char *user, const struct pcap_pkthdr *head, cons
     nanoseconds moment = (nanoseconds)head->ts.tv_sec * NANOSECONDS_PER_SECOND +
                          (nanoseconds)head->ts.tv_usec * interface->nanoseconds_per_unit;
     /* Frames of before may come once it is down. */
-    if (interface->is_down && is_up(interface)) {
-        interface->is_down = false;
-        log_line("%s: it is up again", interface->name);
-    }
+    if (interface->is_down && is_up(interface))
+        find_up(interface);
     if (interface->is_scale_unknown && !may_have_waited(interface)) {
         const struct scale scale = log_adapter_clock(interface->name, moment);
         interface->is_scale_unknown = false;
@@ -68,18 +77,26 @@ static void lose_interface(struct interface *interface) {
     close_rings(&interface->rings);
     interface->is_gone = true;
     log_line("%s: the interface is gone, and is taken again once it is back", interface->name);
+    note_link(&interface->counts, GONE);
 }
 
-/* Sees whether an interface that failed is only down, or gone. One that was renamed while it was down fails whenever it
- * has no frames, since libpcap goes by its name; there is nothing to do then. */
+/* Sees whether an interface that failed or has no frames is down, without a carrier, gone, or up again. One that was
+ * renamed while it was down fails whenever it has no frames, since libpcap goes by its name; there is nothing to do
+ * then. */
 static void look_at_interface(struct interface *interface) {
     char name[IF_NAMESIZE];
     if (if_indextoname(interface->number, name) == NULL) {
         lose_interface(interface);
-    } else if (!interface->is_down && !is_up(interface)) {
-        log_line("%s: it is down, and is recorded on once it is up", interface->name);
-        interface->is_down = true;
+        return;
     }
+    const char *away = !is_interface_up(name) ? DOWN : !has_carrier(name) ? UNPLUGGED : NULL;
+    if (away == NULL && interface->is_down)
+        find_up(interface);
+    if (away == NULL || !note_link(&interface->counts, away))
+        return;
+    interface->is_down = true;
+    log_line("%s: it %s, and is recorded on once it %s", interface->name, away == DOWN ? "is down" : "has no carrier",
+             away == DOWN ? "is up" : "has one");
 }
 
 /* Waits a moment for an interface that is gone. Whether the run goes on. */
@@ -92,6 +109,7 @@ static bool wait_until_back(struct interface *interface) {
     if (is_interface_up(interface->name) && open_again(interface)) {
         interface->is_gone = false;
         log_line("%s: it is back", interface->name);
+        note_link(&interface->counts, NULL);
     }
     return true;
 }
@@ -135,23 +153,33 @@ static void drop_waiting(struct interface *interface) {
         take_all_rest(&interface->rings, count_lost_frame, interface);
 }
 
-/* Waits, where the reader of the feed has left or failed, for word that the next feed is to go on, and for that feed.
- * Whether it goes on. Meanwhile the kernel keeps the frames. */
+/* Whether a feed has no reader, and another one may come: word of it was given, or may be. */
+static bool waits_for_reader(const struct interface *interface) {
+    bool may_follow = interface->arguments->hold_seconds > 0 || interface->feed.switched != switches_asked();
+    return is_held(interface->feed.switched) || (!is_open(&interface->feed.output) && may_follow);
+}
+
+/* Waits, where the reader of the feed has left or failed, for the next feed. Whether it goes on. Meanwhile the kernel
+ * keeps the frames. */
 static bool wait_for_next_feed(struct interface *interface) {
     const struct output *output = &interface->feed.output;
     if (output->state != OUTPUT_LEFT && !is_held(interface->feed.switched))
         return false;
     int64_t until = steady_now() + interface->arguments->hold_seconds * (int64_t)NANOSECONDS_PER_SECOND;
-    while (!is_stopping() && (is_held(interface->feed.switched) || (!is_open(output) && steady_now() < until))) {
+    while (!is_stopping() && waits_for_reader(interface)) {
         struct pollfd stop = {.fd = stop_fd};
         poll(&stop, 1, SWITCH_PAUSE_MS);
         while_waiting(interface);
-        if (is_held(interface->feed.switched))
-            follow_switches(interface);
+        follow_switches(interface);
+        if (!is_open(output) && !is_held(interface->feed.switched) && steady_now() > until)
+            note_link(&interface->counts, UNREAD);
     }
-    if (!is_held(interface->feed.switched))
-        return is_open(output);
-    drop_waiting(interface);
+    if (is_open(output) && !is_held(interface->feed.switched)) {
+        note_link(&interface->counts, interface->is_gone ? GONE : NULL);
+        return true;
+    }
+    if (is_held(interface->feed.switched))
+        drop_waiting(interface);
     return false;
 }
 
@@ -183,7 +211,7 @@ static void wait_for_frames(struct interface *interface) {
     if (ready == 0 || (interface->is_scale_unknown && steady_now() - begin >= NANOSECONDS_PER_MS))
         note_none_before(&interface->clock, begin - LAST_BLOCK);
     /* libpcap says nothing of an interface that is only down, and the kernel nothing of one that goes once it is. */
-    if ((waits[IN_USE].revents & (POLLERR | POLLHUP)) != 0 || (ready == 0 && interface->is_down))
+    if ((waits[IN_USE].revents & (POLLERR | POLLHUP)) != 0 || ready == 0)
         look_at_interface(interface);
     else if ((waits[OTHER].revents & (POLLERR | POLLHUP)) != 0)
         forget_fault(other_ring(rings));
@@ -220,13 +248,15 @@ static bool turn(struct interface *interface) {
 }
 
 /* Says why a feed is open no more, and accounts for the frames that it has not taken: those of a reader that left were
- * its own to leave, and others are lost. */
+ * its own to leave, unless another one was to follow, and others are lost. */
 static void account_for_fault(struct interface *interface) {
     const struct output *output = &interface->feed.output;
     const char *path = interface->route->to, *fault = output_fault(output);
-    if (output->state != OUTPUT_LEFT) {
+    if (output->state != OUTPUT_LEFT || interface->arguments->hold_seconds > 0) {
         log_line("%s: %s %s", interface->name, path, fault);
         drop_waiting(interface);
+        if (!is_stopping())
+            note_link(&interface->counts, FAILED);
         return;
     }
     uint64_t unwritten = take_unwritten(&interface->feed);

@@ -27,7 +27,7 @@ struct interface {
     struct frame_clock clock;
     struct feed feed;
     struct counts counts;
-    bool is_down;
+    bool is_down; /* or has no carrier */
     bool is_gone;
 };
 

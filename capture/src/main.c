@@ -24,9 +24,12 @@
 #include <string.h>
 #include <sys/prctl.h>
 #include <sys/stat.h>
+#include <time.h>
 #include <unistd.h>
 
 enum { WELL = 0, FAILED = 1, NOT_BEGUN = 3, LOST = 5 };
+/* How often rings are looked at while others are opened. */
+static const struct timespec RELIEF_PAUSE = {.tv_nsec = 5 * (long)NANOSECONDS_PER_MS};
 
 /* One interface or file, and its thread. */
 struct work {
@@ -76,17 +79,47 @@ static const char *shared_path(const struct arguments *arguments) {
     return NULL;
 }
 
-/* Opens all interfaces, so that nothing is begun where one can't be. Whether they are open. */
-static bool open_all(struct work *works, const struct arguments *arguments) {
+/* Prepares the conversions of all files. */
+static void prepare_all(struct work *works, const struct arguments *arguments) {
     for (int i = 0; i < arguments->count; i++) {
         const struct route *route = &arguments->routes[i];
-        works[i].is_file = arguments->are_files;
-        if (arguments->are_files)
-            works[i].conversion = (struct conversion){.from = route->from, .to = route->to, .arguments = arguments};
-        else if (!open_interface(&works[i].interface, route, arguments))
-            return false;
+        works[i].is_file = true;
+        works[i].conversion = (struct conversion){.from = route->from, .to = route->to, .arguments = arguments};
     }
-    return true;
+}
+
+/* The interfaces of which so many are open, while others are opened: that may take seconds. */
+struct opening {
+    struct work *works;
+    atomic_int count;
+    atomic_bool is_over;
+};
+
+/* Has the rings of those that are open take turns meanwhile, since nobody takes their frames. */
+static void *relieve_opened(void *argument) {
+    struct opening *opening = argument;
+    while (!atomic_load(&opening->is_over)) {
+        for (int i = 0; i < atomic_load(&opening->count); i++)
+            relieve_quiet_ring(&opening->works[i].interface.rings);
+        nanosleep(&RELIEF_PAUSE, NULL);
+    }
+    return NULL;
+}
+
+/* Opens all interfaces, so that nothing is begun where one can't be. Whether they are open. */
+static bool open_all(struct work *works, const struct arguments *arguments) {
+    struct opening opening = {.works = works};
+    pthread_t relief;
+    bool is_relieved = pthread_create(&relief, NULL, relieve_opened, &opening) == 0, are_open = true;
+    for (int i = 0; i < arguments->count && are_open; i++) {
+        are_open = open_interface(&works[i].interface, &arguments->routes[i], arguments);
+        if (are_open)
+            atomic_store(&opening.count, i + 1);
+    }
+    atomic_store(&opening.is_over, true);
+    if (is_relieved)
+        pthread_join(relief, NULL);
+    return are_open;
 }
 
 /* Reports what interfaces have lost. Whether one has. */
@@ -193,11 +226,13 @@ static int run_live(struct work *works, const struct arguments *arguments) {
 }
 
 /* Converts files, whose bytes may be anybody's. The status. */
-static int run_files(struct work *works, const struct arguments *arguments) {
+static int run_files(struct work *works, struct arguments *arguments) {
     if (!drop_privileges_but_files())
         return NOT_BEGUN;
     limit_writing(arguments);
     forbid_other_calls();
+    if (!find_origin(arguments))
+        return NOT_BEGUN;
     return run_all(works, arguments->count, NULL);
 }
 
@@ -205,12 +240,12 @@ static int run_files(struct work *works, const struct arguments *arguments) {
 static int run_arguments(struct work *works, struct arguments *arguments) {
     if (!prepare_stop())
         return not_begun("no signals", errno);
-    if (!find_origin(arguments))
-        return NOT_BEGUN;
     start_clock(&arguments->origin);
-    if (!open_all(works, arguments))
-        return NOT_BEGUN;
-    return arguments->are_files ? run_files(works, arguments) : run_live(works, arguments);
+    if (arguments->are_files) {
+        prepare_all(works, arguments);
+        return run_files(works, arguments);
+    }
+    return open_all(works, arguments) ? run_live(works, arguments) : NOT_BEGUN;
 }
 
 int main(int argc, char **argv) {

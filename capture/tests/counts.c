@@ -72,6 +72,9 @@ static void answer(const char *call) {
         lose();
     } else if (is(call, "note")) {
         note_counts(&counts);
+    } else if (is(call, "link")) {
+        static const char *const WHYS[] = {NULL, "down", "gone"};
+        printf("%d", note_link(&counts, WHYS[next_number()]));
     } else if (is(call, "end")) {
         printf("%d", report_lost(&counts));
     } else if (is(call, "close")) {

@@ -233,3 +233,11 @@ def test_events_that_can_not_be_written_are_told_once(unit: Unit) -> None:
     for _ in range(3):
         unit.ask("note")
     assert unit.new_lines() == [f"capture: {said}"]
+
+
+def test_why_an_interface_brings_no_frames_is_noted_once_with_its_counter(unit: Unit) -> None:
+    unit.begin(has_events=True)
+    unit.wait(MILLISECOND)
+    assert [unit.ask("link", it) for it in (0, 1, 1, 2, 0, 0)] == ["0", "1", "0", "1", "1", "0"]
+    found = [{"link": "eth0", "counter": 10_000, "away": it, "feed": 0} for it in ("down", "gone", None)]
+    assert unit.events() == found, unit.events()

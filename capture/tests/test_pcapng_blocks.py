@@ -184,13 +184,13 @@ def test_of_a_chosen_interface_the_frames_of_each_section_are_read_and_no_others
     found = file.read(*part, file.simple_packet(FRAME), file.section(), *part, chosen=1)
     assert found == Read([Frame(20, FRAME)] * 2, "")
     assert file.read(*part, chosen=2) == Read([], "no interface 2")
-    assert file.read(*part, chosen=0).fault == "link type 113 of interface 0, where Ethernet is 1"
+    assert file.read(*part, chosen=0).fault == "link type 113 (LINUX_SLL) of interface 0, where Ethernet is 1"
 
 
 def test_a_link_type_other_than_ethernet_is_refused_with_its_first_frame(file: Unit) -> None:
-    for link in (0, 2, 113, 65_535):
+    for link, name in [(0, "NULL"), (2, "unknown"), (113, "LINUX_SLL"), (65_535, "unknown")]:
         found = file.read(file.plain, file.interface(link=link), file.packet(1, 1, FRAME))
-        assert found == Read([], f"link type {link} of interface 1, where Ethernet is 1")
+        assert found == Read([], f"link type {link} ({name}) of interface 1, where Ethernet is 1")
     assert file.read(file.interface(link=113)) == Read([], "")
 
 

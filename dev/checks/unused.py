@@ -44,7 +44,6 @@ AHEAD: set[str] = set()
 OFFERED = {
     "run_world": "the core, driven by a list of events: the theorem is stated of it",
     "frame_at": "a single frame of a body, for a reader that wants no others",
-    "merge_into": "the order of a whole file, into any sink, for a writer of another form",
     "into_before": "the packets before a fault, for a reader of a recording that is held whole",
     "setup_of": "what is said of a Chapter 11 file, for the command that will write one",
 }

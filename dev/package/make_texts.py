@@ -15,7 +15,7 @@ from manual_page import page
 
 PARTS = ROOT / "host/wireshark/parts"
 # In the order in which each uses those before it.
-ORDER = ("bytes", "packets", "reader", "json", "facts", "rows", "filters", "protocol", "handlers")
+ORDER = ("bytes", "packets", "reader", "json", "facts", "clock", "rows", "filters", "protocol", "handlers")
 
 
 def plugin() -> str:

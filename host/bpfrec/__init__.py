@@ -10,7 +10,7 @@ What `__all__` names is promised, with its public attributes. All else, the modu
 """
 
 from bpfrec._facts import Facts, Mark, Origin
-from bpfrec._faults import BadFacts, Damaged, Fault, NotARecording
+from bpfrec._faults import BadFacts, Damaged, Fault, NotARecording, NoTimes
 from bpfrec._frame import Frame
 from bpfrec._recording import Recording, open
 from bpfrec._records import Channel, End, Filter
@@ -25,6 +25,7 @@ __all__ = [
     "Filter",
     "Frame",
     "Mark",
+    "NoTimes",
     "NotARecording",
     "Origin",
     "Recording",

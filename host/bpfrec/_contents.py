@@ -7,13 +7,12 @@ import stat
 from typing import NamedTuple, Optional
 
 from bpfrec._faults import Damaged, Fault, NotARecording
-from bpfrec._whole_file import WholeFile, is_own
 from bpfrec_host.formats import ch11
 from bpfrec_host.formats.ch11.body import record_in
 from bpfrec_host.formats.ch11.follow import Front
 from bpfrec_host.formats.ch11.packet import Header, header_or_fault
 from bpfrec_host.formats.limits import HEADER_LEN
-from bpfrec_host.formats.whole_file import begins_whole_file
+from bpfrec_host.formats.whole_file.as_facts import is_own
 from bpfrec_host.formats.whole_file.packets import MOST_LENGTH, MOST_SETUP_LENGTH
 from bpfrec_host.pcapng.index import Index, Place
 
@@ -44,7 +43,6 @@ class Contents(Index):
         self.met: list[Met] = []
         self.packets = 0
         head = self.read_at(0, HEADER_LEN)
-        self.whole = WholeFile() if begins_whole_file(head) else None
         try:
             self.judge_beginning(head)
             self.read()

@@ -48,3 +48,15 @@ class BadFacts(ValueError):
 
     def __str__(self) -> str:
         return f"{self.path}: no facts of a recording: {self.why}"
+
+
+class NoTimes(ValueError):
+    """Frames of a recording were asked for by time, and nothing says when they came: it has no facts, or these don't
+    know the scale of its times."""
+
+    def __init__(self, path: str, why: str) -> None:
+        super().__init__(path, why)
+        self.path, self.why = path, why
+
+    def __str__(self) -> str:
+        return f"{self.path}: {self.why}, so its frames have no times"

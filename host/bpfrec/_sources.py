@@ -9,7 +9,7 @@ from typing import NamedTuple, Optional, Union
 from bpfrec._contents import Contents
 from bpfrec._decode import Clock
 from bpfrec._facts import Given, read
-from bpfrec._faults import BadFacts
+from bpfrec._faults import BadFacts, NoTimes
 from bpfrec._frame import EPOCH, NANOSECONDS_A_MICROSECOND
 from bpfrec_host.formats.facts import Facts, NoFacts
 from bpfrec_host.pcapng.index import Place
@@ -46,7 +46,7 @@ class Source:
             return None
         if self.facts is None or not self.facts.are_all_utc():
             why = "the scale of its times is unknown" if self.facts else "there are no facts beside it"
-            raise ValueError(f"{self.path}: {why}, so its frames have no times")
+            raise NoTimes(self.path, why)
         begin, end = (None if it is None else Time(it, True) for it in (since, until))
         return self.times.ranges(begin, end)
 

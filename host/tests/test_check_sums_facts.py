@@ -205,8 +205,9 @@ def test_a_name_that_is_no_utf8_is_that_of_its_facts(work: Path) -> None:
     paths = [os.fsencode(work) + b"/\xff" + name.encode() for name in names]
     done = outcome(CHECK_SUMS, *paths, env={**os.environ, "LC_ALL": "C.UTF-8"})
     last = "packets 0 data checksums 0 without 0 wrong 0"
-    lines = [f"recording {work}/?_00001", "hash right", "before none", last]
-    lines += [f"recording {work}/?_00002", "hash right", "before right: _00001", last]
+    empty = ["empty: there is no packet", last]
+    lines = [f"recording {work}/?_00001", "hash right", "before none", *empty]
+    lines += [f"recording {work}/?_00002", "hash right", "before right: _00001", *empty]
     judge("each is right", (done.returncode, done.stdout.splitlines()) == (0, lines), done)
 
 
@@ -264,6 +265,10 @@ def test_a_pipe_has_no_hash(work: Path) -> None:
     lines: list[str] = []
     judge("it is said", Judge(None, lines.append).judge(str(work / "pipe")) and lines, lines)
     judge("so", lines == ["hash none: it is no regular file"], lines)
+    (work / "r").write_bytes(b"")
+    done = outcome(CHECK_SUMS, work / "pipe", work / "r", seconds=20)
+    lines = [f"recording {work}/pipe", "hash none: it is no regular file", "sums none: it is no regular file"]
+    judge("and nothing is waited for", (done.returncode, done.stdout.splitlines()[:3]) == (1, lines), done)
 
 
 def test_facts_and_signatures_that_are_pipes_are_not_waited_for(work: Path) -> None:

@@ -14,6 +14,7 @@ from bpfrec_host.live.capture import Capture
 from bpfrec_host.live.capture_lines import CaptureLines
 from bpfrec_host.live.events import Counted, Event, Events, Loss, LostInAll, Origin, event_in
 from bpfrec_host.live.facts import utc_of_origin
+from bpfrec_host.live.interruptions import MOST_KEPT, Interruptions, Link
 from bpfrec_host.live.loop import Loop
 from bpfrec_host.live.model import KILLED
 from bpfrec_host.live.ports import Counts
@@ -25,6 +26,8 @@ NOBODY_KNOWS = '{"origin": "1764590437.250000000", "counter": 0, "scale": null}'
 LOST = '{"lost": "e0", "from": 5, "to": 9, "dropped": 1, "missed": 2, "skipped": 3, "feed": 4}'
 COUNTS = '{"counts": "e0", "counter": 9, "frames": 1, "bytes": 2, "dropped": 3, "missed": 4, "skipped": 5, "waited": 6, "feed": 7}'
 IN_ALL = '{"lost_in_all": "e0", "dropped": 1, "skipped": 2, "missed": 3}'
+DOWN = '{"link": "e0", "counter": 5, "away": "down", "feed": 4}'
+UP = '{"link": "e0", "counter": 9, "away": null, "feed": 4}'
 EVENTS: dict[str, Event] = {
     ORIGIN: Origin("1764590400.250000000", 0, None, "UTC", None),
     SET: Origin("1764586800.250000123", 7, "-3600.000000000", "UTC", None),
@@ -33,6 +36,8 @@ EVENTS: dict[str, Event] = {
     LOST: Loss("e0", 5, 9, 1, 2, 3, 4),
     COUNTS: Counted("e0", 9, Counts(1, 2, 3, 4, 5, 6), 7),
     IN_ALL: LostInAll("e0", 1, 2, 3),
+    DOWN: Link("e0", 5, "down", 4),
+    UP: Link("e0", 9, None, 4),
 }
 
 
@@ -64,10 +69,44 @@ def test_facts_have_what_was_noted_of_a_feed_as_it_was_noted(tmp_path: Path) -> 
     assert (events.read(), events.read()) == (8, 0)
     losses = f'[{", ".join([other.replace("lost", "interface")] * 2)}]'.replace(', "feed": 7', "")
     counts = later.replace('"counts"', '"interface"').replace(', "feed": 7', "")
-    assert json.dumps(events.facts(7)) == f'{{"origins": [{ORIGIN}, {SET}], "counts": [{counts}], "losses": {losses}}}'
+    told = f'{{"origins": [{ORIGIN}, {SET}], "counts": [{counts}], "losses": {losses}, "interruptions": []}}'
+    assert json.dumps(events.facts(7)) == told
     events.forget(7)
     assert events.facts(7) == {**events.facts(9), "counts": [], "losses": []}
     assert len(events.facts(4)["losses"]) == 1 and events.lost_in_all == [EVENTS[IN_ALL]]
+
+
+def between(begin: int, end: Optional[int], why: str = "down", interface: str = "e0") -> dict:
+    return {"interface": interface, "why": why, "from": begin, "to": end}
+
+
+def test_facts_have_interruptions_of_their_recordings_time(tmp_path: Path) -> None:
+    """One that lasts is also of each later recording, and one that was over before isn't."""
+    (tmp_path / "events").write_text(f"{ORIGIN}\n{DOWN}\n{UP}\n{DOWN}\n")
+    events = Events(tmp_path / "events")
+    assert events.read() == 4 and events.take_links() == [EVENTS[it] for it in (DOWN, UP, DOWN)]
+    assert events.take_links() == []
+    assert events.facts(3)["interruptions"] == []
+    assert events.facts(4)["interruptions"] == [between(5, 9), between(5, None)]
+    assert events.facts(5)["interruptions"] == [between(5, None)]
+    events.forget(4)
+    assert events.facts(5)["interruptions"] == [between(5, None)]
+
+
+def test_one_reason_ends_another_and_each_interface_has_its_own() -> None:
+    found = Interruptions()
+    for interface, counter, away in (("e0", 1, "down"), ("e1", 2, "unread"), ("e0", 3, "gone"), ("e1", 4, None)):
+        found.take(Link(interface, counter, away, 0))
+    assert found.facts(0) == [between(1, 3), between(2, 4, "unread", "e1"), between(3, None, "gone")]
+
+
+def test_past_so_many_interruptions_the_last_one_of_an_interface_gets_longer() -> None:
+    found = Interruptions()
+    for counter in range(0, 4 * MOST_KEPT, 2):
+        found.take(Link("e0", counter, "down", 0))
+        found.take(Link("e0", counter + 1, None, 0))
+    facts = found.facts(0)
+    assert len(facts) == MOST_KEPT and facts[-1] == between(2 * MOST_KEPT - 2, 4 * MOST_KEPT - 1)
 
 
 # What is noted, the origins of the facts, and the first one as UTC.

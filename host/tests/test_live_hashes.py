@@ -7,66 +7,18 @@ import hashlib
 import json
 import os
 import threading
-from collections import deque
 from collections.abc import Callable, Iterator
 from pathlib import Path
 from types import SimpleNamespace
-from typing import Any, Optional, cast
+from typing import Optional, cast
 
 import pytest
 from bpfrec_host.formats.signatures import Unsigned
 from bpfrec_host.live import hashes
-from bpfrec_host.live.hashes import CHANGED, GIVEN_UP, GONE, NO_FACTS, NO_HASH, PIECE, Ended, File, Hashes, Unhashed
-from bpfrec_host.live.loop import Loop
-from bpfrec_host.live.names import Files
+from bpfrec_host.live.hashes import CHANGED, GIVEN_UP, GONE, NO_FACTS, NO_HASH, PIECE, Ended, Unhashed
 from bpfrec_host.live.signer import Signer
+from played_hashes import FACTS, Played, facts_of, job_of, made
 from support import judge, judge_quietly, wait_for
-
-FACTS = {"facts": 1, "sha256": None, "bytes": None, "before": None}
-
-
-def made(path: Path, data: bytes) -> Ended:
-    """A recording that has ended, a while ago."""
-    path.write_bytes(data)
-    os.utime(path, (1, 1))
-    return Ended(str(path), File.of(path.stat()))
-
-
-class Played:
-    """What hashes stand on: a loop, and a key that signs by `sign`."""
-
-    def __init__(self, sign: Optional[Callable[[bytes], bytes]] = None) -> None:
-        self.calls: deque[Callable[[], None]] = deque()
-        self.err: list[str] = []
-        self.unsigned: list[tuple[str, str]] = []
-        self.finished: list[tuple[str, ...]] = []
-        self.kills = 0
-        self.is_given_up = False
-        loop = cast(Loop, SimpleNamespace(call_soon=self.calls.append))
-        signer = cast(Signer, SimpleNamespace(sign=sign, kill=self.kill)) if sign else None
-        self.hashes = Hashes(loop, Files(), signer, self.take_unsigned, self.err.append)
-
-    def take_unsigned(self, path: str, why: str) -> None:
-        self.unsigned.append((path, why))
-
-    def kill(self) -> None:
-        self.kills += 1
-
-    def add(self, ended: Optional[Ended], facts: Optional[dict[str, Any]] = None) -> None:
-        self.hashes.add(ended, FACTS if facts is None else facts, self.finished.append)
-
-    def turn(self) -> None:
-        wait_for("something is done", lambda: self.calls)
-        while self.calls:
-            self.calls.popleft()()
-
-    def finish(self) -> None:
-        self.hashes.finish(self.turn, lambda: self.is_given_up)
-
-
-def facts_of(ended: Ended) -> dict[str, Any]:
-    return json.loads(Path(f"{ended.out}.json").read_bytes())
-
 
 # ---- what is hashed
 
@@ -75,13 +27,13 @@ def facts_of(ended: Ended) -> dict[str, Any]:
 def test_the_hash_is_that_of_all_bytes(work: Path, length: int) -> None:
     """At both sides of what is read at once."""
     data = os.urandom(length)
-    found = Played().hashes.digest_of(made(work / "out", data))
+    found = Played().hashes.digest_of(job_of(made(work / "out", data)))
     judge(f"{length} bytes", found == hashlib.sha256(data).hexdigest(), found)
 
 
 def why_unhashed(ended: Ended, played: Optional[Played] = None) -> str:
     with pytest.raises(Unhashed) as refused:
-        (played or Played()).hashes.digest_of(ended)
+        (played or Played()).hashes.digest_of(job_of(ended))
     return str(refused.value)
 
 
@@ -150,7 +102,7 @@ def test_a_file_that_has_gone_has_none(work: Path) -> None:
     path.unlink()
     path.symlink_to(work / "moved")
     with pytest.raises(OSError):
-        Played().hashes.digest_of(ended)
+        Played().hashes.digest_of(job_of(ended))
     judge("it was never there", why_unhashed(Ended(str(path), None)) == GONE)
 
 
@@ -184,7 +136,7 @@ def test_a_recording_without_facts_is_not_hashed(work: Path) -> None:
     """Its facts couldn't be written, which was said, or there are none; only where they are signed it is a fault."""
     for sign in (None, lambda _: b"signature"):
         played, ended = Played(sign), made(work / "out", b"bytes")
-        played.hashes.add(ended, None, played.finished.append)
+        played.hashes.add(1, ended, None, played.finished.append)
         played.finish()
         line = f"live: {ended.out}.json isn't signed: {NO_FACTS}"
         found = (played.err, played.unsigned, played.hashes.status)
@@ -269,7 +221,7 @@ def test_a_run_that_is_given_up_hashes_and_signs_no_more(work: Path) -> None:
         raise Unsigned("it was ended by signal 9")
 
     played = Played(sign)
-    played.hashes.signer = cast(Signer, SimpleNamespace(sign=sign, kill=let.set))
+    played.hashes.signer = cast(Signer, SimpleNamespace(sign=sign, kill=let.set, stop=let.set))
     for name in ("a", "b"):
         played.add(made(work / name, name.encode()))
     wait_for("the first is signed", (work / "a.json").exists)

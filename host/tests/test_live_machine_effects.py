@@ -78,6 +78,15 @@ def killed_recorder() -> World:
     return world
 
 
+def capture_that_ends_alone() -> World:
+    """Nobody told it to."""
+    world = begun(ROTATING)
+    while_going(world)
+    world.end_capture(0)
+    world.finish()
+    return world
+
+
 def dead_capture() -> World:
     world = begun(SINGLE)
     while_going(world)
@@ -167,6 +176,11 @@ RUNS = {
         f"{BEGIN}, live: bpfrec record {WAS_KILLED}: {CUT}, live: the next recording begins, hold_capture 1, "
         f"end_lines 1, {SECOND}, print_report 1, conclude 1, {LAST_OF_TWO}",
         137,
+    ),
+    "capture_that_ends_alone": (
+        capture_that_ends_alone,
+        f"{BEGIN}, live: capture has ended, and its interfaces with it, end_lines 1, print_report 1, audit 1, conclude 1",
+        1,
     ),
     "dead_capture": (
         dead_capture,

@@ -5,6 +5,7 @@ from __future__ import annotations
 import json
 import os
 import tempfile
+from functools import partial
 from pathlib import Path
 from types import SimpleNamespace
 from typing import Any, cast
@@ -75,9 +76,8 @@ def test_an_out_that_is_discarded_is_removed_where_it_is_still_there(work: Path)
 
 @pytest.mark.parametrize("is_new", [True, False], ids=["new", "there"])
 def test_a_whole_file_that_was_there_stays_where_its_making_fails(work: Path, is_new: bool) -> None:
-    made: list[Kept] = []
     err: list[str] = []
-    files = WholeFiles(True, Files(), cast(Loop, None), cast(Guard, None), made.append, err.append)
+    files = WholeFiles([], Files(), cast(Loop, None), cast(Guard, None), err.append)
     out, kept = work / "x.ch11.ch10", Kept(str(work / "x.ch11"), 0, 0)
     out.write_text("another's")
     with tempfile.TemporaryFile() as told:
@@ -85,7 +85,29 @@ def test_a_whole_file_that_was_there_stays_where_its_making_fails(work: Path, is
         files.end(Job(kept, str(out), is_new, told), 1)
     judge("what was there stays alone", out.exists() != is_new)
     line = f"live: {out} isn't made: chapter11: why"
-    judge("it is said, and goes with no recording", (made, err, files.status) == ([kept], [line], 1), (made, err))
+    judge("it is said, and goes with no recording", (kept.beside, err, files.status) == ([], [line], 1), err)
+
+
+def test_a_recording_that_has_to_go_waits_for_no_whole_file(work: Path) -> None:
+    """One that waits goes at once, one in work once its tool has ended: what that has made goes too."""
+    err: list[str] = []
+    gone: list[str] = []
+    files = WholeFiles([], Files(), cast(Loop, None), cast(Guard, None), err.append)
+    first, second = (Kept(str(work / name), 0, 0) for name in ("a", "b"))
+    with tempfile.TemporaryFile() as told:
+        files.job = Job(first, f"{work}/a.ch10", True, told)
+        files.waiting.append(second)
+        judge("it is awaited", files.awaited() == f"{work}/a.ch10, the whole file, and 1 more", files.awaited())
+        for kept in (second, first):
+            files.let_go(kept.out, "why", partial(gone.append, kept.out))
+        judge("one that waits goes", gone == [second.out] and not files.waiting, gone)
+        files.end(files.job, 137)
+    lines = [f"live: {work}/b.ch10 isn't made: why", f"live: {work}/a.ch10 isn't made: why"]
+    judge(
+        "and one in work",
+        (gone, err, files.awaited(), files.status) == ([second.out, first.out], lines, "", 0),
+        (gone, err),
+    )
 
 
 # ---- the next recording

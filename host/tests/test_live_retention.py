@@ -21,7 +21,7 @@ def kept(path: Path) -> Kept:
     for name in (path, Path(f"{path}.json"), Path(beside)):
         name.write_text(path.name)
     found = path.stat()
-    return Kept(str(path), found.st_dev, found.st_ino, (beside,))
+    return Kept(str(path), found.st_dev, found.st_ino, [beside])
 
 
 class Disk:
@@ -30,6 +30,7 @@ class Disk:
     def __init__(self, work: Path, monkeypatch: pytest.MonkeyPatch) -> None:
         self.work, self.room, self.err, self.let = work, FREE - 1, list[str](), threading.Event()
         self.let.set()
+        self.in_work, self.held = "", list[tuple[str, Callable[[], None]]]()
         monkeypatch.setattr(retention, "remove", self.remove)
 
     def remove(self, path: str) -> None:
@@ -38,10 +39,17 @@ class Disk:
 
     def retention(self, count: int, keep: int | None = None, keep_free: int | None = None) -> Retention:
         """The retention of so many recordings."""
-        made = Retention(keep, keep_free, lambda: self.room, self.err.append)
+        made = Retention(keep, keep_free, lambda: self.room, self.let_go, self.err.append)
         for number in range(count):
             made.add(kept(self.work / f"{number}.ch11"))
         return made
+
+    def let_go(self, out: str, why: str, remove_it: Callable[[], None]) -> None:
+        """Has what isn't in work removed at once, and keeps the rest back."""
+        if out == self.in_work:
+            self.held.append((why, remove_it))
+        else:
+            remove_it()
 
     def left(self) -> list[str]:
         """The files that are there."""
@@ -140,3 +148,23 @@ def test_where_nothing_can_be_removed_no_disk_is_looked_at(disk: Disk) -> None:
     made = disk.retention(1, keep_free=FREE)
     look(made, 0.0)
     judge("there is no other", made.deadline() is None and look(made, 5.0) == 0 and disk.left() == [])
+
+
+# ---- what is in work
+
+
+def test_a_recording_in_work_goes_once_that_is_done_with_what_was_made_meanwhile(disk: Disk) -> None:
+    """The ring counts it all the same, so that no other goes in its place."""
+    made = disk.retention(2, keep=2)
+    going, disk.in_work = made.kept[0], f"{disk.work}/0.ch11"
+    made.add(kept(disk.work / "2.ch11"))
+    made.join()
+    judge("it is there, and said", disk.left() == files_of(0, 1, 2) and len(disk.err) == len(disk.held) == 1, disk.err)
+    judge("another waits for it", made.is_removing() and len(made.kept) == 2)
+    (disk.work / "0.ch11.json.sig").touch()
+    going.beside.append(f"{disk.work}/0.ch11.json.sig")
+    why, remove_it = disk.held[0]
+    remove_it()
+    made.join()
+    judge("it went with all that was made", disk.left() == files_of(1, 2) and not made.is_removing(), disk.left())
+    judge("why is handed on", why == "it was removed: --keep 2", why)

@@ -155,23 +155,27 @@ def test_lines_come_whole_and_long_ones_in_parts(monkeypatch: pytest.MonkeyPatch
     reads, writes = os.pipe()
     found = changes.Input()
     found.descriptor = reads
+
+    def lines() -> list[bytes]:
+        found.read()
+        came = list(found.buffer.lines)
+        found.buffer.lines.clear()
+        return came
+
     os.write(writes, b"set 1 a\nset 2")
-    judge("whole lines come", found.lines() == [b"set 1 a"] and found.rest == b"set 2")
+    judge("whole lines come", lines() == [b"set 1 a"] and found.buffer.rest == b"set 2")
     os.write(writes, b" b")
-    judge("the rest waits", found.lines() == [])
+    judge("the rest waits", lines() == [])
     monkeypatch.setattr(changes, "MAX_LINE_LEN", 10)
     os.write(writes, b"x" * 20)
-    judge("a long line comes in parts", found.lines() == [b"set 2 b" + b"x" * 20] and found.rest == b"")
+    judge("a long line comes in parts", lines() == [b"set 2 b" + b"x" * 20] and found.buffer.rest == b"")
     os.write(writes, b"last")
-    judge_quietly("one more", found.lines() == [])
+    judge_quietly("one more", lines() == [])
     os.close(writes)
-    judge("the last one comes at the end", found.lines() == [b"last"] and found.descriptor is None)
-    judge("and then none", found.lines() is None)
+    judge("the last one comes at the end", lines() == [b"last"] and found.descriptor is None)
+    judge("and then none", lines() == [] and found.descriptor is None)
     found.descriptor = os.open(os.devnull, os.O_WRONLY)
-    judge("what can't be read has ended", found.lines() is None)
-    found.descriptor = os.open(os.devnull, os.O_RDONLY)
-    found.end()
-    judge("lines that are ended", found.lines() is None)
+    judge("what can't be read has ended", lines() == [] and found.descriptor is None)
 
 
 def test_a_recorder_that_reads_no_more_lines_answers_none() -> None:

@@ -164,6 +164,8 @@ def test_a_run_ends_once_after_its_time_from_the_first_recording_on() -> None:
         ("1h30m", 5_400),
         ("1d2h3m4s", 93_784),
         ("1h30", None),
+        ("1s1m", None),
+        ("1m1m", None),
         ("m", None),
         ("01m", None),
         ("1x", None),

@@ -11,13 +11,14 @@ import pytest
 from bpfrec_host.formats.ch11.packet import Header
 from bpfrec_host.formats.transfer import Datagram, Part, datagram_in
 from bpfrec_host.publish.datagrams import Datagrams
+from bpfrec_host.receive import output
 from bpfrec_host.receive.assembling import Assembling
 from bpfrec_host.receive.output import Files
 from bpfrec_host.receive.window import MOST_BEHIND, WIDTH, Window
 from frames import packet_of
 from support import judge, judge_quietly
 from whole_file import SETUP
-from whole_file_parts import replaced, sample
+from whole_file_parts import parts_of, replaced, sample
 
 WANTED: dict[str, str] = {}
 SEEDS = range(60)
@@ -274,9 +275,16 @@ def given_to(files: Files, data: bytes) -> None:
     at = 0
     while at < len(data):
         channel, length, data_length = struct.unpack_from("<HII", data, at + 2)
-        header = Header(channel, length, data_length, 8, 0, 3, data[at + 15], 0)
+        header = Header(channel, length, data_length, 8, data[at + 13], 3, data[at + 15], 0)
         files.take(header, data[at : at + length])
         at += length
+
+
+def changed(data: bytes) -> bytes:
+    """The packets of a file whose setup record says that it has changed."""
+    first, *rest = parts_of(data)
+    word = (int.from_bytes(first.data[:4], "little") | 1 << 8).to_bytes(4, "little")
+    return b"".join(it.bytes() for it in (first._replace(data=word + first.data[4:]), *rest))
 
 
 def test_a_file_begins_with_its_setup_record_which_stands_once(work: Path) -> None:
@@ -285,22 +293,50 @@ def test_a_file_begins_with_its_setup_record_which_stands_once(work: Path) -> No
     setup = data[: int.from_bytes(data[4:8], "little")]
     given_to(files, data[len(setup) :][:40])
     given_to(files, data + setup)
-    files.out.close()
+    files.end()
     judge("its bytes", (work / "out.ch10").read_bytes() == data)
-    judge("what is ahead is skipped", (files.skipped, data[15]) == (1, SETUP), files.skipped)
+    judge("what is ahead of a first one is skipped", (files.skipped, data[15]) == (1, SETUP), files.skipped)
+
+
+def test_what_came_ahead_of_a_setup_record_is_behind_it_in_the_file(work: Path) -> None:
+    """A record that is repeated: its file is as it would be if the first one had come, but for the first's counter."""
+    parts = parts_of(sample())
+    setup, rest = parts[0], parts[1:]
+    at = [number for number, it in enumerate(rest) if it.channel == 0][1]
+    repeated = setup._replace(sequence=rest[at].sequence)
+    behind = [it._replace(sequence=it.sequence + 1) if it.channel == 0 else it for it in rest[at:]]
+    files = Files(str(work / "out.ch10"), False)
+    given_to(files, b"".join(it.bytes() for it in (*rest[:at], repeated, *behind)))
+    files.end()
+    judge("all packets", parts_of((work / "out.ch10").read_bytes()) == parts and files.skipped == 0, files.skipped)
+
+
+def test_what_waits_for_a_setup_record_is_bounded(work: Path, monkeypatch: pytest.MonkeyPatch) -> None:
+    monkeypatch.setattr(output, "MOST_KEPT", 2_000)
+    files = Files(str(work / "out.ch10"), False)
+    given_to(files, sample()[int.from_bytes(sample()[4:8], "little") :])
+    judge("the last ones wait", files.kept_len <= 2_000 and files.kept and files.skipped > 3, files.kept_len)
 
 
 def test_another_recording_has_another_file(work: Path) -> None:
     (work / "out_00002.ch10").write_text("another's")
     files = Files(str(work / "out.ch10"), False)
-    one, two = sample(), replaced("12-01-2025-12-00-00", "12-01-2025-12-00-09")(sample())
-    three = replaced("eth5", "eth6")(two)
+    one, two = sample(), replaced("eth5", "eth6")(sample())
+    three = changed(replaced("eth6", "eth7")(two))
     for data in (one, two, three):
         given_to(files, data)
-    files.restart()
+    judge("it has ended", files.restart())
     given_to(files, three)
-    files.out.close()
+    files.end()
     judge("the first", (work / "out.ch10").read_bytes() == one)
     judge("one that is there is left", (work / "out_00002.ch10").read_text() == "another's")
-    judge("another channel is no other recording", (work / "out_00003.ch10").read_bytes() == two + three)
+    judge("a channel that comes later is no other recording", (work / "out_00003.ch10").read_bytes() == two + three)
     judge("a stream that begins anew is one", (work / "out_00004.ch10").read_bytes() == three)
+
+
+def test_a_recording_that_has_not_ended_is_known(work: Path) -> None:
+    files = Files(str(work / "out.ch10"), False)
+    parts = parts_of(sample())
+    ends = [it for it in parts if it.channel == 0 and it.data[8:10] == b"\2\0"]
+    given_to(files, b"".join(it.bytes() for it in parts if it not in ends))
+    judge("without its ends", not files.restart())

@@ -5,6 +5,7 @@ from __future__ import annotations
 import hashlib
 import random
 import time
+from datetime import datetime
 from pathlib import Path
 from typing import Callable, Optional
 
@@ -34,6 +35,7 @@ SEEDS = range(40)
 PAGE = ROOT / "docs/user/formats/whole_file.md"
 # The sum of the whole file of the recording of 248 bytes with this origin, and its time packet.
 ONE_SUM = "bc7788fb6bd5a9b95dc6af282ea8a3d1a4b274476766c991a927b7373ea32e74"
+NAME = "G\\COM:flight.ch11"
 TIME_PACKET = "25eb0200280000000c000000080003119f86010000000683 30020000 2600 0012 0112 2520 57142532"
 
 
@@ -58,7 +60,8 @@ def published(path: Path, setup: Setup, asked: Asked = Asked()) -> tuple[list[Pa
 
 
 def wanted_of(data: bytes, setup: Setup) -> list[Part]:
-    """Those of the second writer, but for the index."""
+    """Those of the second writer with the recording's name, but for the index."""
+    setup = setup._replace(attributes=(*setup.attributes, NAME))
     return [it for it in parts_of(bytes(whole_file(data, setup).data)) if it.kind != INDEX]
 
 
@@ -69,11 +72,14 @@ def with_networks(setup: Setup) -> Setup:
 
 @pytest.mark.parametrize("profile", [1, 2])
 def test_the_worked_row_has_its_bytes(work: Path, profile: int) -> None:
-    """The recording of 248 bytes, or the same without data checksums: with the index of its whole file it has that file's
-    sum."""
+    """The recording of 248 bytes, or the same without data checksums: without its name, and with the index of its whole
+    file, it has that file's sum."""
     path = work / "flight.ch11"
     path.write_bytes(SAMPLES[profile - 1].read_bytes())
     parts, _ = published(path, Setup(()), Asked(origin="1764590400.250000123"))
+    setup = parts[0].data.replace(f"{NAME};\r\n".encode(), b"")
+    judge("its name", len(parts[0].data) - len(setup) == len(NAME) + 3, parts[0].data)
+    parts[0] = parts[0]._replace(data=setup)
     lengths = [len(it.bytes()) for it in parts]
     judge("its packets", lengths == [688, 40, 64, 64, 64, 56], lengths)
     judge("the time packet", parts[1].bytes() == bytes.fromhex(TIME_PACKET), parts[1].bytes().hex())
@@ -86,7 +92,7 @@ def test_the_datagrams_of_the_worked_row_are_those_of_the_page(work: Path) -> No
     path = work / "flight.ch11"
     path.write_bytes(SAMPLES[1].read_bytes())
     parts, _ = published(path, Setup(()), Asked(origin="1764590400.250000123"))
-    for most, lengths in [(1_472, [980]), (400, [400, 312, 292])]:
+    for most, lengths in [(1_472, [1_000]), (400, [400, 332, 292])]:
         sent: list[bytes] = []
         datagrams = Datagrams(most, sent.append)
         for part in parts:
@@ -152,6 +158,12 @@ def test_the_setup_record_goes_out_again_each_ten_seconds_ahead_of_a_time_packet
 def test_names_are_those_of_a_setup_record() -> None:
     for name in ("", " ", "eth0", "a;b:c\\d", "x" * 31 + " y", " \tü ", "~", "\x7f", "\U0001f600" * 3):
         judge_quietly(repr(name), cleaned(name) == plainly_cleaned(name), cleaned(name))
+
+
+def test_the_name_of_the_test_program_replaces_its_line() -> None:
+    setup = setup_record.Setup("h", "p", False, ("G\\SC:U", "G\\PN:test 5"), {})
+    lines = setup.text(datetime(2025, 12, 1)).split(";\r\n")
+    judge("it is first, and once", lines[0] == "G\\PN:test 5" and lines[-2:] == ["G\\SC:U", ""], lines)
 
 
 def test_a_long_gap_is_not_filled_second_by_second(work: Path) -> None:
@@ -336,6 +348,8 @@ def test_a_channel_that_nobody_expected_gets_a_setup_record_that_has_it() -> Non
     played.put(3, 7)
     parts = played.parts()
     judge("ahead of its first packet", [it.kind for it in parts] == [SETUP, TIME, 0, SETUP, 0, 0])
+    words = [parts[it].data[:4].hex() for it in (0, 3)]
+    judge("its word says that it has changed", words == ["0c000000", "0c010000"], words)
     judge("with its name and its network", b"ENAM-4-1:eth3;" in parts[3].data and b"ENBR-4-1:7;" in parts[3].data)
 
 

@@ -238,8 +238,9 @@ def test_what_is_no_time_is_refused(work: Path, name: str, time: Any) -> None:
     "origins, why", [(None, "there are no facts"), (UNKNOWN_SCALE, "scale of its times is unknown")]
 )
 def test_a_slice_of_a_recording_without_times_is_refused(work: Path, origins: Any, why: str) -> None:
-    with pytest.raises(ValueError, match=why):
+    with pytest.raises(bpfrec.NoTimes, match=f"^/.*/x.ch11: the {why}|there are no facts"):
         bpfrec.open(written(work, recording(), origins)).frames(begin=0)
+    judge("it is a ValueError", issubclass(bpfrec.NoTimes, ValueError))
 
 
 def test_a_slice_reads_no_packet_that_is_outside_of_it(work: Path) -> None:

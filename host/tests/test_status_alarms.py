@@ -14,6 +14,7 @@ from scripted import (
     Counts,
     DiskView,
     EndedView,
+    LinkView,
     RecordingView,
     Second,
     SyncView,
@@ -72,6 +73,15 @@ LOST = Counts(1_000, 60_000, 7, 2, 1, 0)
 NO = (EndedView(1, "a.ch11", 1, 1, "no 5 NoEnd 2"), EndedView(2, "b.ch11", 1, 0, "yes other 0"))
 # What is just no alarm, what is just one, and its name and level.
 CASES = {
+    "away": (of_channel(), of_channel(link=LinkView(True, "down", 0.0, 1)), "away", "alarm"),
+    "back": (of_channel(), of_channel(link=LinkView(False, "down", 59.9, 1)), "away", "alarm"),
+    "was away": (of_channel(), of_channel(link=LinkView(False, "gone", 60.0, 2)), "was_away", "warning"),
+    "away, and so silent": (
+        of_channel(),
+        of_channel(link=LinkView(True, "down", 20.0, 1), frame_age=20.0),
+        "away",
+        "alarm",
+    ),
     "no counts": (of_channel(counts_age=5.0), of_channel(counts_age=5.1), "no_counts", "alarm"),
     "no counts at all": (
         of_channel(counts=None, counts_age=None, unkept=None, frame_age=None, seconds=5.0),

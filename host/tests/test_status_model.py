@@ -29,6 +29,20 @@ from scripted import (
 )
 from support import judge, judge_quietly, present
 
+# ---- interfaces without frames
+
+
+def test_an_interface_that_was_away_before_the_recording_began_is_so_in_it(work: Path) -> None:
+    flight = Flight(work, {1: Wire("eth0"), 7: Wire("eth1")})
+    flight.status.linked("eth1", "no carrier", flight.now())
+    flight.begin()
+    judge("the other one isn't", [channel_of(flight, it).link.is_away for it in (1, 7)] == [False, True])
+    flight.status.linked("eth1", None, flight.now())
+    flight.status.linked("eth1", "down", flight.now())
+    found = channel_of(flight, 7).link
+    judge("each is counted", (found.why, found.interruptions) == ("down", 2), found)
+
+
 # ---- a minute
 
 

@@ -20,6 +20,7 @@ from bpfrec_host.live.status.view import (
     DiskView,
     EndedView,
     FilterView,
+    LinkView,
     MarkView,
     RecordingView,
     Second,
@@ -49,6 +50,7 @@ CHANNEL = ChannelView(
     unkept=None,
     history=tuple(SECONDS),
     filter=FilterView("udp", 6),
+    link=LinkView(True, "no carrier", 1.5, 211),
 )
 VIEW = View(
     now=1_000.0,
@@ -103,6 +105,8 @@ STATUS: dict[str, Any] = {
             "skipped": 205,
             "waited": 206,
             "frame_age": 1.5,
+            "away": "no carrier",
+            "interruptions": 211,
             "has_ended": True,
             "history": {name: [one, two] for name, one, two in zip(Second._fields, *SECONDS)},
         }
@@ -143,6 +147,8 @@ OF_CHANNEL = {
     "filter_changes_total": 6,
     "filters_left": 1_018,
     "last_frame_age_seconds": 1.5,
+    "away": 1,
+    "interruptions_total": 211,
 }
 
 

@@ -14,6 +14,7 @@ from support import judge, judge_quietly
 from whole_file import MOST_NAMED, Origin, Setup, whole_file
 from whole_file_parts import (
     ORIGIN,
+    SAMPLE_SETUP,
     SECOND,
     Change,
     Edit,
@@ -26,6 +27,7 @@ from whole_file_parts import (
     recorded,
     replaced,
     sample,
+    sample_recording,
     with_data,
     with_fields,
     without,
@@ -61,6 +63,17 @@ def test_files_of_drawn_recordings_are_right(seed: int) -> None:
         found = faults_of(bytes(whole_file(bytes(made.data), setup, most_named).data), most_named)
         judge_quietly(f"{seed}: nodes of {most_named}", found == [], found)
     judge("all are right", True)
+
+
+@pytest.mark.parametrize(
+    "name", ["r-1\\TK1-2", "R-1\\TK1-2 ", " R-1\\N", "R-1\\CDT-03", "R-1\\TK1-", "R-01\\N", "g\\pn"]
+)
+def test_a_line_that_some_reader_takes_for_a_channels_is_wrong(name: str) -> None:
+    setup = SAMPLE_SETUP._replace(attributes=(f"{name}:9",))
+    found = faults_of(bytes(whole_file(sample_recording(), setup).data))
+    judge(
+        name, [it.partition(" ")[2] for it in found] == [f"the setup record has {name} twice, or of no channel"], found
+    )
 
 
 def test_an_origin_that_begins_just_ahead_of_a_second_is_right() -> None:

@@ -19,6 +19,8 @@ from support import CAPTURE, LIBRARY, Reader, Running, judge, judge_quietly, pip
 
 WANTED = {"bin/capture": "make build", "ip": "iproute2"}
 pytestmark = [pytest.mark.timed, pytest.mark.usefixtures("namespace")]
+# Interfaces that take a second to open, and the length of a shortest frame's record.
+OPENED, RECORD_LEN = 24, 73
 COUNTS = re.compile(r"rx0 frames (\d+) bytes \d+ dropped (\d+)")
 
 
@@ -40,6 +42,31 @@ def test_single_frames_and_bursts_come_once_and_in_order(work: Path) -> None:
     status = running.ended()[0]
     found = numbers(reader.all())
     judge(f"each of {number} frames once and in order", status == 0 and found == list(range(number)), len(found))
+
+
+def packet_sockets() -> int:
+    """How many there are in this namespace."""
+    return len(Path("/proc/thread-self/net/packet").read_text().splitlines()) - 1
+
+
+def test_frames_that_come_while_others_are_opened_wait_in_both_rings(work: Path) -> None:
+    """More than the quiet ring has room for, once the first interface is open and many others aren't."""
+    make_many_pairs("oy", "ox", OPENED)
+    pipes = [pipe_at(work, f"{number}.pipe") for number in range(OPENED)]
+    reader = Reader(pipes[0])
+    ways = [f"ox{number}={pipe}" for number, pipe in enumerate(pipes)]
+    running = Running(work, CAPTURE, "--quiet", "--buffer", 64, *ways)
+    wait_for("the second one is opened", lambda: packet_sockets() > 2)
+    send_numbered("oy0", 0, 30_000)
+    judge_quietly("the last one isn't yet", packet_sockets() < 2 * OPENED)
+    running.wait_until_told("origin")
+    send_numbered("oy0", 30_000, 30_010)
+    wait_for("the last one came", lambda: numbers(bytes(reader.data[-RECORD_LEN:])) == [30_009])
+    running.interrupt()
+    running.ended()
+    found = numbers(reader.all())
+    judge("none was dropped", re.search(r"ox0 frames \d+ bytes \d+ dropped 0 ", running.told()), running.told())
+    judge("each since then once and in order", found == list(range(found[0], 30_010)) and found[0] < 10, found[:3])
 
 
 def test_a_burst_waits_in_the_greater_part_of_the_memory(work: Path) -> None:

@@ -4,6 +4,8 @@ import fcntl
 import json
 import os
 import re
+import signal
+import subprocess
 import time
 from pathlib import Path
 from typing import Any
@@ -65,6 +67,41 @@ def test_an_object_comes_each_second_for_each_interface_and_at_its_end(work: Pat
         (last,) = [it for it in noted if it["counts"] == f"rx{at}"]
         judge("and noted", {**mine[-1], "counter": 0} == {**last, "counter": 0}, (mine[-1], last))
     judge("it ends well", status == 0, running.told())
+
+
+def links_in(work: Path) -> list[dict[str, Any]]:
+    return [it for it in objects_of((work / "events").read_bytes()) if "link" in it]
+
+
+def test_a_feed_that_nobody_reads_waits_for_the_next_reader_and_that_is_noted(work: Path) -> None:
+    """Also past the time of --hold; what nobody came for by the end counts as dropped."""
+    first = subprocess.Popen(["cat", pipe_at(work, "rx0.pipe")], stdout=subprocess.DEVNULL)
+    words = ["--quiet", "--hold", 1, "--events", work / "events", f"rx0={work}/rx0.pipe"]
+    running = Running(work, CAPTURE, *words)
+    running.wait_until_told("origin")
+    first.kill()
+    first.wait()
+    send_numbered("tx0", 0, SENT)
+    wait_for("it is noted", lambda: [it["away"] for it in links_in(work)] == ["unread"])
+    time.sleep(0.5)
+    second = Reader(pipe_at(work, "rx0.pipe"))
+    running.process.send_signal(signal.SIGUSR1)
+    wait_for("so is the next reader", lambda: [it["away"] for it in links_in(work)] == ["unread", None])
+    wait_for("it has all", lambda: len(second.data) == SENT * RECORD_LEN)
+    judge("in order", numbers(bytes(second.data)) == list(range(SENT)))
+    running.process.send_signal(signal.SIGTERM)
+    judge("it ends well", running.ended()[0] == 0 and " dropped 0 " in running.told(), running.told())
+
+
+def test_frames_of_a_feed_that_nobody_reads_at_the_end_are_dropped(work: Path) -> None:
+    reader = subprocess.Popen(["cat", pipe_at(work, "rx0.pipe")], stdout=subprocess.DEVNULL)
+    running = Running(work, CAPTURE, "--quiet", "--hold", 1, f"rx0={work}/rx0.pipe")
+    running.wait_until_told("origin")
+    reader.kill()
+    reader.wait()
+    send_numbered("tx0", 0, SENT)
+    running.process.send_signal(signal.SIGTERM)
+    judge("they are counted", running.ended()[0] == 0 and f" dropped {SENT} " in running.told(), running.told())
 
 
 def test_a_pipe_without_room_loses_lines_whole_and_stops_nothing(work: Path) -> None:

@@ -36,11 +36,11 @@ NOT_GIVEN_UP = "capture: privileges can't be given up: Operation not permitted\n
 
 
 def test_a_thread_that_cannot_be_started_is_said_by_its_own_error(work: Path) -> None:
-    """A thread that can't be started is said by its own error, and those that run are ended first."""
+    """It is said by its own error, and those that run are ended first. One more ran while interfaces were opened."""
     library = shared_library(LIBRARY / "failing_thread.c", work / "failing_thread.so")
     readers = [Reader(pipe_at(work, f"{at}.pipe")) for at in (0, 1)]
     words = [f"rx{at}={it.path}" for at, it in enumerate(readers)]
-    running = Running(work, CAPTURE, *words, adds={"LD_PRELOAD": str(library), "FAILING_THREAD": "1"})
+    running = Running(work, CAPTURE, *words, adds={"LD_PRELOAD": str(library), "FAILING_THREAD": "2"})
     status, told = running.ended()[0], running.told()
     judge("a thread that can't be started is a fault", status == 1, told)
     judge("it is said by its error", "capture: no thread: Resource temporarily unavailable\n" in told, told)

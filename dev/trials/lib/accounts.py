@@ -41,6 +41,18 @@ def judge_fed(told: str, sent: int, fed: int, interface: str = "rx0") -> Counted
     return found
 
 
+def judge_killed(told: str, recorded: list[int], sent: tuple[int, int], interface: str) -> None:
+    """A recorder was killed, with the frames that it held: of those from this number on, up to the end of all that were
+    sent, each was recorded, once and in order, or is in one of the interface's losses."""
+    (first, end), found = sent, counted(told, interface)
+    judge(f"{interface}: each of {end} frames is fed or lost", found.frames + found.lost() == end, (found, told))
+    judge(f"{interface}: each is recorded once, in order", recorded == sorted(set(recorded)), recorded)
+    missing = sorted(set(range(first, end)).difference(recorded))
+    judge(
+        f"{interface}: none is missing but those that were lost", len(missing) <= found.lost(), (missing, found, told)
+    )
+
+
 def judge_recorded(
     work: Path, ended: tuple[str, str], files: list[Path], sent: int, interface: str = "rx0", channel: int = 1
 ) -> Counted:

@@ -161,7 +161,7 @@ CLASSIC: dict[str, Classic] = {
     "check_sequence_of_2_bytes": classic_link(1 | HAS_CHECK_SEQUENCE | WORDS, 2, lacks_four(2)),
     "check_sequence_of_30_bytes": classic_link(1 | HAS_CHECK_SEQUENCE | 15 * WORDS, 30, lacks_four(30)),
     "other_bits_of_the_link": classic_link(0x03FF_0001, 0),
-    "link_of_17_bits": classic_link(0x0001_0000, 0, "link type 0 of interface 0, where Ethernet is 1"),
+    "link_of_17_bits": classic_link(0x0001_0000, 0, "link type 0 (NULL) of interface 0, where Ethernet is 1"),
     "last_microsecond": Classic(MICROSECONDS, 1, [(LAST, 999_999, 60)], [Read((LAST * TICKS + 9_999_990) % 2**48)]),
     "last_nanosecond": Classic(NANOSECONDS, 1, [(LAST, 999_999_999, 60)], [Read((LAST * TICKS + 9_999_999) % 2**48)]),
     "units_over_a_second": Classic(MICROSECONDS, 1, [(1, LAST, 60)], [Read(TICKS + LAST * 10)]),

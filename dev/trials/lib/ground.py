@@ -22,7 +22,9 @@ from whole_file_parts import ORIGIN, Part, recorded
 
 PUBLISH, RECEIVE = ROOT / "host/bin/publish", ROOT / "host/bin/receive"
 PUBLISHED = re.compile(r"published packets (\d+) datagrams (\d+) lost (\d+) late (\d+)\n\Z")
-RECEIVED = re.compile(r"received packets (\d+) datagrams (\d+) lost (\d+) doubled (\d+) damaged (\d+) skipped (\d+)\n")
+RECEIVED = re.compile(
+    r"received packets (\d+) datagrams (\d+) lost (\d+) doubled (\d+) damaged (\d+) skipped (\d+) foreign (\d+)\n"
+)
 BUFFER = 64 << 20
 SO_RCVBUFFORCE = 33
 
@@ -36,6 +38,7 @@ class Counts(NamedTuple):
     doubled: int
     damaged: int
     skipped: int
+    foreign: int
 
 
 class Published(NamedTuple):
@@ -221,8 +224,8 @@ def drawn_flight(work: Path, seed: int, seconds: int = 25) -> Path:
 
 
 def whole_file_of(work: Path, path: Path) -> bytes:
-    """The whole file that bpfrec makes of a recording."""
-    run(ROOT / "host/bin/chapter11", "--force", path, work / "whole.ch10")
+    """The whole file that bpfrec makes of a recording, with the name that publish gives it."""
+    run(ROOT / "host/bin/chapter11", "--force", "--attribute", f"G\\COM:{path.name}", path, work / "whole.ch10")
     return (work / "whole.ch10").read_bytes()
 
 

@@ -46,7 +46,8 @@ SETTINGS_CASES = [
     Case("nothing is wrong", GOOD, []),
     Case(
         "all keys, each at its end",
-        "limit = 524_284\nring = 0x1000\nversion = 0\n" + GOOD + "net = 255\nspeed = 15\nmax = 0\n",
+        "limit = 524_284\nring = 0x1000\nversion = 0\n" + GOOD + "net = 255\nspeed = 15\nmax = 0\n"
+        "span = 281474976710655\n",
         [],
     ),
     Case(
@@ -86,7 +87,7 @@ SETTINGS_CASES = [
         "limit = 16423\nring = 0\nversion = -1\n[[channel]]\nid = 0\n"
         + FEED
         + FILTER
-        + "net = -1\nspeed = -1\nmax = -1\n",
+        + "net = -1\nspeed = -1\nmax = -1\nspan = -1\n",
         [
             "s.toml:1: settings 4 Value limit: 16423 is not in 16424 to 524284",
             "s.toml:2: settings 4 Value ring: 0 is not in 1 to 4096",
@@ -95,6 +96,7 @@ SETTINGS_CASES = [
             "s.toml:8: channel table 1: settings 4 Value net: -1 is not in 0 to 255",
             "s.toml:9: channel table 1: settings 4 Value speed: -1 is not in 0 to 15",
             "s.toml:10: channel table 1: settings 4 Value max: -1 is not in 0 to 9223372036854775807",
+            "s.toml:11: channel table 1: settings 4 Value span: -1 is not in 0 to 281474976710655",
         ],
     ),
     Case(
@@ -102,7 +104,7 @@ SETTINGS_CASES = [
         "limit = 524285\nring = 4097\nversion = 256\n[[channel]]\nid = 65536\n"
         + FEED
         + FILTER
-        + "net = 256\nspeed = 16\n",
+        + "net = 256\nspeed = 16\nspan = 281474976710656\n",
         [
             "s.toml:1: settings 4 Value limit: 524285 is not in 16424 to 524284",
             "s.toml:2: settings 4 Value ring: 4097 is not in 1 to 4096",
@@ -110,6 +112,7 @@ SETTINGS_CASES = [
             "s.toml:5: channel table 1: settings 4 Value id: 65536 is not in 1 to 65535",
             "s.toml:8: channel table 1: settings 4 Value net: 256 is not in 0 to 255",
             "s.toml:9: channel table 1: settings 4 Value speed: 16 is not in 0 to 15",
+            "s.toml:10: channel table 1: settings 4 Value span: 281474976710656 is not in 0 to 281474976710655",
         ],
     ),
     Case(

@@ -15,8 +15,7 @@ from typing import Iterator, NamedTuple, Optional
 from frames import COMPUTER, FRAMES, body_of, packet_of
 
 SETUP, TIME, INDEX = 0x01, 0x11, 0x03
-TICK, TEN_MS, SECOND = 100, 10_000_000, 1_000_000_000
-COUNTERS, CHANNELS = 1 << 48, 1 << 16
+TICK, TEN_MS, SECOND, COUNTERS, CHANNELS = 100, 10_000_000, 1_000_000_000, 1 << 48, 1 << 16
 PIECE_TICKS, MOST_DISORDER, MOST_GAP = 1_000_000, 10_000_000, 6_048_000_000_000
 MOST_PACKET_LENGTH, MOST_NAMED = 524_288, 16_384
 EPOCH = datetime.date(1970, 1, 1).toordinal()
@@ -248,7 +247,14 @@ def setup_text(setup: Setup, recording: Recording, first: Mark) -> str:
     said = civil(first.moment)
     hour, minute, second, _ = said.clock()
     host, source = cleaned(setup.host), "E" if setup.is_external else "I"
-    lines = ["G\\PN:bpfrec", "G\\106:17", f"G\\OD:{said.date_text()}", "G\\DSI\\N:1", f"G\\DSI-1:{host}"]
+    named = [it for it in setup.attributes if it.startswith("G\\PN:")]
+    lines = [
+        *(named or ["G\\PN:bpfrec"])[:1],
+        "G\\106:17",
+        f"G\\OD:{said.date_text()}",
+        "G\\DSI\\N:1",
+        f"G\\DSI-1:{host}",
+    ]
     lines += ["G\\DST-1:STO", f"R-1\\ID:{host}", "R-1\\RID:bpfrec", f"R-1\\R1:{cleaned(setup.program)}", "R-1\\TC1:SSR"]
     lines += ["R-1\\RI3:Y", f"R-1\\RI4:{said.date_text()}-{hour:02}-{minute:02}-{second:02}", "R-1\\NSB:0"]
     lines += [
@@ -275,7 +281,7 @@ def setup_text(setup: Setup, recording: Recording, first: Mark) -> str:
     lines += [
         "R-1\\COM:Packets of type 0 on channel 0 with the tag CBPR hold the filter programs and the counts of bpfrec"
     ]
-    return "".join(f"{it};\r\n" for it in [*lines, *setup.attributes])
+    return "".join(f"{it};\r\n" for it in [*lines, *(it for it in setup.attributes if it not in named)])
 
 
 # ---- the file

@@ -1,18 +1,23 @@
 """Tries lines that come by a Unix socket, beside those of standard input."""
 
+import contextlib
 import os
+import random
+import re
 import signal
 import socket
 import stat
 import subprocess
+import threading
+import time
 from pathlib import Path
 from typing import Any
 
 import pytest
 from frames import numbers_in, records
 from namespace import send_numbered
-from recordings import YES, begin, extracted, facts_of
-from support import PREFLIGHT, ROOT, Running, judge, judge_quietly, outcome
+from recordings import YES, begin, extracted, facts_of, write_settings
+from support import LIVE, PREFLIGHT, ROOT, Running, judge, judge_quietly, outcome, present
 
 WANTED = {"bin/bpfrec": "make build", "bin/capture": "make build", "ip": "iproute2", "tcpdump": "tcpdump"}
 CONTROL = ROOT / "host/bin/control"
@@ -82,6 +87,108 @@ def test_clients_that_leave_or_do_not_read_change_nothing(work: Path, run: Runni
     judge("all frames", numbers_in([records(extracted(work, work / "flight.ch11", 1))]) == list(range(500)))
 
 
+def drawn_lines(count: int) -> list[bytes]:
+    """Lines of any bytes but line feeds and what ends the run, some of which are nearly right."""
+    draw = random.Random(64)
+    lines: list[bytes] = []
+    while len(lines) < count:
+        text = bytes(draw.choice((0, 0, 9, 13, 32, 39, 47, 92, 127, 255, draw.randrange(256))) for _ in range(9))
+        ahead = draw.choice(
+            (b"", b"set 1 ", b"set 9 ", b"set 1 udp ", b"set 1 /", b"set 99999999999 ", b"mark ", b"next")
+        )
+        lines.append(ahead + text.replace(b"\n", b"x"))
+    return lines
+
+
+def answers_in(data: bytes) -> int:
+    return len(re.findall(rb"^(?:done|refused)\n", data, re.MULTILINE))
+
+
+def test_lines_of_any_bytes_are_answered_and_end_nothing(work: Path, namespace: None) -> None:
+    """Also filters of SETTINGS."""
+    words, lines = ("--quiet", "--control", work / "control"), drawn_lines(60)
+    run = begin(work, work / "flight.ch11", *words, stdin=subprocess.PIPE)
+    with socket.socket(socket.AF_UNIX) as client:
+        client.connect(str(work / "control"))
+        client.settimeout(20)
+        client.sendall(b"".join(it + b"\n" for it in lines))
+        client.shutdown(socket.SHUT_WR)
+        data = b"".join(iter(lambda: client.recv(1 << 16), b""))
+    judge("each line by the socket is answered", answers_in(data) == len(lines), data)
+    os.write(present(run.process.stdin).fileno(), b"".join(it + b"\n" for it in lines) + b"mark all came\n")
+    judge("a line behind those of standard input too", ask(work, "mark", "and here").returncode == 0)
+    send_numbered("tx0", 0, 100)
+    run.type_in("stop")
+    status, told = run.ended()[0], (work / "told").read_bytes()
+    judge("it ends well", status == 0 and b"Traceback" not in told, told)
+    marks = [it["text"] for it in facts_of(work / "flight.ch11")["marks"]]
+    judge("with its marks", {"all came", "and here"} <= set(marks), marks)
+    settings = write_settings(work, 'id = 1\nfilter = "a\\u0000b"')
+    for tool, ahead in ((LIVE, ""), (PREFLIGHT, "--live")):
+        done = outcome(*filter(None, (tool, ahead)), settings, work / "other.ch11", "rx0=1")
+        judge(f"{tool.name} refuses one", done.returncode in (1, 3) and "Traceback" not in done.stderr, done)
+
+
+def processes_that(word: str) -> int:
+    """How many processes have this word in their command lines."""
+    count = 0
+    for entry in Path("/proc").glob("[0-9]*/cmdline"):
+        with contextlib.suppress(OSError):
+            count += word.encode() in entry.read_bytes()
+    return count
+
+
+def read_all(client: socket.socket) -> None:
+    with contextlib.suppress(OSError):
+        while client.recv(1 << 16):
+            pass
+
+
+def test_a_client_that_sends_many_lines_holds_nobody_up(work: Path, run: Running) -> None:
+    """Another one is answered at once, few programs run at once, and a signal ends the run."""
+    with socket.socket(socket.AF_UNIX) as many, socket.socket(socket.AF_UNIX) as sets:
+        for each, lines in ((many, b"status\n" * 9_000), (sets, b"set 1 udp port 61234\n" * 600)):
+            each.connect(str(work / "control"))
+            each.sendall(lines)
+            # It reads its answers, so it isn't let go.
+            threading.Thread(target=read_all, args=(each,), daemon=True).start()
+        most = 0
+        for number in range(5):
+            begun = time.monotonic()
+            judge("another one is answered", ask(work, "mark", number).returncode == 0)
+            judge(f"in {time.monotonic() - begun:.2f} s", time.monotonic() - begun < 3)
+            most = max(most, processes_that("udp port 61234"))
+        # Each has the program and what ends it in time.
+        judge(f"{most} processes make filters", most <= 2 * 4)
+        begun = time.monotonic()
+        run.process.send_signal(signal.SIGTERM)
+        status, _ = run.ended()
+        judge(f"it ended in {time.monotonic() - begun:.1f} s", status == 0 and time.monotonic() - begun < 5, run.told())
+    judge("it has the marks", len(facts_of(work / "flight.ch11")["marks"]) == 5)
+
+
+def test_the_oldest_idle_client_makes_room_for_another(work: Path, run: Running) -> None:
+    clients = [socket.socket(socket.AF_UNIX) for _ in range(17)]
+    for each in clients:
+        each.connect(str(work / "control"))
+        each.settimeout(10)
+    judge("the first two are let go", ask(work, "mark", "still").returncode == 0)
+    judge("and no other", [it.recv(1) for it in clients[:2]] == [b"", b""])
+    for each in clients[2:]:
+        each.sendall(b"mark mine\n")
+        judge_quietly("it is answered", each.recv(100).startswith(b"done\nmarked"))
+    run.interrupt()
+    judge("it ends well", run.ended()[0] == 0, run.told())
+
+
+def test_a_line_feed_in_a_line_is_refused(work: Path, run: Running) -> None:
+    done = ask(work, "mark", "gear up\nstop")
+    judge("it is more than one", done.returncode == 2 and "line feed" in done.stderr and not done.stdout, done)
+    judge("and none was sent", ask(work, "status").returncode == 0)
+    run.interrupt()
+    judge("it ends well", run.ended()[0] == 0 and facts_of(work / "flight.ch11")["marks"] == [], run.told())
+
+
 def test_a_line_longer_than_any_lets_its_client_go(work: Path, run: Running) -> None:
     with socket.socket(socket.AF_UNIX) as client:
         client.connect(str(work / "control"))
@@ -116,5 +223,14 @@ def test_what_stands_at_the_path(work: Path, run: Running) -> None:
     judge("a file is left", fourth.ended()[0] == 3 and (work / "control").read_text() == "a file", fourth.told())
     preflight = outcome(PREFLIGHT, "--live", "--control", work / "control", work / "none.ch11", "rx0=1")
     judge("preflight says so", "it exists, and is no socket" in preflight.stdout + preflight.stderr, preflight)
+    with socket.socket(socket.AF_UNIX) as full, socket.socket(socket.AF_UNIX) as queued:
+        full.bind(str(work / "full"))
+        full.listen(0)
+        queued.connect(str(work / "full"))
+        done = outcome(LIVE, "--control", work / "full", work / "none.ch11", "rx0=1")
+    judge("one that takes no connection listens too", done.returncode == 3 and "listens there" in done.stderr, done)
+    (work / "link").symlink_to(work / "nowhere")
+    done = outcome(LIVE, "--control", work / "link", work / "none.ch11", "rx0=1")
+    judge("a link that leads nowhere", done.returncode == 3 and "leads nowhere" in done.stderr, done)
     fifth = begin(work, work / "fifth.ch11", "--quiet", "--control", work / ("x" * 120))
     judge("too long a path", fifth.ended()[0] == 2 and "107 bytes" in fifth.told(), fifth.told())

@@ -3,6 +3,8 @@ of them."""
 
 from __future__ import annotations
 
+import contextlib
+import fcntl
 import os
 import signal
 import statistics
@@ -14,10 +16,13 @@ from pathlib import Path
 from typing import NamedTuple, Optional
 
 import pytest
+from bpfrec_host.follow.growing import FACTS_PATIENCE
 from frames import HEAD, feed_of, numbered, records, with_check_sequence
+from ground import drawn_flight
 from namespace import socket_into
-from recordings import Traffic, begin, extracted, facts_of, is_approved, parts_of, recordings, write_settings
+from recordings import Traffic, begin, extracted, facts_of, has_open, is_approved, parts_of, recordings, write_settings
 from support import BPFREC, PCAPNG, ROOT, judge, judge_quietly, outcome, run, wait_for
+from whole_file_parts import ORIGIN
 
 WANTED = {"bin/bpfrec": "make build", "bin/capture": "make build", "ip": "iproute2", "tshark": "tshark"}
 pytestmark = [pytest.mark.usefixtures("namespace")]
@@ -258,7 +263,7 @@ def test_a_recording_of_pipes_without_facts_is_followed_to_its_end(work: Path) -
         feed.write(feed_of((number, 0, frame) for number, frame in enumerate(frames[:60])))
         wait_for("packets are written", lambda: has_bytes(work / "o.ch11", 16_424), 10)
         follower = Follower(work, work / "o.ch11")
-        wait_for("frames are shown", lambda: len(follower.shown) > 10, 10)
+        wait_for("frames are shown", lambda: len(follower.shown) > 10, 2 * FACTS_PATIENCE)
         time.sleep(0.5)
         judge("it goes on", follower.process.poll() is None)
         feed.write(feed_of((number, 0, frame) for number, frame in enumerate(frames[60:], 60)))
@@ -266,6 +271,24 @@ def test_a_recording_of_pipes_without_facts_is_followed_to_its_end(work: Path) -
     told = (follower.ended(10), (work / "follow.errors").read_text())
     judge("it ends with it, and counts the frames", told == (0, "frames 100 skipped 0\n"), told)
     judge("with all frames", follower.frames("channel 1") == frames and follower.shown[7].moment == 700)
+
+
+def test_a_recording_that_has_just_begun_is_followed_by_its_facts(work: Path) -> None:
+    """They come later than its first packets: names and times are theirs."""
+    path = drawn_flight(work, 3)
+    facts = Path(f"{path}.json").rename(work / "facts")
+    with open(path, "rb") as written:
+        # As its recorder has it.
+        fcntl.flock(written, fcntl.LOCK_EX)
+        follower = Follower(work, path)
+        wait_for("it is followed", lambda: has_open(follower.process.pid, path))
+        with contextlib.suppress(AssertionError):
+            wait_for("frames are shown", lambda: follower.shown, 1)
+        judge("none is shown ahead of the facts", not follower.shown)
+        facts.rename(f"{path}.json")
+    judge_quietly("it ends well", follower.ended() == 0, (work / "follow.errors").read_text())
+    judge("names", sorted(set(follower.names))[-1].startswith("eth"), follower.names)
+    judge("times", follower.shown and all(it.moment > ORIGIN for it in follower.shown))
 
 
 def test_recordings_that_cannot_be_followed_are_refused(work: Path) -> None:

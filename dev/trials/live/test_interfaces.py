@@ -6,16 +6,19 @@ import re
 import shutil
 import subprocess
 import time
+from collections.abc import Callable
 from pathlib import Path
 
 import pytest
 from clock import preloaded
 from frames import numbered, numbers, records
 from namespace import make_pair, send, send_together, set_link, take_away, wait_until_up
-from recordings import RUN, YES, begin, extracted, judge_parts, process_of, recordings, settings_of
+from recordings import RUN, YES, begin, extracted, facts_of, judge_parts, process_of, recordings, settings_of
+from served import address_in, status_of
 from support import (
     BPFREC,
     CAPTURE,
+    INFO,
     NOBODY,
     ROOT,
     SECOND,
@@ -93,6 +96,44 @@ def test_a_renamed_interface_is_recorded_on(work: Path) -> None:
         status == 0 and YES in printed and numbers(extracted(work, work / "renamed.ch11", 1)) == list(range(200)),
         running.told(),
     )
+
+
+def away_in(running: Running) -> str | None:
+    """Why the first channel's interface brings no frames, by the status."""
+    status = status_of(address_in(running.told()))
+    found = status["channels"][0] if status["channels"] else {"away": None}
+    alarms = [it["word"] for it in status["alarms"] if it["name"] == "away" and it["channel"] == 1]
+    judge_quietly("an alarm says it", alarms == [found["away"]] or found["away"] is None, (alarms, found))
+    return found["away"]
+
+
+@pytest.mark.parametrize("words", [[], ["--every", 1]], ids=["single", "every"])
+def test_an_interface_without_frames_is_an_alarm_and_an_interruption_of_the_facts(work: Path, words: list) -> None:
+    """One that is down, has no carrier, or is gone; of recordings that follow one another each has those of its time."""
+    running = begin(work, work / "link.ch11", "--quiet", "--status", "0", *words)
+    wait_for("the status is served", lambda: "status: http" in running.told())
+    ways: dict[str, tuple[Callable[[], None], Callable[[], None]]] = {
+        "down": (lambda: set_link("rx0", "down"), lambda: set_link("rx0", "up")),
+        "no carrier": (lambda: set_link("tx0", "down"), lambda: set_link("tx0", "up")),
+        "gone": (lambda: take_away("rx0"), lambda: make_pair(0)),
+    }
+    for why, (leave, come_back) in ways.items():
+        send_together(0, 10)
+        leave()
+        wait_for(lambda: f"an alarm: {running.told()}", lambda: away_in(running) == why, 10)
+        time.sleep(1.2 if words else 0)
+        come_back()
+        wait_for("it is back", lambda: away_in(running) is None, 10)
+    running.interrupt()
+    judge("it ends well", running.ended()[0] == 0, running.told())
+    files = recordings(work, "link") if words else [work / "link.ch11"]
+    found = [it for file in files for it in facts_of(file)["interruptions"]]
+    judge("each is of rx0, and has an end", {it["interface"] for it in found} == {"rx0"} and found[-1]["to"], found)
+    begun = {it["from"]: it["why"] for it in found}
+    judge("each is once, in order", list(begun.values()) == list(ways) and list(begun) == sorted(begun), found)
+    judge("one that lasts is in both", (len(found) > len(ways)) == bool(words), found)
+    last = next(file for file in files if "gone" in [it["why"] for it in facts_of(file)["interruptions"]])
+    judge("info says it", "rx0 gone from 20" in outcome(INFO, last).stdout)
 
 
 # ---- permissions

@@ -4,11 +4,13 @@ import os
 import random
 import re
 import signal
+import subprocess
 import time
 from pathlib import Path
 
 import pytest
 from frames import numbers_in, records
+from namespace import send_together
 from recordings import (
     Traffic,
     begin,
@@ -105,6 +107,66 @@ def test_whenever_it_is_killed_around_a_handover_recordings_go_on(work: Path, mo
     judge_quietly("those behind it are whole", all(is_approved(it) for it in later))
     found = numbers_in([records(extracted(work, it, 1)) for it in later])
     judge("without a gap", found and found == list(range(found[0], sent)), found[-3:])
+
+
+def recorder_that_dies_at_once(work: Path) -> Path:
+    """The program, whose recorder opens its two pipes, writes 64 bytes and is killed then, once there is a file for it."""
+    made = work / "bpfrec"
+    opens = 'out=$3; set -- $(sed -n "s/^feed = .\\(.*\\)./\\1/p" "$2"); exec 3< "$1" 4< "$2"'
+    dies = f'rm {work}/dies; {opens}; head -c 64 "{work}/kill_00001.ch11" > "$out"; kill -9 $$'
+    made.write_text(f'#!/bin/sh\nif [ "$1" = record ] && [ -e {work}/dies ]; then {dies}; fi\nexec {BPFREC} "$@"\n')
+    made.chmod(0o755)
+    return made
+
+
+def test_one_that_is_killed_as_soon_as_it_has_written_has_facts_and_its_place_in_the_chain(work: Path) -> None:
+    """Before anybody saw that it had opened its recording."""
+    out = work / "kill.ch11"
+    adds = {"BPFREC": str(recorder_that_dies_at_once(work))}
+    running = begin(work, out, "--quiet", "--every", 1_000, adds=adds, stdin=subprocess.PIPE)
+    wait_for("it records", lambda: is_recording(out, work / "kill_00001.ch11"))
+    send_together(0, 10)
+    (work / "dies").touch()
+    running.type_in("next")
+    wait_for("the third one is recorded", lambda: is_recording(out, work / "kill_00003.ch11"))
+    running.interrupt()
+    judge("it ends", running.ended()[0] == 137, running.told())
+    facts = [facts_of(it) for it in recordings(work, "kill")]
+    judge("each has ended", [it["status"] for it in facts] == [0, 137, 0], facts)
+    before = [it["before"]["recording"] for it in facts[1:]]
+    judge("each is behind the one before", before == ["kill_00001.ch11", "kill_00002.ch11"], before)
+
+
+def noted_links(work: Path) -> str:
+    """What the capture has noted."""
+    return "".join(it.read_text() for it in (work / "private").glob("bpfrec.*/events"))
+
+
+def test_interfaces_wait_for_a_live_that_is_slow_and_that_is_said(work: Path) -> None:
+    """Over three seconds: no frame is lost, and the facts have that nobody read."""
+    out = work / "kill.ch11"
+    running = begin(work, out, "--quiet", "--every", 1_000)
+    wait_for("it records", lambda: is_recording(out, work / "kill_00001.ch11"))
+    recorder = process_of(out, BPFREC, " record ")
+    os.kill(running.process.pid, signal.SIGSTOP)
+    os.kill(recorder, signal.SIGKILL)
+    wait_for("it is dead", lambda: not is_recording(out, work / "kill_00001.ch11"))
+    traffic = Traffic()
+    wait_for("both are noted", lambda: noted_links(work).count('"unread"') == 2, 10)
+    os.kill(running.process.pid, signal.SIGCONT)
+    wait_for("the next one goes on", lambda: is_recording(out, work / "kill_00002.ch11"), 10)
+    sent = traffic.end()
+    running.interrupt()
+    status, told = running.ended()[0], running.told()
+    judge("it ends with the killed one's status", status == 137, told)
+    judge(
+        "a line says it", "live: rx0: no recorder reads its frames, which wait for the next recording\n" in told, told
+    )
+    for channel in (1, 2):
+        found = numbers_in(parts_of(work, "kill", channel))
+        judge(f"channel {channel} has all", found == list(range(sent)), (found[:1], found[-1:], sent))
+    noted = facts_of(work / "kill_00002.ch11")["interruptions"]
+    judge("and so do the facts", [(it["why"], it["to"] is None) for it in noted] == [("unread", False)] * 2, noted)
 
 
 def test_a_recording_that_none_follows_ends_with_its_recorder(work: Path) -> None:

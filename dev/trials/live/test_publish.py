@@ -1,17 +1,15 @@
-"""Tries host/bin/publish and live --publish: by a receiver of its own beside host/bin/receive, where nobody listens or no
-route leads, and with publishers that die."""
+"""Tries host/bin/publish and live --publish: by a receiver of its own beside host/bin/receive, and where nobody listens or no
+route leads."""
 
 from __future__ import annotations
 
 import contextlib
 import os
 import random
-import signal
 import socket
 import subprocess
 import time
 from collections.abc import Iterator
-from functools import partial
 from pathlib import Path
 
 import pytest
@@ -30,24 +28,14 @@ from ground import (
     whole_file_of,
     write_facts,
 )
-from recordings import (
-    Traffic,
-    begin,
-    extracted,
-    facts_of,
-    is_approved,
-    nothing_left,
-    processes_of,
-    recordings,
-    settings_of_one,
-)
+from recordings import Traffic, begin, extracted, facts_of, is_approved, nothing_left, recordings, settings_of_one
 from support import LIVE, PREFLIGHT, ROOT, judge, judge_quietly, outcome, run, wait_for
 from whole_file import INDEX, Origin, Setup
 from whole_file_parts import ORIGIN, SAMPLE_SETUP, parts_of, recorded, sample_recording
 
 WANTED = {"bin/bpfrec": "make build", "bin/capture": "make build", "ip": "iproute2"}
 pytestmark = [pytest.mark.usefixtures("namespace")]
-CHECK, CONTROL = ROOT / "host/bin/check_ch10", ROOT / "host/bin/control"
+CHECK = ROOT / "host/bin/check_ch10"
 NO_INDEX = "the file doesn't end with a root that names all"
 
 
@@ -167,71 +155,6 @@ def test_a_full_socket_ends_no_publisher(work: Path) -> None:
     judge("and says why", f"publish: {station.address}: socket full: " in done.stderr, done.stderr)
 
 
-def has_more(station: Station, count: int) -> bool:
-    """Whether more datagrams have come than that."""
-    return len(station.datagrams) > count
-
-
-def test_a_publisher_that_is_killed_comes_back(work: Path) -> None:
-    """At two moments, and clients of --control too; the recording has all frames, and what comes later is published
-    again."""
-    draw = random.Random(1)
-    out, station = work / "flight.ch11", Station()
-    words = ("--flush", 1, "--control", work / "control", "--publish", station.address)
-    running = begin(work, out, "--quiet", *words)
-    traffic = Traffic()
-    killed: set[int] = set()
-    for number in range(2):
-        client = subprocess.Popen([CONTROL, work / "control", "mark", f"m{number}"], stderr=subprocess.DEVNULL)
-        time.sleep(draw.random() / 4)
-        client.kill()
-        client.wait()
-        wait_for("it is sent", partial(has_more, station, len(station.datagrams)), 60)
-        time.sleep(draw.random())
-        (pid,) = [it for it, words in processes_of(out).items() if "--stay" in words]
-        judge_quietly("another one", pid not in killed)
-        killed.add(pid)
-        os.kill(pid, signal.SIGKILL)
-        wait_for("a line", lambda: running.told().count("ended by signal 9, and begins again in ") == len(killed))
-    wait_for("it is sent again", partial(has_more, station, len(station.datagrams) + 3), 60)
-    running.interrupt()
-    sent = traffic.end()
-    status, _ = running.ended()
-    station.close()
-    judge("it ends well", status == 0 and is_approved(out), running.told())
-    judge("with all frames", [it["frames"] for it in facts_of(out)["counts"]] == [sent, sent])
-    starts = [it for it in station.datagrams if int.from_bytes(it[:4], "little") >> 8 == 0]
-    judge("each stream has its own numbers", len(starts) == 3, len(starts))
-
-
-@pytest.mark.parametrize("sign", [signal.SIGSTOP, None], ids=["stopped", "nothing"])
-def test_a_run_ends_soon_whatever_its_publisher_does(work: Path, sign: signal.Signals | None) -> None:
-    out = work / "flight.ch11"
-    running = begin(work, out, "--quiet", "--publish", f"127.0.0.1:{free_port()}")
-    traffic = Traffic()
-    wait_for("the publisher runs", lambda: any("--stay" in it for it in processes_of(out).values()))
-    (pid,) = [it for it, words in processes_of(out).items() if "--stay" in words]
-    time.sleep(1)
-    if sign:
-        os.kill(pid, sign)
-    running.interrupt()
-    traffic.end()
-    judge("it ends well", running.ended()[0] == 0 and is_approved(out), running.told())
-    judge("and leaves nothing", not processes_of(out) and nothing_left(work), processes_of(out))
-
-
-def test_no_publisher_outlives_live(work: Path) -> None:
-    """Where live is killed; the recording is whole all the same."""
-    out, station = work / "flight.ch11", Station()
-    running = begin(work, out, "--quiet", "--flush", 1, "--publish", station.address)
-    traffic = Traffic()
-    wait_for("it is sent", partial(has_more, station, 3))
-    os.kill(running.process.pid, signal.SIGKILL)
-    wait_for("all has ended", lambda: not processes_of(out))
-    traffic.end()
-    judge("the recording is whole", is_approved(out), running.told())
-
-
 def test_a_group_is_sent_to_by_an_interface(work: Path) -> None:
     """With the hops of --ttl; a receiver that has joined on the interface gets all."""
     path = work / "flight.ch11"
@@ -296,50 +219,6 @@ def test_what_is_there_is_left_out_with_now(work: Path) -> None:
     kinds = [(it.kind, it.data[8:9]) for it in parts_of(data)]
     judge("a filter of each channel ahead of frames", [it[0] for it in kinds].index(FRAMES) > kinds.index((0, b"\1")))
     judge_quietly("of both", kinds.count((0, b"\1")) >= 2, kinds[:9])
-
-
-@pytest.mark.parametrize("sign, status", [(signal.SIGTERM, 0), (signal.SIGINT, 130)], ids=["TERM", "INT"])
-def test_signals_end_it_with_its_counts(work: Path, sign: signal.Signals, status: int) -> None:
-    out, station = work / "flight.ch11", Station()
-    running = begin(work, out, "--quiet", "--flush", 1)
-    traffic = Traffic(pause=0.01)
-    publisher = subprocess.Popen([PUBLISH, out, station.address], stderr=subprocess.PIPE, text=True)
-    wait_for("it is sent", lambda: len(station.datagrams) > 5)
-    publisher.send_signal(sign)
-    _, told = publisher.communicate(timeout=30)
-    line = [it for it in told.splitlines() if it.startswith("published")]
-    judge(
-        "its status, with its counts", publisher.returncode == status and len(line) == 1, (publisher.returncode, told)
-    )
-    running.interrupt()
-    traffic.end()
-    judge("the recording ends well", running.ended()[0] == 0, running.told())
-    datagrams = station.close()
-    judge("all that was counted came", published(f"{line[0]}\n").datagrams == len(datagrams), (line, len(datagrams)))
-
-
-def test_term_has_all_recordings_of_a_run_sent(work: Path) -> None:
-    """Also those that it has not begun with."""
-    out, station = work / "flight.ch11", Station()
-    running = begin(work, out, "--quiet", "--every", 1)
-    traffic = Traffic(pause=0.01)
-    wait_for("the first", lambda: recordings(work, "flight"))
-    publisher = subprocess.Popen(
-        [PUBLISH, work / "flight_00001.ch11", station.address], stderr=subprocess.PIPE, text=True
-    )
-    wait_for("it is sent", lambda: station.datagrams)
-    publisher.send_signal(signal.SIGSTOP)
-    wait_for("three recordings", lambda: len(recordings(work, "flight")) >= 3)
-    running.interrupt()
-    sent = traffic.end()
-    judge_quietly("the run ends well", running.ended()[0] == 0, running.told())
-    publisher.terminate()
-    publisher.send_signal(signal.SIGCONT)
-    _, told = publisher.communicate(timeout=30)
-    judge("it ends well", publisher.returncode == 0, told)
-    (work / "all.ch11").write_bytes(packets_in(station.close()))
-    numbers = numbers_in([records(extracted(work, work / "all.ch11", 1))])
-    judge("all frames", numbers == list(range(numbers[0], sent)), (len(numbers), sent))
 
 
 def test_what_cannot_be_published_is_refused(work: Path) -> None:

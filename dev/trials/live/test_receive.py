@@ -3,15 +3,21 @@
 from __future__ import annotations
 
 import random
+import shutil
 import signal
 import socket
 import subprocess
+import time
 from collections import Counter
 from pathlib import Path
 
 import pytest
-from ground import RECEIVE, Receiver, Relay, drawn_flight, free_port, is_taken, send, whole_file_of
+from bpfrec_host.formats.transfer import whole_head
+from bpfrec_host.receive.source import SILENCE
+from frames import packet_of
+from ground import RECEIVE, Receiver, Relay, Station, drawn_flight, free_port, is_taken, send, whole_file_of
 from support import BPFREC, judge, judge_quietly, outcome, wait_for
+from whole_file import INDEX, SETUP
 from whole_file_parts import parts_of
 
 WANTED = {"bin/bpfrec": "make build", "ip": "iproute2"}
@@ -67,15 +73,18 @@ def test_what_cannot_be_received_is_refused(work: Path) -> None:
             done = outcome(RECEIVE, *words)
             judge(what, (done.returncode, what in done.stderr) == (3, True), done)
     done = outcome(RECEIVE, "--for", 1, f"127.0.0.1:{free_port()}", work / "b")
-    line = "received packets 0 datagrams 0 lost 0 doubled 0 damaged 0 skipped 0\n"
+    line = "received packets 0 datagrams 0 lost 0 doubled 0 damaged 0 skipped 0 foreign 0\n"
     judge("nothing comes", (done.returncode, done.stdout) == (1, line), done)
 
 
 def test_streams_that_follow_one_another_have_their_own_files(work: Path) -> None:
-    """Also of the same recording, which begins at the same time."""
+    """Also of the same recording, which begins at the same time, once the sender before is silent."""
     path, port = drawn_flight(work, 9), free_port()
     receiver = Receiver(work, "ground.ch10", f"127.0.0.1:{port}")
-    counts = [send(path, f"127.0.0.1:{port}", "--datagram", most) for most in (200, 200, 1_472)]
+    counts = []
+    for most in (200, 200, 1_472):
+        counts.append(send(path, f"127.0.0.1:{port}", "--datagram", most))
+        time.sleep(SILENCE + 0.2)
     status, received = receiver.ended()
     judge("nothing is lost", (status, received.datagrams) == (0, sum(it.datagrams for it in counts)), received)
     files = [work / name for name in ("ground.ch10", "ground_00002.ch10", "ground_00003.ch10")]
@@ -90,3 +99,113 @@ def test_an_out_that_finds_no_room_ends_it(work: Path) -> None:
     _, told = receiver.communicate(timeout=30)
     line = "receive: /dev/full: No space left on device\n"
     judge("a line and a status", (receiver.returncode, told) == (3, line), (receiver.returncode, told))
+
+
+def test_recordings_that_began_in_the_same_second_have_their_own_files(work: Path) -> None:
+    path, port = drawn_flight(work, 9), free_port()
+    for name in ("run_00001.ch11", "run_00002.ch11"):
+        shutil.copy(path, work / name)
+        shutil.copy(f"{path}.json", work / f"{name}.json")
+    receiver = Receiver(work, "ground.ch10", f"127.0.0.1:{port}")
+    counts = send(work / "run_00001.ch11", f"127.0.0.1:{port}")
+    status, received = receiver.ended()
+    judge("nothing is lost", (status, received.datagrams) == (0, counts.datagrams), received)
+    for name, run in (("ground.ch10", "run_00001.ch11"), ("ground_00002.ch10", "run_00002.ch11")):
+        wanted = [it for it in parts_of(whole_file_of(work, work / run)) if it.kind != INDEX]
+        judge(name, parts_of((work / name).read_bytes()) == wanted)
+
+
+# ---- by hand
+
+
+class Sender:
+    """Sends datagrams to a port, from one of its own."""
+
+    def __init__(self, port: int) -> None:
+        self.socket = socket.socket(socket.AF_INET, socket.SOCK_DGRAM)
+        self.socket.connect(("127.0.0.1", port))
+
+    def send(self, datagrams: list[bytes]) -> None:
+        for number, datagram in enumerate(datagrams):
+            self.socket.send(datagram)
+            if not number % 100:
+                time.sleep(0.005)
+
+
+def datagrams_of(path: Path, *options: object) -> list[bytes]:
+    """The datagrams by which a recording is published."""
+    station = Station()
+    send(path, station.address, *options)
+    return station.close()
+
+
+def test_a_setup_record_that_was_lost_is_waited_for(work: Path) -> None:
+    """What came ahead of the next one stands behind it."""
+    path, port = drawn_flight(work, 2), free_port()
+    datagrams = datagrams_of(path, "--datagram", 36)
+    setup = [it for it in datagrams if it[:1] == b"\x11" and it[4:8] == bytes(4)]
+    setup = setup[: next((at for at, it in enumerate(setup[1:], 1) if it[8:12] == bytes(4)), len(setup))]
+    receiver = Receiver(work, "ground.ch10", f"127.0.0.1:{port}")
+    Sender(port).send([it for it in datagrams if it not in setup])
+    status, received = receiver.ended()
+    judge("the rest is there", (status, received.skipped) == (1, 0), received)
+    wanted = [it for it in parts_of(whole_file_of(work, path)) if it.kind != INDEX]
+    got = parts_of(receiver.out.read_bytes())
+    judge("all packets", got[1:] == wanted[1:] and got[0].data == wanted[0].data, (len(got), len(wanted)))
+
+
+def test_datagrams_of_another_sender_are_left_out_and_counted(work: Path) -> None:
+    path, port = drawn_flight(work, 4), free_port()
+    datagrams = datagrams_of(path)
+    receiver = Receiver(work, "ground.ch10", f"127.0.0.1:{port}")
+    sender, other = Sender(port), Sender(port)
+    sender.send(datagrams[:3])
+    other.send([whole_head(3_000_000) + b"x", whole_head(0) + b"x", *datagrams])
+    sender.send(datagrams[3:])
+    status, received = receiver.ended()
+    judge("they are counted", received.foreign == len(datagrams) + 2, received)
+    judge("and change nothing", (status, received.datagrams, received.lost) == (0, len(datagrams), 0), received)
+    judge("a line says so", " are left out: the stream is of 127.0.0.1 port " in receiver.errors.read_text())
+    wanted = [it for it in parts_of(whole_file_of(work, path)) if it.kind != INDEX]
+    judge("the file", parts_of(receiver.out.read_bytes()) == wanted)
+
+
+def test_a_publisher_that_was_killed_is_a_gap(work: Path) -> None:
+    """Another one is taken once it is silent."""
+    path, port = drawn_flight(work, 4), free_port()
+    datagrams = datagrams_of(path)
+    receiver = Receiver(work, "ground.ch10", f"127.0.0.1:{port}")
+    Sender(port).send(datagrams[:-2])
+    time.sleep(SILENCE + 0.2)
+    Sender(port).send(datagrams)
+    status, received = receiver.ended()
+    judge("it isn't well", (status, received.lost, received.foreign) == (1, 0, 0), received)
+    line = "receive: gap of unknown length: another stream begins before the recording has ended"
+    judge("a line says so", line in receiver.errors.read_text().splitlines(), receiver.errors.read_text())
+    wanted = [it for it in parts_of(whole_file_of(work, path)) if it.kind != INDEX]
+    judge("the other has its file", parts_of((work / "ground_00002.ch10").read_bytes()) == wanted)
+
+
+def test_one_sender_is_asked_for(work: Path) -> None:
+    path, port = drawn_flight(work, 4), free_port()
+    for sender, is_it in (("127.0.0.1", True), ("192.0.2.7", False)):
+        receiver = Receiver(work, f"{sender}.ch10", f"127.0.0.1:{port}", "--from", sender)
+        counts = send(path, f"127.0.0.1:{port}")
+        status, received = receiver.ended()
+        found = (status, received.foreign)
+        judge(sender, found == ((0, 0) if is_it else (1, counts.datagrams)), received)
+    judge("an empty file is said", "192.0.2.7.ch10 is empty: no recording was received" in receiver.errors.read_text())
+
+
+def test_setup_records_without_end_make_few_files(work: Path) -> None:
+    """And TERM ends it."""
+    port, draw = free_port(), random.Random(1)
+    receiver = Receiver(work, "ground.ch10", f"127.0.0.1:{port}")
+    begun, sender = time.monotonic(), Sender(port)
+    for number in range(40):
+        setups = (packet_of(0, bytes([12, 0, 0, 0]) + draw.randbytes(4), 0, SETUP, 1, True) for _ in range(1_500))
+        sender.send([whole_head(number) + b"".join(setups)])
+    receiver.ended()
+    took = time.monotonic() - begun
+    count = len(list(work.glob("ground*.ch10")))
+    judge("ten a second", 1 < count <= 10 * (took + 1) + 1, (count, took))

@@ -203,3 +203,72 @@ def test_records_where_out_is_moved_at_once(work: Path) -> None:
     judge("it records", status == 0 and not (work / "victim").exists(), running.told())
     judge("into the file that was created", numbers(extracted(work, elsewhere, 1)) == list(range(50)))
     run(BPFREC, "audit", elsewhere)
+
+
+# ---- hashes that fall behind
+
+# host/bin/live, whose hash takes so many seconds of each recording.
+SLOW_HASH = """
+import sys, time
+sys.path.insert(0, {host!r})
+from bpfrec_host.live import hashes
+class Slow:
+    def __init__(self, *data):
+        self.digest = RIGHT(*data)
+        self.slept = False
+    def update(self, piece):
+        for _ in range(0 if self.slept else 20):
+            time.sleep({seconds} / 20)
+        self.slept = True
+        self.digest.update(piece)
+    def hexdigest(self):
+        return self.digest.hexdigest()
+RIGHT = hashes.hashlib.sha256
+class Hashlib:
+    sha256 = staticmethod(Slow)
+hashes.hashlib = Hashlib
+from bpfrec_host.__main__ import run_tool
+sys.exit(run_tool("live"))
+"""
+
+
+def begin_slow(work: Path, out: Path, seconds: float, *options: object) -> Running:
+    """Records both pairs, with a hash that takes so many seconds."""
+    script = work / "slow"
+    script.write_text(SLOW_HASH.format(host=str(LIVE.parent.parent), seconds=seconds))
+    running = Running(work, "/usr/bin/python3", script, *options, settings_of(work), out, "rx0=1", "rx1=2")
+    running.wait_until_told("capture: origin")
+    return running
+
+
+def test_a_hash_that_falls_behind_keeps_no_recording_from_its_removal(work: Path) -> None:
+    """What has to go unhashed goes, with a line and an alarm; the recordings that stay name what is missing."""
+    noted, command = work / "noted", work / "alarm"
+    command.write_text(f'#!/bin/sh\necho "$@" >> {noted}\n')
+    command.chmod(0o755)
+    out = work / "ring.ch11"
+    running = begin_slow(work, out, 3.0, "--quiet", "--every", 1, "--keep", 2, "--on-alarm", command)
+    traffic, most = Traffic(), 0
+
+    def are_removed() -> bool:
+        nonlocal most
+        most = max(most, len(recordings(work, "ring")))
+        return len(REMOVED.findall(running.told())) >= 5
+
+    wait_for("five are removed", are_removed)
+    traffic.end()
+    running.interrupt()
+    status, told = running.ended()[0], running.told()
+    judge("the disk keeps no more than the ring, what goes on, and one in work", most <= 5, most)
+    unhashed = re.findall(r"live: (\S+) has no hash in its facts: it was removed: --keep 2\n", told)
+    judge("each is said", len(unhashed) >= 2 and status == 0 and nothing_left(work), told)
+    judge("an alarm", "begins unhashed - ring_000" in noted.read_text(), noted.read_text())
+    judge("what the end waits for is said", "live: waits for the hash of " in told, told)
+    left = [facts_of(it) for it in recordings(work, "ring")]
+    judge("what is left has its hash", len(left) == 2 and all(it["sha256"] for it in left), left)
+    names = {os.path.basename(it) for it in unhashed}
+    judge(
+        "the one before is named, without a hash if it has none",
+        all((it["before"]["sha256"] is None) == (it["before"]["recording"] in names) for it in left),
+        left,
+    )

@@ -6,7 +6,9 @@ import time
 from pathlib import Path
 
 import pytest
+from disks import memory_disk
 from frames import numbers_in, records
+from ground import Station
 from namespace import send_numbered
 from recordings import Traffic, begin, extracted, is_approved, nothing_left, parts_of, recordings, settings_of
 from support import BPFREC, LIVE, ROOT, Running, judge, judge_quietly, outcome, wait_for
@@ -99,6 +101,28 @@ def test_a_fault_leaves_the_recording_as_it_is(work: Path) -> None:
     judge("nothing is left of it", not whole_file(out).exists() and is_approved(out))
 
 
+def test_a_full_disk_is_the_reason(work: Path) -> None:
+    """Which the program's own line doesn't say."""
+    adds = played_bpfrec(work, 'chapter11) cat /dev/zero > "$4"; echo file "$4"; exit 3')
+    with memory_disk(work / "disk", "size=4m") as disk:
+        out = disk / "full.ch11"
+        status, told = recorded(work, begin(work, out, "--quiet", "--chapter11", adds=adds))
+        file = whole_file(out)
+        line = f"live: {file} isn't made: file {file}: No space left on device\n"
+        judge("it is said", line in told and status == 3, told)
+        judge("nothing is left of it", not file.exists() and is_approved(out))
+
+
+def test_its_setup_record_says_what_is_asked_for(work: Path) -> None:
+    """And that of what is published."""
+    out, station = work / "setup.ch11", Station()
+    words = ("--chapter11", "--publish", station.address, "--external", "--attribute", "G\\SC:U", "--tai", 37)
+    status, told = recorded(work, begin(work, out, "--quiet", *words))
+    judge_quietly("it ends well", status == 0, told)
+    for what, data in (("the file", whole_file(out).read_bytes()), ("datagrams", b"".join(station.close()))):
+        judge(what, b"R-1\\TSRC-1:E;" in data and b"G\\SC:U;" in data)
+
+
 def test_what_is_not_approved_has_none(work: Path) -> None:
     out = work / "no.ch11"
     adds = played_bpfrec(work, "audit) echo 'no 5 NoEnd 1'; exit 1")
@@ -161,3 +185,8 @@ def test_options_that_contradict_are_refused(work: Path) -> None:
         options = [it for it in words if it.startswith("-")]
         running = Running(work, LIVE, "--chapter11", *options, settings, out, *words[len(options) :])
         judge(f"refused: {line}", (running.ended()[0], running.told()) == (2, f"{line}\n"), running.told())
+    running = Running(work, LIVE, "--external", settings, out, "rx0=1", "rx1=2")
+    line = "live: --external is for --chapter11 and --publish"
+    judge(
+        "and where there is no setup record", (running.ended()[0], running.told()) == (2, f"{line}\n"), running.told()
+    )

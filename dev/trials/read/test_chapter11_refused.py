@@ -16,9 +16,11 @@ WANTED = {"bin/bpfrec": "make build"}
 SECOND = 10_000_000
 YEAR_4000 = 64_060_588_800 * 10**9
 LEAST = 'origin = "0"\n'
+# Also as a reader may take it: without blanks around it, in capitals, and without zeros ahead of numbers.
 RESERVED = (
+    *("g\\\\PN", "G\\\\PN ", " R-1\\\\N", "R-1\\\\N ", "r-1\\\\tk1-2", "R-01\\\\N", "R-1\\\\TK1-", "R-1\\\\TK1-0"),
+    *("R-1\\\\TK1-01", "R-001\\\\CDT-007 x", "G\\\\0106", "R-1\\\\ENBR-2-2", "R-1\\\\DSI-x"),
     *(
-        "G\\\\PN",
         "G\\\\106",
         "G\\\\OD",
         "G\\\\DSI\\\\N",
@@ -86,7 +88,7 @@ FAULTS = {
 TAKEN = (
     'origin = "-0"',
     'origin = "-999999999999.999999999"',
-    'origin = "0"\nattributes = ["A:", "A:b:c", "R-1\\\\TK1-0:x", "R-1\\\\TK1-01:x", "R-1\\\\ENBR-2-2:x", "g\\\\PN:x"]',
+    'origin = "0"\nattributes = ["A:", "A:b:c", "G\\\\PN:x", "G\\\\PN:y", "R-1\\\\TK2-1:x", "R-10\\\\N:x", "R-2\\\\TK1-2:x", "G\\\\1060:x"]',
     'origin = "0"\n[[channel]]\nid = 65535\nname = ""\nnet = 255',
     'origins = [{ counter = 281474976710655, origin = "1" }]',
 )

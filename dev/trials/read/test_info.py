@@ -183,8 +183,12 @@ def test_a_filter_without_a_text_stands_as_its_listing(work: Path) -> None:
 
 
 def test_an_empty_recording_has_a_page(work: Path) -> None:
+    """And a line that says so."""
     (work / "empty.ch11").write_bytes(b"")
-    judge("an empty recording has a page", page_of(work, work / "empty.ch11"))
+    done = outcome(INFO, "--html", work / "page.html", work / "empty.ch11")
+    wanted = f"info: {work}/empty.ch11: it is empty: there is no packet\n"
+    judge("a line says it", (done.returncode, done.stderr) == (0, wanted), done)
+    judge("an empty recording has a page", (work / "page.html").read_text(encoding="utf-8"))
 
 
 # ---- words

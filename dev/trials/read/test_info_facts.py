@@ -135,10 +135,35 @@ def test_json_has_the_facts_too(three: Path) -> None:
         "origins": [{**object_of(*it), "set_by": it[2], "scale": "UTC", "tai_offset": None} for it in THREE_ORIGINS],
         "clock": {},
         "losses": {"dropped": 1_120, "missed": 0, "skipped": 3},
+        "interruptions": [],
         "marks": [],
     }
     times = [found["channels"]["1"][it] for it in ("first_time", "last_time")]
     judge("the same in JSON", found["facts"] == wanted and times == ["2025-12-01T11:00:00.2500033Z"] * 2, found)
+
+
+def test_interruptions_are_there(work: Path, three: Path) -> None:
+    """As a text, in JSON and marked on the page; what has another form is left out."""
+    recording, facts = work / "i.ch11", facts_of_run(TAI_37[:1])
+    recording.write_bytes(three.read_bytes())
+    told: list[dict[str, object]] = [
+        {"interface": "eth0", "why": "no carrier", "from": 10_000_000, "to": 25_000_000},
+        {"interface": "eth1", "why": "gone", "from": 30_000_000, "to": None},
+    ]
+    wrong: list[object] = [None, -1, 2**48, [], "", "x" * 256]
+    odd = [{**told[0], key: value} for key in told[0] for value in wrong if key != "to"]
+    facts["interruptions"] = [*odd, *told, {**told[0], "to": "5"}, 7]
+    Path(f"{recording}.json").write_text(json.dumps(facts))
+    rows = [
+        "eth0 no carrier from 2025-12-01T12:00:01.2500000Z to 2025-12-01T12:00:02.7500000Z",
+        "eth1 gone from 2025-12-01T12:00:03.2500000Z to the end",
+    ]
+    lines = run(INFO, recording).splitlines()
+    judge("as a text", [it[27:] for it in lines if it.startswith("interruption ")] == rows, lines)
+    judge("in JSON", json_of(recording)["facts"]["interruptions"] == told, json_of(recording)["facts"])
+    page = work / "i.html"
+    run(INFO, "--html", page, recording)
+    judge("on the page", all(it in page.read_text() for it in rows))
 
 
 def test_the_clock_at_the_beginning_and_the_end_is_there(work: Path, three: Path) -> None:

@@ -119,3 +119,9 @@ def test_wrong_facts_leave_the_status_of_the_recording(work: Path, sample: Path)
     done = outcome(INFO, damaged)
     told = f"info: {work}/cut.ch11.json: no facts of a recording: facts isn't 1\n"
     judge("the status stays that of the recording", (done.returncode, done.stderr) == (1, told), done)
+
+
+def test_an_empty_file_is_said_to_be_empty(work: Path) -> None:
+    (work / "empty.ch11").write_bytes(b"")
+    done = outcome(INFO, "empty.ch11", cwd=work)
+    judge("a line says so", "info: empty.ch11: it is empty: there is no packet" in done.stderr.splitlines(), done)

@@ -204,7 +204,7 @@ def test_what_is_no_capture_is_refused_and_the_feed_stays(work: Path) -> None:
     """What is no capture, or is cut short, is refused, and the feed stays."""
     capture, feed = work / "odd.pcap", work / "odd.feed"
     feed.write_bytes(b"kept")
-    link = f"{capture}: link type 113 of interface 0, where Ethernet is 1"
+    link = f"{capture}: link type 113 (LINUX_SLL) of interface 0, where Ethernet is 1"
     for data, told in [
         (capture_head(MICROSECONDS, link=113), link),
         (b"no capture", f"{capture}: no pcap or pcapng file"),

@@ -83,7 +83,7 @@ def test_counters_are_the_units_of_each_resolution_rounded_down(work: Path, name
             wanted.append(nanoseconds // 100 % 2**48)
     status, feed, told = made_by("convert", work, b"".join(frames), "--origin", "zero")
     found = [it.counter for it in records(feed)]
-    judge(name, status == 0 and found == wanted, (told, found, wanted))
+    judge(name, (status == 1) == ("some are before 1970" in told) and found == wanted, (told, found, wanted))
 
 
 # ---- lengths

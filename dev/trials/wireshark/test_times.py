@@ -19,11 +19,16 @@ from expected_facts import (
     origins_in,
     value_of,
 )
+from frames import FRAMES
 from pcapng import frames_in
 from reading import SEED, recording_of_three
 from recorder import RECORDINGS
 from rows import expected_rows, printed, saved
-from support import BPFREC, CONVERT, judge, judge_quietly, run
+from support import BPFREC, CONVERT, PCAPNG, judge, judge_quietly, run
+from whole_file import Origin
+from whole_file import frames_in as frames_of_data
+from whole_file import whole_file
+from whole_file_parts import ORIGIN, SAMPLE_SETUP, parts_of, sample_recording
 
 WANTED = {"bin/bpfrec": "make build", "tshark": "tshark"}
 DRAWN = 40
@@ -94,3 +99,28 @@ def test_drawn_facts_are_taken_or_refused_as_formats_says(work: Path) -> None:
         counts[is_known] += 1
         judge_quietly(f"draw {turn}: {data!r}", times_in(work, recording) == moments_by(origins, [32]))
     judge(f"{counts[1]} facts, and {counts[0]} that are none", min(counts) > 5)
+
+
+@pytest.mark.parametrize(
+    "more", [[], [Origin(25_000_000, ORIGIN + 7 * 10**9 + 3)]], ids=["one_origin", "a_clock_that_was_set"]
+)
+def test_times_of_a_whole_file_are_those_of_its_time_packets(work: Path, more: list) -> None:
+    """Where it has no facts; the setup record has its time too. pcapng has the same."""
+    setup = SAMPLE_SETUP._replace(origins=(Origin(0, ORIGIN), *more))
+    path = work / "whole.ch10"
+    path.write_bytes(bytes(whole_file(sample_recording(), setup).data))
+    counters = [
+        it[0] for part in parts_of(path.read_bytes()) if part.kind == FRAMES for it in frames_of_data(part.data)
+    ]
+    # Time packets say it to a tick.
+    origins = [Origin(it.counter, it.nanoseconds // 100 * 100) for it in setup.origins]
+    wanted = [next(it for it in reversed(origins) if it.counter <= at).nanoseconds + at * 100 for at in counters]
+    judge("in the plugin", times_in(work, path) == wanted, (times_in(work, path)[:3], wanted[:3]))
+    judge("also read twice", times_in(work, path, "-2") == wanted)
+    rows = printed(work, "-r", path, "-T", "fields", "-e", "frame.time_epoch")
+    judge("no row is of 1970", all(it.startswith("17") for it in rows), rows[:3])
+    run(PCAPNG, work / "whole.pcapng", path)
+    found = run("tshark", "-r", work / "whole.pcapng", "-T", "fields", "-e", "frame.time_epoch").split()
+    judge(
+        "in pcapng", sorted(found) == sorted(f"{it // 10**9}.{it % 10**9:09}" for it in wanted), (found[:3], wanted[:3])
+    )

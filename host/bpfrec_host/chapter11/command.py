@@ -9,13 +9,13 @@ import tempfile
 from typing import IO, NoReturn, Optional
 
 from bpfrec_host import printing, program
-from bpfrec_host.arguments import Parser, full_name, natural, short_name
+from bpfrec_host.arguments import Parser, full_name, short_name
 from bpfrec_host.chapter11.joining import Joined
 from bpfrec_host.chapter11.networks import networks_of
+from bpfrec_host.chapter11.options import add_setup_options
 from bpfrec_host.chapter11.setup import Asked, setup_text, told_by
 from bpfrec_host.chapter11.several import Recorded, channels_of
 from bpfrec_host.formats import facts
-from bpfrec_host.formats.limits import MAX_TAI_OFFSET
 from bpfrec_host.streams import STREAM, Refused, Taken, Unreadable, input_at, refuse_overwriting
 
 ABOUT = """\
@@ -46,7 +46,6 @@ Status: 0 made, 1 the recording or the facts are refused, 2 the arguments or SET
 written, or OUT is taken, 4 out of memory.
 """
 SECONDS = re.compile(r"-?[0-9]{1,12}(?:\.[0-9]{1,9})?")
-ATTRIBUTE = re.compile(r"[ -9<-~][ -9<-~]*:[ -:<-~]*")
 
 
 class Unusable(Refused):
@@ -68,22 +67,7 @@ def parser() -> Parser:
         type=origin_of,
         help="where there are no facts, the moment of counter 0 in UTC, in seconds since 1970 as 1764590400.25",
     )
-    scales = made.add_mutually_exclusive_group()
-    scales.add_argument(
-        "--utc", dest="ahead", action="store_const", const=0, help="a clock whose scale is unknown ran UTC"
-    )
-    scales.add_argument(
-        "--tai", dest="ahead", metavar="SECONDS", type=ahead_of, help="it ran TAI, ahead of UTC by these seconds, as 37"
-    )
-    made.add_argument("--external", action="store_true", help="an outside source held the clock, as the file then says")
-    made.add_argument(
-        "--attribute",
-        metavar="NAME:VALUE",
-        type=attribute_of,
-        action="append",
-        default=[],
-        help="a further line of the setup record; several times",
-    )
+    add_setup_options(made)
     made.add_argument("--force", action="store_true", help="overwrites an OUT that exists")
     made.add_argument("--print-setup", action="store_true", help="prints SETUP, and makes no file: there is no OUT")
     made.add_argument("paths", metavar="RECORDING.. OUT", nargs="*")
@@ -94,21 +78,6 @@ def origin_of(word: str) -> str:
     """The seconds that a word is."""
     if not SECONDS.fullmatch(word):
         raise argparse.ArgumentTypeError(f"{word} is no time in seconds since 1970, as 1764590400.25")
-    return word
-
-
-def ahead_of(word: str) -> int:
-    """The seconds by which TAI is ahead."""
-    number = natural(word)
-    if number > MAX_TAI_OFFSET:
-        raise argparse.ArgumentTypeError(f"{word} is no number of seconds up to {MAX_TAI_OFFSET}")
-    return number
-
-
-def attribute_of(word: str) -> str:
-    """The attribute that a word is."""
-    if not ATTRIBUTE.fullmatch(word):
-        raise argparse.ArgumentTypeError(f"{word!r} is no NAME:VALUE in printable ASCII without a semicolon")
     return word
 
 
@@ -130,11 +99,14 @@ def facts_path(given: argparse.Namespace) -> Optional[str]:
 def facts_at(path: str) -> facts.Facts:
     """The facts in a file."""
     try:
-        return facts.read(0 if path == STREAM else path)
+        known = facts.read(0 if path == STREAM else path)
     except OSError as error:
         raise Unreadable(f"{path}: {error.strerror}") from None
     except facts.NoFacts as fault:
         raise Refused(f"{path}: no facts of a recording: {fault}") from None
+    if known.is_scale_unsaid:
+        printing.err(f"{short_name('chapter11')}: {path}: {facts.SCALE_UNSAID}")
+    return known
 
 
 def judge_outputs(out: Optional[str], inputs: list[str]) -> None:
@@ -163,8 +135,13 @@ def setup_of(given: argparse.Namespace) -> str:
     path = facts_path(given)
     judge_outputs(given.out, [recording, *([path] if path else [])])
     known = facts_at(path) if path else None
+    networks = networks_of(recording)
+    told = told_by(known) if known else None
+    if told and given.out is not None:
+        # The program takes long for thousands that the recording lacks.
+        told = told._replace(interfaces={it: name for it, name in told.interfaces.items() if it in networks})
     try:
-        return setup_text(asked_of(given), told_by(known) if known else None, networks_of(recording))
+        return setup_text(asked_of(given), told, networks)
     except Refused as refused:
         raise Refused(f"{path}: {refused}") from None
 

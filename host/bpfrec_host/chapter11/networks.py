@@ -13,12 +13,17 @@ NET_AT = BODY_WORD_LEN + 8 + 2
 
 
 def networks_of(path: str) -> dict[int, int]:
-    """The network identifier of each channel that has frames, by the first of them. Behind a damaged place none is
-    looked for, since bpfrec refuses such a recording."""
+    """The network identifier of each channel that packets name, by its first frame; 0 where it has none. Behind a damaged
+    place none is looked for, since bpfrec refuses such a recording."""
     found: dict[int, int] = {}
+    named: set[int] = set()
 
     def take(front: Front) -> None:
         data = front.data()
+        if front.header.kind == ETHERNET_DATA:
+            named.add(front.header.channel)
+        elif record := follower.record(front):
+            named.add(record.channel)
         has_frame = front.header.kind == ETHERNET_DATA and len(data) >= BODY_WORD_LEN + FRAME_HEADER_LEN
         if has_frame and front.header.is_plain():
             found.setdefault(front.header.channel, data[NET_AT])
@@ -30,4 +35,4 @@ def networks_of(path: str) -> dict[int, int]:
         follower, at = Follower(file.fileno(), take), -1
         while at < follower.at and not any(follower.read_on(known.st_size)):
             at = follower.at
-    return found
+    return {**dict.fromkeys(named, 0), **found}

@@ -11,6 +11,7 @@ from bpfrec_host.formats.limits import NANOSECONDS_A_SECOND
 from bpfrec_host.formats.settings_text import text_of
 from bpfrec_host.streams import Refused
 
+MAX_ORIGINS = 65_536
 # What no text in UTF-8 has.
 SURROGATE, REPLACEMENT = re.compile("[\ud800-\udfff]"), "\ufffd"
 
@@ -63,7 +64,10 @@ def origins_of(known: Told, ahead: Optional[int]) -> list[dict[str, Any]]:
 def moments_of(known: Union[Told, Facts], ahead: Optional[int]) -> list[tuple[int, int]]:
     """The counters from which on origins hold, and their moments in UTC. The first holds from counter 0 on."""
     first, *others = known.origins
-    return [(it.counter, utc_moment(it, ahead)) for it in facts.holding([first._replace(counter=0), *others])]
+    found = facts.holding([first._replace(counter=0), *others])
+    if len(found) > MAX_ORIGINS:
+        raise Refused(f"{len(found)} origins, and SETUP takes {MAX_ORIGINS} at most")
+    return [(it.counter, utc_moment(it, ahead)) for it in found]
 
 
 def utc_moment(origin: Origin, ahead: Optional[int]) -> int:

@@ -27,7 +27,7 @@ It prints what is answered, on standard error where a line is refused.
 Status: 0 all was done, 1 a line was refused, 2 the arguments are wrong, 3 nobody listens at PATH, or the recording ended
 ahead of an answer, 130 interrupted.
 """
-DONE, REFUSED, NOBODY = 0, 1, 3
+DONE, REFUSED, USAGE, NOBODY = 0, 1, 2, 3
 MAX_SECONDS = 86_400
 
 
@@ -97,6 +97,9 @@ def run(arguments: list[str]) -> int:
     """Asks: the status."""
     given = parser().parse_args(arguments)
     words = " ".join(given.words)
+    if "\n" in words:
+        printing.err(f"{short_name('control')}: LINE has a line feed, and so it is more than one")
+        return USAGE
     typed = (line.rstrip("\n") for line in sys.stdin)
     try:
         return ask_all(given.path, [words] if words else (it for it in typed if it), given.wait)

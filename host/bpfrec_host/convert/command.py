@@ -30,7 +30,7 @@ FROM_PCAP = f"""Makes a feed from a capture of Ethernet: a classic pcap file (bo
     flag bit 0. From a pipe each frame is written before the next one is waited for. Prints `frames <n> skipped <m>`,
     on standard error if the feed is standard output: m frames were cut short by the capture, or have fewer bytes than a
     frame or more than {MAX_FRAME_LEN - CHECK_SEQUENCE_LEN:,}. A file that is damaged or ends in the middle is refused,
-    and then OUT.feed has the frames before."""
+    and then OUT.feed has the frames before. The status is 1 too if no frame is taken, or frames are before the origin."""
 TO_PCAP = """Makes a classic pcap file (nanoseconds, little-endian) from a feed, such as `bpfrec extract` writes. It has
     no place for error flags. Prints `frames <n>`, on standard error if the capture is standard output. A frame whose time
     is before 1970, or past 2106-02-07, is refused. The status is 3 if the FILE of --facts can't be read, and 1 if it
@@ -67,8 +67,8 @@ def add_from_pcap(commands: "Commands[Parser]") -> None:
         metavar="WHEN",
         type=origin_of,
         default="first",
-        help="the moment of counter 0: first (the first frame, the default), zero (1970-01-01), now, or a time, "
-        "as 1764590400.25 or 2025-12-01T12:00:00.25Z; with the same origin the counters of several captures agree",
+        help="the moment of counter 0: first (of a file the earliest frame, of a pipe the first; the default), "
+        "zero (1970-01-01), now, or a time, as 1764590400.25 or 2025-12-01T12:00:00.25Z; with the same origin the counters of several captures agree",
     )
     made.add_argument(
         "--interface", metavar="N", type=natural, help="only the frames of each section's interface N, from 0 on"
@@ -153,8 +153,7 @@ def run(arguments: list[str]) -> int:
     """Runs a command: the status."""
     given = parser().parse_args(arguments)
     try:
-        given.run(given)
+        return int(given.run(given) or 0)
     except Refused as refused:
         printing.err(f"convert: {refused}")
         return refused.status
-    return 0

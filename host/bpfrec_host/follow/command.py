@@ -32,6 +32,7 @@ Frames of a channel stand in their order; those of channels stand as the packets
 MORE = """\
 At the end it prints `frames <n> skipped <m>` on standard error: m frames have another content, or fewer than 18 bytes,
 and no capture can have them.
+The facts of a recording that has just begun are waited for, up to 10 s.
 A packet is written when it is full or when live closes it by --flush, so frames come that late. The recording is only
 read: a reader that is slow or leaves changes nothing of it.
 
@@ -72,6 +73,7 @@ def follow(path: str, begins_now: bool, view: View) -> bool:
         try:
             if begins_now:
                 recording.hide()
+            recording.wait_for_facts()
             next_path, begins_now = follow_one(recording), False
         finally:
             recording.close()

@@ -14,6 +14,8 @@ from bpfrec_host.streams import part_of
 Report = Callable[[str], None]
 # How often one looks for more, in seconds, and for how long a next recording is waited for once the last has ended.
 PAUSE, PATIENCE = 0.02, 2.0
+# For how long the facts of a recording that has just begun are waited for, in seconds.
+FACTS_PATIENCE = 10.0
 
 
 class Growing:
@@ -71,6 +73,17 @@ class Growing:
         file = (found.st_ino, found.st_mtime_ns)
         if file != self.facts_file:
             self.facts_file, self.known = file, known_of(self.path) or self.known
+
+    def wait_for_facts(self, is_given_up: Callable[[], bool] = lambda: False) -> None:
+        """Waits until facts say when it was recorded and what its channels are, while somebody writes it."""
+        ends = time.monotonic() + FACTS_PATIENCE
+        self.look_at_facts()
+        while not self.known and not self.has_ended() and time.monotonic() < ends:
+            is_last = is_given_up()
+            time.sleep(PAUSE)
+            self.look_at_facts()
+            if is_last:
+                break
 
     def name(self, channel: int) -> str:
         """The name of a channel's interface."""

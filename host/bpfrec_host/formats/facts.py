@@ -36,6 +36,7 @@ LOST = ("dropped", "missed", "skipped")
 UTC, TAI = "UTC", "TAI"
 # What is said of times that may not be UTC.
 SCALE_UNKNOWN = "the scale of its times is unknown, and they are taken as they are"
+SCALE_UNSAID = "nothing says which time the adapter's clock ran, and it counts as UTC"
 
 
 class NoFacts(Exception):
@@ -63,8 +64,17 @@ class Expression(NamedTuple):
     text: str
 
 
+class Interruption(NamedTuple):
+    """An interface that brought no frames, why, and from which counter on up to which; None where it did so to the end."""
+
+    interface: str
+    why: str
+    begin: int
+    end: Optional[int]
+
+
 class Facts:
-    """What the facts say of times, losses and marks."""
+    """What the facts say of times, losses, interruptions and marks."""
 
     def __init__(self, told: Any) -> None:
         if not isinstance(told, dict) or not is_number(told.get("facts"), 1, 1):
@@ -79,7 +89,11 @@ class Facts:
         settings: Any = told.get("settings")
         self.settings = settings if isinstance(settings, str) else ""
         self.origins = origins_in(told.get("origins"))
+        # Facts of before scales were noted don't say which time an adapter's clock ran.
+        lack = any("scale" not in it for it in told["origins"])
+        self.is_scale_unsaid = told.get("clock") == "adapter" and lack
         self.losses = losses_in(told.get("losses"))
+        self.interruptions = interruptions_in(told.get("interruptions"))
         self.interfaces = interfaces_in(told.get("interfaces"))
         self.marks = marks_in(told.get("marks"))
         self.expressions = expressions_in(told.get("filters"))
@@ -237,6 +251,18 @@ def losses_in(told: Any) -> dict[str, int]:
         for name in LOST:
             sums[name] += count_in(loss, name, f"loss {at} of {len(told)}")
     return sums
+
+
+def interruptions_in(told: Any) -> list[Interruption]:
+    """When interfaces brought no frames. Nothing stands on them, so what has another form is left out."""
+    found: list[Interruption] = []
+    for entry in told if isinstance(told, list) else []:
+        known: dict[str, Any] = entry if isinstance(entry, dict) else {}
+        name, why, begin, end = (known.get(it) for it in ("interface", "why", "from", "to"))
+        are_counters = is_number(begin, 0, MAX_COUNTER) and (end is None or is_number(end, 0, MAX_COUNTER))
+        if are_counters and text_in(name) and text_in(why):
+            found.append(Interruption(str(name), str(why), int(begin or 0), end))
+    return found
 
 
 def count_in(loss: Any, name: str, place: str) -> int:

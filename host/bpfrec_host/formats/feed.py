@@ -78,8 +78,8 @@ def read_records(feed: Input) -> Iterator[Record]:
         raise feed.cut_short()
 
 
-def end_of(feed: BinaryIO) -> FeedEnd:
-    """Reads a feed up to its end or its first fault."""
+def end_of(feed: BinaryIO, has_time_marks: bool = False) -> FeedEnd:
+    """Reads a feed up to its end or its first fault; time marks are none where it may have some."""
     frames = at = 0
     while True:
         head = feed.read(RECORD_HEAD_LEN)
@@ -88,6 +88,9 @@ def end_of(feed: BinaryIO) -> FeedEnd:
         if len(head) < RECORD_HEAD_LEN:
             return FeedEnd(frames, at, "Truncated")
         _, _, marks, length = RECORD_HEAD.unpack(head)
+        if has_time_marks and marks == length == 0:
+            at += RECORD_HEAD_LEN
+            continue
         fault = head_fault(marks, length)
         if fault is None and len(feed.read(length)) < length:
             fault = "Truncated"

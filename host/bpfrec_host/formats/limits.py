@@ -121,6 +121,7 @@ CHANNEL_KEYS = {
     "net": Range(0, MAX_BYTE, DEFAULT_NET),
     "speed": Range(0, MAX_SPEED, DEFAULT_SPEED),
     "max": Range(0, MAX_NUMBER, DEFAULT_MAX),
+    "span": Range(0, MAX_COUNTER, 0),
 }
 
 # ---- the facts beside a recording

@@ -9,6 +9,21 @@ from bpfrec_host.formats.limits import CHECK_SEQUENCE_LEN, NANOSECONDS_A_SECOND
 from bpfrec_host.streams import Input, Refused
 
 LINK_TYPE_ETHERNET = 1
+# What is captured beside Ethernet, mostly.
+LINK_TYPES = {
+    0: "NULL",
+    9: "PPP",
+    101: "RAW",
+    105: "IEEE802_11",
+    113: "LINUX_SLL",
+    127: "IEEE802_11_RADIOTAP",
+    220: "USB_LINUX_MMAPPED",
+    227: "CAN_SOCKETCAN",
+    228: "IPV4",
+    229: "IPV6",
+    249: "USBPCAP",
+    276: "LINUX_SLL2",
+}
 MAX_CAPTURED_LEN = 262_144
 # The link type may say that frames end with their check sequences: this bit, and in the highest four bits how many
 # words of 16 bits they have.
@@ -77,7 +92,8 @@ def records(capture: Input, unpack: Unpack, nanoseconds_a_unit: int, has_check_s
 def judge_link_type(capture: Input, link_type: int, number: int) -> None:
     """Refuses an interface that isn't Ethernet."""
     if link_type != LINK_TYPE_ETHERNET:
-        raise Refused(f"{capture.name}: link type {link_type} of interface {number}, where Ethernet is 1")
+        told = f"{link_type} ({LINK_TYPES.get(link_type, 'unknown')})"
+        raise Refused(f"{capture.name}: link type {told} of interface {number}, where Ethernet is 1")
 
 
 def judge_check_sequence_len(capture: Input, length: int) -> None:

@@ -41,6 +41,7 @@ def beside_object(beside: FactsFile) -> dict[str, Any]:
         "origins": [origin_object(it) for it in origins[:MOST_PLACES]],
         "clock": {moment: state._asdict() for moment, state in beside.clocks().items()},
         "losses": beside.known.losses,
+        "interruptions": [dict(zip(("interface", "why", "from", "to"), it)) for it in beside.known.interruptions],
         "marks": [mark_object(it, beside) for it in beside.known.marks],
     }
 

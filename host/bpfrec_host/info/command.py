@@ -102,6 +102,8 @@ def run(arguments: list[str]) -> int:
     if is_other(recording):
         printing.err(f"{short_name('info')}: {given.recording}: no recording{guess_at(given.recording)}")
         return 1
+    if not recording.kinds and not recording.damages:
+        printing.err(f"{short_name('info')}: {given.recording}: it is empty: there is no packet")
     beside = facts_beside(given.recording)
     if given.json:
         parts = json.JSONEncoder(indent=2).iterencode(object_of(recording, audit.answer, beside))

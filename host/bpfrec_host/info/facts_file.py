@@ -36,11 +36,14 @@ def facts_beside(recording: str) -> Optional[FactsFile]:
     try:
         if not stat.S_ISREG(os.stat(path).st_mode):
             raise facts.NoFacts("it is no regular file")
-        return FactsFile(path, facts.read(path))
+        found = FactsFile(path, facts.read(path))
     except (OSError, facts.NoFacts) as error:
         why = error.strerror if isinstance(error, OSError) else error
         printing.err(f"{short_name('info')}: {path}: no facts of a recording: {why}")
         return None
+    if found.known.is_scale_unsaid:
+        printing.err(f"{short_name('info')}: {path}: {facts.SCALE_UNSAID}")
+    return found
 
 
 def interface_of(channel: int, beside: Optional[FactsFile]) -> str:

@@ -94,6 +94,7 @@ def bad_rows(recording: Recording, audit: program.Audit, beside: Optional[FactsF
         *["damaged places"] * bool(recording.damages),
         *["missing sequence numbers"] * bool(recording.missing),
         *["audit"] * (not audit.is_yes()),
+        *["interruption"] * bool(beside and beside.known.interruptions),
         *["frames lost"] * bool(beside and any(beside.known.losses.values())),
     ]
 

@@ -47,6 +47,14 @@ def mark_text(mark: Mark, beside: FactsFile) -> str:
     return f"{time_of(mark.counter, beside) or 'time unknown'} counter {number(mark.counter)}: {facts.on_a_line(mark.text)}"
 
 
+def interruption_text(found: facts.Interruption, beside: FactsFile) -> str:
+    """Which interface brought no frames, why, and when."""
+    begin, end = (
+        None if it is None else time_of(it, beside) or f"counter {number(it)}" for it in (found.begin, found.end)
+    )
+    return facts.on_a_line(f"{found.interface} {found.why} from {begin} to {end or 'the end'}")
+
+
 def rows_of(channel: Channel, beside: Optional[FactsFile]) -> list[Row]:
     """What is known of a channel."""
     mean, most, width = channel.mean_rate(), channel.rates.greatest(), channel.rates.seconds()
@@ -95,6 +103,8 @@ def beside_rows(beside: FactsFile) -> Iterator[Row]:
         yield "mark", mark_text(mark, beside)
     if len(beside.known.marks) > MOST_PLACES:
         yield "mark", f"and {number(len(beside.known.marks) - MOST_PLACES)} more"
+    for found in beside.known.interruptions[:MOST_PLACES]:
+        yield "interruption", interruption_text(found, beside)
     yield "frames lost", ", ".join(lost) or "none"
 
 

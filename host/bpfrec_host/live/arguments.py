@@ -8,6 +8,7 @@ import shlex
 from typing import Callable, NamedTuple, NoReturn, Optional
 
 from bpfrec_host.arguments import Parser, full_name
+from bpfrec_host.chapter11.options import add_setup_options, setup_arguments
 from bpfrec_host.live import journal
 from bpfrec_host.live.capture_options import add_capture_options
 from bpfrec_host.live.help import ABOUT, MORE
@@ -63,8 +64,9 @@ class Arguments(NamedTuple):
     on_alarm: Optional[list[str]]
     # The Unix socket by which lines come too.
     control: Optional[str]
-    # Whether a whole Chapter 11 file is made of each recording.
+    # Whether a whole Chapter 11 file is made of each recording, and what its setup record says beside the facts.
     makes_whole_files: bool
+    setup: list[str]
     # The key that signs facts.
     sign: Optional[str]
     # Where the run is published.
@@ -112,7 +114,9 @@ def number(least: int, most: int, said: str, units: Optional[dict[str, int]] = N
         parts = re.findall(rf"({digits})([a-zA-Z]?)", word)
         # Of several parts each has its unit, as 1h30m.
         is_number = re.fullmatch(rf"{digits}[a-zA-Z]?|(?:{digits}[a-zA-Z])+", word)
-        is_whole = is_number and all(unit in factors for _, unit in parts)
+        sizes = [factors.get(unit, 0) for _, unit in parts]
+        # Each unit is smaller than the one before.
+        is_whole = is_number and all(sizes) and sizes == sorted(set(sizes), reverse=True)
         value = sum(int(count) * factors[unit] for count, unit in parts) if is_whole else -1
         if not least <= value <= most:
             raise argparse.ArgumentTypeError(f"needs a number {said}")
@@ -186,6 +190,7 @@ def add_options_of_the_end(made: Parser) -> None:
     """What is done with each recording that has ended."""
     whole = "makes OUT.ch10, a whole Chapter 11 file, after each recording"
     made.add_argument("--chapter11", action="store_true", help=whole)
+    add_setup_options(made)
     key = "signs the facts of each recording by ssh-keygen, with a key without a passphrase or of an agent"
     made.add_argument("--sign", metavar="KEY", help=key)
     made.add_argument("--no-audit", action="store_true", help="leaves the audit out")
@@ -209,7 +214,11 @@ def add_outside_options(made: Parser) -> None:
 def read(arguments: list[str]) -> Arguments:
     """The arguments of a command line; one that is wrong ends live, or is a Refusal."""
     end = arguments.index("--") if "--" in arguments else len(arguments)
-    given = parser().parse_intermixed_args(arguments[:end])
+    made = parser()
+    given = made.parse_intermixed_args(arguments[:end])
+    setup = setup_arguments(given)
+    if setup and not given.chapter11 and not given.publish:
+        made.error(f"{setup[0].partition('=')[0]} is for --chapter11 and --publish")
     named = operands_of([*given.operands, *arguments[end + 1 :]])
     return Arguments(
         settings=named.settings,
@@ -234,6 +243,7 @@ def read(arguments: list[str]) -> Arguments:
         on_alarm=given.on_alarm,
         control=given.control,
         makes_whole_files=given.chapter11,
+        setup=setup,
         sign=given.sign,
-        targets=given.publish,
+        targets=[it._replace(setup=tuple(setup)) for it in given.publish],
     )

@@ -1,5 +1,5 @@
-"""What the capture says of a run, a line of JSON each: origins, losses and counts in a file, and on a pipe the counts of
-each second."""
+"""What the capture says of a run, a line of JSON each: origins, losses, counts and interruptions in a file, and on a pipe
+the counts of each second."""
 
 from __future__ import annotations
 
@@ -8,6 +8,7 @@ import os
 from pathlib import Path
 from typing import Any, Callable, Iterator, NamedTuple, Optional, Union
 
+from bpfrec_host.live.interruptions import Interruptions, Link
 from bpfrec_host.live.ports import Counts
 
 READ_LEN = 1 << 20
@@ -78,7 +79,7 @@ class LostInAll(NamedTuple):
         return f"{self.interface} LOST {self.dropped} dropped {self.skipped} skipped{missed}"
 
 
-Event = Union[Origin, Loss, Counted, LostInAll]
+Event = Union[Origin, Loss, Counted, LostInAll, Link]
 
 
 def origin_of(told: Entry) -> Origin:
@@ -103,12 +104,18 @@ def lost_in_all_of(told: Entry) -> LostInAll:
     return LostInAll(told["lost_in_all"], told["dropped"], told["skipped"], told["missed"])
 
 
+def link_of(told: Entry) -> Link:
+    """What an object says of an interface."""
+    return Link(told["link"], told["counter"], told["away"], told["feed"])
+
+
 # What an object becomes, by the key that it has alone.
 KINDS: dict[str, Callable[[Entry], Event]] = {
     "origin": origin_of,
     "lost": loss_of,
     "counts": counted_of,
     "lost_in_all": lost_in_all_of,
+    "link": link_of,
 }
 
 
@@ -133,6 +140,8 @@ class Events:
         self.losses: dict[int, list[Loss]] = {}
         self.counts: dict[int, dict[str, Counted]] = {}
         self.lost_in_all: list[LostInAll] = []
+        # What was noted of interfaces, and what of it nobody has taken yet.
+        self.interruptions, self.links = Interruptions(), list[Link]()
 
     def read(self) -> int:
         """Reads what is new: how many events."""
@@ -162,8 +171,16 @@ class Events:
             self.losses.setdefault(event.feed, []).append(event)
         elif isinstance(event, Counted):
             self.counts.setdefault(event.feed, {})[event.interface] = event
+        elif isinstance(event, Link):
+            self.interruptions.take(event)
+            self.links.append(event)
         else:
             self.lost_in_all.append(event)
+
+    def take_links(self) -> list[Link]:
+        """What was noted of interfaces since this was asked."""
+        taken, self.links = self.links, []
+        return taken
 
     def facts(self, feed: int) -> Entry:
         """What the facts of the recording with this feed have of it."""
@@ -171,9 +188,11 @@ class Events:
             "origins": [it.facts() for it in self.origins],
             "counts": [it.facts() for it in self.counts.get(feed, {}).values()],
             "losses": [it.facts() for it in self.losses.get(feed, [])],
+            "interruptions": self.interruptions.facts(feed),
         }
 
     def forget(self, feed: int) -> None:
         """Forgets what was noted of a feed that has ended."""
         self.losses.pop(feed, None)
         self.counts.pop(feed, None)
+        self.interruptions.forget(feed)

@@ -38,7 +38,10 @@ def name_of(text: Optional[str]) -> str:
 
 
 def is_in_words(text: str) -> bool:
-    """Whether a filter is a text for the assembler or an expression: not a listing, and no file that isn't there."""
+    """Whether a filter is a text for the assembler or an expression: not a listing, and no file that isn't there. With a
+    zero byte it is neither."""
+    if "\0" in text:
+        return False
     data = listing_in(text, LOOKED_AT)
     if data is None:
         return not os.path.lexists(text) and not FILE_NAME.fullmatch(text)

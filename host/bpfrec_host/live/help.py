@@ -35,8 +35,8 @@ changed. Each channel needs an interface then; one that has as many frames as it
 When a recording has ended, its name is printed, its report and its audit. --keep N keeps the last N that ended, and
 --keep-free BYTES removes the oldest until that many bytes are free: only recordings of this run whose audit says yes,
 with a line for each. If the disk is full, the next recording begins once a mebibyte is free; it begins too if the
-recorder is killed, the disk fails to write, or a channel has 768 filters. Without --every and --size a full disk or a
-killed recorder ends the run.
+recorder is killed once all interfaces are open, the disk fails to write, or a channel has 768 filters. Without --every
+and --size a full disk or a killed recorder ends the run.
 
 With --prefilter the kernel drops what a channel's filter drops, which takes far less time if most frames are dropped.
 These frames are not offered to the recorder, so its report doesn't count them, and lines that would change a filter are
@@ -72,7 +72,8 @@ it, or by a NAME of --status-name. The port serves the data too: /status.json as
 
 With --chapter11 it makes OUT.ch10 after each recording whose audit says yes: a whole Chapter 11 file with TMATS, time
 packets and an index, by the standard as we know it, as `chapter11` makes it of the facts. A line says what it has, or
-why it couldn't be made, which leaves the recording as it is. --keep and --keep-free remove it with its recording.
+why it couldn't be made, which leaves the recording as it is. --utc, --tai, --external and --attribute are those of
+`chapter11`, for --publish too. --keep and --keep-free remove it with its recording.
 
 When a recording has ended its facts get its SHA-256, and that of the recording before. With --sign KEY they are signed
 then by ssh-keygen, as OUT.json.sig: KEY is a private key without a passphrase, or a public key whose private half an

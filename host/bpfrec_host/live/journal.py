@@ -39,7 +39,8 @@ KINDS = [
         Priority.NOTE,
     ),
     (
-        r"capture: (origin |\S+ LOST |.*: it is down, and |.*: the interface is gone, and |it may write all "
+        r"capture: (origin |\S+ LOST |.*: it (is down|has no carrier), and |.*: the interface is gone, and "
+        r"|it may write all "
         r"|.* (aren't|isn't) limited: |.*, and it goes on as before$|.*: the recorder alone runs it$"
         r"|.*: its frames have another time scale )",
         Priority.WARNING,

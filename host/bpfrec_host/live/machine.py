@@ -143,10 +143,14 @@ class Machine(Engine):
 
     def capture_ended(self, status: int, time: float) -> None:
         """The capture has ended, as it was told to or not."""
+        ends_alone = self.may_follow()
         self.time, self.captured = time, status
         self.timers.pop(Timer.HURRY, None)
         if status > KILLED and self.state is not State.REFUSED:
             self.err(f"live: {self.capture_name} was ended by signal {status - KILLED}, and its interfaces with it")
+        elif ends_alone:
+            self.err(f"live: {self.capture_name} has ended, and its interfaces with it")
+            self.captured = status or 1
         if status in NOT_BEGUN and not self.is_ready:
             self.happens(Event.CAPTURE_REFUSED)
             return

@@ -3,10 +3,11 @@
 from __future__ import annotations
 
 import time
-from typing import Optional, Sequence
+from typing import Callable, Iterable, Optional, Sequence
 
 from bpfrec_host.formats.clock_state import ClockState
 from bpfrec_host.live.folder import Folder
+from bpfrec_host.live.interruptions import UNREAD, Link
 from bpfrec_host.live.noted import Entry
 from bpfrec_host.live.ports import Counts, Marked, Observer, Setup
 from bpfrec_host.live.recorder import Recorder
@@ -20,8 +21,8 @@ TICK = 1.0
 class Observers:
     """Tells an observer; without one nothing is done."""
 
-    def __init__(self, observer: Optional[Observer], folder: Folder) -> None:
-        self.observer, self.folder = observer, folder
+    def __init__(self, observer: Optional[Observer], folder: Folder, err: Callable[[str], None]) -> None:
+        self.observer, self.folder, self.err = observer, folder, err
         self.next_tick = time.monotonic()
         # Each channel's filter by now, as people know it.
         self.filters = folder.filter_names()
@@ -42,6 +43,14 @@ class Observers:
         """The capture has counted an interface's frames."""
         if self.observer:
             self.observer.capture_counted(interface, counts, time.monotonic())
+
+    def linked(self, links: Iterable[Link]) -> None:
+        """Interfaces bring no frames from now on, or do again; one that nobody reads is reported in a line too."""
+        for link in links:
+            if link.away == UNREAD:
+                self.err(f"live: {link.interface}: no recorder reads its frames, which wait for the next recording")
+            if self.observer:
+                self.observer.linked(link.interface, link.away, time.monotonic())
 
     def changed(self, channel: int, version: int, name: Optional[str]) -> None:
         """A line changed a filter of the recording that goes on, or without a name gave it once more."""
@@ -73,6 +82,11 @@ class Observers:
         """The facts of a recording couldn't be signed."""
         if self.observer:
             self.observer.signing_failed(path, why)
+
+    def hashing_failed(self, path: str, why: str) -> None:
+        """A recording has no hash."""
+        if self.observer:
+            self.observer.hashing_failed(path, why)
 
     def clock_seen(self, state: ClockState, most: Optional[float]) -> None:
         """How right the clock is."""

@@ -113,6 +113,9 @@ class Observer(Protocol):
     def capture_counted(self, interface: str, counts: Counts, now: float) -> None:
         """The capture has counted so much of an interface; each second."""
 
+    def linked(self, interface: str, away: Optional[str], now: float) -> None:
+        """An interface brings no frames from now on, for this reason, or by None it does again."""
+
     def filter_changed(self, channel: int, version: int, name: Optional[str]) -> None:
         """A line changed a filter of the recording that goes on, to one of this name; None says that it was given the
         program that it had, as to close a packet."""
@@ -131,6 +134,9 @@ class Observer(Protocol):
 
     def signing_failed(self, path: str, why: str) -> None:
         """The facts of a recording that has ended couldn't be signed."""
+
+    def hashing_failed(self, path: str, why: str) -> None:
+        """A recording that has ended has no hash."""
 
     def clock_seen(self, state: ClockState, most: Optional[float]) -> None:
         """How right the clock is, each second, and by how many seconds it may be off, where somebody asks for that."""

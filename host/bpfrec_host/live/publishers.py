@@ -27,9 +27,10 @@ CODE = (
 )
 PLACE = os.path.dirname(os.path.dirname(os.path.abspath(bpfrec_host.__file__)))
 COMMAND = (sys.executable, "-I", "-B", "-c", CODE, PLACE)
-# Seconds until one that died is begun again, which double up to so many times where it dies soon; for how long it has to
-# run so that it didn't; and for how many seconds it may send what is left at the end of a run.
-AGAIN_AFTER, MOST_DOUBLINGS, LONG, LAST = 1.0, 5, 60.0, 2.0
+# Seconds until one that died is begun again, when a receiver takes another sender. They double up to so many times where
+# it dies soon. For how long it has to run so that it didn't; and for how many seconds it may send what is left at the end
+# of a run.
+AGAIN_AFTER, MOST_DOUBLINGS, LONG, LAST = 2.0, 4, 60.0, 2.0
 
 
 class Publisher:
@@ -77,7 +78,7 @@ class Publisher:
     def started(self, words: list[str], lines: CaptureLines) -> children.Child:
         """The program, which prints into a pipe of ours."""
         with open(self.guard.lifeline_of_live(), "rb", buffering=0) as lifeline:
-            manner = children.Manner([self.guard.all], ends_with=lifeline.fileno(), takes_signals=True)
+            manner = children.Manner([self.guard.all], ends_with=lifeline.fileno())
             return children.start(words, (subprocess.DEVNULL, subprocess.DEVNULL, lines.writer), manner)
 
     def take_line(self, line: str) -> None:
@@ -91,8 +92,11 @@ class Publisher:
         if self.lines:
             self.lines.end()
         self.child = self.lines = None
+        how = f"ended by signal {status - KILLED}" if status > KILLED else f"ended with status {status}"
         if not self.is_ending:
-            self.die(f"ended by signal {status - KILLED}" if status > KILLED else f"ended with status {status}")
+            self.die(how)
+        elif status > KILLED:
+            self.err(f"{how}: the rest isn't sent")
 
     def die(self, why: str) -> None:
         """It died: it is begun again after a pause."""
@@ -101,6 +105,12 @@ class Publisher:
         pause = AGAIN_AFTER * 2 ** min(self.deaths - 1, MOST_DOUBLINGS)
         self.due = now + pause
         self.err(f"{why}, and begins again in {pause:.0f} s")
+
+    def end_soon(self) -> None:
+        """The run has ended: it isn't begun again."""
+        if self.due is not None:
+            self.err("isn't begun again: the rest isn't sent")
+        self.is_ending, self.due = True, None
 
     def deadline(self) -> Optional[float]:
         """When it is begun again."""
@@ -137,7 +147,7 @@ class Publishers:
         """Has all send what is left, for a time, unless nobody waits for that any more."""
         ends = time.monotonic() + LAST
         for publisher in self.all:
-            publisher.is_ending, publisher.due = True, None
+            publisher.end_soon()
         self.send(signal.SIGTERM)
         while self.running() and (left := ends - time.monotonic()) > 0 and not is_given_up():
             self.loop.turn(left)

@@ -68,6 +68,9 @@ class Recorder:
         """Whether the recorder has opened OUT."""
         if self.child is None or (self.descriptor is not None and not self.is_created):
             return False
+        if self.is_created and self.size() > 0:
+            # It has written there, and may have ended since.
+            return True
         folder = f"/proc/{self.child.pid}/fd"
         inherited = str(self.descriptor) if self.is_inherited() else ""
         try:

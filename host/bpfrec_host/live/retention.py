@@ -6,7 +6,8 @@ from __future__ import annotations
 import os
 import stat
 import threading
-from typing import Callable, NamedTuple, Optional
+from dataclasses import dataclass, field
+from typing import Callable, Optional
 
 from bpfrec_host.formats.answers import Verdict
 from bpfrec_host.live.names import facts_path, remove
@@ -16,13 +17,14 @@ from bpfrec_host.live.recorder import Recorder
 PAUSE = 1.0
 
 
-class Kept(NamedTuple):
+@dataclass
+class Kept:
     """A recording that is whole and approved: its name, which file that was, and what goes with it beside its facts."""
 
     out: str
     device: int
     number: int
-    beside: tuple[str, ...] = ()
+    beside: list[str] = field(default_factory=list)
 
     def is_there(self) -> bool:
         """Whether the name is still that file's."""
@@ -45,13 +47,21 @@ def approved(recorder: Recorder, status: int) -> Optional[Kept]:
 
 class Retention:
     """The recordings of a run that may be removed. `keep` is how many of them stay at most, and `keep_free` how many
-    bytes are to be free on their disk; `free` tells that, and `err` takes a line for each that is removed."""
+    bytes are to be free on their disk; `free` tells that, and `err` takes a line for each that is removed. `let_go`
+    takes what has to go and why, and calls what removes it once nothing is made of it any more."""
 
     def __init__(
-        self, keep: Optional[int], keep_free: Optional[int], free: Callable[[], int], err: Callable[[str], None]
+        self,
+        keep: Optional[int],
+        keep_free: Optional[int],
+        free: Callable[[], int],
+        let_go: Callable[[str, str, Callable[[], None]], None],
+        err: Callable[[str], None],
     ) -> None:
-        self.keep, self.keep_free, self.free, self.err = keep, keep_free, free, err
+        self.keep, self.keep_free, self.free, self.let_go, self.err = keep, keep_free, free, let_go, err
         self.kept: list[Kept] = []
+        # How many have to go that are still in work.
+        self.leaving = 0
         self.next_look = 0.0
         self.threads: list[threading.Thread] = []
 
@@ -75,7 +85,7 @@ class Retention:
 
     def is_removing(self) -> bool:
         """Whether the room of a recording may still come free."""
-        return any(it.is_alive() for it in self.threads)
+        return self.leaving > 0 or any(it.is_alive() for it in self.threads)
 
     def remove_oldest(self, why: str) -> None:
         """Removes the oldest recording, with its facts; one that has another name by now is left as it is."""
@@ -83,8 +93,15 @@ class Retention:
         if not oldest.is_there():
             return
         self.err(f"live: {oldest.out} was removed: {why}")
-        # A long file takes a moment, for which nobody waits.
-        thread = threading.Thread(target=removed, args=(oldest,))
+        self.leaving += 1
+        self.let_go(oldest.out, f"it was removed: {why}", lambda: self.remove(oldest))
+
+    def remove(self, kept: Kept) -> None:
+        """Removes a recording of which nothing is made any more. A long file takes a moment, for which nobody waits."""
+        self.leaving -= 1
+        if not kept.is_there():
+            return
+        thread = threading.Thread(target=removed, args=(kept,))
         thread.start()
         self.threads = [*(it for it in self.threads if it.is_alive()), thread]
 

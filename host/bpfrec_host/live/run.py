@@ -4,7 +4,6 @@ from __future__ import annotations
 
 import signal
 import time
-from functools import partial
 from typing import Callable, Optional
 
 from bpfrec_host.formats.answers import Answer, file_fault, is_output_fault
@@ -20,13 +19,14 @@ from bpfrec_host.live.control.lines import ControlLines, ControlPorts
 from bpfrec_host.live.control.maker import Maker
 from bpfrec_host.live.durability import UNFORCED, Durability
 from bpfrec_host.live.end_of_run import EndOfRun
+from bpfrec_host.live.ended import EndedRecordings
 from bpfrec_host.live.engine import LOST
 from bpfrec_host.live.events import Events
 from bpfrec_host.live.facts import Writer
 from bpfrec_host.live.flush import Flush
 from bpfrec_host.live.folder import Folder
 from bpfrec_host.live.guard import Guard, open_and_close
-from bpfrec_host.live.hashes import Hashes, ended_of
+from bpfrec_host.live.hashes import ended_of
 from bpfrec_host.live.loop import Loop, Signals
 from bpfrec_host.live.machine import Machine
 from bpfrec_host.live.marks import Marks
@@ -40,12 +40,10 @@ from bpfrec_host.live.programs import Programs, Timed
 from bpfrec_host.live.publishers import Publishers
 from bpfrec_host.live.recorder import Recorder
 from bpfrec_host.live.recordings import Recordings
-from bpfrec_host.live.retention import Kept, Retention, approved
-from bpfrec_host.live.signer import signer_of
+from bpfrec_host.live.retention import approved
 from bpfrec_host.live.status import Terminal
 from bpfrec_host.live.versions import Versions
 from bpfrec_host.live.watches import Watches
-from bpfrec_host.live.whole_files import WholeFiles
 
 
 class Run:
@@ -68,22 +66,17 @@ class Run:
         self.loop, self.watches, self.events = Loop(signals, self.end_by_signal), Watches(), Events(folder.events)
         self.console = Console(self.loop, lambda: self.machine.printing_failed(), terminal)
         self.err = self.console.err
-        self.observers = Observers(observer, folder)
+        self.observers = Observers(observer, folder, self.err)
         self.capture = Capture(programs.capture, given, folder, self.loop)
         self.marks = Marks(self.events, given.is_rotating(), self.marked, self.err)
         self.control = self.made_control(terminal)
         self.flush = Flush(given.flush, folder, self.control.push) if given.flush is not None else None
         self.notifier, self.signals_came = Notifier(), 0
-        self.retention = Retention(
-            given.keep, given.keep_free, lambda: outputs.room_beside(self.machine.current), self.err
-        )
         self.outputs = outputs.Outputs(self.watches, given.size is not None, self.begin_recording, self.err)
         self.durability = Durability(self.loop, self.writer, self.events, self.synced, self.sync_failed, self.err)
         self.recordings = Recordings(self.writer, self.outputs, self.err)
         self.audits = Audits(self.loop, programs.bpfrec, self.guard, self.audited, self.err)
-        signer = signer_of(given.sign, self.guard)
-        self.hashes = Hashes(self.loop, self.writer.files, signer, self.observers.signing_failed, self.err)
-        self.whole_files = self.made_whole_files()
+        self.ended = self.made_ended()
         self.publishers = Publishers(given.targets, self.loop, self.guard, self.err)
         self.end_of_run = EndOfRun(given.seconds, self.end)
         self.alarm_command = AlarmCommand(given.on_alarm, self.loop, self.console)
@@ -99,10 +92,10 @@ class Run:
         ports = ControlPorts(self.end, self.next, self.observers.report, self.marks.take, self.err, terminal)
         return ControlLines(self.loop, self.given, changes, self.current, ports)
 
-    def made_whole_files(self) -> WholeFiles:
-        """What makes a whole file of each recording, before it may be removed."""
-        is_wanted, files = self.given.makes_whole_files, self.writer.files
-        return WholeFiles(is_wanted, files, self.loop, self.guard, self.retention.add, self.err)
+    def made_ended(self) -> EndedRecordings:
+        """What finishes recordings that have ended."""
+        files, free = self.writer.files, lambda: outputs.room_beside(self.machine.current)
+        return EndedRecordings(self.given, files, self.loop, self.guard, self.observers, free, self.err)
 
     def made_machine(self) -> Machine:
         """What decides all."""
@@ -112,7 +105,7 @@ class Run:
 
     def made_timed(self) -> list[Timed]:
         """What has something to do at moments of its own."""
-        made: list[Timed] = [self.watches, self.outputs, self.observers, self.retention, self.notifier]
+        made: list[Timed] = [self.watches, self.outputs, self.observers, self.ended.retention, self.notifier]
         made += [self.end_of_run, self.alarm_command, self.clock, self.publishers]
         return [*made, *([self.flush] if self.flush else [])]
 
@@ -183,9 +176,7 @@ class Run:
             recorder.close()
         self.durability.join()
         came = self.signals_came
-        self.hashes.finish(self.turn_at_end, lambda: self.signals_came > max(came, 1))
-        self.whole_files.finish(self.turn_at_end, lambda: self.signals_came > max(came, 1))
-        self.retention.join()
+        self.ended.finish(self.turn_at_end, lambda: self.signals_came > max(came, 1))
 
     def finish(self) -> None:
         """Ends what still runs beside: what wasn't printed, and the guard."""
@@ -203,9 +194,11 @@ class Run:
         """Waits for what comes next where all is recorded, and tells systemd that it needs more time."""
         now = time.monotonic()
         self.notifier.stopping(now, True)
-        deadline = self.notifier.deadline()
+        moments = [self.notifier.deadline(), self.ended.progress.deadline(now)]
+        deadline = min((it for it in moments if it is not None), default=None)
         self.loop.turn(None if deadline is None else max(0.0, deadline - now))
         self.notifier.tick(time.monotonic())
+        self.ended.progress.tick(time.monotonic())
         self.console.write_on()
 
     def end_by_signal(self) -> None:
@@ -244,6 +237,7 @@ class Run:
             self.err(f"live: {self.programs.bpfrec} record can't be started: {error.strerror}")
             self.recordings.drop(recording)
             return False
+        self.ended.hashes.begin(recording.number)
         self.loop.follow(child, lambda status: self.end_recorder(recorder, status))
         self.loop.on_read(recorder.answers, lambda: self.take_answers(recorder))
         if not self.control.is_open():
@@ -339,6 +333,7 @@ class Run:
         if self.events.origins:
             self.marks.begin_clock()
             self.machine.capture_ready()
+        self.observers.linked(self.events.take_links())
         for recorder in self.recordings.all.values():
             self.durability.write(recorder)
 
@@ -360,7 +355,7 @@ class Run:
 
     def status(self, has_lost: bool) -> int:
         """The status of the run, once all is recorded, made and printed."""
-        status, made = self.machine.status(has_lost), self.hashes.status or self.whole_files.status
+        status, made = self.machine.status(has_lost), self.ended.status
         return made if made and status in (0, LOST) else status
 
     def marked(self, recorder: Recorder, mark: Entry) -> None:
@@ -387,12 +382,6 @@ class Run:
         self.marks.concluded(recorder)
         self.observers.ended(recorder, status)
         kept, ended = approved(recorder, status), ended_of(recorder)
-        finished = partial(self.keep, recording, kept)
-        self.durability.end(recorder, status, lambda facts: self.hashes.add(ended, facts, finished))
+        self.durability.end(recorder, status, lambda facts: self.ended.add(recording, kept, ended, facts))
         if recording is not self.machine.current:
             self.recordings.forget(recording)
-
-    def keep(self, recording: Recording, kept: Optional[Kept], beside: tuple[str, ...]) -> None:
-        """A recording that was approved has been forced to its disk a last time, and hashed."""
-        if kept and not recording.is_unforced:
-            self.whole_files.add(kept._replace(beside=beside))

@@ -15,6 +15,10 @@ from bpfrec_host.live.guard import Guard
 LONGEST, LONGEST_TRIAL = 30.0, 10.0
 
 
+class Overdue(Unsigned):
+    """It took too long."""
+
+
 class Signer:
     """Signs with a key. Each program that it starts ends with live, where there is a guard; a thread may call it."""
 
@@ -36,7 +40,7 @@ class Signer:
                 children.kill(child)
             signature, printed = child.process.communicate(timeout=self.longest)
         except subprocess.TimeoutExpired:
-            raise Unsigned(f"{PROGRAM} took over {self.longest:.0f} s") from None
+            raise Overdue(f"{PROGRAM} took over {self.longest:.0f} s") from None
         finally:
             # It may run still, also where Ctrl-C ended the wait.
             children.kill(child)
@@ -59,10 +63,14 @@ class Signer:
                 manner = children.Manner(ends_with=lifeline.fileno())
                 return children.start(arguments, streams, manner, environment())
 
+    def stop(self) -> None:
+        """Ends what is being signed."""
+        children.kill(self.child)
+
     def kill(self) -> None:
         """Ends what is being signed, and what is to be."""
         self.is_ended = True
-        children.kill(self.child)
+        self.stop()
 
 
 def unnamed_file(data: bytes) -> IO[bytes]:

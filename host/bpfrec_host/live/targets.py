@@ -15,10 +15,12 @@ class Target(NamedTuple):
 
     address: UdpAddress
     options: dict[str, str]
+    # What the setup record says beside the facts, as arguments.
+    setup: tuple[str, ...] = ()
 
     def arguments(self) -> list[str]:
         """These as arguments of bpfrec-publish."""
-        return [f"--{name}={value}" for name, value in self.options.items()]
+        return [*(f"--{name}={value}" for name, value in self.options.items()), *self.setup]
 
 
 def target_of(word: str) -> Target:

@@ -10,7 +10,8 @@ import subprocess
 import sys
 import tempfile
 from collections import deque
-from typing import IO, Callable, NamedTuple, Optional
+from dataclasses import dataclass, field
+from typing import IO, Callable, Optional
 
 import bpfrec_host
 from bpfrec_host.live import children
@@ -31,51 +32,63 @@ COMMAND = (sys.executable, "-I", "-B", "-c", CODE, PLACE)
 # How much of what the tool told is read.
 MOST_TOLD = 1 << 16
 GIVEN_UP = "the run was ended"
+MEBIBYTE = 1 << 20
 
 
-class Job(NamedTuple):
-    """A file that is being made: of which recording, whether there was none before, and what the tool prints into."""
+@dataclass
+class Job:
+    """A file that is being made: of which recording, whether there was none before, and what the tool prints into. One
+    whose recording has to go has the reason, and what removes that."""
 
     kept: Kept
     out: str
     is_new: bool
     told: IO[bytes]
+    has_to_go: str = ""
+    remove: Callable[[], None] = field(default=lambda: None)
 
 
 class WholeFiles:
-    """Makes them, where they are wanted. `made` takes each recording when nothing more is made of it, and `err` a line
-    for who watches."""
+    """Makes them, with these options of bpfrec-chapter11; None where none are wanted. `err` takes a line for who
+    watches."""
 
     def __init__(
         self,
-        is_wanted: bool,
+        options: Optional[list[str]],
         files: Files,
         loop: Loop,
         guard: Guard,
-        made: Callable[[Kept], None],
         err: Callable[[str], None],
     ) -> None:
-        self.is_wanted, self.files, self.loop, self.guard, self.made, self.err = (
-            is_wanted,
-            files,
-            loop,
-            guard,
-            made,
-            err,
-        )
+        self.options, self.files, self.loop, self.guard, self.err = options, files, loop, guard, err
         self.waiting: deque[Kept] = deque()
         self.child: Optional[children.Child] = None
+        self.job: Optional[Job] = None
         self.is_given_up = False
         # That of the first that couldn't be made.
         self.status = 0
 
     def add(self, kept: Kept) -> None:
         """A recording is approved, and on its disk with its facts."""
-        if not self.is_wanted:
-            self.made(kept)
+        if self.options is not None:
+            self.waiting.append(kept)
+            self.begin_next()
+
+    def let_go(self, out: str, why: str, go: Callable[[], None]) -> None:
+        """A recording has to go, with a whole file or without: it is removed once the tool doesn't read it."""
+        if self.job and self.job.kept.out == out:
+            self.job.has_to_go, self.job.remove = why, go
+            children.kill(self.child)
             return
-        self.waiting.append(kept)
-        self.begin_next()
+        if any(it.out == out for it in self.waiting):
+            self.waiting = deque(it for it in self.waiting if it.out != out)
+            self.fail(whole_path(out), why)
+        go()
+
+    def awaited(self) -> str:
+        """What isn't made yet: nothing where all is."""
+        more = f", and {len(self.waiting)} more" if self.waiting else ""
+        return f"{self.job.out}, the whole file{more}" if self.job else ""
 
     def begin_next(self) -> None:
         """Starts with the recording that has waited longest, where none is in work."""
@@ -89,10 +102,9 @@ class WholeFiles:
             is_new = not os.path.lexists(out)
             os.close(self.files.create(out))
             job = Job(kept, out, is_new, tempfile.TemporaryFile())
-            self.child = self.started(job)
+            self.child, self.job = self.started(job), job
         except OSError as error:
             self.fail(out, error.strerror or str(error), FILE_FAULT)
-            self.made(kept)
             return
         self.loop.follow(self.child, lambda status: self.end(job, status))
 
@@ -102,27 +114,34 @@ class WholeFiles:
         with open(self.guard.lifeline_of_live(), "rb", buffering=0) as lifeline:
             manner = children.Manner([self.guard.all], ends_with=lifeline.fileno())
             streams = (subprocess.DEVNULL, job.told, subprocess.STDOUT)
-            return children.start([*COMMAND, "--force", "--", *paths], streams, manner)
+            return children.start([*COMMAND, "--force", *(self.options or []), "--", *paths], streams, manner)
 
     def end(self, job: Job, status: int) -> None:
         """The tool has ended."""
-        self.child = None
+        self.child = self.job = None
         with job.told:
             job.told.seek(0)
             lines = os.fsdecode(job.told.read(MOST_TOLD)).splitlines()
         if status:
-            ended = f"it was ended by signal {status - KILLED}" if status > KILLED else f"status {status}"
-            self.fail(job.out, GIVEN_UP if self.is_given_up else lines[-1] if lines else ended, status)
+            self.fail(job.out, self.why_not_made(job, status, lines), 0 if job.has_to_go else status)
             if job.is_new:
                 remove(job.out)
-            self.made(job.kept)
         else:
             self.err(f"live: {job.out}: {lines[-1] if lines else 'made'}")
-            self.made(job.kept._replace(beside=(*job.kept.beside, job.out)))
+            job.kept.beside.append(job.out)
+        job.remove()
         self.begin_next()
 
-    def fail(self, out: str, why: str, status: int) -> None:
-        """Tells that a file couldn't be made."""
+    def why_not_made(self, job: Job, status: int, lines: list[str]) -> str:
+        """Why the tool made no file."""
+        ended = f"it was ended by signal {status - KILLED}" if status > KILLED else f"status {status}"
+        why = lines[-1] if lines else ended
+        if status == FILE_FAULT and why == f"file {os.path.abspath(job.out)}":
+            why = f"{why}: {why_unwritten(job.out)}"
+        return job.has_to_go or (GIVEN_UP if self.is_given_up else why)
+
+    def fail(self, out: str, why: str, status: int = 0) -> None:
+        """Tells that a file couldn't be made, which is no fault where its recording had to go."""
         self.status = self.status or status
         self.err(f"live: {out} isn't made: {why}")
 
@@ -137,3 +156,15 @@ class WholeFiles:
         children.kill(self.child)
         while self.child:
             turn()
+
+
+def why_unwritten(path: str) -> str:
+    """Why a file takes no more bytes, which is tried; its writer doesn't say it."""
+    try:
+        with open(path, "ab") as file:
+            file.write(bytes(MEBIBYTE))
+            file.flush()
+            os.fsync(file.fileno())
+    except OSError as error:
+        return error.strerror or str(error)
+    return "nobody knows why"

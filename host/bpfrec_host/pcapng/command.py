@@ -33,8 +33,9 @@ later.
 The packets of the slice are found by the headers of all packets, and no others are read. Of a channel whose packets
 rise by their counters, frames are looked for in the packets of the slice alone; else in all.
 
-If the facts are beside a recording, as RECORDING.json, times are UTC by the facts; without facts they are the time
-since the relative time counter (RTC) was 0, from 1970 on. All recordings must have facts, or none. If the facts don't
+If the facts are beside a recording, as RECORDING.json, times are UTC by the facts. Without facts they are UTC by the time
+packets of a whole Chapter 11 file, else the time since the relative time counter (RTC) was 0, from 1970 on. All
+recordings must have UTC times, or none. If the facts don't
 know in which scale a clock ran, its times are taken as they are, which is reported on standard error.
 """
 MORE = """\
@@ -105,9 +106,15 @@ def facts_beside(path: str) -> Optional[facts.Facts]:
         raise Refused(f"{beside}: no facts of a recording: {fault}") from None
 
 
-def times_of(path: str) -> Times:
-    """The times of a recording, by the facts beside it."""
+def times_of(path: str, index: Index) -> Times:
+    """The times of a recording, by the facts beside it; of a whole file without facts by its time packets."""
     times = Times(path, facts_beside(path))
+    if times.facts is None and index.whole:
+        index.read()
+        try:
+            times = Times(path, index.whole.facts(), "its time packets")
+        except facts.NoFacts as fault:
+            tell_fault(f"{path}: its time packets say no times, so these are since counter 0: {fault}")
     if times.facts and not times.facts.are_all_utc():
         tell_fault(f"{path}: {facts.SCALE_UNKNOWN}")
     return times
@@ -115,7 +122,8 @@ def times_of(path: str) -> Times:
 
 def recordings_at(given: argparse.Namespace) -> list[Recording]:
     """The recordings with their times, of which nothing but the headers is read."""
-    opened = [(Index(path, tell_fault), times_of(path)) for path in given.recordings]
+    indexes = [Index(path, tell_fault) for path in given.recordings]
+    opened = [(index, times_of(index.path, index)) for index in indexes]
     since, until = dated(given.since, given.until, [times for _, times in opened])
     found = [Recording(index, times, times.ranges(since, until)) for index, times in opened]
     for index, _ in opened:

@@ -13,6 +13,8 @@ from bpfrec_host.formats.ch11.body import BadBody, What
 from bpfrec_host.formats.ch11.follow import Follower, Front
 from bpfrec_host.formats.ch11.packet import body_fault, has_right_sum, header_of
 from bpfrec_host.formats.limits import ETHERNET_DATA, HEADER_LEN
+from bpfrec_host.formats.whole_file.as_facts import WholeFile, is_own
+from bpfrec_host.formats.whole_file.packets import MOST_SETUP_LENGTH, begins_whole_file
 from bpfrec_host.streams import STREAM, Refused, part_of
 
 # A record of a program is far shorter; a longer packet is another recorder's.
@@ -82,6 +84,8 @@ class Index:
         self.is_damaged, self.done = False, 0
         self.file = standard_input() if path == STREAM else regular_file(path)
         self.size = os.fstat(self.file.fileno()).st_size
+        # What a whole Chapter 11 file says of its times; None of a recording.
+        self.whole = WholeFile() if begins_whole_file(part_of(self.file, path, 0, HEADER_LEN)) else None
         self.follower = Follower(self.file.fileno(), self.take)
         self.follower.end()
 
@@ -104,7 +108,10 @@ class Index:
         header = front.header
         if not header.is_plain():
             return
-        if header.kind == ETHERNET_DATA:
+        if self.whole and is_own(header.kind) and header.packet_len <= MOST_SETUP_LENGTH:
+            # One that can't be read says nothing.
+            self.whole.take(front, self.read_at(front.at, header.packet_len))
+        elif header.kind == ETHERNET_DATA:
             channel = self.channel(header.channel)
             channel.packets.append(Place(header.counter, front.at, header.packet_len, len(channel.programs) - 1))
         elif header.may_be_record() and header.packet_len <= MOST_RECORD_LEN:

@@ -106,7 +106,7 @@ def recording_text(recording: Recording) -> str:
     name, facts = os.path.basename(recording.headers.path), recording.times.facts
     if facts is None:
         return f"{name}: times since counter 0, from 1970 on"
-    return f"{name}: times by its facts, of host {facts.host}{'' if facts.are_all_utc() else ', scale unknown'}"
+    return f"{name}: times by {recording.times.source}, of host {facts.host}{'' if facts.are_all_utc() else ', scale unknown'}"
 
 
 def interfaces_of(recordings: list[Recording], asked: Optional[list[Union[int, str]]]) -> list[Interface]:

@@ -60,8 +60,9 @@ def time_of(word: str) -> Union[Time, TimeOfDay]:
 class Times:
     """The moments of a recording's counters."""
 
-    def __init__(self, path: str, facts: Optional[Facts]) -> None:
-        self.path, self.facts = path, facts
+    def __init__(self, path: str, facts: Optional[Facts], source: str = "its facts") -> None:
+        # What says them: facts beside it, or of a whole file its time packets.
+        self.path, self.facts, self.source = path, facts, source
         # Those that hold for some counter, and all that are known.
         self.origins = [NO_ORIGIN] if facts is None else facts.holding
         self.known = [NO_ORIGIN] if facts is None else facts.origins

@@ -45,7 +45,7 @@ def judge_filter(settings: Settings, channel: Channel, report: Report) -> bool:
     return done.returncode == 0
 
 
-def judge_feed(path: str, most: int, at: str, report: Report) -> bool:
+def judge_feed(path: str, most: int, at: str, report: Report, has_time_marks: bool = False) -> bool:
     """Whether a feed is a file that can be read; what it holds, of which `most` frames are taken."""
     try:
         kind = kind_of(path)
@@ -56,7 +56,7 @@ def judge_feed(path: str, most: int, at: str, report: Report) -> bool:
             report.fault(at, f"SourceFault Device: feed {path} is a directory")
             return False
         with open(path, "rb") as file:
-            end = feed.end_of(file)
+            end = feed.end_of(file, has_time_marks)
     except Unread as unread:
         report.fault(at, f"file {path}: {unread}")
         return False
@@ -83,7 +83,8 @@ def judge_channel_feed(settings: Settings, channel: Channel, report: Report) -> 
     path, most = channel.path("feed"), channel.table.get("max", MAX_NUMBER)
     if path is not None:
         is_number = not number_fault(most, CHANNEL_KEYS["max"], "max")
-        judge_feed(path, most if is_number else MAX_NUMBER, place_in(settings, channel, "feed"), report)
+        at, has_span = place_in(settings, channel, "feed"), bool(channel.table.get("span"))
+        judge_feed(path, most if is_number else MAX_NUMBER, at, report, has_span)
 
 
 def judge_shared_feeds(settings: Settings, report: Report) -> None:

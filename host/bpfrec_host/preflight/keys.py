@@ -5,7 +5,7 @@ from __future__ import annotations
 import os
 import tempfile
 from pathlib import Path
-from typing import Optional
+from typing import Callable, Optional
 
 from bpfrec_host import program
 from bpfrec_host.formats.answers import SETTINGS_SYNTAX
@@ -13,6 +13,9 @@ from bpfrec_host.formats.limits import CHANNEL_KEYS, MAX_CHANNELS, MAX_KNOWN_SPE
 from bpfrec_host.formats.settings import Channel, NoReader, NoToml, Settings, number_fault, settings_of, type_of
 from bpfrec_host.preflight.files import Unread, kind_of, read_text
 from bpfrec_host.preflight.report import NotJudged, Report, place
+
+# So many keys that aren't known are named.
+MOST_UNKNOWN = 100
 
 
 def read_settings(file: str, report: Report) -> Optional[Settings]:
@@ -55,8 +58,7 @@ def judge_top(settings: Settings, report: Report) -> None:
     def at(key: str) -> str:
         return place(settings.file, settings.line(key))
 
-    for key in sorted(set(document) - set(TOP_KEYS) - {"channel"}):
-        report.fault(at(key), f"settings 2 Unknown {key}")
+    report_unknown(set(document) - set(TOP_KEYS) - {"channel"}, at, report)
     for key, numbers in TOP_KEYS.items():
         fault = number_fault(document.get(key, numbers.default), numbers, key)
         if fault:
@@ -70,6 +72,15 @@ def judge_top(settings: Settings, report: Report) -> None:
         report.fault(place_in(settings, settings.channels[MAX_CHANNELS], "id"), settings.count_fault() or "")
 
 
+def report_unknown(unknown: set[str], at: Callable[[str], str], report: Report) -> None:
+    """Keys that aren't known, of which the rest is counted."""
+    named = sorted(unknown)
+    for key in named[:MOST_UNKNOWN]:
+        report.fault(at(key), f"settings 2 Unknown {key}")
+    if left := named[MOST_UNKNOWN:]:
+        report.fault(at(left[0]), f"settings 2 Unknown {left[0]}, and {len(left) - 1} more keys")
+
+
 def place_in(settings: Settings, channel: Channel, key: str) -> str:
     """Where a key of a channel is set, or else its table's header."""
     return place(settings.file, channel.line(key), channel.name)
@@ -77,8 +88,7 @@ def place_in(settings: Settings, channel: Channel, key: str) -> str:
 
 def judge_channel_keys(settings: Settings, channel: Channel, report: Report) -> None:
     """The keys of a channel, in the order in which `record` judges them."""
-    for key in sorted(set(channel.table) - set(CHANNEL_KEYS)):
-        report.fault(place_in(settings, channel, key), f"settings 2 Unknown {key}")
+    report_unknown(set(channel.table) - set(CHANNEL_KEYS), lambda key: place_in(settings, channel, key), report)
     for key in CHANNEL_KEYS:
         fault = channel_key_fault(channel, key)
         if fault:

@@ -14,7 +14,8 @@ from typing import Optional
 from bpfrec_host import printing
 from bpfrec_host.addresses import length_of, ttl_of, udp_address
 from bpfrec_host.arguments import Parser, full_name, short_name
-from bpfrec_host.chapter11.command import ahead_of, attribute_of, origin_of
+from bpfrec_host.chapter11.command import origin_of
+from bpfrec_host.chapter11.options import add_setup_options
 from bpfrec_host.chapter11.setup import Asked
 from bpfrec_host.follow.growing import PATIENCE, PAUSE, next_of
 from bpfrec_host.follow.runs import first_of
@@ -45,7 +46,7 @@ What is in RECORDING at the beginning goes out as fast as the socket takes it, w
 has ended goes out at the pace of its counters, or with --fast as the socket takes it.
 
 At the end it prints `published packets <n> datagrams <n> lost <n> late <n>` on standard error. TERM has it send what is
-there of a recording that goes on, and end.
+there of a recording that goes on, and end. What it leaves out of one that has ended, a line counts.
 
 Status: 0 the run has ended, also where datagrams were lost, 1 a recording is damaged or refused, 2 the arguments are wrong,
 3 a file can't be read, 4 out of memory, 130 interrupted.
@@ -69,14 +70,7 @@ def parser() -> Parser:
     made.add_argument("--datagram", metavar="BYTES", type=length_of, default=USUAL_DATAGRAM_LEN, help=most)
     origin = "where there are no facts, the moment of counter 0 in UTC, in seconds since 1970"
     made.add_argument("--origin", metavar="SECONDS", type=origin_of, help=origin)
-    scales = made.add_mutually_exclusive_group()
-    utc = "a clock whose scale is unknown ran UTC"
-    scales.add_argument("--utc", dest="ahead", action="store_const", const=0, help=utc)
-    tai = "it ran TAI, ahead of UTC by these seconds, as 37"
-    scales.add_argument("--tai", dest="ahead", metavar="SECONDS", type=ahead_of, help=tai)
-    made.add_argument("--external", action="store_true", help="an outside source held the clock")
-    more = "a further line of the setup record; several times"
-    made.add_argument("--attribute", metavar="NAME:VALUE", type=attribute_of, action="append", default=[], help=more)
+    add_setup_options(made)
     made.add_argument("recording", metavar="RECORDING")
     made.add_argument("address", metavar="ADDRESS:PORT", type=udp_address)
     return made
@@ -117,7 +111,9 @@ class Publisher:
             recording = Recording(next_path, err, self.asked, self.datagrams.add)
             try:
                 recording.begin(begins_now, lambda: self.is_ending)
-                self.is_replay = recording.was_over if self.is_replay is None else self.is_replay
+                if self.is_replay is None:
+                    # With --stay it is a run that goes on, whose first recording may have ended meanwhile.
+                    self.is_replay = recording.was_over and not self.given.stay
                 recording.is_paced = self.is_replay
                 next_path, begins_now = self.publish(recording), False
             finally:
@@ -129,6 +125,8 @@ class Publisher:
         self.packets += recording.stream.packets.count
         self.late += recording.stream.late
         self.is_damaged |= recording.is_damaged
+        if left := recording.merging.left():
+            err(f"{recording.path}: {left} packets are left out")
         if recording.others:
             err(f"{recording.path}: {recording.others} packets of another recorder are left out")
 
@@ -145,7 +143,10 @@ class Publisher:
         # TERM leaves out what is replayed, and nothing of a run that goes on.
         is_over = self.is_interrupted or self.is_ending and recording.is_paced
         patience = math.inf if self.given.stay else PATIENCE
-        return None if is_over else next_of(recording, patience, lambda: self.is_ending)
+        next_path = next_of(recording, patience, lambda: self.is_ending)
+        if is_over and next_path:
+            err(f"{next_path} and what follows it are left out")
+        return None if is_over else next_path
 
     def go_on(self, recording: Recording) -> None:
         """Publishes what has come, or waits a little."""
@@ -188,6 +189,8 @@ def run(arguments: list[str]) -> int:
     publisher = Publisher(given)
     for number in (signal.SIGINT, signal.SIGTERM):
         signal.signal(number, publisher.end_soon)
+    # Live starts it with these blocked, so that one which comes earlier waits.
+    signal.pthread_sigmask(signal.SIG_UNBLOCK, (signal.SIGINT, signal.SIGTERM))
     try:
         path = first_of(given.recording)
         if not stat.S_ISREG(os.stat(path).st_mode):

@@ -73,6 +73,10 @@ class Merging:
         channel.last = turn._replace(counter=piece.last_counter())
         return turn.channel, piece
 
+    def left(self) -> int:
+        """How many packets haven't gone out, or not whole."""
+        return sum(len(it.waiting) + bool(it.pieces) for it in self.channels.values())
+
     def put_back(self, number: int, rest: Piece) -> None:
         """The rest of a piece is its channel's next one."""
         self.channels[number].pieces.appendleft(rest)

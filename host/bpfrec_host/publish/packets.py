@@ -13,8 +13,9 @@ SETUP, TIME, FRAMES, RECORD = 0x01, 0x11, ETHERNET_DATA, COMPUTER_GENERATED_DATA
 VERSION = 8
 EPOCH, LAST_YEAR = datetime(1970, 1, 1), 3_999
 MICROSECOND = 1_000
-# The word of a setup record: RCC 106-17, in ASCII. Of a time packet: a real-time clock, with day, month and year.
-SETUP_WORD, TIME_WORD, LEAP_YEAR = 0x0C, 0x230, 1 << 8
+# The word of a setup record: RCC 106-17, in ASCII, and that it has changed. Of a time packet: a real-time clock, with
+# day, month and year.
+SETUP_WORD, SETUP_CHANGED, TIME_WORD, LEAP_YEAR = 0x0C, 1 << 8, 0x230, 1 << 8
 TIME_DATA = struct.Struct("<I4H")
 
 
@@ -61,9 +62,9 @@ def time_data(date: datetime, is_external: bool) -> bytes:
     return TIME_DATA.pack(word, *(int(it, 16) for it in digits))
 
 
-def setup_data(text: str) -> bytes:
-    """The data of a setup record."""
-    return SETUP_WORD.to_bytes(4, "little") + text.encode("ascii")
+def setup_data(text: str, is_changed: bool = False) -> bytes:
+    """The data of a setup record, which may have changed since the recording began."""
+    return (SETUP_WORD | is_changed * SETUP_CHANGED).to_bytes(4, "little") + text.encode("ascii")
 
 
 def frames_data(frames: bytes, count: int) -> bytes:

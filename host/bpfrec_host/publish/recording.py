@@ -6,7 +6,7 @@ import time
 from typing import Callable, Optional
 
 from bpfrec_host.chapter11.setup import Asked
-from bpfrec_host.follow.growing import PAUSE, Growing, Report
+from bpfrec_host.follow.growing import Growing, Report
 from bpfrec_host.formats.ch11.body import BadBody, End, Program
 from bpfrec_host.formats.ch11.follow import Front
 from bpfrec_host.formats.ch11.packet import Header, has_right_sum, header_of
@@ -22,6 +22,7 @@ from bpfrec_host.formats.limits import (
 from bpfrec_host.live.names import facts_path
 from bpfrec_host.publish.merging import Merging, Placed
 from bpfrec_host.publish.pieces import Piece, body_in, pieces_of
+from bpfrec_host.publish.setup_record import Setup
 from bpfrec_host.publish.sources import clock_of, set_networks, setup_of
 from bpfrec_host.publish.stream import Stream
 from bpfrec_host.streams import Refused
@@ -29,8 +30,6 @@ from bpfrec_host.streams import Refused
 # Waits for so many seconds until a piece is due, or not at all where it is one of a recording that goes on: whether it
 # goes out.
 Wait = Callable[[Optional[float]], bool]
-# For how long the facts of a recording that has just begun are waited for, in seconds.
-FACTS_PATIENCE = 10.0
 # Where the data of a packet have the network identifier of the first frame: the third byte of its word.
 NET_AT = BODY_WORD_LEN + 8 + 2
 # Where the data of a record have their kind, and those of an end how many frames it was offered.
@@ -45,7 +44,7 @@ class Recording(Growing):
         super().__init__(path, report)
         self.asked = asked
         self.merging = Merging(self.load)
-        self.stream = Stream(add, lambda: setup_of(self.known.facts if self.known else None, asked, self.channels()))
+        self.stream = Stream(add, self.setup)
         # The network identifiers of channels, by their first frames.
         self.networks: dict[int, int] = {}
         # The channels that the facts of one that goes on name.
@@ -64,14 +63,10 @@ class Recording(Growing):
         """Finds out when it was recorded, and leaves out what is there where only what comes is published."""
         if begins_now:
             self.hidden_to = self.size()
-        ends = time.monotonic() + FACTS_PATIENCE
-        self.look_at_facts()
-        while not self.known and not self.asked.origin and not self.has_ended() and time.monotonic() < ends:
-            is_last = is_given_up()
-            time.sleep(PAUSE)
+        if self.asked.origin:
             self.look_at_facts()
-            if is_last:
-                break
+        else:
+            self.wait_for_facts(is_given_up)
         self.judge_times()
         self.was_over = self.has_ended()
 
@@ -139,6 +134,10 @@ class Recording(Growing):
             self.expected = {**dict.fromkeys(known.interfaces, 0), **set_networks(known)}
             self.merging.expect(self.expected)
 
+    def setup(self) -> Setup:
+        """What its setup record says by now."""
+        return setup_of(self.path, self.known.facts if self.known else None, self.asked, self.channels())
+
     # ---- what is put out
 
     def load(self, placed: Placed) -> list[Piece]:
@@ -183,6 +182,8 @@ class Recording(Growing):
         while found and wait(self.due_in(found[1]) if self.is_paced else None):
             self.put(*found)
             found = self.merging.next(time.monotonic(), is_whole)
+        if found:
+            self.merging.put_back(*found)
 
     def put(self, channel: int, piece: Piece) -> None:
         """Puts out a piece; what is left of it behind a time packet is its channel's next one."""

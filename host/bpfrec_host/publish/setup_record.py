@@ -9,6 +9,8 @@ from typing import Mapping, NamedTuple
 MAX_NAME_LEN, MAX_LABEL_LEN = 32, 24
 REPLACED = re.compile(r"[^ -~]|[;:\\]")
 NO_NAME, NO_CHANNEL_NAME, USUAL_NAME = "NONE", "channel", "bpfrec"
+# The name of the test program, whose line an attribute replaces.
+PROGRAM_NAME = "G\\PN:"
 COMMENT = "Packets of type 0 on channel 0 with the tag CBPR hold the filter programs and the counts of bpfrec"
 
 
@@ -38,12 +40,14 @@ class Setup(NamedTuple):
         lines = [*self.general(begun), *self.time_lines()]
         for number, (channel, source) in enumerate(sorted(self.channels.items()), 2):
             lines += channel_lines(number, channel, source)
-        return "".join(f"{it};\r\n" for it in [*lines, f"R-1\\COM:{COMMENT}", *self.attributes])
+        others = [it for it in self.attributes if not it.startswith(PROGRAM_NAME)]
+        return "".join(f"{it};\r\n" for it in [*lines, f"R-1\\COM:{COMMENT}", *others])
 
     def general(self, begun: datetime) -> list[str]:
         """The lines ahead of the channels."""
         host, date = cleaned(self.host), f"{begun:%m-%d-}{begun.year:04}"
-        lines = ["G\\PN:bpfrec", "G\\106:17", f"G\\OD:{date}", "G\\DSI\\N:1", f"G\\DSI-1:{host}", "G\\DST-1:STO"]
+        named = next((it for it in self.attributes if it.startswith(PROGRAM_NAME)), f"{PROGRAM_NAME}bpfrec")
+        lines = [named, "G\\106:17", f"G\\OD:{date}", "G\\DSI\\N:1", f"G\\DSI-1:{host}", "G\\DST-1:STO"]
         lines += [f"R-1\\ID:{host}", "R-1\\RID:bpfrec", f"R-1\\R1:{cleaned(self.program)}", "R-1\\TC1:SSR"]
         lines += ["R-1\\RI3:Y", f"R-1\\RI4:{date}-{begun:%H-%M-%S}", "R-1\\NSB:0", "R-1\\IDX\\E:T", "R-1\\IDX\\IT:C"]
         return [*lines, "R-1\\IDX\\ICV:1", "R-1\\EV\\E:F", f"R-1\\N:{len(self.channels) + 1}"]

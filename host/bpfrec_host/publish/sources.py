@@ -2,6 +2,7 @@
 
 from __future__ import annotations
 
+import os
 from typing import Optional
 
 from bpfrec_host.chapter11.setup import Asked
@@ -9,7 +10,7 @@ from bpfrec_host.formats.facts import Facts, Origin, holding
 from bpfrec_host.formats.limits import MAX_BYTE, MAX_CHANNEL_ID, NANOSECONDS_A_SECOND
 from bpfrec_host.formats.settings import NoReader, NoToml, settings_of
 from bpfrec_host.publish import clock
-from bpfrec_host.publish.setup_record import NO_CHANNEL_NAME, USUAL_NAME, Setup, Source
+from bpfrec_host.publish.setup_record import NO_CHANNEL_NAME, USUAL_NAME, Setup, Source, cleaned
 
 
 def clock_of(known: Optional[Facts], asked: Asked) -> clock.Clock:
@@ -49,9 +50,11 @@ def set_networks(known: Optional[Facts]) -> dict[int, int]:
     return found
 
 
-def setup_of(known: Optional[Facts], asked: Asked, channels: dict[int, int]) -> Setup:
-    """What the setup record says of these channels and their network identifiers."""
+def setup_of(path: str, known: Optional[Facts], asked: Asked, channels: dict[int, int]) -> Setup:
+    """What the setup record of a recording says of these channels and their network identifiers. It has the recording's
+    name, so that the records of two differ."""
     names = known.interfaces if known else {}
     sources = {it: Source(names.get(it, NO_CHANNEL_NAME), net) for it, net in channels.items()}
     host, program = (known.host, known.program or USUAL_NAME) if known else (USUAL_NAME, USUAL_NAME)
-    return Setup(host, program, asked.is_external, asked.attributes, sources)
+    attributes = (*asked.attributes, f"G\\COM:{cleaned(os.path.basename(path))}")
+    return Setup(host, program, asked.is_external, attributes, sources)

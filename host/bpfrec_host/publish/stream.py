@@ -40,6 +40,7 @@ class Stream:
         self.setup: Optional[Setup] = None
         # The text of the setup record, the moment of the time packet behind the last one, and when a packet last went out.
         self.text, self.setup_moment, self.last_at = "", 0, 0.0
+        self.is_changed = False
         self.begun = Mark(0, 0)
         self.last_tick = 0
         self.ahead: Optional[Mark] = None
@@ -97,12 +98,13 @@ class Stream:
         begun = date_of(self.begun.moment)
         if begun is None:
             raise Refused("its times are of no year from 1 to 3999, which time packets have")
-        self.text = self.setup.text(begun)
+        before, self.text = self.text, self.setup.text(begun)
+        self.is_changed |= before not in ("", self.text)
         self.repeat_setup(counter)
 
     def repeat_setup(self, counter: int) -> None:
         """Puts out the setup record."""
-        self.put_packet(RECORD_CHANNEL, SETUP, counter, setup_data(self.text))
+        self.put_packet(RECORD_CHANNEL, SETUP, counter, setup_data(self.text, self.is_changed))
 
     def put_time(self, mark: Mark) -> None:
         """Puts out a time packet, with the setup record ahead of it after each ten seconds."""

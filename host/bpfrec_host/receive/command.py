@@ -13,10 +13,12 @@ from typing import Optional
 from bpfrec_host import printing
 from bpfrec_host.addresses import udp_address
 from bpfrec_host.arguments import Parser, full_name, natural, short_name
+from bpfrec_host.formats.ch11.packet import Header
 from bpfrec_host.formats.transfer import datagram_in
 from bpfrec_host.receive.assembling import Assembling
 from bpfrec_host.receive.listening import MAX_DATAGRAM_LEN, opened
 from bpfrec_host.receive.output import Files
+from bpfrec_host.receive.source import Source, address_of
 from bpfrec_host.receive.window import Window
 from bpfrec_host.streams import Refused, Unreadable
 
@@ -26,7 +28,7 @@ Writes what bpfrec-publish sends into a file: packets of Chapter 11, each once a
   bpfrec-receive 239.1.2.3:50000 flight.ch10
 
 ADDRESS:PORT is an address of this machine, as 0.0.0.0:50000 or [::]:50000, or a multicast group, which is joined.
-OUT begins with the first setup record that comes; what comes ahead of it is skipped, and setup records that are repeated
+OUT begins with the first setup record that comes, and what came ahead of it is behind it. Setup records that are repeated
 are left out. Of a further recording of a run a further file is made, as flight_00002.ch10. An OUT that exists is refused
 unless --force is given; `-` is standard output, which gets all recordings.
 
@@ -35,12 +37,14 @@ missing. bpfrec audit and bpfrec extract answer as for the recording.
 """
 MORE = """\
 It ends by Ctrl-C, TERM, --for or --idle, and prints
-  received packets <n> datagrams <n> lost <n> doubled <n> damaged <n> skipped <n>
+  received packets <n> datagrams <n> lost <n> doubled <n> damaged <n> skipped <n> foreign <n>
 A line `gap <n> datagrams before <number>` on standard error says what is missing. Doubled are datagrams that came twice or
 too late; damaged those that are none of this format, and packets with a wrong checksum, which aren't written.
+The stream is what the first sender sends, by address and port, until that is silent for 2 s. Foreign are datagrams of
+others. Nobody proves who sends: who can send here under the sender's address can write into OUT.
 
-Status: 0 nothing is missing, 1 a datagram was lost or damaged, or nothing came, 2 the arguments are wrong, 3 the address
-can't be had, or OUT can't be written or is taken, 4 out of memory.
+Status: 0 nothing is missing. 1 a datagram was lost or damaged, a stream broke off, or nothing came. 2 the arguments are
+wrong, 3 the address can't be had, or OUT can't be written or is taken, 4 out of memory.
 """
 MAX_SECONDS = 999_999_999
 # For how many seconds a datagram that is missing is waited for where no other comes, and what came is read at the end; how
@@ -54,6 +58,8 @@ def parser() -> Parser:
     made.add_argument("--interface", metavar="NAME", help="the interface on which a group is joined")
     made.add_argument("--for", metavar="SECONDS", dest="seconds", type=seconds, help="ends after this time")
     made.add_argument("--idle", metavar="SECONDS", type=seconds, help="ends when nothing has come for this time")
+    sender = "takes datagrams of this sender alone"
+    made.add_argument("--from", metavar="ADDRESS", dest="sender", type=address_of, help=sender)
     made.add_argument("--force", action="store_true", help="overwrites an OUT that exists")
     made.add_argument("address", metavar="ADDRESS:PORT", type=udp_address)
     made.add_argument("out", metavar="OUT")
@@ -92,10 +98,26 @@ class Receiver:
     def __init__(self, given: argparse.Namespace, through: socket.socket, ending: Ending) -> None:
         self.given, self.socket, self.ending = given, through, ending
         self.files = Files(given.out, given.force)
-        self.assembling = Assembling(self.files.take)
+        self.assembling = Assembling(self.take)
         self.window = Window(self.assembling.add, self.gap, self.restart)
-        self.datagrams = self.damaged = self.gaps = 0
+        self.datagrams = self.damaged = self.gaps = self.broken = 0
         self.last_at: Optional[float] = None
+        self.source = Source(given.sender, self.window.begin_anew, err)
+        # When what has come is left at the end.
+        self.ends: Optional[float] = None
+
+    def is_late(self) -> bool:
+        """Whether the end is so long due that what has come is left."""
+        if self.ending.is_due and self.ends is None:
+            self.ends = time.monotonic() + LAST
+        return self.ends is not None and time.monotonic() > self.ends
+
+    def take(self, header: Header, packet: bytes) -> None:
+        """Takes a packet."""
+        if self.is_late():
+            self.files.skipped += 1
+        else:
+            self.files.take(header, packet)
 
     def gap(self, count: int, number: int) -> None:
         """Datagrams are missing ahead of one."""
@@ -105,9 +127,11 @@ class Receiver:
         self.assembling.gap()
 
     def restart(self) -> None:
-        """Another stream has begun."""
+        """Another stream has begun, which a publisher that was killed leaves too."""
         self.assembling.gap()
-        self.files.restart()
+        if not self.files.restart():
+            self.broken += 1
+            err("gap of unknown length: another stream begins before the recording has ended")
 
     def run(self) -> None:
         """Receives until it is to end."""
@@ -121,8 +145,8 @@ class Receiver:
             else:
                 self.window.give_up()
             self.files.out.flush()
-        ends = time.monotonic() + LAST
-        while self.read() and time.monotonic() < ends:
+        self.ends = self.ends or time.monotonic() + LAST
+        while self.read():
             pass
         self.window.give_up()
 
@@ -135,10 +159,15 @@ class Receiver:
         """Reads what has come, as much as a turn takes: whether more may be there."""
         for _ in range(A_TURN):
             try:
-                data = self.socket.recv(MAX_DATAGRAM_LEN)
+                data, sender = self.socket.recvfrom(MAX_DATAGRAM_LEN)
             except BlockingIOError:
                 return False
-            self.last_at = time.monotonic()
+            if self.is_late():
+                return False
+            now = time.monotonic()
+            if not self.source.takes(sender, now):
+                continue
+            self.last_at = now
             self.datagrams += 1
             datagram = datagram_in(data)
             if datagram is None:
@@ -150,13 +179,15 @@ class Receiver:
     def end(self) -> int:
         """Ends the file, and prints what was received: the status."""
         files, window = self.files, self.window
-        files.out.close()
+        files.end()
         if self.gaps > MOST_LINES:
             err(f"{self.gaps - MOST_LINES} more gaps")
         damaged = self.damaged + self.assembling.damaged
-        counts = f"lost {window.lost} doubled {window.doubled} damaged {damaged} skipped {files.skipped}"
+        counts = f"lost {window.lost} doubled {window.doubled} damaged {damaged} skipped {files.skipped} foreign {self.source.foreign}"
         files.out.report(f"received packets {files.packets} datagrams {self.datagrams} {counts}")
-        return 1 if window.lost or damaged or not files.packets else 0
+        if not files.packets:
+            err(f"{files.out.name} is empty: no recording was received")
+        return 1 if window.lost or damaged or self.broken or not files.packets else 0
 
 
 def run(arguments: list[str]) -> int:

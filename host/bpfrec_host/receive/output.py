@@ -2,18 +2,24 @@
 
 from __future__ import annotations
 
-import re
+import time
+from collections import deque
+from contextlib import suppress
 from typing import Optional
 
+from bpfrec_host.formats.ch11.body import BadBody, End, record_in
 from bpfrec_host.formats.ch11.packet import WORDS, Header
-from bpfrec_host.formats.limits import HEADER_LEN, RECORD_CHANNEL
+from bpfrec_host.formats.limits import BODY_WORD_LEN, ETHERNET_DATA, HEADER_LEN, RECORD_CHANNEL
 from bpfrec_host.live.names import Names
+from bpfrec_host.publish.packets import SETUP_CHANGED
 from bpfrec_host.streams import STREAM, Output
 
 SETUP = 0x01
 SEQUENCE_AT = 13
-# When a recording began, which tells one from another.
-BEGUN = re.compile(rb"R-1\\RI4:([^;]*);")
+# How many bytes of packets wait for the first setup record, at most, and those that each takes beside its own.
+MOST_KEPT, OVERHEAD = 64 << 20, 512
+# How many files begin in a second, at most.
+MOST_FILES = 10
 
 
 class Files:
@@ -24,40 +30,96 @@ class Files:
         self.names = Names(out)
         # The first of further recordings is the second.
         self.names.number = 1
-        # The setup record of the recording that is written.
-        self.setup: Optional[bytes] = None
+        # The text of the setup record of the recording that is written.
+        self.text: Optional[bytes] = None
         self.has_written = False
-        # How many setup records of it were left out, by which the sequence numbers behind them are less.
+        # Packets that came ahead of the first setup record, which is repeated.
+        self.kept: deque[tuple[Header, bytes]] = deque()
+        self.kept_len = 0
+        # When files were begun in the last second.
+        self.begun: list[float] = []
+        # Channels that have frames or a program, and no end yet.
+        self.open: set[int] = set()
+        # By how much the sequence numbers of channel 0 are less than those that came.
         self.left_out = 0
         self.packets = self.skipped = 0
 
     def take(self, header: Header, packet: bytes) -> None:
-        """Takes a packet: those ahead of a setup record are skipped, and a setup record that is repeated is left out."""
+        """Takes a packet: those ahead of a setup record wait for it, and a setup record that is repeated is left out."""
         if header.channel == RECORD_CHANNEL and header.kind == SETUP:
             self.take_setup(header, packet)
-        elif self.setup is None:
-            self.skipped += 1
+        elif self.text is None:
+            self.keep(header, packet)
         else:
             self.write(header, packet)
 
     def take_setup(self, header: Header, packet: bytes) -> None:
-        """Takes a setup record, with which another recording may begin."""
-        setup = packet[HEADER_LEN : HEADER_LEN + header.data_len]
-        if setup == self.setup:
+        """Takes a setup record. One of another text begins another recording, but where it says that it has changed."""
+        word = int.from_bytes(packet[HEADER_LEN : HEADER_LEN + BODY_WORD_LEN], "little")
+        text = packet[HEADER_LEN + BODY_WORD_LEN : HEADER_LEN + header.data_len]
+        if text == self.text:
             self.left_out += 1
             return
-        if self.has_written and (self.setup is None or begun(setup) != begun(self.setup)):
+        if self.has_written and (self.text is None or not word & SETUP_CHANGED):
+            if not self.may_begin(time.monotonic()):
+                self.text = None
+                self.skipped += 1
+                return
             self.begin_next()
-        self.setup = setup
-        self.write(header, packet)
+        self.text = text
+        if not header.sequence:
+            # The first of a recording, of which nothing came before it.
+            self.drop_kept()
+        self.write_kept(header, packet)
 
-    def restart(self) -> None:
-        """Another stream has begun: what comes ahead of its setup record is skipped."""
-        self.setup = None
+    def keep(self, header: Header, packet: bytes) -> None:
+        """Keeps a packet until a setup record comes, and as many of the last ones as there is room for."""
+        self.kept.append((header, packet))
+        self.kept_len += len(packet) + OVERHEAD
+        while self.kept_len > MOST_KEPT:
+            self.kept_len -= len(self.kept.popleft()[1]) + OVERHEAD
+            self.skipped += 1
+
+    def drop_kept(self) -> None:
+        """Leaves out what was kept."""
+        self.skipped += len(self.kept)
+        self.kept.clear()
+        self.kept_len = 0
+
+    def write_kept(self, header: Header, packet: bytes) -> None:
+        """Writes a setup record, and what was kept behind it. It takes the number ahead of the first of its channel."""
+        first = next((it.sequence for it, _ in self.kept if it.channel == RECORD_CHANNEL), header.sequence + 1)
+        self.write(header, with_sequence(packet, first - 1) if self.kept else packet)
+        for kept in self.kept:
+            self.write(*kept)
+        self.left_out += bool(self.kept) and first != header.sequence + 1
+        self.kept.clear()
+        self.kept_len = 0
+
+    def restart(self) -> bool:
+        """Another stream has begun, whose setup record comes first: whether the recording before it has ended."""
+        has_ended = not self.open
+        self.text = None
+        self.drop_kept()
+        return has_ended
+
+    def end(self) -> None:
+        """Nothing comes any more."""
+        self.drop_kept()
+        self.out.close()
+
+    def may_begin(self, now: float) -> bool:
+        """Whether a further file may begin by now: else its packets wait for its next setup record."""
+        self.begun = [it for it in self.begun if now - it < 1]
+        if len(self.begun) == MOST_FILES:
+            return False
+        self.begun.append(now)
+        return True
 
     def begin_next(self) -> None:
         """Begins a further file, under a name that nothing has; a pipe gets all."""
         self.left_out = 0
+        self.open.clear()
         if self.out.name == STREAM:
             return
         self.out.close()
@@ -67,9 +129,20 @@ class Files:
         """Writes a packet."""
         self.has_written = True
         self.packets += 1
+        self.note_end(header, packet)
         if header.channel == RECORD_CHANNEL and self.left_out:
             packet = with_sequence(packet, header.sequence - self.left_out)
         self.out.write(packet)
+
+    def note_end(self, header: Header, packet: bytes) -> None:
+        """Notes which channels have not ended."""
+        if header.kind == ETHERNET_DATA:
+            self.open.add(header.channel)
+        elif header.channel == RECORD_CHANNEL and header.kind != SETUP:
+            with suppress(BadBody):
+                record = record_in(packet[HEADER_LEN : HEADER_LEN + header.data_len])
+                if record:
+                    (self.open.discard if isinstance(record, End) else self.open.add)(record.channel)
 
 
 def with_sequence(packet: bytes, sequence: int) -> bytes:
@@ -78,9 +151,3 @@ def with_sequence(packet: bytes, sequence: int) -> bytes:
     head[SEQUENCE_AT] = sequence % 256
     head[WORDS.size :] = (sum(WORDS.unpack_from(head)) & 0xFFFF).to_bytes(HEADER_LEN - WORDS.size, "little")
     return bytes(head) + packet[HEADER_LEN:]
-
-
-def begun(setup: bytes) -> Optional[bytes]:
-    """When the recording of a setup record began; None where that doesn't say it."""
-    found = BEGUN.search(setup)
-    return found[1] if found else None

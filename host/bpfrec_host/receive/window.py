@@ -81,6 +81,12 @@ class Window:
             return
         self.doubled += 1
 
+    def begin_anew(self) -> None:
+        """The next datagram is another stream's."""
+        self.give_up()
+        self.next, self.first, self.behind_count = None, None, 0
+        self.restarted()
+
     def begins_anew(self, first: Datagram) -> bool:
         """Whether a datagram with number 0 is another stream's: it isn't that of this one, or comes long after it."""
         is_far = self.next is not None and (self.next - first.number) % NUMBERS > WIDTH

@@ -180,10 +180,10 @@ local function times_of(bytes, named)
   end
   for _, origin in ipairs(origins) do
     if not origin.is_known then
-      return { origins = origins, note = "absolute, scale unknown, by " .. path }
+      return { origins = origins, has_facts = true, note = "absolute, scale unknown, by " .. path }
     end
   end
-  return { origins = origins, note = "absolute, by " .. path }
+  return { origins = origins, has_facts = true, note = "absolute, by " .. path }
 end
 
 -- The seconds and nanoseconds of a counter; nil where it is before the first origin.

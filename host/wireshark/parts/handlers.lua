@@ -5,6 +5,8 @@ local function open_recording(file, capture)
   local recording = Recording.new()
   recording.reader.window.file = file
   recording.times = times_of(recording.reader.window:bytes(0, PIECE), ch11.prefs.facts)
+  take_first_time(recording.times, recording.reader.window)
+  recording.reader.window = Window.new()
   file:seek("set", 0)
   capture.encap = ENCAPSULATION
   capture.time_precision = wtap_tsprecs.NSEC

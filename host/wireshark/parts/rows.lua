@@ -101,6 +101,7 @@ function Recording:note(piece)
   end
   local at, channel = #self.places + 1, piece.channel
   self.places[at], self.numbers[at], self.versions[at] = piece.at, self.counts[channel] or 0, self.forces[channel] or false
+  take_time(self.times, piece)
   if piece.what == "frames" then
     self.counts[channel] = self.numbers[at] + piece.count
   elseif piece.what == "program" then

@@ -20,10 +20,10 @@ NAME = re.compile(rf"[{LETTER}](?:[ {LETTER}]{{0,{MOST_NAME_LEN - 2}}}[{LETTER}]
 DATE, TIME_OF_DAY, SOURCE = re.compile(r"[0-9]{2}-[0-9]{2}-[0-9]{4}"), r"(?:-[0-9]{2}){3}", re.compile("[IE]")
 NET = re.compile("|".join(map(str, range(MOST_NET + 1))))
 COMMENT = "Packets of type 0 on channel 0 with the tag CBPR hold the filter programs and the counts of bpfrec"
-# What stands on lines of the file's channels, whatever their number in the setup record is.
-OF_CHANNEL = re.compile(
-    r"R-1\\(?:(?:TK1|TK4|CHE|DSI|CDT|TTF|TFMT|TSRC|ENTF|NNET)-[1-9][0-9]*|(?:ENBR|ENAM)-[1-9][0-9]*-1)"
-)
+# With what lines of the file's channels begin, and zeros ahead of numbers, which a reader may leave out.
+OF_CHANNEL = re.compile(r"R-1\\(?:TK[14]|CHE|DSI|CDT|TTF|TFMT|TSRC|ENTF|NNET|ENBR|ENAM)-")
+ZEROS = re.compile(r"(?<!\d)0+(?=\d)", re.ASCII)
+ANY = re.compile(r"[ -:<-~]*")
 
 
 class Line(NamedTuple):
@@ -138,7 +138,8 @@ def setup_faults(setup: Setup) -> Iterator[str]:
         yield f"the setup record ends ahead of {due[len(setup.lines)].name}"
     written = {it.name for it in due}
     for line in setup.lines[len(due) :]:
-        if line.name in written or OF_CHANNEL.fullmatch(line.name):
+        read = ZEROS.sub("", line.name.strip().upper())
+        if read in written or OF_CHANNEL.match(read):
             yield f"the setup record has {line.name} twice, or of no channel"
     yield from channel_faults(setup)
 
@@ -170,7 +171,7 @@ class Due(NamedTuple):
 def lines_due(setup: Setup) -> Iterator[Due]:
     """The lines of a setup record in their order, up to the attributes; what names and dates are is its own."""
     host, date = setup.values.get("G\\DSI-1", ""), setup.values.get("G\\OD", "")
-    yield from (Due("G\\PN", "bpfrec"), Due("G\\106", "17"), Due("G\\OD", DATE), Due("G\\DSI\\N", "1"))
+    yield from (Due("G\\PN", ANY), Due("G\\106", "17"), Due("G\\OD", DATE), Due("G\\DSI\\N", "1"))
     yield from (Due("G\\DSI-1", NAME), Due("G\\DST-1", "STO"), Due("R-1\\ID", host), Due("R-1\\RID", "bpfrec"))
     yield from (Due("R-1\\R1", NAME), Due("R-1\\TC1", "SSR"), Due("R-1\\RI3", "Y"))
     yield from (Due("R-1\\RI4", re.compile(re.escape(date) + TIME_OF_DAY)), Due("R-1\\NSB", "0"))

@@ -8,13 +8,13 @@ from pathlib import Path
 from typing import Callable, NamedTuple, Optional
 
 from bpfrec_host.live.control.asking import Asker, answer
+from bpfrec_host.live.control.line_buffer import READ_LEN, LineBuffer
 from bpfrec_host.live.control.made_filters import MadeFilter
 from bpfrec_host.live.control.words import word_of
 from bpfrec_host.live.expressions import is_in_words, name_of
 from bpfrec_host.live.folder import Folder, copy_listing
 from bpfrec_host.live.standard_streams import another
 
-READ_LEN = 1 << 16
 # A line that is longer is handed on in parts, and refused by the recorder.
 MAX_LINE_LEN = 1 << 20
 # So much may wait for the recorder until no further line is read.
@@ -32,29 +32,23 @@ class Input:
         self.descriptor: Optional[int] = 0 if found is None else found
         if os.isatty(0) and not is_foreground():
             self.descriptor = None
-        self.rest = b""
+        self.buffer = LineBuffer()
 
-    def end(self) -> None:
-        """Reads no further line."""
-        self.descriptor, self.rest = None, b""
-
-    def lines(self) -> Optional[list[bytes]]:
-        """The lines that came; None where none will come any more, ahead of which the last one is given."""
+    def read(self) -> None:
+        """Reads what came. Where no more will come there is no descriptor any more."""
         if self.descriptor is None:
-            return None
+            return
         try:
             part = os.read(self.descriptor, READ_LEN)
         except BlockingIOError:
-            return []
+            return
         except OSError:
             part = b""
+        self.buffer.put(part)
+        if not part or len(self.buffer.rest) > MAX_LINE_LEN:
+            self.buffer.end_line()
         if not part:
-            last, self.descriptor, self.rest = self.rest, None, b""
-            return [last] if last else None
-        *lines, self.rest = (self.rest + part).split(b"\n")
-        if len(self.rest) > MAX_LINE_LEN:
-            lines, self.rest = [*lines, self.rest], b""
-        return lines
+            self.descriptor = None
 
 
 def is_foreground() -> bool:

@@ -3,6 +3,7 @@
 from __future__ import annotations
 
 import os
+import time
 from collections import deque
 from typing import Callable, NamedTuple, Optional, Sequence
 
@@ -20,6 +21,10 @@ from bpfrec_host.live.status import Terminal
 MOST_UNANSWERED = 128
 # So many lines wait for a recorder until no further line is read; marks don't wait behind them.
 MOST_HELD = 16
+# So many filters are made at once at most, each by a program.
+MOST_MADE = 4
+# So many seconds lines are taken in a turn of the loop: then signals and all else come.
+TURN_TIME = 0.01
 
 
 class ControlPorts(NamedTuple):
@@ -45,23 +50,39 @@ class ControlLines:
         self.input = Input()
         self.socket: Optional[ControlSocket] = None
         if given.control is not None:
-            self.socket = ControlSocket(given.control, loop, self.take_asked)
+            self.socket = ControlSocket(given.control, loop, self.may_take, self.take_line)
         # The lines that no recorder has yet.
         self.held: deque[Held] = deque()
 
     def is_open(self) -> bool:
         """Whether a line may come still: from standard input, by the socket, or from live itself."""
-        may_come = self.input.descriptor is not None or self.socket is not None
+        may_come = self.input.descriptor is not None or bool(self.input.buffer.lines) or self.socket is not None
         return may_come or bool(self.held) or self.given.flush is not None
 
     def read(self) -> None:
-        """Has lines read, up to so many that no recorder takes yet."""
+        """Takes lines that were read, for a moment, and has more read where all were taken."""
         self.hand_on()
-        is_full = len(self.held) >= MOST_HELD
+        end = time.monotonic() + TURN_TIME
+        while self.take_next():
+            if time.monotonic() > end:
+                self.loop.call_soon(lambda: None)
+                break
         if self.input.descriptor is not None:
-            self.loop.on_read(self.input.descriptor, None if is_full else self.take)
+            self.loop.on_read(self.input.descriptor, None if self.input.buffer.lines else self.read_input)
         if self.socket:
-            self.socket.read(is_full)
+            self.socket.read()
+
+    def may_take(self) -> bool:
+        """Whether a line may be taken that is no mark: not where too many wait, or are made."""
+        return len(self.held) < MOST_HELD and sum(not it.is_ready() for it in self.held) < MOST_MADE
+
+    def take_next(self) -> bool:
+        """Takes a line of each who has sent one: whether one did."""
+        typed = self.input.buffer.take(self.may_take)
+        if typed is not None:
+            self.take_line(typed)
+            self.end_input()
+        return bool(self.socket and self.socket.take_next()) or typed is not None
 
     def waits(self, recorder: Recorder) -> bool:
         """Whether a recorder takes no line now."""
@@ -70,25 +91,36 @@ class ControlLines:
             is_full or recorder.recording.has_failed or recorder.recording.was_killed or recorder.recording.is_used_up
         )
 
-    def take(self) -> None:
-        """Takes lines for the recorder."""
-        descriptor = self.input.descriptor
-        for line in self.input.lines() or []:
-            if descriptor is not None and self.terminal.is_of(descriptor):
+    def read_input(self) -> None:
+        """Reads lines of standard input. The terminal has shown them all by now."""
+        descriptor, before = self.input.descriptor, len(self.input.buffer.lines)
+        self.input.read()
+        if descriptor is not None and self.terminal.is_of(descriptor):
+            for _ in range(len(self.input.buffer.lines) - before):
                 self.terminal.note_typed()
-            self.take_line(line)
         if self.input.descriptor is None and descriptor is not None:
             self.loop.on_read(descriptor, None)
-            self.current().lines.is_ending = not self.is_open()
-            self.push(self.current())
-        self.hand_on()
+        self.end_input()
 
-    def take_asked(self, line: bytes, asker: Asker) -> None:
-        """Takes a line that came by the socket."""
-        self.take_line(line, asker)
-        self.hand_on()
+    def end_input(self) -> None:
+        """Ends the recorder's lines, where no more can come."""
+        if not self.is_open():
+            self.current().lines.is_ending = True
+            self.push(self.current())
 
     def take_line(self, line: bytes, asker: Asker = None) -> None:
+        """Takes a line, and hands on what can be."""
+        self.guard(line, asker, lambda: self.take(line, asker))
+        self.hand_on()
+
+    def guard(self, line: bytes, asker: Asker, call: Callable[[], None]) -> None:
+        """Does what a line asks for; a fault of ours in that is said, and ends nothing."""
+        try:
+            call()
+        except Exception as error:
+            self.say(asker, f"live: {os.fsdecode(line)}: {type(error).__name__}: {error}", False)
+
+    def take(self, line: bytes, asker: Asker) -> None:
         """Takes a line. A mark is noted at once, since it is of this moment."""
         text = mark_in(line)
         if text is not None:
@@ -114,7 +146,7 @@ class ControlLines:
         if not self.held:
             return
         while self.held and self.held[0].is_ready() and not self.waits(recorder):
-            self.pass_on(self.held.popleft(), recorder)
+            self.hand(self.held.popleft(), recorder)
         recorder.lines.is_ending = recorder.lines.is_ending or not self.is_open()
         self.push(recorder)
 
@@ -132,13 +164,17 @@ class ControlLines:
         """Ends the lines of a recorder, once it has those that wait."""
         is_last = recorder is self.current() and not recorder.recording.has_failed and not recorder.recording.was_killed
         while self.held and is_last:
-            self.pass_on(self.held.popleft(), recorder)
+            self.hand(self.held.popleft(), recorder)
         recorder.lines.is_ending = True
         self.push(recorder)
 
+    def hand(self, held: Held, recorder: Recorder) -> None:
+        """Does what a line says, or hands it on."""
+        self.guard(held.line, held.change.asker, lambda: self.pass_on(held, recorder))
+
     def pass_on(self, held: Held, recorder: Recorder) -> None:
         """Does what a line says, or hands it on; a filter that isn't made yet comes too late."""
-        too_late = f"live: {os.fsdecode(held.line)}: the recording ends"
+        too_late = f"live: {os.fsdecode(held.line)}: the recording takes no more lines"
         fault, asker = held.fault() if held.is_ready() else too_late, held.change.asker
         if fault:
             self.say(asker, fault, False)

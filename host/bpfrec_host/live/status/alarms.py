@@ -15,6 +15,10 @@ from bpfrec_host.live.status.view import ChannelView, View, lost
 ALARM, WARNING = "alarm", "warning"
 # Frames that were lost in so many seconds are an alarm; those of before are a warning.
 LOST_SECONDS = 60
+# An interface that brought no frames within so many seconds is an alarm; one that did before is a warning.
+AWAY_SECONDS = 60
+# How a sentence has what the capture notes of an interface.
+LINKS = {"no carrier": "without a carrier", "unread": "read by no recorder"}
 # A pipe that was full for so many milliseconds of so many seconds waits, which is an alarm from so many on.
 WAITED_MILLISECONDS, MOST_WAITED_MILLISECONDS, WAITED_SECONDS = 100, 1_000, 10
 # Without a frame for so many seconds a channel is silent.
@@ -68,6 +72,8 @@ def of_whole(view: View) -> Iterator[Alarm]:
     yield from of_clock(view)
     if view.unsigned:
         yield Alarm("unsigned", ALARM, None, "not signed", view.unsigned)
+    if view.unhashed:
+        yield Alarm("unhashed", ALARM, None, "not hashed", view.unhashed)
     if view.recording and view.recording.fault:
         text = f"{view.recording.name}: {view.recording.fault}: the recording's file isn't what the recorder writes"
         yield Alarm("damaged", ALARM, None, "damaged", text)
@@ -126,6 +132,7 @@ def of_channel(channel: ChannelView, state: str, limit: int) -> Iterator[Alarm]:
     yield from of_losses(channel)
     if state == "ended" or channel.has_ended:
         return
+    yield from of_link(channel)
     left = channel.filters_left()
     if left <= FILTERS_LEFT:
         yield of(channel, "filters", ALARM, f"{left} filters left", f"there is room for {left} more filters")
@@ -137,7 +144,7 @@ def of_channel(channel: ChannelView, state: str, limit: int) -> Iterator[Alarm]:
         yield of(channel, "no_counts", ALARM, "no counts", f"capture has counted nothing for {duration(unknown)}")
         return
     silent = channel.seconds if channel.frame_age is None else channel.frame_age
-    if silent > SILENT_SECONDS:
+    if silent > SILENT_SECONDS and not channel.link.is_away:
         yield of(channel, "silent", ALARM, "silent", f"no frame came for {duration(silent)}")
     yield from of_filter(channel, limit)
 
@@ -154,6 +161,22 @@ def of_losses(channel: ChannelView) -> Iterator[Alarm]:
     else:
         ago = f", the last {duration(age)} ago" if age is not None else ""
         yield of(channel, "was_lost", WARNING, "lost frames", f"frames were lost: {told}{ago}")
+
+
+def of_link(channel: ChannelView) -> Iterator[Alarm]:
+    """Whether the interface brings no frames, or didn't."""
+    link = channel.link
+    if link.age is None:
+        return
+    why, times = LINKS.get(link.why, link.why), f"{plural(link.interruptions, 'time')} in this run"
+    if link.is_away:
+        yield of(channel, "away", ALARM, link.why, f"its interface is {why}: {times}")
+        return
+    text = f"its interface was {why} until {duration(link.age)} ago: {times}"
+    if link.age < AWAY_SECONDS:
+        yield of(channel, "away", ALARM, f"was {link.why}", text)
+    else:
+        yield of(channel, "was_away", WARNING, f"was {link.why}", text)
 
 
 def of_pipe(channel: ChannelView) -> Iterator[Alarm]:

@@ -72,6 +72,8 @@ def channel_object(channel: ChannelView, alarms: tuple[Alarm, ...]) -> dict[str,
         "skipped": channel.counts and channel.counts.skipped,
         "waited": channel.counts and channel.counts.waited,
         "frame_age": rounded(channel.frame_age),
+        "away": channel.link.why if channel.link.is_away else None,
+        "interruptions": channel.link.interruptions,
         "has_ended": channel.has_ended,
         "history": {name: column(channel.history, at) for at, name in enumerate(Second._fields)},
     }

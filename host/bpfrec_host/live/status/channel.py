@@ -7,7 +7,7 @@ from typing import Optional
 
 from bpfrec_host.live.expressions import ALL
 from bpfrec_host.live.ports import Counts
-from bpfrec_host.live.status.view import HISTORY_SECONDS, ChannelView, FilterView, Second, Unkept, lost
+from bpfrec_host.live.status.view import HISTORY_SECONDS, ChannelView, FilterView, LinkView, Second, Unkept, lost
 
 # Counts that come closer together than this make no rate of their own, and those that are older tell none, in seconds.
 LEAST_BETWEEN, MOST_BETWEEN = 0.5, 2.5
@@ -30,6 +30,9 @@ class Channel:
         self.counted_at: Optional[float] = None
         self.frame_at: Optional[float] = None
         self.lost_at: Optional[float] = None
+        # Why it brings no frames, or brought none last, and since when that is so, or is over; how often it was so.
+        self.away, self.why, self.interruptions = False, "", 0
+        self.linked_at: Optional[float] = None
         # When it first came, or its last kept packet did, and what was offered then.
         self.begun = self.kept_at = now
         self.offered_when_kept = NOTHING
@@ -67,6 +70,11 @@ class Channel:
             self.rates = rates_between(self.base, (now, counts))
             self.base, self.passed = (now, counts), 0
         self.counts, self.counted_at = counts, now
+
+    def link(self, away: Optional[str], now: float) -> None:
+        """The interface brings no frames from now on, for this reason, or by None it does again."""
+        self.interruptions += away is not None
+        self.away, self.why, self.linked_at = away is not None, away or self.why, now
 
     def install(self, version: int, name: Optional[str]) -> None:
         """The filter is this version now, of this name; without one it is the program of the version before."""
@@ -157,6 +165,7 @@ class Channel:
             unkept=self.unkept(now),
             history=tuple(self.history),
             filter=self.filter,
+            link=LinkView(self.away, self.why, since(self.linked_at, now), self.interruptions),
         )
 
 

@@ -14,6 +14,7 @@ COUNTER, GAUGE = "counter", "gauge"
 # The names that an alarm may have, so that each has a sample while it isn't one.
 ALARMS = (
     "audit",
+    "away",
     "clock",
     "damaged",
     "disk",
@@ -24,10 +25,12 @@ ALARMS = (
     "silent",
     "sync",
     "sync_fault",
+    "unhashed",
     "unread",
     "unsigned",
     "waiting",
     "waits",
+    "was_away",
     "was_lost",
 )
 # A sample: its labels and its value; None where that isn't known.
@@ -79,6 +82,8 @@ CHANNEL_METRICS = (
         "For how long the pipe was full.",
         lambda channel: channel.counts and channel.counts.waited / 1_000,
     ),
+    Metric("away", GAUGE, "1 while its interface brings no frames, else 0.", lambda channel: int(channel.link.is_away)),
+    Metric("interruptions_total", COUNTER, "How often it brought none.", lambda channel: channel.link.interruptions),
     Metric("filter_version", GAUGE, "The version of the filter, in this recording.", lambda channel: channel.version),
     Metric(
         "filter_changes_total", COUNTER, "Changes of the filter in this run.", lambda channel: channel.filter.changes

@@ -54,8 +54,8 @@ class Model:
         self.synced_at: Optional[float] = None
         # How many recordings couldn't be forced to their disk, and what is said of the last.
         self.sync_faults, self.sync_fault = 0, ""
-        # What is said of the last facts that couldn't be signed.
-        self.unsigned = ""
+        # What is said of the last facts that couldn't be signed, and of the last recording without a hash.
+        self.unsigned = self.unhashed = ""
         self.channels: dict[int, Channel] = {}
         self.going: dict[int, Going] = {}
         self.current: Optional[int] = None
@@ -69,6 +69,8 @@ class Model:
         # The last marks, each with the moment when it was noted.
         self.marks: deque[tuple[float, MarkView]] = deque(maxlen=MOST_MARKS)
         self.clock = ClockView(ClockState())
+        # What was said last of interfaces, and when.
+        self.links: dict[Optional[str], tuple[Optional[str], float]] = {}
 
     # ---- what happens
 
@@ -79,15 +81,29 @@ class Model:
         self.synced_at = None
         kept = {}
         for setup in channels:
-            kept[setup.channel] = self.channels.get(setup.channel) or Channel(setup.channel, setup.interface, now)
+            kept[setup.channel] = self.channels.get(setup.channel) or self.new_channel(setup, now)
             kept[setup.channel].begin(setup.interface, setup.filter)
         self.channels = dict(sorted(kept.items()))
+
+    def new_channel(self, setup: Setup, now: float) -> Channel:
+        """A channel that comes, whose interface may be away already."""
+        made = Channel(setup.channel, setup.interface, now)
+        if setup.interface in self.links:
+            made.link(*self.links[setup.interface])
+        return made
 
     def capture_counted(self, interface: str, counts: Counts, now: float) -> None:
         """The capture has counted so much of an interface since the run began."""
         for channel in self.channels.values():
             if channel.interface == interface:
                 channel.count(counts, now)
+
+    def linked(self, interface: str, away: Optional[str], now: float) -> None:
+        """An interface brings no frames from now on, for this reason, or by None it does again."""
+        self.links[interface] = (away, now)
+        for channel in self.channels.values():
+            if channel.interface == interface:
+                channel.link(away, now)
 
     def filter_changed(self, channel: int, version: int, name: Optional[str]) -> None:
         """A channel's filter is this version in the recording that goes on, of this name; without one it is the program
@@ -198,6 +214,7 @@ class Model:
             clock=self.clock,
             is_ending=self.is_ending,
             unsigned=self.unsigned,
+            unhashed=self.unhashed,
         )
 
     def channel_views(self, now: float) -> tuple[ChannelView, ...]:

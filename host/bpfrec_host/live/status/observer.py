@@ -71,6 +71,10 @@ class Status(Observer):
         """The capture has counted so much of an interface since the run began."""
         self.model.capture_counted(interface, counts, now)
 
+    def linked(self, interface: str, away: Optional[str], now: float) -> None:
+        """An interface brings no frames from now on, for this reason, or by None it does again."""
+        self.model.linked(interface, away, now)
+
     def filter_changed(self, channel: int, version: int, name: Optional[str]) -> None:
         """A line changed a filter of the recording that goes on, to one of this name; None says that it was given the
         program that it had, as to close a packet."""
@@ -99,6 +103,10 @@ class Status(Observer):
     def signing_failed(self, path: str, why: str) -> None:
         """The facts of a recording that has ended couldn't be signed."""
         self.model.unsigned = f"{os.path.basename(path)} isn't signed: {why}"
+
+    def hashing_failed(self, path: str, why: str) -> None:
+        """A recording that has ended has no hash."""
+        self.model.unhashed = f"{os.path.basename(path)} has no hash: {why}"
 
     def clock_seen(self, state: ClockState, most: Optional[float]) -> None:
         """How right the clock is, and by how many seconds it may be off, where somebody asks for that."""

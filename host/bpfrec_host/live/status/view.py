@@ -48,6 +48,16 @@ class FilterView(NamedTuple):
     changes: int
 
 
+class LinkView(NamedTuple):
+    """Whether an interface brings no frames, why it does or did so last, for how long that has been so or over, and how
+    often it was so in this run."""
+
+    is_away: bool = False
+    why: str = ""
+    age: Optional[float] = None
+    interruptions: int = 0
+
+
 class ChannelView(NamedTuple):
     """A channel. `interface` is None where its feed is a file or a pipe, of which nobody counts what is offered.
     `version` is the last version of its filter in this recording, and `same_since` the first of the versions that ended
@@ -69,6 +79,7 @@ class ChannelView(NamedTuple):
     unkept: Optional[Unkept]
     history: tuple[Second, ...]
     filter: FilterView = FilterView("all", 0)
+    link: LinkView = LinkView()
 
     def filters_left(self) -> int:
         """For how many more versions of the filter the recording has room."""
@@ -152,7 +163,7 @@ class View(NamedTuple):
     """A run at the moment `now`. `state` is `waiting` where no recording goes on, `recording`, or `ended`; `uptime` is
     how long it has gone on, and `recordings` are the last that ended. `marks` are the last of the run; `host` is the
     name of the host, and `utc` the moment by its clock, in seconds since 1970. `is_ending` says that no other recording
-    will begin, and `unsigned` what is said of the last facts that couldn't be signed."""
+    will begin, and `unsigned` and `unhashed` what is said of the last recording that has no signature or no hash."""
 
     now: float
     state: str
@@ -169,6 +180,7 @@ class View(NamedTuple):
     clock: ClockView = ClockView(ClockState())
     is_ending: bool = False
     unsigned: str = ""
+    unhashed: str = ""
 
 
 def current(channel: ChannelView) -> Optional[Second]:

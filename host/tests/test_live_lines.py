@@ -1,0 +1,124 @@
+"""Tries how lines are taken: one by one, within bounds, whatever they say, and how the terminal learns of them."""
+
+from __future__ import annotations
+
+import os
+import time
+from collections.abc import Callable, Iterator
+from pathlib import Path
+from types import SimpleNamespace
+from typing import Any, Optional, cast
+
+import pytest
+from bpfrec_host.live.control.changes import Changes, Pipe
+from bpfrec_host.live.control.lines import MOST_HELD, MOST_MADE, ControlLines, ControlPorts
+from bpfrec_host.live.control.made_filters import MadeFilter
+from bpfrec_host.live.status import Terminal
+from support import judge, present
+
+
+class Loop:
+    """Calls nobody."""
+
+    def on_read(self, _: int, __: Optional[Callable[[], None]]) -> None:
+        """Nothing comes."""
+
+    on_room = on_read
+
+    def call_soon(self, _: Callable[[], None]) -> None:
+        """The test takes turns on its own."""
+
+
+class Lines:
+    """Lines of a run whose recorder takes them all, and what came of each, in order."""
+
+    def __init__(self, work: Path) -> None:
+        self.said: list[str] = []
+        self.delay = 0.0
+        self.made: list[MadeFilter] = []
+        self.recorder = SimpleNamespace(
+            lines=Pipe(), recording=SimpleNamespace(has_failed=False, was_killed=False, is_used_up=False)
+        )
+        given = SimpleNamespace(control=None, flush=None, is_prefiltered=False, is_rotating=lambda: False)
+        terminal = SimpleNamespace(is_of=lambda _: True, note_typed=lambda: self.said.append("typed"))
+        mark: Callable[..., None] = lambda text, _: self.said.append(f"mark {text.decode()}")
+        ports = ControlPorts(self.stop, self.stop, self.report, mark, self.said.append, cast(Terminal, terminal))
+        changes = Changes(cast(Any, SimpleNamespace(top=work)), False, self.make)
+        self.control = ControlLines(
+            cast(Any, Loop()), cast(Any, given), changes, lambda: cast(Any, self.recorder), ports
+        )
+        reads, self.writer = os.pipe()
+        self.control.input.descriptor = reads
+
+    def stop(self) -> None:
+        self.said.append("stop")
+
+    def report(self) -> list[str]:
+        time.sleep(self.delay)
+        raise ZeroDivisionError("a fault of ours")
+
+    def make(self, _: str, listing: Path) -> MadeFilter:
+        self.made.append(MadeFilter(listing))
+        return self.made[-1]
+
+    def come(self, data: bytes) -> None:
+        os.write(self.writer, data)
+        self.control.read_input()
+
+    def turn(self) -> None:
+        """As many turns of the loop as they need, of which each takes lines for a moment."""
+        for _ in range(20):
+            self.control.read()
+
+    def close(self) -> None:
+        os.close(self.writer)
+        os.close(present(self.control.input.descriptor))
+
+
+@pytest.fixture
+def lines(work: Path) -> Iterator[Lines]:
+    made = Lines(work)
+    yield made
+    made.close()
+
+
+def test_the_terminal_is_told_of_all_lines_that_it_shows_before_one_is_answered(lines: Lines) -> None:
+    """So that the table is written where it stands."""
+    lines.come(b"mark a\nmark b\nmar")
+    lines.turn()
+    judge("both were typed", lines.said == ["typed", "typed", "mark a", "mark b"], lines.said)
+    lines.come(b"k c\n")
+    lines.turn()
+    judge("and one more", lines.said[4:] == ["typed", "mark c"], lines.said)
+
+
+def test_a_fault_in_what_takes_a_line_is_said_and_ends_nothing(lines: Lines) -> None:
+    lines.come(b"status\nmark a\n")
+    lines.turn()
+    judge("it goes on", lines.said[2:] == ["live: status: ZeroDivisionError: a fault of ours", "mark a"], lines.said)
+
+
+def test_a_turn_takes_lines_for_a_moment(lines: Lines) -> None:
+    """Then all else comes, as signals."""
+    lines.delay = 0.002
+    lines.come(b"status\n" * 500)
+    lines.control.read()
+    judge("some are taken", 1 <= 500 - len(lines.control.input.buffer.lines) < 50, len(lines.said))
+
+
+def test_few_filters_are_made_at_once_and_marks_do_not_wait_for_them(lines: Lines) -> None:
+    lines.come(b"set 1 udp\n" * 100 + b"mark a\n")
+    lines.turn()
+    judge(f"{MOST_MADE} are made", len(lines.made) == MOST_MADE == len(lines.control.held), len(lines.made))
+    judge("the mark is noted", lines.said[-1] == "mark a", lines.said)
+    for made in lines.made[:2]:
+        made.has_ended = True
+    lines.turn()
+    judge("as many more as were made", len(lines.made) == MOST_MADE + 2 and len(lines.control.held) == MOST_MADE)
+    judge("it is within what may wait", MOST_MADE < MOST_HELD)
+
+
+def test_a_filter_with_a_zero_byte_is_none_in_words(lines: Lines) -> None:
+    lines.come(b"set 1 a\0b\n")
+    lines.turn()
+    judge("the recorder gets it, and refuses it", lines.made == [] and len(lines.recorder.lines.unanswered) == 1)
