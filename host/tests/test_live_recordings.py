@@ -74,18 +74,31 @@ def test_an_out_that_is_discarded_is_removed_where_it_is_still_there(work: Path)
     recorder.close()
 
 
-@pytest.mark.parametrize("is_new", [True, False], ids=["new", "there"])
-def test_a_whole_file_that_was_there_stays_where_its_making_fails(work: Path, is_new: bool) -> None:
+@pytest.mark.parametrize("status", [0, 1], ids=["whole", "failed"])
+@pytest.mark.parametrize("is_there", [True, False], ids=["there", "new"])
+def test_a_file_gets_its_name_once_it_is_whole(work: Path, is_there: bool, status: int) -> None:
+    """One that was there stays; what failed is removed."""
     err: list[str] = []
     files = WholeFiles([], Files(), cast(Loop, None), cast(Guard, None), err.append)
-    out, kept = work / "x.ch11.ch10", Kept(str(work / "x.ch11"), 0, 0)
-    out.write_text("another's")
+    out, following, kept = work / "x.ch11.ch10", work / "x.ch11.ch10.new", Kept(str(work / "x.ch11"), 0, 0)
+    following.write_text("this one's")
+    if is_there:
+        out.write_text("another's")
     with tempfile.TemporaryFile() as told:
         told.write(b"chapter11: why\n")
-        files.end(Job(kept, str(out), is_new, told), 1)
-    judge("what was there stays alone", out.exists() != is_new)
-    line = f"live: {out} isn't made: chapter11: why"
-    judge("it is said, and goes with no recording", (kept.beside, err, files.status) == ([], [line], 1), err)
+        files.end(Job(kept, str(out), str(following), told), status)
+    left = {it.name: it.read_text() for it in work.glob("x.*")}
+    is_named = status == 0 and not is_there
+    wanted = "this one's" if is_named else "another's"
+    judge("it has its name", left == ({out.name: wanted} if is_named or is_there else {}), left)
+    line = (
+        f"{out}: chapter11: why"
+        if is_named
+        else f"{out} isn't made: " + ("chapter11: why" if status else "File exists")
+    )
+    judge("it is said", err == [f"live: {line}"], err)
+    judge("and goes with its recording", kept.beside == ([str(out)] if is_named else []), kept)
+    judge("the status is its own", files.status == (0 if is_named else status or 3), files.status)
 
 
 def test_a_recording_that_has_to_go_waits_for_no_whole_file(work: Path) -> None:
@@ -95,7 +108,7 @@ def test_a_recording_that_has_to_go_waits_for_no_whole_file(work: Path) -> None:
     files = WholeFiles([], Files(), cast(Loop, None), cast(Guard, None), err.append)
     first, second = (Kept(str(work / name), 0, 0) for name in ("a", "b"))
     with tempfile.TemporaryFile() as told:
-        files.job = Job(first, f"{work}/a.ch10", True, told)
+        files.job = Job(first, f"{work}/a.ch10", f"{work}/a.ch10.new", told)
         files.waiting.append(second)
         judge("it is awaited", files.awaited() == f"{work}/a.ch10, the whole file, and 1 more", files.awaited())
         for kept in (second, first):

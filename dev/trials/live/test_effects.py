@@ -26,18 +26,24 @@ FACTS = r"open_new (write_new )+force_data_new rename_facts open_folder force_fo
 FILES = {
     "out": r"open_out open_out lock_out empty_out (write_out |force_data_out )+force_out (force_data_out )+",
     "facts": rf"open_folder force_folder ({FACTS}){{2,}}",
-    "whole": r"open_whole open_whole lock_whole empty_whole open_folder force_folder (write_whole )+force_whole ",
+    "whole": r"open_newwhole open_newwhole lock_newwhole empty_newwhole open_folder force_folder (write_newwhole )+"
+    r"force_newwhole rename_whole open_folder force_folder ",
 }
 # Of the last facts OUT is on its disk before. Then they get its hash, their signature is made of them, and the whole
 # file of OUT and facts.
 SIGNATURE = r"open_newsignature write_newsignature force_data_newsignature rename_signature open_folder force_folder "
-END = rf"force_data_out ({FACTS}){{2}}{SIGNATURE}open_whole "
+END = rf"force_data_out ({FACTS}){{2}}{SIGNATURE}open_newwhole "
 
 
 def calls_of(work: Path, out: Path) -> list[str]:
     """The calls on the files that are made, and on their folder; not those that only read a file."""
-    names = {str(out): "out", f"{out}.json.new": "new", f"{out}.json": "facts", f"{out}.ch10": "whole"}
-    names |= {f"{out}.json.sig.new": "newsignature", f"{out}.json.sig": "signature", str(work): "folder"}
+    names = {str(out): "out", f"{out}.json.new": "new", f"{out}.json": "facts", f"{out}.ch10.new": "newwhole"}
+    names |= {
+        f"{out}.ch10": "whole",
+        f"{out}.json.sig.new": "newsignature",
+        f"{out}.json.sig": "signature",
+        str(work): "folder",
+    }
     found = []
     for line in (work / "calls").read_text().splitlines():
         what, name, number = line.rsplit(" ", 1)[0].split(" ", 1) + [line.rsplit(" ", 1)[1]]
@@ -65,11 +71,11 @@ def test_each_file_of_a_run_is_forced_to_its_disk_with_its_name(work: Path, seen
     status, told = running.ended()[0], running.told()
     judge_quietly("it records", status == 0 and nothing_left(work), told)
     calls = calls_of(work, out)
-    whole = calls.index("open_whole")
+    whole = calls.index("open_newwhole")
     parts = {
         "out": of_files(calls, "out"),
         "facts": of_files(calls[: calls.index("open_newsignature")], "new", "facts", "folder"),
-        "whole": of_files(calls[whole:], "whole", "folder", "new", "facts"),
+        "whole": of_files(calls[whole:], "newwhole", "whole", "folder", "new", "facts"),
     }
     for name, wanted in FILES.items():
         judge(f"the calls on {name}", re.fullmatch(wanted, parts[name]), parts[name])

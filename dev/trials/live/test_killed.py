@@ -25,11 +25,12 @@ from recordings import (
     recordings,
     runs,
 )
-from support import BPFREC, Running, judge, judge_quietly, outcome, present, wait_for
+from support import BPFREC, CAPTURE, Running, judge, judge_quietly, outcome, present, wait_for
 
 WANTED = {"bin/bpfrec": "make build", "bin/capture": "make build", "ip": "iproute2"}
 pytestmark = [pytest.mark.timed, pytest.mark.usefixtures("namespace")]
 PAUSE, DRAWN = 0.5, 2
+WANTED_KILLED = [(it, "failed", None) for it in ("rx0", "rx1")]
 
 
 def kill_recorder(out: Path, file: Path) -> None:
@@ -175,3 +176,19 @@ def test_a_recording_that_none_follows_ends_with_its_recorder(work: Path) -> Non
     kill_recorder(out, out)
     status, told = running.ended()[0], running.told()
     judge("it ends", status == 128 + signal.SIGKILL and "the next recording begins" not in told, told)
+
+
+@pytest.mark.parametrize("words", [[], ["--every", 1_000]], ids=["one", "every"])
+def test_facts_say_since_when_a_killed_capture_brings_nothing(work: Path, words: list) -> None:
+    """It can't note what it held, so they don't look whole."""
+    out = work / "cut.ch11"
+    running = begin(work, out, "--quiet", *words)
+    send_together(0, 50)
+    time.sleep(PAUSE)
+    os.kill(process_of(out, CAPTURE, ""), signal.SIGKILL)
+    told = running.ended()[1], running.told()
+    file = recordings(work, "cut")[0] if words else out
+    found = facts_of(file)["interruptions"]
+    judge("all interfaces", [(it["interface"], it["why"], it["to"]) for it in found] == WANTED_KILLED, (found, told))
+    second = 10_000_000
+    judge("since the kill", all(PAUSE * second / 2 < it["from"] < 60 * second for it in found), found)

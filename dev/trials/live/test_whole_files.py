@@ -23,6 +23,10 @@ def whole_file(out: Path) -> Path:
     return Path(f"{out}.ch10")
 
 
+def in_work(out: Path) -> Path:
+    return Path(f"{whole_file(out)}.new")
+
+
 def judge_whole(work: Path, out: Path) -> None:
     """The file beside a recording is right, and has its frames."""
     done = outcome(CHECK, whole_file(out))
@@ -163,12 +167,24 @@ def test_a_second_signal_ends_what_is_being_made(work: Path) -> None:
     adds = played_bpfrec(work, "chapter11) exec sleep 600")
     running = begin(work, out, "--quiet", "--chapter11", adds=adds)
     running.interrupt()
-    wait_for("it is approved", lambda: is_approved(out) and whole_file(out).exists())
+    wait_for("it is approved", lambda: is_approved(out) and in_work(out).exists())
     time.sleep(1.2)
     running.interrupt()
     status, told = running.ended()[0], running.told()
     judge("it ends", status != 0 and "isn't made: the run was ended" in told, (status, told))
-    judge("without its file", not whole_file(out).exists() and is_approved(out))
+    judge("without its file", not whole_file(out).exists() and not in_work(out).exists() and is_approved(out))
+
+
+def test_a_killed_run_leaves_no_file_of_that_name(work: Path) -> None:
+    """Of one that was empty an audit would say yes."""
+    out = work / "killed.ch11"
+    adds = played_bpfrec(work, "chapter11) exec sleep 600")
+    running = begin(work, out, "--quiet", "--chapter11", adds=adds)
+    running.interrupt()
+    wait_for("it is in work", in_work(out).exists)
+    running.process.kill()
+    running.process.wait()
+    judge("it has no name yet", not whole_file(out).exists() and is_approved(out))
 
 
 def test_options_that_contradict_are_refused(work: Path) -> None:

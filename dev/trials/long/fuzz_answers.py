@@ -33,7 +33,7 @@ REPORT = rf"(channel \d+ versions \d+ offered \d+ kept \d+ ({ENDING})\n)+wrote \
 ANSWERS = r"(installed \d+ \d+ \d+\n|refused \d+ (Line|File|Listing|Program|NoChannel|VersionsFull)\n)*"
 REFUSALS = r"NoChannel|Closed|RingFull|NothingToSend|NothingToWrite|VersionsFull|CountFull"
 EVENT = (
-    r"took \d+ \d+ \d+|installed \d+ \d+|sent (program \d+|frames \d+|end)|wrote [0-9a-f]+|"
+    r"took \d+ \d+ \d+|timed|installed \d+ \d+|sent (program \d+|frames \d+|end)|wrote [0-9a-f]+|"
     rf"closed \d+ \d+|refused [1-7] ({REFUSALS})"
 )
 EVENTS = rf"(({EVENT})\n)*"

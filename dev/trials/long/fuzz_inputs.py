@@ -103,13 +103,24 @@ def set_data_sum(recording: bytearray, at: int, end: int) -> None:
         recording[end - 4 : end] = sum_of(recording[at + 24 : end - 4], 4).to_bytes(4, "little")
 
 
-def frames_in(feed: bytes) -> Iterator[Frame]:
-    """The frames of a feed, up to its first fault."""
+def with_time_marks(draw: Random, frames: list[Frame], span: int) -> list[Frame]:
+    """The same with time marks among them, which are frames of no byte."""
+    found: list[Frame] = []
+    for counter, marks, content in frames:
+        while draw.random() < 0.3:
+            found.append(((counter + draw.choice([0, 1, span - 1, span, -span])) % 2**48, 0, b""))
+        found.append((counter, marks, content))
+    return found
+
+
+def frames_in(feed: bytes, has_time_marks: bool) -> Iterator[Frame]:
+    """The frames and time marks of a feed, up to its first fault."""
     at = 0
     while len(feed) - at >= 9:
         counter, marks = int.from_bytes(feed[at : at + 6], "little"), feed[at + 6]
         length = int.from_bytes(feed[at + 7 : at + 9], "little")
-        if not 18 <= length <= 16383 or marks > 3 or len(feed) - at - 9 < length:
+        is_time_mark = has_time_marks and length == marks == 0
+        if not (18 <= length <= 16383 or is_time_mark) or marks > 3 or len(feed) - at - 9 < length:
             return
         yield counter, marks, feed[at + 9 : at + 9 + length]
         at += 9 + length

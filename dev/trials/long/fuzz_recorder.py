@@ -1,12 +1,22 @@
 """The commands that record, `record` and `simulate`, on drawn and damaged inputs: what they write must agree; for fuzz.py."""
 
 import re
-from collections.abc import Iterable
+from collections.abc import Iterable, Iterator
 from random import Random
 
 from frames import feed_of
 from fuzz_answers import Case, Run, Wrong, judge_frames
-from fuzz_inputs import ODD_OUTPUTS, Corpus, Frame, damaged, drawn_frames, drawn_program, frames_in, listing_of
+from fuzz_inputs import (
+    ODD_OUTPUTS,
+    Corpus,
+    Frame,
+    damaged,
+    drawn_frames,
+    drawn_program,
+    frames_in,
+    listing_of,
+    with_time_marks,
+)
 from fuzz_readings import readings, refused_output
 from support import present
 
@@ -16,8 +26,8 @@ def feeds(run: Run, draw: Random, corpus: Corpus) -> None:
     program = drawn_program(draw)
     if not program or draw.random() < 0.5:
         program = draw.choice([[[6, 0, 0, 1]], [[0x28, 0, 0, 12], [0x15, 0, 1, 2054], [6, 0, 0, 1], [6, 0, 0, 0]]])
-    frames = drawn_frames(draw)
-    feed = feed_of(frames)
+    frames, span = drawn_frames(draw), draw.choice([0, 0, 1, 1_000, 2**47, 2**48 - 1])
+    feed = feed_of(with_time_marks(draw, frames, span) if span else frames)
     if draw.random() < 0.3:
         feed = damaged(draw, feed)
     net, speed, most = draw.randrange(256), draw.randrange(16), draw.choice([0, 1, 5, 1000])
@@ -26,6 +36,7 @@ def feeds(run: Run, draw: Random, corpus: Corpus) -> None:
     settings = (
         f"limit = {limit}\nring = {draw.choice([1, 4, 64])}\nversion = {version}\n[[channel]]\nid = 7\n"
         f'feed = "feed"\nfilter = "filter"\nnet = {net}\nspeed = {speed}\nmax = {most}\n'
+        f"span = {span}\n"
     )
     files = {"settings": settings.encode(), "feed": feed, "filter": listing}
     lines = draw.choice([b"", b"x\n", b"set 9 filter\n", b"set 7 nowhere\nset 7 feed\n", b"set 7 /dev/zero\nset 7 .\n"])
@@ -41,26 +52,37 @@ def feeds(run: Run, draw: Random, corpus: Corpus) -> None:
         raise Wrong(f"an OUT that can't be looked at: {refused.errors}")
     recorded = run(Case(["record", "settings", "out"], files, lines))
     recording = present(recorded.file("out"))
-    judge_frames(recording, list(frames_in(feed)), net, speed, recorded.output)
+    taken = list(frames_in(feed, span > 0))
+    judge_frames(recording, taken, net, speed, recorded.output)
     readings(run, recording)
     audited = run(Case(["audit", "in"], {"in": recording}))
     if audited.status != 0:
         raise Wrong(f"a recording isn't approved: {audited.output}")
     head = [f"recorder {limit} 4096 {version}", f"channel 7 {net} {speed} {most} {listing.decode()}"]
-    if simulated(run, head, frames_in(feed), recorded.output) != recording:
+    head += [f"span 7 {span}"] * (span > 0)
+    if simulated(run, head, taken, recorded.output) != recording:
         raise Wrong("record and simulate wrote other bytes")
 
 
 def simulated(run: Run, head: list[str], frames: Iterable[Frame], report: str) -> bytes:
     """What a script writes that takes the frames which a report says were offered, as many pieces as it says."""
     offered, pieces = int(report.split()[5]), int(report.split()[-2])
-    script = [
-        *head,
-        *(f"take 7 {counter} {marks} {content.hex()}" for counter, marks, content in list(frames)[:offered]),
-    ]
+    script = [*head, *events(frames, offered)]
     script += ["close 7", *["send 7", "write 7"] * pieces]
     done = run(Case(["simulate", "in"], {"in": "\n".join(script).encode()}))
     return bytes.fromhex("".join(re.findall(r"wrote (\w+)", done.output)))
+
+
+def events(frames: Iterable[Frame], offered: int) -> Iterator[str]:
+    """The lines of a script for so many frames, and for the time marks ahead of and among them."""
+    for counter, marks, content in frames:
+        if not content:
+            yield f"time 7 {counter}"
+        elif offered:
+            yield f"take 7 {counter} {marks} {content.hex()}"
+            offered -= 1
+        else:
+            return
 
 
 def scripts(run: Run, draw: Random, corpus: Corpus) -> None:
@@ -76,12 +98,14 @@ def scripts(run: Run, draw: Random, corpus: Corpus) -> None:
             "close 1",
             "send 2",
             "take 1 5 4 00",
+            "time 1 9",
         ]
         script = "\n".join(
             [
                 "recorder 16424 2 8",
                 f"channel 1 0 0 9 {program}",
-                *draw.choices(events, [9, 3, 6, 6, 1, 1, 0.1], k=draw.randrange(60)),
+                *draw.choice([[], ["span 1 4"]]),
+                *draw.choices(events, [9, 3, 6, 6, 1, 1, 0.1, 3], k=draw.randrange(60)),
             ]
         ).encode()
     run(Case(["simulate", "in"], {"in": script}))

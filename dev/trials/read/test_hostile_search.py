@@ -6,7 +6,7 @@ from pathlib import Path
 
 import pytest
 from frames import COMPUTER, FRAMES, body_of, header_of, packet_of, program_packet
-from reading import facts_of, salvaged
+from reading import ch11, facts_of, salvaged
 from rows import rows_of
 from support import INFO, MEBIBYTE, SALVAGE, judge, outcome
 
@@ -86,3 +86,17 @@ def test_many_damaged_places_take_seconds(work: Path) -> None:
     facts = facts_of(work / "many.ch11")
     judge("all frames are there", facts["channels"]["1"]["frames"] == 12_000, facts["damaged_count"])
     judge("soon", time.monotonic() - begun < PATIENCE)
+
+
+def test_a_header_is_judged_once_in_each_damaged_place(monkeypatch: pytest.MonkeyPatch, work: Path) -> None:
+    """So eight megabytes of headers, each a damaged place, take seconds."""
+    (work / "headers.ch11").write_bytes((header(FRAMES, 28, 0) + bytes(4)) * 1_000)
+    judged: list[bytes] = []
+    monkeypatch.setattr(
+        "bpfrec_host.formats.ch11.held.header_or_fault",
+        lambda head: judged.append(head) or ch11.packet.header_or_fault(head),
+    )
+    with open(work / "headers.ch11", "rb") as file:
+        places = list(ch11.Reader(file).pieces())
+    judge("each is a damaged place", len(places) == 1_000, len(places))
+    judge("each is judged once", len(judged) == 1_000, len(judged))

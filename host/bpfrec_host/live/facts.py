@@ -2,8 +2,6 @@
 
 from __future__ import annotations
 
-import errno
-import itertools
 import json
 import os
 import socket
@@ -17,14 +15,12 @@ from bpfrec_host.formats.listing import listing_in
 from bpfrec_host.live.adapters import adapter_of
 from bpfrec_host.live.arguments import Arguments
 from bpfrec_host.live.folder import Folder
-from bpfrec_host.live.names import FOLLOWING, Files, facts_path, remove
+from bpfrec_host.live.names import Files, created_beside, facts_path, remove
 from bpfrec_host.live.noted import marks_of
 from bpfrec_host.live.synchronisation import synchronisation
 from bpfrec_host.streams import force_folder
 
 Entry = dict[str, Any]
-# So many names are tried for a file that is to take the place of the facts, at most.
-MOST_NAMES = 1_000
 # Where a run was killed, as shells have it.
 KILLED_STATUS = 137
 # Where a recording's folder has the filters that it began with.
@@ -175,17 +171,6 @@ def replace(path: str, files: Files, data: bytes) -> None:
         remove(following)
         raise
     force_folder(os.path.dirname(path) or ".")
-
-
-def created_beside(path: str, files: Files) -> tuple[str, int]:
-    """Creates a file that is to take another one's place, under a name that nobody has: that and its descriptor."""
-    for number in itertools.chain([""], range(2, MOST_NAMES)):
-        following = f"{path}{FOLLOWING}{number}"
-        try:
-            return following, Files(files.mode).create(following)
-        except FileExistsError:
-            continue
-    raise FileExistsError(errno.EEXIST, os.strerror(errno.EEXIST), f"{path}{FOLLOWING}")
 
 
 def lines_of(path: Path) -> Optional[list[str]]:

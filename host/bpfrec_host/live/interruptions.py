@@ -7,8 +7,8 @@ from typing import Any, NamedTuple, Optional
 
 # So many are kept of the recordings that go on; further ones lengthen the last one of their interface.
 MOST_KEPT = 1_000
-# Why, where it isn't the interface: no recorder reads its frames.
-UNREAD = "unread"
+# Why, where it isn't the interface: no recorder reads its frames, or nothing captures them any more.
+UNREAD, FAILED = "unread", "failed"
 
 
 class Link(NamedTuple):

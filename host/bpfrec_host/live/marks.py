@@ -111,7 +111,7 @@ class Marks:
             return f"{out} has no facts, in which it would stand"
         if len(marks) >= MAX_NOTED_MARKS:
             return f"{out} has {MAX_NOTED_MARKS:,} marks, and can't have more"
-        mark = Noted(self.counter_of(typed), typed.moment, typed.text)
+        mark = Noted(self.counter_of(typed.steady), typed.moment, typed.text)
         try:
             note(recorder.made, mark)
         except OSError as error:
@@ -124,8 +124,8 @@ class Marks:
         self.noted(recorder, told)
         return None
 
-    def counter_of(self, typed: Typed) -> int:
+    def counter_of(self, steady: int) -> int:
         """The counter of a moment, as the capture counts by the host's clock."""
         self.begin_clock()
         first = nanoseconds_of(self.events.origins[0].origin) or 0
-        return ((typed.steady + (self.ahead or 0) - first) // NANOSECONDS_A_TICK) & MAX_COUNTER
+        return ((steady + (self.ahead or 0) - first) // NANOSECONDS_A_TICK) & MAX_COUNTER

@@ -2,6 +2,8 @@
 
 from __future__ import annotations
 
+import errno
+import itertools
 import os
 import stat
 from typing import NamedTuple, Optional
@@ -10,8 +12,9 @@ from bpfrec_host.formats.signatures import signature_path
 
 # Who may read a recording and its facts, but for what umask takes away.
 USUAL_MODE = 0o640
-# What a file's name ends with that is to take the place of facts.
+# What a file's name ends with that gets its own once it is whole, and how many such names are tried.
 FOLLOWING = ".new"
+MOST_NAMES = 1_000
 
 
 class Refusal(Exception):
@@ -101,6 +104,17 @@ class Files(NamedTuple):
                 raise Refusal(3, f"live: {path} is there: {advice(path, self.is_forced)}")
         if os.path.isdir(out):
             raise Refusal(3, f"file {out}")
+
+
+def created_beside(path: str, files: Files) -> tuple[str, int]:
+    """Creates a file that is to take another one's place, under a name that nobody has: that and its descriptor."""
+    for number in itertools.chain([""], range(2, MOST_NAMES)):
+        following = f"{path}{FOLLOWING}{number}"
+        try:
+            return following, Files(files.mode).create(following)
+        except FileExistsError:
+            continue
+    raise FileExistsError(errno.EEXIST, os.strerror(errno.EEXIST), f"{path}{FOLLOWING}")
 
 
 def advice(path: str, is_forced: bool) -> str:

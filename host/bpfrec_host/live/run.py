@@ -27,6 +27,7 @@ from bpfrec_host.live.flush import Flush
 from bpfrec_host.live.folder import Folder
 from bpfrec_host.live.guard import Guard, open_and_close
 from bpfrec_host.live.hashes import ended_of
+from bpfrec_host.live.interruptions import FAILED, Link
 from bpfrec_host.live.loop import Loop, Signals
 from bpfrec_host.live.machine import Machine
 from bpfrec_host.live.marks import Marks
@@ -322,9 +323,19 @@ class Run:
     def end_capture(self, status: int) -> None:
         """The capture has ended."""
         self.look_at_events()
+        if status > KILLED:
+            self.note_killed_capture()
         for line in self.capture.end(status):
             self.err(line)
         self.machine.capture_ended(status, time.monotonic())
+
+    def note_killed_capture(self) -> None:
+        """Notes that no interface brings frames any more, which a capture that was killed couldn't."""
+        feeds = [it.about.feed for it in self.recordings.all.values()]
+        if self.events.origins and feeds:
+            counter, feed = self.marks.counter_of(time.monotonic_ns()), max(feeds)
+            for it in self.folder.routes:
+                self.events.interruptions.take(Link(it.interface, counter, FAILED, feed))
 
     def look_at_events(self) -> None:
         """Takes what the capture has noted."""

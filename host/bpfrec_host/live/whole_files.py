@@ -1,10 +1,12 @@
 """Whole Chapter 11 files of a run's recordings: each is made once its recording is approved and on its disk.
 
-One is made at a time, by bpfrec-chapter11, which ends with live. What goes wrong is told, and spoils no recording.
+One is made at a time, by bpfrec-chapter11, which ends with live, and gets its name once it is whole. What goes wrong is
+told, and spoils no recording.
 """
 
 from __future__ import annotations
 
+import errno
 import os
 import subprocess
 import sys
@@ -19,8 +21,9 @@ from bpfrec_host.live.engine import FILE_FAULT
 from bpfrec_host.live.guard import Guard
 from bpfrec_host.live.loop import Loop
 from bpfrec_host.live.model import KILLED
-from bpfrec_host.live.names import Files, remove, whole_path
+from bpfrec_host.live.names import Files, created_beside, remove, whole_path
 from bpfrec_host.live.retention import Kept
+from bpfrec_host.streams import force_folder_of
 
 # Runs the tool from where this package is: a checkout, or the one file of the installed tools.
 CODE = (
@@ -37,12 +40,12 @@ MEBIBYTE = 1 << 20
 
 @dataclass
 class Job:
-    """A file that is being made: of which recording, whether there was none before, and what the tool prints into. One
-    whose recording has to go has the reason, and what removes that."""
+    """A file that is being made: of which recording, under which name until it is whole, and what the tool prints into.
+    One whose recording has to go has the reason, and what removes that."""
 
     kept: Kept
     out: str
-    is_new: bool
+    following: str
     told: IO[bytes]
     has_to_go: str = ""
     remove: Callable[[], None] = field(default=lambda: None)
@@ -99,22 +102,32 @@ class WholeFiles:
         """Starts the tool for a recording, or tells that this can't be done."""
         out = whole_path(kept.out)
         try:
-            is_new = not os.path.lexists(out)
-            os.close(self.files.create(out))
-            job = Job(kept, out, is_new, tempfile.TemporaryFile())
+            self.refuse_there(out)
+            following, descriptor = created_beside(out, self.files)
+            os.close(descriptor)
+            job = Job(kept, out, following, tempfile.TemporaryFile())
             self.child, self.job = self.started(job), job
         except OSError as error:
             self.fail(out, error.strerror or str(error), FILE_FAULT)
             return
         self.loop.follow(self.child, lambda status: self.end(job, status))
 
+    def refuse_there(self, out: str) -> None:
+        """Refuses a file that came meanwhile, which --force alone replaces."""
+        if os.path.lexists(out) and not self.files.is_forced:
+            raise FileExistsError(errno.EEXIST, os.strerror(errno.EEXIST), out)
+
     def started(self, job: Job) -> children.Child:
         """Starts the tool, which prints into a file."""
-        paths = (os.path.abspath(job.kept.out), os.path.abspath(job.out))
+        paths = (os.path.abspath(job.kept.out), os.path.abspath(job.following))
         with open(self.guard.lifeline_of_live(), "rb", buffering=0) as lifeline:
             manner = children.Manner([self.guard.all], ends_with=lifeline.fileno())
             streams = (subprocess.DEVNULL, job.told, subprocess.STDOUT)
-            return children.start([*COMMAND, "--force", *(self.options or []), "--", *paths], streams, manner)
+            try:
+                return children.start([*COMMAND, "--force", *(self.options or []), "--", *paths], streams, manner)
+            except OSError:
+                remove(job.following)
+                raise
 
     def end(self, job: Job, status: int) -> None:
         """The tool has ended."""
@@ -124,20 +137,30 @@ class WholeFiles:
             lines = os.fsdecode(job.told.read(MOST_TOLD)).splitlines()
         if status:
             self.fail(job.out, self.why_not_made(job, status, lines), 0 if job.has_to_go else status)
-            if job.is_new:
-                remove(job.out)
         else:
-            self.err(f"live: {job.out}: {lines[-1] if lines else 'made'}")
-            job.kept.beside.append(job.out)
+            self.name(job, lines[-1] if lines else "made")
+        remove(job.following)
         job.remove()
         self.begin_next()
+
+    def name(self, job: Job, told: str) -> None:
+        """Gives a file that is whole its name."""
+        try:
+            self.refuse_there(job.out)
+            os.replace(job.following, job.out)
+            force_folder_of(job.out)
+        except OSError as error:
+            self.fail(job.out, error.strerror or str(error), FILE_FAULT)
+            return
+        self.err(f"live: {job.out}: {told}")
+        job.kept.beside.append(job.out)
 
     def why_not_made(self, job: Job, status: int, lines: list[str]) -> str:
         """Why the tool made no file."""
         ended = f"it was ended by signal {status - KILLED}" if status > KILLED else f"status {status}"
         why = lines[-1] if lines else ended
-        if status == FILE_FAULT and why == f"file {os.path.abspath(job.out)}":
-            why = f"{why}: {why_unwritten(job.out)}"
+        if status == FILE_FAULT and why == f"file {os.path.abspath(job.following)}":
+            why = f"file {os.path.abspath(job.out)}: {why_unwritten(job.following)}"
         return job.has_to_go or (GIVEN_UP if self.is_given_up else why)
 
     def fail(self, out: str, why: str, status: int = 0) -> None:

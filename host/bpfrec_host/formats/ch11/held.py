@@ -4,8 +4,9 @@ from __future__ import annotations
 
 import os
 import stat
-from typing import BinaryIO, Optional
+from typing import BinaryIO, Optional, Union
 
+from bpfrec_host.formats.ch11.packet import Header, header_or_fault
 from bpfrec_host.formats.limits import HEADER_LEN
 
 # How many bytes are read at once, where fewer are needed, and at most.
@@ -22,6 +23,8 @@ class Held:
         found = os.fstat(file.fileno())
         # How many bytes are still to be read, where that is known.
         self.left = found.st_size if stat.S_ISREG(found.st_mode) and found.st_size else None
+        # The place that was looked at last, and the header there or its fault: a search asks for them again.
+        self.seen: tuple[int, Union[Header, tuple[int, str], None]] = (0, None)
 
     def go_to(self, at: int) -> None:
         """Goes on to a place of a regular file, which isn't before this one."""
@@ -74,3 +77,12 @@ class Held:
             rest = self.rest()
             self.fill(offset + HEADER_LEN if rest is None else max(min(offset + HEADER_LEN, rest), 0))
         return bytes(self.held[offset : offset + HEADER_LEN])
+
+    def header(self, offset: int) -> Union[Header, tuple[int, str], None]:
+        """The header that many bytes on, or its fault; None where the input ends before."""
+        place, seen = self.seen
+        if seen is None or place != self.at + offset:
+            head = self.head(offset)
+            seen = header_or_fault(head) if len(head) == HEADER_LEN else None
+            self.seen = self.at + offset, seen
+        return seen

@@ -25,6 +25,8 @@ WORDS = struct.Struct("<11H")
 PIECE_LEN = 4096
 EVERY_OTHER_WORD = int.from_bytes(b"\xff\xff\xff\xff\0\0\0\0" * (PIECE_LEN // 8), "little")
 FEW_LONGS = 64
+FEW_BYTES = 256
+LONGS = [struct.Struct(f"<{count}I") for count in range(FEW_BYTES // 4 + 1)]
 MAX_LONG = (1 << 64) - 1
 
 
@@ -91,7 +93,10 @@ class Damage(NamedTuple):
 def word_sum(data: Union[bytes, bytearray, memoryview]) -> int:
     """The sum of the little-endian words of 32 bits of these bytes, which are whole words, modulo 2^32. Python adds
     long numbers fastest: of each piece every other word is taken out, so that each sum has room in 64 bits; the sums
-    are folded to few, and the remainder by 2^64 - 1 adds these."""
+    are folded to few, and the remainder by 2^64 - 1 adds these. Of few bytes that isn't worth it."""
+    if len(data) <= FEW_BYTES:
+        few: int = sum(LONGS[len(data) // 4].unpack_from(data))
+        return few % (1 << 32)
     sums = 0
     for at in range(0, len(data), PIECE_LEN):
         number = int.from_bytes(data[at : at + PIECE_LEN], "little")

@@ -5,7 +5,7 @@ from __future__ import annotations
 from typing import BinaryIO, Iterator, Union
 
 from bpfrec_host.formats.ch11.held import Held
-from bpfrec_host.formats.ch11.packet import Damage, Fault, Header, Packet, body_fault, header_or_fault, word_sum
+from bpfrec_host.formats.ch11.packet import Damage, Fault, Header, Packet, body_fault, word_sum
 from bpfrec_host.formats.ch11.search import Search
 from bpfrec_host.formats.limits import CHECKSUM_LEN, HEADER_LEN
 
@@ -25,10 +25,9 @@ class Reader(Held):
 
     def judged(self) -> Union[Packet, Fault, None]:
         """The packet that begins here, or its fault; None where the input ends here."""
-        head = self.head(0)
-        if len(head) < HEADER_LEN:
-            return Fault(1, "Truncated", self.at) if head else None
-        found = header_or_fault(head)
+        found = self.header(0)
+        if found is None:
+            return Fault(1, "Truncated", self.at) if self.held else None
         if not isinstance(found, Header):
             return Fault(*found, self.at)
         header = found

@@ -7,7 +7,7 @@ from typing import Optional
 
 from bpfrec_host.formats.ch11.body import BadBody
 from bpfrec_host.formats.ch11.held import Held
-from bpfrec_host.formats.ch11.packet import Header, header_of, header_or_fault, what_in
+from bpfrec_host.formats.ch11.packet import Header, header_of, what_in
 from bpfrec_host.formats.ch11.sums import BlockSums
 from bpfrec_host.formats.limits import CHECKSUM_LEN, HEADER_LEN, MAX_FRAME_LEN
 
@@ -75,10 +75,11 @@ class Search:
 
     def claims(self) -> list[int]:
         """How long the damaged packet may be, by what its header says."""
-        head = self.held.head(0)
-        if len(head) < HEADER_LEN:
+        header = self.held.header(0)
+        if header is None:
             return []
-        header = header_of(head)
+        if not isinstance(header, Header):
+            header = header_of(self.held.head(0))
         found = [header.packet_len, header.whole_len()]
         return [it for it in found if HEADER_LEN <= it <= MOST_SEARCHED and it % 4 == 0]
 
@@ -88,8 +89,7 @@ class Search:
 
     def header(self, offset: int) -> Optional[Header]:
         """The header that many bytes on; None where none stands there."""
-        head = self.held.head(offset)
-        found = header_or_fault(head) if len(head) == HEADER_LEN else None
+        found = self.held.header(offset)
         return found if isinstance(found, Header) else None
 
     def end_of_packet(self) -> int:
