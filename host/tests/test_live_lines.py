@@ -39,7 +39,7 @@ class Lines:
         self.recorder = SimpleNamespace(
             lines=Pipe(), recording=SimpleNamespace(has_failed=False, was_killed=False, is_used_up=False)
         )
-        given = SimpleNamespace(control=None, flush=None, is_prefiltered=False, is_rotating=lambda: False)
+        given = SimpleNamespace(control=None, is_prefiltered=False, is_rotating=lambda: False)
         terminal = SimpleNamespace(is_of=lambda _: True, note_typed=lambda: self.said.append("typed"))
         mark: Callable[..., None] = lambda text, _: self.said.append(f"mark {text.decode()}")
         ports = ControlPorts(self.stop, self.stop, self.report, mark, self.said.append, cast(Terminal, terminal))

@@ -26,7 +26,7 @@ class Played:
         self.packets: list[list[Optional[int]]] = []
         self.loaded = 0
         self.merging = Merging(self.load)
-        self.merging.expect(channels)
+        self.merging.expect(channels, {})
 
     def load(self, placed: Placed) -> list[Piece]:
         self.loaded += 1
@@ -61,6 +61,24 @@ def test_it_waits_for_a_second_at_most() -> None:
     played.add(2, 101.1, 15)
     judge("one that is late goes out at once", played.all(101.1) == [(2, 15)])
     judge("and all", played.all(101.6) == [(1, 30)])
+
+
+@pytest.mark.parametrize(
+    "spans, least, most",
+    [
+        ({1: 10**6, 2: 500_000}, 0.22, 0.23),
+        ({1: 10**6}, 0.99, 1.0),
+        ({1: 10**6, 2: 0}, 0.99, 1.0),
+        ({1: 10**9, 2: 1}, 0.99, 1.0),
+    ],
+    ids=["spans", "one that isn't known", "none", "long ones"],
+)
+def test_it_waits_as_long_as_spans_say_where_all_have_some(spans: dict[int, int], least: float, most: float) -> None:
+    played = Played()
+    played.merging.expect((1, 2), spans)
+    played.add(1, 100.0, 10)
+    judge("not sooner", played.all(100.0 + least) == [])
+    judge("and no longer", played.all(100.0 + most) == [(1, 10)])
 
 
 def test_a_channel_that_has_come_further_is_not_waited_for() -> None:

@@ -30,7 +30,6 @@ CHANNEL = ChannelView(
     channel=3,
     interface="eth2",
     version=0,
-    same_since=0,
     counts=Counts(1_000, 60_000, 0, 0, 0, 0),
     counts_age=0.3,
     frame_age=0.3,
@@ -134,12 +133,6 @@ CASES = {
         of_channel(kept_bytes=6_000, unkept=Unkept(900.0, 1_000, 30 * LIMIT - 1)),
         of_channel(kept_bytes=6_000, unkept=Unkept(900.0, 1_000, 30 * LIMIT)),
         "keeps_nothing",
-        "alarm",
-    ),
-    "few filters are left": (
-        of_channel(version=1_023 - 257),
-        of_channel(version=1_023 - 256),
-        "filters",
         "alarm",
     ),
     "a recording can't be forced to its disk": (

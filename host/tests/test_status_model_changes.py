@@ -14,66 +14,43 @@ from support import judge
 # ---- filters
 
 
-def versions_of(flight: Flight) -> tuple[int, int]:
-    found = channel_of(flight, 1)
-    return found.version, found.same_since
+def version_of(flight: Flight) -> int:
+    return channel_of(flight, 1).version
 
 
-def test_a_new_filter_is_told_at_once_and_where_it_is_met(work: Path) -> None:
+def test_a_new_filter_is_told_at_once(work: Path) -> None:
     flight = Flight(work, {1: Wire("eth0")})
     flight.begin()
     flight.pass_second()
-    judge("the first version is 0", versions_of(flight) == (0, 0))
+    judge("the first version is 0", version_of(flight) == 0)
     flight.status.filter_changed(1, 1, "udp")
-    judge("one that was installed is told at once", versions_of(flight) == (1, 1))
-    flight.append(program(1, 1, 7))
-    flight.pass_second()
-    judge("and stays where it is met", versions_of(flight) == (1, 1))
-    for version in (2, 3):
-        flight.append(program(1, version, 7))
-    flight.pass_second()
-    judge("equal programs that follow one another are one", versions_of(flight) == (3, 1))
-    flight.status.filter_changed(1, 4, None)
-    judge("also where it is told before", versions_of(flight) == (4, 1))
-    flight.append(program(1, 4, 7) + program(1, 5, 8))
-    flight.pass_second()
-    judge("another program is another", versions_of(flight) == (5, 5))
-    judge(
-        "the history has the version of each second",
-        [it.version for it in channel_of(flight, 1).history] == [0, 1, 1, 5],
-    )
-    before = flight.path
-    flight.begin("next.ch11")
-    with open(before, "ab") as file:
-        file.write(program(1, 6, 9))
-    flight.pass_second()
-    judge("a recording that follows begins anew, whatever the old one still tells", versions_of(flight) == (0, 0))
-
-
-def test_of_several_new_filters_the_last_is_told(work: Path) -> None:
-    flight = Flight(work, {1: Wire("eth0")})
-    flight.begin()
-    flight.status.filter_changed(1, 1, "udp")
+    judge("one that was installed is told at once", version_of(flight) == 1)
     flight.status.filter_changed(1, 2, "arp")
     flight.append(program(1, 1, 7))
     flight.pass_second()
-    judge("the last that was installed is told", versions_of(flight) == (2, 2))
+    judge("of several the last", version_of(flight) == 2)
+    judge(
+        "the history has the version of each second",
+        [it.version for it in channel_of(flight, 1).history] == [0, 2],
+    )
+    flight.begin("next.ch11")
+    flight.pass_second()
+    judge("a recording that follows begins anew", version_of(flight) == 0)
 
 
 def test_a_filter_has_its_name_and_its_changes_over_the_whole_run(work: Path) -> None:
-    """Also where it is closed by live itself, and in recordings that follow."""
+    """Also in recordings that follow."""
     flight = Flight(work, {1: Wire("eth0", filter="wire.txt"), 2: Wire("eth1")})
     flight.begin()
     judge("as it was given", [it.filter for it in view_of(flight).channels] == [("wire.txt", 0), ("all", 0)])
     flight.status.filter_changed(1, 1, "udp port 5004")
     flight.status.filter_changed(1, 2, "arp")
-    flight.status.filter_changed(1, 3, None)
-    judge("each change counts, and no packet that is closed", channel_of(flight, 1).filter == ("arp", 2))
+    judge("each change counts", channel_of(flight, 1).filter == ("arp", 2))
     flight.end_recording()
     flight.wires[1].filter = "arp"
     flight.begin("next.ch11")
     judge("the count goes on in the next recording", channel_of(flight, 1).filter == ("arp", 2))
-    judge("whose versions begin anew", versions_of(flight) == (0, 0))
+    judge("whose versions begin anew", version_of(flight) == 0)
 
 
 # ---- pauses

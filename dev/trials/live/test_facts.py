@@ -16,7 +16,7 @@ from support import BPFREC, KEEPS_ALL, LIVE, ROOT, Running, judge, judge_quietly
 
 WANTED = {"bin/bpfrec": "make build", "bin/capture": "make build", "ip": "iproute2"}
 pytestmark = [pytest.mark.timed, pytest.mark.usefixtures("namespace")]
-KEYS = """facts recording host program state begun clock origins interfaces settings filters counts losses report audit
+KEYS = """facts recording host program state begun clock origins interfaces settings spans filters counts losses report audit
 status""".split()
 
 

@@ -175,6 +175,8 @@ SOURCES: dict[str, Callable[[Seen], list]] = {
     "interfaces.interface": lambda _: list(BOTH),
     "interfaces.channel": lambda _: [1, 2],
     "settings": lambda seen: [seen.settings.read_text()],
+    "spans.channel": lambda _: [1, 2],
+    "spans.span": lambda _: [5_000_000] * 2,
     "filters.channel": lambda _: [1, 2],
     "filters.listing": lambda _: [KEEPS_ALL] * 2,
     "filters.text": lambda seen: [run(BPFREC, "dis", seen.work / "all")] * 2,

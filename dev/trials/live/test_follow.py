@@ -163,11 +163,11 @@ def test_a_frame_is_shown_soon_after_it_came(work: Path) -> None:
 
 
 @pytest.mark.timed
-def test_few_frames_are_shown_as_live_flushes(work: Path) -> None:
-    """Twenty a second, half of them within 2.5 s by --flush 1; on a quiet machine within 1.5."""
+def test_few_frames_are_shown_as_soon_as_their_span_says(work: Path) -> None:
+    """Twenty a second, half of them within a second by the usual span; on a quiet machine within 0.5."""
     out = work / "few.ch11"
     settings = write_settings(work, f'id = 1\nfilter = "{work}/all"')
-    running = begin(work, out, "--quiet", "--flush", 1, settings=settings, ways=["rx0=1"])
+    running = begin(work, out, "--quiet", settings=settings, ways=["rx0=1"])
     follower = Follower(work, out)
     with socket_into("tx0") as one:
         for number in range(160):
@@ -178,7 +178,7 @@ def test_few_frames_are_shown_as_live_flushes(work: Path) -> None:
     running.interrupt()
     judge_quietly("it ends well", (running.ended()[0], follower.ended()) == (0, 0), running.told())
     judge_quietly("it shows most of them while they come", len(late) > 100, len(late))
-    judge(f"half of them within 2.5 s: {statistics.median(late):.3f}", statistics.median(late) <= 2.5)
+    judge(f"half of them within a second: {statistics.median(late):.3f}", statistics.median(late) <= 1)
 
 
 @pytest.mark.parametrize("sign", [signal.SIGKILL, signal.SIGSTOP, None], ids=["killed", "stopped", "reader left"])
@@ -205,7 +205,7 @@ def test_a_recording_does_not_notice_its_follower(work: Path, sign: Optional[sig
 
 def test_what_is_there_is_left_out_with_now_and_channels_that_are_not_asked_for(work: Path) -> None:
     out = work / "now.ch11"
-    running = begin(work, out, "--quiet", "--flush", 1)
+    running = begin(work, out, "--quiet")
     traffic = Traffic(pause=0.05)
     wait_for("packets are written", lambda: has_bytes(out, 2_000), 20)
     follower = Follower(work, "--now", "--channel", 2, out)
@@ -237,7 +237,7 @@ def test_ctrl_c_ends_it_with_a_line(work: Path) -> None:
 
 def test_tshark_reads_it_while_it_comes(work: Path) -> None:
     out = work / "shark.ch11"
-    running = begin(work, out, "--quiet", "--flush", 1)
+    running = begin(work, out, "--quiet")
     wait_for("it records", lambda: has_bytes(out, -1), 10)
     traffic = Traffic(pause=0.05)
     line = f"{FOLLOW} {out} | tshark -l -n -i - -T fields -e frame.interface_name -e frame.len > {work}/rows"

@@ -74,7 +74,7 @@ def test_what_is_recorded_is_received_as_it_grows(work: Path) -> None:
     port = free_port()
     receiver = Receiver(work, "ground.ch10", f"127.0.0.1:{port}")
     words = ("--publish", f"127.0.0.1:{port},datagram=9000", "--publish", station.address)
-    running = begin(work, out, "--quiet", "--every", 2, "--flush", 1, *words)
+    running = begin(work, out, "--quiet", "--every", 2, *words)
     traffic = Traffic(length=300)
     wait_for("three recordings", lambda: len(recordings(work, "flight")) >= 3, 60)
     judge("it is sent while the recording goes on", len(station.datagrams) > 10, len(station.datagrams))
@@ -101,7 +101,7 @@ def test_what_is_recorded_is_received_as_it_grows(work: Path) -> None:
 def test_nobody_listens(work: Path) -> None:
     """Datagrams are lost, and the recording is as ever."""
     address = f"127.0.0.1:{free_port()}"
-    running = begin(work, work / "flight.ch11", "--quiet", "--flush", 1, "--publish", address)
+    running = begin(work, work / "flight.ch11", "--quiet", "--publish", address)
     traffic = Traffic()
     wait_for(running.told, lambda: "connection refused" in running.told())
     running.interrupt()
@@ -118,7 +118,7 @@ def test_nobody_listens(work: Path) -> None:
 
 def test_a_route_that_comes_later_is_taken(work: Path) -> None:
     address = "192.0.2.77:50077"
-    running = begin(work, work / "flight.ch11", "--quiet", "--flush", 1, "--publish", address)
+    running = begin(work, work / "flight.ch11", "--quiet", "--publish", address)
     traffic = Traffic()
     wait_for("a line", lambda: f"live: publish {address}: no route: " in running.told())
     run("ip", "addr", "add", "192.0.2.77/32", "dev", "lo")
@@ -201,7 +201,7 @@ def test_one_that_has_ended_goes_out_at_the_pace_of_its_counters(work: Path) -> 
 def test_what_is_there_is_left_out_with_now(work: Path) -> None:
     """But the filters that are in force."""
     out, station = work / "flight.ch11", Station()
-    running = begin(work, out, "--quiet", "--flush", 1)
+    running = begin(work, out, "--quiet")
     traffic = Traffic(pause=0.01)
     wait_for("packets are written", lambda: out.exists() and out.stat().st_size > 20_000)
     publisher = subprocess.Popen([PUBLISH, "--now", out, station.address], stderr=subprocess.PIPE, text=True)

@@ -45,7 +45,7 @@ def test_a_publisher_that_is_killed_comes_back(work: Path) -> None:
     again."""
     draw = random.Random(1)
     out, station = work / "flight.ch11", Station()
-    words = ("--flush", 1, "--control", work / "control", "--publish", station.address)
+    words = ("--control", work / "control", "--publish", station.address)
     running = begin(work, out, "--quiet", *words)
     traffic = Traffic()
     killed: set[int] = set()
@@ -154,7 +154,7 @@ def test_what_a_replay_leaves_out_is_counted(work: Path) -> None:
 def test_no_publisher_outlives_live(work: Path) -> None:
     """Where live is killed; the recording is whole all the same."""
     out, station = work / "flight.ch11", Station()
-    running = begin(work, out, "--quiet", "--flush", 1, "--publish", station.address)
+    running = begin(work, out, "--quiet", "--publish", station.address)
     traffic = Traffic()
     wait_for("it is sent", partial(has_more, station, 3))
     os.kill(running.process.pid, signal.SIGKILL)
@@ -166,7 +166,7 @@ def test_no_publisher_outlives_live(work: Path) -> None:
 @pytest.mark.parametrize("sign, status", [(signal.SIGTERM, 0), (signal.SIGINT, 130)], ids=["TERM", "INT"])
 def test_signals_end_it_with_its_counts(work: Path, sign: signal.Signals, status: int) -> None:
     out, station = work / "flight.ch11", Station()
-    running = begin(work, out, "--quiet", "--flush", 1)
+    running = begin(work, out, "--quiet")
     traffic = Traffic(pause=0.01)
     publisher = subprocess.Popen([PUBLISH, out, station.address], stderr=subprocess.PIPE, text=True)
     wait_for("it is sent", lambda: len(station.datagrams) > 5)

@@ -14,7 +14,7 @@ from support import LIVE, PREFLIGHT, ROOT, Running, judge, judge_quietly, outcom
 WANTED = {"bin/bpfrec": "make build", "bin/capture": "make build", "ip": "iproute2", "tcpdump": "tcpdump"}
 pytestmark = [pytest.mark.timed, pytest.mark.usefixtures("namespace")]
 TEXT_FOR_ASM = ROOT / "examples/filters/arp.bpf"
-IN_SECONDS, IN_BYTES = "in seconds, or as 10m", "in bytes, or as 2G"
+IN_SECONDS, IN_PARTS, IN_BYTES = "in seconds, or as 10m", "in seconds, or as 100ms, or 0", "in bytes, or as 2G"
 
 
 def judge_refused(work: Path, words: list, status: int, told: str, **more: Any) -> None:
@@ -103,8 +103,8 @@ def refusals(work: Path) -> list[tuple[list, int, str]]:
             "rx0=1:udp prot 53: tcpdump: can't parse filter expression: syntax error",
         ),
         (["--every", "10x", one, "rx0"], 2, f"--every needs a number from 1 to 999999999, {IN_SECONDS}"),
-        (["--sync", "9M", one, "rx0"], 2, f"--sync needs a number from 0 to 999999999, {IN_SECONDS}"),
-        (["--flush", "99999999d", one, "rx0"], 2, f"--flush needs a number from 1 to 999999999, {IN_SECONDS}"),
+        (["--sync", "9M", one, "rx0"], 2, f"--sync needs a number from 0.01 to 999999999, {IN_PARTS}"),
+        (["--span", "326d", one, "rx0"], 2, f"--span needs a number from 0.000001 to 28147497, {IN_PARTS}"),
         (["--size", "2GB", one, "rx0"], 2, f"--size needs a number from 1 on, {IN_BYTES}"),
         (["--keep-free", "1m", one, "rx0"], 2, f"--keep-free needs a number from 1 on, {IN_BYTES}"),
     ]
@@ -144,8 +144,8 @@ def test_times_and_sizes_have_units(work: Path) -> None:
 
     given = arguments.read(["o.ch11", "rx0", "--every", "10m", "--size", "2G", "--sync", "5s", "--keep-free", "10k"])
     judge("minutes, G, s, k", (given.every, given.size, given.sync, given.keep_free) == (600, 2 * 10**9, 5, 10_000))
-    given = arguments.read(["o.ch11", "rx0", "--every", "2h", "--flush", "1d", "--size", "3M"])
-    judge("hours, days, M", (given.every, given.flush, given.size) == (7_200, 86_400, 3 * 10**6))
+    given = arguments.read(["o.ch11", "rx0", "--every", "2h", "--for", "1d", "--size", "3M"])
+    judge("hours, days, M", (given.every, given.seconds, given.size) == (7_200, 86_400, 3 * 10**6))
 
 
 # ---- names

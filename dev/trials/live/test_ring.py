@@ -107,15 +107,14 @@ def test_options_of_the_ring_that_contradict_are_refused(work: Path) -> None:
         ),
         (["--keep", 0], "live: --keep needs a number from 1 to 999999999"),
         (["--keep-free", "1x"], "live: --keep-free needs a number from 1 on, in bytes, or as 2G"),
-        (["--flush", 0], "live: --flush needs a number from 1 to 999999999, in seconds, or as 10m"),
         (["--mode", "999"], "live: --mode needs a mode of three octal digits, as 0640"),
         (["--mode", "0444"], "live: --mode needs a mode by which the owner may read and write, as 0640"),
     ]
     for words, line in cases:
         running = Running(work, LIVE, *words, settings, out, "rx0=1", "rx1=2")
         judge(f"refused: {line}", (running.ended()[0], running.told()) == (2, f"{line}\n"), running.told())
-    running = Running(work, LIVE, "--flush", 1, settings, out)
-    judge("refused: --flush without", (running.ended()[0], running.told()) == (2, "live: --flush needs an interface\n"))
+    running = Running(work, LIVE, "--span", 1, settings, out)
+    judge("refused: --span without", (running.ended()[0], running.told()) == (2, "live: --span needs an interface\n"))
 
 
 # ---- files

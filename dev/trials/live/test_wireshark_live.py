@@ -124,7 +124,7 @@ def send(first: int, count: int) -> None:
 def test_wireshark_shows_frames_while_the_recording_goes_on(work: Path, display: str) -> None:
     """With names of interfaces and a mark as a comment; and the recording notices nothing of it."""
     out = work / "flight.ch11"
-    running = begin(work, out, "--quiet", "--flush", 1)
+    running = begin(work, out, "--quiet")
     wait_for("it records", out.exists, 10)
     shark = Shark(work, display, out)
     try:

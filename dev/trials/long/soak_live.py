@@ -2,9 +2,8 @@
 """Records two interfaces by host/bin/live for an hour, as recordings that follow one another, and judges what is left.
 
 It needs root, bin/bpfrec and bin/capture (`make build`), and makes a network namespace of its own. Numbered frames
-go into both interfaces all the time; a recording begins every ten seconds, packets are closed by their age each
-second, six recordings are kept, and the status is served. Meanwhile the memory and the open descriptors of live are
-read each second. At the end each recording must have been approved by its audit, each frame must have been recorded
+go into both interfaces all the time; a recording begins every ten seconds, six recordings are kept, and the status is
+served. Meanwhile the memory and the open descriptors of live are read each second. At the end each recording must have been approved by its audit, each frame must have been recorded
 that was sent, and memory and descriptors must not have grown after the first tenth of the time.
 """
 from __future__ import annotations
@@ -22,7 +21,7 @@ from recordings import Traffic, begin, nothing_left, settings_of
 from support import judge, run
 
 EVERY, KEPT, MOST_GROWTH_KIB = 10, 6, 4_096
-LIVE_OPTIONS = ("--every", EVERY, "--flush", 1, "--keep", KEPT, "--status", "0", "--quiet", "--strict")
+LIVE_OPTIONS = ("--every", EVERY, "--keep", KEPT, "--status", "0", "--quiet", "--strict")
 
 
 def memory_of(process: int) -> int:

@@ -233,7 +233,7 @@ def test_without_the_program_info_says_so() -> None:
 
 
 def test_equal_programs_in_a_row_are_shown_as_one(work: Path) -> None:
-    """Equal programs that follow one another, as `live --flush` gives them, are shown as one."""
+    """Equal programs that follow one another are shown as one."""
     path = work / "same.ch11"
     path.write_bytes(b"".join(program_packet(1, at, (6, 0, 0, keeps)) for at, keeps in enumerate([1, 1, 1, 0, 0, 1])))
     told = run(INFO, path)

@@ -56,6 +56,7 @@ def expected_channel(channel: Channel) -> dict[str, Any]:
     most, seconds = greatest_rate(known)
     return {
         "name": None,
+        "span": None,
         "frames": len(known),
         "bytes": sum(length for _, _, length in channel.frames),
         "offered": channel.end[0] if channel.end else None,

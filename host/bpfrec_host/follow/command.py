@@ -33,7 +33,7 @@ MORE = """\
 At the end it prints `frames <n> skipped <m>` on standard error: m frames have another content, or fewer than 18 bytes,
 and no capture can have them.
 The facts of a recording that has just begun are waited for, up to 10 s.
-A packet is written when it is full or when live closes it by --flush, so frames come that late. The recording is only
+A packet is written when it is full or as old as the --span of live, so frames come that late. The recording is only
 read: a reader that is slow or leaves changes nothing of it.
 
 Status: 0 the run has ended, 1 a recording is damaged, 2 the arguments are wrong, 3 a file can't be read or written,

@@ -38,8 +38,7 @@ class Interface:
         self.waiting: list[Program] = []
 
     def is_new(self, program: Program) -> bool:
-        """Whether a program is another filter than the one before: a recording that follows begins with that, and
-        --flush installs it once more."""
+        """Whether a program is another filter than the one before: a recording that follows begins with that."""
         last = self.waiting[-1] if self.waiting else self.said
         return last is None or last.insns != program.insns
 

@@ -74,7 +74,7 @@ class Interruption(NamedTuple):
 
 
 class Facts:
-    """What the facts say of times, losses, interruptions and marks."""
+    """What the facts say of times, losses, interruptions, marks and spans."""
 
     def __init__(self, told: Any) -> None:
         if not isinstance(told, dict) or not is_number(told.get("facts"), 1, 1):
@@ -95,6 +95,7 @@ class Facts:
         self.losses = losses_in(told.get("losses"))
         self.interruptions = interruptions_in(told.get("interruptions"))
         self.interfaces = interfaces_in(told.get("interfaces"))
+        self.spans = spans_in(told.get("spans"))
         self.marks = marks_in(told.get("marks"))
         self.expressions = expressions_in(told.get("filters"))
         self.begun = begun_in(told.get("begun"))
@@ -217,6 +218,16 @@ def interfaces_in(told: Any) -> dict[int, str]:
         name, channel = (entry.get("interface"), entry.get("channel")) if isinstance(entry, dict) else (None, None)
         if isinstance(name, str) and is_number(channel, 1, MAX_CHANNEL_ID):
             found[int(channel or 0)] = name
+    return found
+
+
+def spans_in(told: Any) -> dict[int, int]:
+    """How old packets of channels get, in ticks. Nothing stands on them, so what has another form is left out."""
+    found: dict[int, int] = {}
+    for entry in told if isinstance(told, list) else []:
+        channel, span = (entry.get("channel"), entry.get("span")) if isinstance(entry, dict) else (None, None)
+        if is_number(channel, 1, MAX_CHANNEL_ID) and is_number(span, 0, MAX_COUNTER):
+            found[int(channel or 0)] = int(span or 0)
     return found
 
 

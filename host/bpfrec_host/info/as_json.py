@@ -7,7 +7,7 @@ from typing import Any, Optional
 from bpfrec_host.formats.facts import TAI, Origin
 from bpfrec_host.formats.marks import Mark
 from bpfrec_host.info.contents import MOST_PLACES, Channel, Recording
-from bpfrec_host.info.facts_file import FactsFile, utc_at
+from bpfrec_host.info.facts_file import FactsFile, span_of, utc_at
 from bpfrec_host.info.names import utc_time
 
 
@@ -27,7 +27,7 @@ def object_of(recording: Recording, audit: Optional[str], beside: Optional[Facts
         "damaged_bytes": recording.damaged_bytes,
         "damaged": [{"at": it.fault.at, "fault": it.fault.name, "bytes": it.length} for it in recording.damages],
         "audit": audit,
-        "channels": {channel: channel_object(it, beside) for channel, it in sorted(recording.channels.items())},
+        "channels": {number: channel_object(number, it, beside) for number, it in sorted(recording.channels.items())},
     }
 
 
@@ -62,11 +62,12 @@ def mark_object(mark: Mark, beside: FactsFile) -> dict[str, Any]:
     return {"counter": mark.counter, "time": utc_at(mark.counter, beside), "text": mark.text}
 
 
-def channel_object(channel: Channel, beside: Optional[FactsFile]) -> dict[str, Any]:
+def channel_object(number: int, channel: Channel, beside: Optional[FactsFile]) -> dict[str, Any]:
     """What is known of a channel."""
     first, last, least, greatest = channel.counters() or (None, None, None, None)
     return {
         "name": channel.name or None,
+        "span": span_of(number, beside),
         "frames": channel.frames,
         "bytes": channel.bytes,
         "offered": channel.offered(),

@@ -51,6 +51,11 @@ def interface_of(channel: int, beside: Optional[FactsFile]) -> str:
     return "" if beside is None else facts.on_a_line(beside.known.interfaces.get(channel, ""))
 
 
+def span_of(channel: int, beside: Optional[FactsFile]) -> Optional[int]:
+    """How old a packet of a channel gets, in ticks, and 0 for none; None where it isn't known."""
+    return None if beside is None else beside.known.spans.get(channel)
+
+
 def utc_at(counter: Optional[int], beside: Optional[FactsFile]) -> Optional[str]:
     """The UTC time of a counter, by the facts; None where it isn't known, or its scale isn't."""
     origin = None if beside is None or counter is None else beside.known.origin_at(counter)

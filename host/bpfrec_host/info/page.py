@@ -83,7 +83,7 @@ def section(channel_id: int, channel: Channel, axis: Axis, texts: Texts, beside:
     title = f"Channel {channel_id}{f': {called}' if called else ''}"
     marks = beside.known.marks if beside else ()
     return (
-        f"<section><h2>{escaped(title)}</h2>{timeline(channel, axis, marks)}{table(rows_of(channel, beside), bad)}"
+        f"<section><h2>{escaped(title)}</h2>{timeline(channel, axis, marks)}{table(rows_of(channel_id, channel, beside), bad)}"
         f"{''.join(filters(channel, axis, texts))}</section>"
     )
 

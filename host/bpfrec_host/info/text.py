@@ -8,7 +8,7 @@ from bpfrec_host.formats import ch11, facts
 from bpfrec_host.formats.limits import TICKS_A_SECOND
 from bpfrec_host.formats.marks import Mark
 from bpfrec_host.info.contents import MOST_PLACES, Channel, Missing, Recording
-from bpfrec_host.info.facts_file import MOMENTS, FactsFile, time_of
+from bpfrec_host.info.facts_file import MOMENTS, FactsFile, span_of, time_of
 from bpfrec_host.info.names import name_of, said_time
 from bpfrec_host.info.overview import overview
 from bpfrec_host.program import Audit
@@ -55,8 +55,9 @@ def interruption_text(found: facts.Interruption, beside: FactsFile) -> str:
     return facts.on_a_line(f"{found.interface} {found.why} from {begin} to {end or 'the end'}")
 
 
-def rows_of(channel: Channel, beside: Optional[FactsFile]) -> list[Row]:
+def rows_of(channel_id: int, channel: Channel, beside: Optional[FactsFile]) -> list[Row]:
     """What is known of a channel."""
+    span = span_of(channel_id, beside)
     mean, most, width = channel.mean_rate(), channel.rates.greatest(), channel.rates.seconds()
     time = "a second" if width == 1 else f"{width} seconds"
     return [
@@ -72,6 +73,7 @@ def rows_of(channel: Channel, beside: Optional[FactsFile]) -> list[Row]:
         ("counters that step back", number(channel.steps_back)),
         ("frames with error flags", number(channel.marked)),
         ("versions of the filter", number(channel.version_count)),
+        *([] if span is None else [("span of packets", seconds(span) if span else "none")]),
         ("end record", "there" if channel.end else "missing"),
     ]
 
@@ -145,7 +147,7 @@ def channel_lines(channel_id: int, channel: Channel, beside: Optional[FactsFile]
     ]
     called = name_of(channel_id, channel, beside)
     yield f"\nchannel {channel_id}{f': {called}' if called else ''}\n"
-    for name, value in rows_of(channel, beside) + versions:
+    for name, value in rows_of(channel_id, channel, beside) + versions:
         yield f"  {name:<26} {value}\n"
 
 

@@ -118,5 +118,5 @@ def refuse_together(given: Arguments) -> None:
         raise Refusal(2, "live: --status-name needs --status")
     if given.sign is not None and not given.routes:
         raise Refusal(2, "live: --sign needs an interface")
-    if given.flush is not None and not given.routes:
-        raise Refusal(2, "live: --flush needs an interface")
+    if given.span is not None and not given.routes:
+        raise Refusal(2, "live: --span needs an interface")

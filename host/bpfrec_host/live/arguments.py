@@ -9,6 +9,7 @@ from typing import Callable, NamedTuple, NoReturn, Optional
 
 from bpfrec_host.arguments import Parser, full_name
 from bpfrec_host.chapter11.options import add_setup_options, setup_arguments
+from bpfrec_host.formats.limits import MAX_COUNTER, TICKS_A_SECOND
 from bpfrec_host.live import journal
 from bpfrec_host.live.capture_options import add_capture_options
 from bpfrec_host.live.help import ABOUT, MORE
@@ -25,8 +26,12 @@ SIZES = {"": 1, "k": 10**3, "M": 10**6, "G": 10**9}
 FRACTIONS = {"": 1.0, "s": 1.0, "ms": 1e-3, "us": 1e-6}
 # Of a clock's error, in seconds: the kernel counts microseconds, and takes a clock that may be off by more than this for
 # one that isn't synchronised.
-LEAST_ERROR, MOST_ERROR = 1e-6, 16.0
-IN_SECONDS, IN_BYTES = ", in seconds, or as 10m", ", in bytes, or as 2G"
+LEAST_ERROR, MOST_ERROR = 1e-6, 16
+# A disk takes about as long to be forced, in seconds.
+LEAST_SYNC = 0.01
+# A span of a microsecond at least, and at most what a counter holds, in whole seconds.
+LEAST_SPAN, MOST_SPAN = 1e-6, MAX_COUNTER // TICKS_A_SECOND
+IN_SECONDS, IN_PARTS, IN_BYTES = ", in seconds, or as 10m", ", in seconds, or as 100ms, or 0", ", in bytes, or as 2G"
 
 
 class Arguments(NamedTuple):
@@ -42,7 +47,7 @@ class Arguments(NamedTuple):
     size: Optional[int]
     # After how many seconds the run ends; None where a signal ends it.
     seconds: Optional[int]
-    sync: int
+    sync: float
     is_prefiltered: bool
     is_forced: bool
     is_audited: bool
@@ -51,8 +56,8 @@ class Arguments(NamedTuple):
     status: Optional[str]
     # The names by which a browser may ask for it.
     status_names: list[str]
-    # After how many seconds a channel's open packet is closed; None for never.
-    flush: Optional[int]
+    # How old a packet gets until it is closed, in ticks, where SETTINGS don't say it; None where it isn't given.
+    span: Optional[int]
     # How many recordings are kept at most, and how many bytes are to be free on their disk.
     keep: Optional[int]
     keep_free: Optional[int]
@@ -75,10 +80,6 @@ class Arguments(NamedTuple):
     def is_rotating(self) -> bool:
         """Whether recordings follow one another."""
         return are_rotating(self.every, self.size)
-
-    def keeps_filters(self) -> bool:
-        """Whether filters are kept, which may be given to a recorder once more."""
-        return self.is_rotating() or self.flush is not None
 
     def clock(self) -> str:
         """Whose times the frames have."""
@@ -125,13 +126,29 @@ def number(least: int, most: int, said: str, units: Optional[dict[str, int]] = N
     return read
 
 
+def parts(least: float, most: int, said: str, has_none: bool = False) -> Callable[[str], float]:
+    """What reads seconds of a range, and parts of them, as 0.01, 10ms or 500us; where there may be none also 0."""
+    whole = number(0, MAX_SECONDS, said, TIMES)
+
+    def read(word: str) -> float:
+        found = re.fullmatch(r"([0-9]{1,8}(?:\.[0-9]{1,6})?)(|s|ms|us)", word)
+        value = float(found[1]) * FRACTIONS[found[2]] if found else float(whole(word))
+        if not (least <= value <= most or has_none and not value):
+            raise argparse.ArgumentTypeError(f"needs a number {said}")
+        return value
+
+    return read
+
+
 def clock_error(word: str) -> float:
-    """By how many seconds a clock may be off: as 0.01, 10ms or 500us."""
-    found = re.fullmatch(r"([0-9]{1,8}(?:\.[0-9]{1,6})?)(|s|ms|us)", word)
-    value = float(found[1]) * FRACTIONS[found[2]] if found else 0.0
-    if not LEAST_ERROR <= value <= MOST_ERROR:
-        raise argparse.ArgumentTypeError("needs a number from 0.000001 to 16, in seconds, or as 10ms or 500us")
-    return value
+    """By how many seconds a clock may be off."""
+    return parts(LEAST_ERROR, MOST_ERROR, f"from 0.000001 to {MOST_ERROR}, in seconds, or as 10ms or 500us")(word)
+
+
+def span(word: str) -> int:
+    """How old a packet gets, in ticks."""
+    read = parts(LEAST_SPAN, MOST_SPAN, f"from 0.000001 to {MOST_SPAN}{IN_PARTS}", has_none=True)
+    return round(read(word) * TICKS_A_SECOND)
 
 
 def command_words(text: str) -> list[str]:
@@ -170,9 +187,9 @@ def parser() -> Parser:
     made.add_argument("--for", metavar="SECONDS", dest="seconds", type=seconds, help="ends the run after this time")
     size = number(1, MAX_BYTES, f"from 1 on{IN_BYTES}", SIZES)
     made.add_argument("--size", metavar="BYTES", type=size, help="begins a new recording at BYTES bytes")
-    sync = number(0, MAX_SECONDS, f"from 0 to {MAX_SECONDS}{IN_SECONDS}", TIMES)
+    sync = parts(LEAST_SYNC, MAX_SECONDS, f"from {LEAST_SYNC} to {MAX_SECONDS}{IN_PARTS}", has_none=True)
     made.add_argument("--sync", metavar="SECONDS", type=sync, default=1, help="how often OUT is forced to its disk")
-    made.add_argument("--flush", metavar="SECONDS", type=seconds, help="closes packets that are open for this time")
+    made.add_argument("--span", metavar="SECONDS", type=span, help="how old a packet gets until it is written: 500ms")
     count = number(1, MAX_SECONDS, f"from 1 to {MAX_SECONDS}")
     made.add_argument("--keep", metavar="N", type=count, help="keeps the last N recordings of --every or --size")
     made.add_argument("--keep-free", metavar="BYTES", type=size, help="removes the oldest until this much is free")
@@ -235,7 +252,7 @@ def read(arguments: list[str]) -> Arguments:
         is_strict=given.strict,
         status=given.status,
         status_names=given.status_name,
-        flush=given.flush,
+        span=given.span,
         keep=given.keep,
         keep_free=given.keep_free,
         mode=given.mode,

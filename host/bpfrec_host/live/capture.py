@@ -54,7 +54,7 @@ class Capture:
         arguments += ["--quiet"] if self.has_table else []
         arguments += ["--counts", str(self.counts.writer)] if self.counts else []
         arguments += self.folder.prefilters() if self.given.is_prefiltered else []
-        arguments += self.folder.judges() if self.given.flush is not None else []
+        arguments += self.folder.span_arguments()
         arguments += ["--events", str(self.folder.events), "--parent", str(os.getpid())]
         arguments += ["--hold", str(HOLD)] if self.given.is_rotating() else []
         return arguments + self.folder.sources()

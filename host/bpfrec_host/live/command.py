@@ -27,6 +27,7 @@ from bpfrec_host.live.names import Files, Names, Refusal, is_special, refuse_fol
 from bpfrec_host.live.ports import Observer
 from bpfrec_host.live.programs import Programs
 from bpfrec_host.live.run import Run
+from bpfrec_host.live.spans import judge_spans
 from bpfrec_host.live.status import BadEndpoint, NoServer, Status, Terminal, endpoint_in
 from bpfrec_host.live.status.observer import USUAL_LIMIT
 
@@ -45,6 +46,7 @@ def run(arguments: list[str], observer: Optional[Observer] = None) -> int:
         refuse_many_channels(settings)
         refuse_few_descriptors(given, len(settings.channels))
         judge_settings(settings, given)
+        judge_spans(settings)
         judge_filters(settings, given)
         terminal = Terminal(2, "--quiet" in given.options)
         status = made_status(given, settings.document.get("limit"), terminal)

@@ -73,6 +73,7 @@ class Writer:
             "synchronisation": {"begin": synchronisation(), "end": None},
             "interfaces": [{"interface": it.interface, "channel": it.channel} for it in self.given.routes],
             "settings": self.folder.text,
+            "spans": [{"channel": channel, "span": span} for channel, span in self.folder.spans.items()],
             "filters": [self.with_text(it) for it in self.filters_at_the_beginning(about)],
         }
         try:

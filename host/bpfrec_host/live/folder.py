@@ -4,11 +4,10 @@ Its files, below `top`:
 
     settings        SETTINGS, as it was when the run began
     events          what the capture notes, a line of JSON each
-    kept            with --flush: how many frames of each interface the capture has counted that its filter keeps
     now             a link to the folder of the recording that goes on; to `gate` until OUT is there
     given/          the filters that the arguments give channels, and those that SETTINGS give in words
-    filters/        of recordings that follow one another, and with --flush: the filter that each channel has by now,
-                    and the words of one that a line gave it
+    filters/        of recordings that follow one another: the filter that each channel has by now, and the words of one
+                    that a line gave it
     <number>/       a recording: <channel>.pipe, settings.toml, answers, report, audit, audit_errors, each of the last
                     three `.room` until it is printed into, and what facts need: about.json, filters.json and marks
 """
@@ -31,6 +30,7 @@ from bpfrec_host.live.arguments import Arguments
 from bpfrec_host.live.expressions import gives_filter, listing_in_words, listing_of, name_of, settings_text, words_in
 from bpfrec_host.live.names import Refusal
 from bpfrec_host.live.operands import Route
+from bpfrec_host.live.spans import spans_of
 
 # What the private folders of runs are called.
 NAME = re.compile(r"bpfrec\.[0-9a-f]{16}")
@@ -38,8 +38,6 @@ NAME = re.compile(r"bpfrec\.[0-9a-f]{16}")
 # have, also where the disk of TMPDIR is full by then.
 PRINTED, MARKS = ("report", "audit", "audit_errors"), "marks"
 PRINTED_ROOM, EVENTS_ROOM = 1 << 16, 1 << 20
-# A line of the file `kept`: 20 digits.
-COUNT_LEN = 21
 # What stands behind the name of a filter that is kept, in that of its words.
 WORDS = ".words"
 
@@ -102,10 +100,10 @@ class Folder:
         self.listings = {it.channel: listing_of(it) for it in given.routes if gives_filter(it, given)}
         self.words = words_in(settings, {it.channel for it in given.routes if gives_filter(it, given)})
         self.listings |= {channel: listing_in_words(*named) for channel, named in self.words.items()}
-        self.keeps_filters = given.keeps_filters()
+        self.keeps_filters, self.spans = given.is_rotating(), spans_of(settings, given)
         self.holder = os.environ.get("TMPDIR") or "/tmp"
         self.top = Path(self.holder, f"bpfrec.{secrets.token_hex(8)}")
-        self.events, self.kept = self.top / "events", self.top / "kept"
+        self.events = self.top / "events"
         self.held: Optional[int] = None
 
     def make_all(self) -> None:
@@ -122,7 +120,6 @@ class Folder:
         for channel, listing in self.listings.items():
             self.given_filter(channel).write_text(listing, encoding="utf-8")
         write_room(self.events, EVENTS_ROOM)
-        write_room(self.kept, COUNT_LEN * len(self.routes))
         self.make_pipes("gate")
         self.point_to("gate")
         if self.keeps_filters:
@@ -198,8 +195,8 @@ class Folder:
     # ---- settings
 
     def document(self, made: Path) -> dict[str, Any]:
-        """The settings of a recording: pipes in place of the feeds of channels with interfaces, and the filters that
-        are kept in place of those of SETTINGS."""
+        """The settings of a recording: of channels with interfaces pipes in place of feeds, and their spans; and the
+        filters that are kept in place of those of SETTINGS."""
         document = dict(self.settings.document)
         tables = document.get("channel")
         if isinstance(tables, list):
@@ -213,9 +210,14 @@ class Folder:
             return table
         path = self.filter_of(named, table.get("filter"))
         changed = table if path is None else {**table, "filter": path}
-        return (
-            {**changed, "feed": f"{made}/{named}.pipe"} if any(it.channel == named for it in self.routes) else changed
-        )
+        if not any(it.channel == named for it in self.routes):
+            return changed
+        return {**changed, "feed": f"{made}/{named}.pipe", "span": self.spans[named]}
+
+    def span_arguments(self) -> list[str]:
+        """The capture's arguments by which it says in feeds how time goes by."""
+        spans = [(it.interface, self.spans.get(it.channel, 0)) for it in self.routes]
+        return [word for interface, span in spans if span for word in ("--span", f"{interface}={span}")]
 
     # ---- filters
 
@@ -265,16 +267,6 @@ class Folder:
         given = {it.channel: it.expression for it in self.routes if it.expression}
         tables = [(it.table.get("id"), it.path("filter")) for it in self.settings.channels]
         return {named: name_of(given.get(named, path)) for named, path in tables if isinstance(named, int)}
-
-    def judged(self) -> set[int]:
-        """The channels whose kept frames the capture counts."""
-        return {route.channel for route in self.routes if self.kept_filter(route.channel).exists()}
-
-    def judges(self) -> list[str]:
-        """The capture's arguments that have it count the frames that filters keep."""
-        judged = self.judged()
-        routes = [f"{it.interface}={self.kept_filter(it.channel)}" for it in self.routes if it.channel in judged]
-        return ["--kept", str(self.kept), *(word for it in routes for word in ("--judge", it))]
 
     def prefilters(self) -> list[str]:
         """The capture's arguments that give the kernel the filters."""

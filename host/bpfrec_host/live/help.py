@@ -15,17 +15,18 @@ with its counter and its time. `status` prints how the run goes, `next` begins t
 `stop` ends the run, and `help` prints what there is. --for SECONDS ends it after that time.
 
 An OUT that exists is refused unless --force is given, and no link is followed. OUT and OUT.json have the mode 0640,
-less what umask takes away, or MODE. What is written is forced to the disk each second, so lost power costs about two
-seconds; with --sync SECONDS at that interval, with 0 never. A packet is written when it is full. With --flush SECONDS
-one that has held a frame for that time, or a little less, is closed before the channel's next frame. Each time takes
-one of the 1,024 filters of a channel that a recording has room for; the last 256 are left to lines.
+less what umask takes away, or MODE. A packet is written when it is full, when its filter changes, or once its first
+frame is half a second old, or SECONDS of --span; with --span 0 it may be of any age. A key `span` of SETTINGS goes ahead
+of that for its channel. What is written is forced to the disk each second, so lost power costs less than two; with
+--sync SECONDS at that interval, with 0 never.
 
 The facts of a recording of interfaces are in OUT.json beside it: the origin of its relative time counter (RTC, 10 MHz),
 interfaces, settings, filters, marks, what was lost and when, and in the end the report and the audit. `info` and
 `convert to-pcap --facts` take times from it.
 
-SECONDS may end with s, m, h or d, and BYTES with k, M or G (powers of 1,000), as 10m, 1h30m and 2G. --buffer takes
-mebibytes, or M and G too. --origin takes a time of day too, as 23:36:10: the last such time, in UTC.
+SECONDS may end with s, m, h or d, and BYTES with k, M or G (powers of 1,000), as 10m, 1h30m and 2G. --span, --sync and
+--require-clock take parts of a second, as 0.25, 100ms or 500us. --buffer takes mebibytes, or M and G too. --origin takes
+a time of day too, as 23:36:10: the last such time, in UTC.
 
 With --every SECONDS or --size BYTES it begins a new recording when SECONDS have gone by since the last began, or when
 that has at least BYTES bytes; with both, at the first of them. Each recording is complete and audited on its own. A
@@ -35,7 +36,7 @@ changed. Each channel needs an interface then; one that has as many frames as it
 When a recording has ended, its name is printed, its report and its audit. --keep N keeps the last N that ended, and
 --keep-free BYTES removes the oldest until that many bytes are free: only recordings of this run whose audit says yes,
 with a line for each. If the disk is full, the next recording begins once a mebibyte is free; it begins too if the
-recorder is killed once all interfaces are open, the disk fails to write, or a channel has 768 filters. Without --every
+recorder is killed once all interfaces are open, the disk fails to write, or a channel has 896 filters. Without --every
 and --size a full disk or a killed recorder ends the run.
 
 With --prefilter the kernel drops what a channel's filter drops, which takes far less time if most frames are dropped.
@@ -45,7 +46,7 @@ differently.
 
 Once it records, and at each change, a line says whether the host's clock is synchronised, by how much it is off at most,
 and what chrony and ptp4l hold it by, if they run. --require-clock SECONDS refuses to begin with a clock that is not
-synchronised or may be off by more, as 0.01, 10ms or 500us, and raises an alarm while it is so later. It judges the
+synchronised or may be off by more, and raises an alarm while it is so later. It judges the
 host's clock, also with --clock adapter.
 
 --on-alarm COMMAND runs a program when an alarm begins and when it ends, with four more arguments: `begins` or `ends`,

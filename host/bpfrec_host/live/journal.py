@@ -29,7 +29,7 @@ KINDS = [
         Priority.NOTE,
     ),
     (
-        r"live: (clock: |warning: |next: |channel \d+ has room for |left of runs that were killed"
+        r"live: (clock: |warning: |next: |left of runs that were killed"
         r"|\d+ lines were left out|.* LOST |.* was moved to |its guard was ended |publish \S+: )",
         Priority.WARNING,
     ),

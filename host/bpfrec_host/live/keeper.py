@@ -31,7 +31,7 @@ class Told(Protocol):
 class Keeper(threading.Thread):
     """Forces one file to its disk every so many seconds, and its folder once; and writes facts that it is given."""
 
-    def __init__(self, descriptor: int, folder: str, pause: int, told: Told) -> None:
+    def __init__(self, descriptor: int, folder: str, pause: float, told: Told) -> None:
         super().__init__(daemon=True, name="keeper")
         self.descriptor, self.folder, self.pause, self.told = os.dup(descriptor), folder, pause, told
         self.changed = threading.Condition()

@@ -52,10 +52,9 @@ class Observers:
             if self.observer:
                 self.observer.linked(link.interface, link.away, time.monotonic())
 
-    def changed(self, channel: int, version: int, name: Optional[str]) -> None:
-        """A line changed a filter of the recording that goes on, or without a name gave it once more."""
-        if name:
-            self.filters[channel] = name
+    def changed(self, channel: int, version: int, name: str) -> None:
+        """A line changed a filter of the recording that goes on."""
+        self.filters[channel] = name
         if self.observer:
             self.observer.filter_changed(channel, version, name)
 

@@ -116,9 +116,8 @@ class Observer(Protocol):
     def linked(self, interface: str, away: Optional[str], now: float) -> None:
         """An interface brings no frames from now on, for this reason, or by None it does again."""
 
-    def filter_changed(self, channel: int, version: int, name: Optional[str]) -> None:
-        """A line changed a filter of the recording that goes on, to one of this name; None says that it was given the
-        program that it had, as to close a packet."""
+    def filter_changed(self, channel: int, version: int, name: str) -> None:
+        """A line changed a filter of the recording that goes on, to one of this name."""
 
     def marked(self, mark: Marked, now: float) -> None:
         """A recording has one more mark."""

@@ -34,8 +34,6 @@ class Recorder:
         self.rest = b""
         self.keeper: Optional[Keeper] = None
         self.watch: Optional[int] = None
-        # The channels of which it was told that few filters are left to them.
-        self.used_up: set[int] = set()
         # What is printed once all is known of it.
         self.report = ""
 

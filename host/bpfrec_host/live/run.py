@@ -15,7 +15,7 @@ from bpfrec_host.live.capture import Capture
 from bpfrec_host.live.clock_watch import ClockWatch
 from bpfrec_host.live.console import Console
 from bpfrec_host.live.control.changes import Change, Changes
-from bpfrec_host.live.control.lines import ControlLines, ControlPorts
+from bpfrec_host.live.control.lines import LAST_VERSION, ControlLines, ControlPorts
 from bpfrec_host.live.control.maker import Maker
 from bpfrec_host.live.durability import UNFORCED, Durability
 from bpfrec_host.live.end_of_run import EndOfRun
@@ -23,7 +23,6 @@ from bpfrec_host.live.ended import EndedRecordings
 from bpfrec_host.live.engine import LOST
 from bpfrec_host.live.events import Events
 from bpfrec_host.live.facts import Writer
-from bpfrec_host.live.flush import Flush
 from bpfrec_host.live.folder import Folder
 from bpfrec_host.live.guard import Guard, open_and_close
 from bpfrec_host.live.hashes import ended_of
@@ -43,7 +42,6 @@ from bpfrec_host.live.recorder import Recorder
 from bpfrec_host.live.recordings import Recordings
 from bpfrec_host.live.retention import approved
 from bpfrec_host.live.status import Terminal
-from bpfrec_host.live.versions import Versions
 from bpfrec_host.live.watches import Watches
 
 
@@ -71,7 +69,6 @@ class Run:
         self.capture = Capture(programs.capture, given, folder, self.loop)
         self.marks = Marks(self.events, given.is_rotating(), self.marked, self.err)
         self.control = self.made_control(terminal)
-        self.flush = Flush(given.flush, folder, self.control.push) if given.flush is not None else None
         self.notifier, self.signals_came = Notifier(), 0
         self.outputs = outputs.Outputs(self.watches, given.size is not None, self.begin_recording, self.err)
         self.durability = Durability(self.loop, self.writer, self.events, self.synced, self.sync_failed, self.err)
@@ -83,13 +80,12 @@ class Run:
         self.alarm_command = AlarmCommand(given.on_alarm, self.loop, self.console)
         self.clock = ClockWatch(self.loop, given.clock_error, self.err, self.observers.clock_seen)
         self.timed, self.machine = self.made_timed(), self.made_machine()
-        self.versions = Versions(self.flush, given.is_rotating(), self.machine.used_up, self.err)
         self.deeds = self.made_deeds()
 
     def made_control(self, terminal: Terminal) -> ControlLines:
         """What takes the lines that are typed."""
         maker = Maker(self.loop, self.programs.bpfrec, self.guard.all)
-        changes = Changes(self.folder, self.given.keeps_filters(), maker.make)
+        changes = Changes(self.folder, self.given.is_rotating(), maker.make)
         ports = ControlPorts(self.end, self.next, self.observers.report, self.marks.take, self.err, terminal)
         return ControlLines(self.loop, self.given, changes, self.current, ports)
 
@@ -107,8 +103,7 @@ class Run:
     def made_timed(self) -> list[Timed]:
         """What has something to do at moments of its own."""
         made: list[Timed] = [self.watches, self.outputs, self.observers, self.ended.retention, self.notifier]
-        made += [self.end_of_run, self.alarm_command, self.clock, self.publishers]
-        return [*made, *([self.flush] if self.flush else [])]
+        return [*made, self.end_of_run, self.alarm_command, self.clock, self.publishers]
 
     def made_deeds(self) -> dict[Deed, Callable[[Recorder], object]]:
         """What is done for each deed of the machine."""
@@ -122,7 +117,7 @@ class Run:
             Deed.KILL_RECORDER: lambda recorder: children.kill(recorder.child),
             Deed.KILL_AUDIT: lambda recorder: children.kill(recorder.auditor),
             Deed.OPEN_PIPES: self.open_pipes,
-            Deed.END_LINES: self.end_lines,
+            Deed.END_LINES: self.control.end,
             Deed.FORGET_OUT: self.recordings.forget_output,
             Deed.DISCARD_OUT: outputs.discard,
             Deed.PRINT_REPORT: self.print_report,
@@ -256,8 +251,6 @@ class Run:
         self.durability.begin(recorder)
         self.marks.begun(recorder)
         self.publishers.begin(recorder.about.out)
-        if self.flush and recorder.is_created:
-            self.flush.begin(recorder, time.monotonic())
 
     def synced(self, recorder: Recorder, moment: float) -> None:
         """A recording was forced to its disk."""
@@ -274,9 +267,7 @@ class Run:
     def take_answers(self, recorder: Recorder) -> None:
         """Tells the recorder's answers, and sees whether its output failed."""
         for line in recorder.answered():
-            told = self.control.told(recorder, line, lambda change, answer: self.take_change(recorder, change, answer))
-            if told is not None:
-                self.err(told)
+            self.err(self.control.told(recorder, line, lambda change, it: self.take_change(recorder, change, it)))
             if is_output_fault(line):
                 self.machine.output_failed(recorder.recording, time.monotonic())
             elif line == file_fault(recorder.about.out) and recorder.keeper:
@@ -287,8 +278,9 @@ class Run:
     def take_change(self, recorder: Recorder, change: Change, answer: Answer) -> None:
         """The recorder has answered a line."""
         if answer.version is not None and recorder.recording is self.machine.current:
-            self.observers.changed(answer.channel, answer.version, None if change.is_own else change.name)
-            self.versions.take(recorder, answer.channel, answer.version)
+            self.observers.changed(answer.channel, answer.version, change.name)
+            if self.given.is_rotating() and answer.version >= LAST_VERSION:
+                self.machine.used_up(recorder.recording)
 
     def end_recorder(self, recorder: Recorder, status: int) -> None:
         """A recorder has ended."""
@@ -298,12 +290,6 @@ class Run:
         self.control.close(recorder)
         self.marks.ended(recorder)
         self.machine.recorder_ended(recorder.recording, status, time.monotonic())
-
-    def end_lines(self, recorder: Recorder) -> None:
-        """Ends the lines that change filters."""
-        if self.flush:
-            self.flush.end(recorder)
-        self.control.end(recorder)
 
     def open_pipes(self, recorder: Recorder) -> None:
         """Lets a recorder go on that waits for the writer of a pipe."""

@@ -37,8 +37,8 @@ The packets are those of `chapter11`, without an index. A setup record (TMATS) s
 and a time packet each second. Packets of frames span 100 ms at most, and all are merged by their counters.
 """
 MORE = """\
-A piece of a channel waits at most a second for a channel that is behind. One that comes later goes out all the same and
-is counted as late.
+A piece of a channel waits for a channel that is behind: a little longer than their spans, and at most a second. One that
+comes later goes out all the same and is counted as late.
 
 Nothing waits for the network. A datagram that the socket doesn't take is lost: it has no room, no route, or nobody listens
 there. A line says so, every 5 s at most, and the recording notices nothing.

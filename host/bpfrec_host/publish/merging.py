@@ -6,12 +6,14 @@ Of each packet its place alone is kept until it is its channel's next one, so me
 from __future__ import annotations
 
 from collections import deque
-from typing import Callable, Iterable, NamedTuple, Optional
+from typing import Callable, Iterable, Mapping, NamedTuple, Optional
 
+from bpfrec_host.formats.limits import TICKS_A_SECOND
 from bpfrec_host.publish.pieces import Piece
 
-# For how many seconds a piece waits for a channel that is behind.
-PATIENCE = 1.0
+# For how many seconds a piece waits for a channel that is behind, at most. Where all have spans, for so many times the
+# longest, since a channel may be silent for a quarter of it until its capture says so, and so many seconds more.
+PATIENCE, SPANS, SLACK = 1.0, 1.25, 0.1
 
 
 class Turn(NamedTuple):
@@ -47,11 +49,14 @@ class Merging:
     def __init__(self, load: Callable[[Placed], list[Piece]]) -> None:
         self.load = load
         self.channels: dict[int, Channel] = {}
+        self.patience = PATIENCE
 
-    def expect(self, numbers: Iterable[int]) -> None:
-        """These channels may have pieces, which are waited for."""
+    def expect(self, numbers: Iterable[int], spans: Mapping[int, int]) -> None:
+        """These channels may have pieces, which are waited for as their spans say, in ticks."""
         for number in numbers:
             self.channels.setdefault(number, Channel())
+        known = [spans.get(it, 0) for it in self.channels]
+        self.patience = min(PATIENCE, SPANS * max(known) / TICKS_A_SECOND + SLACK) if known and all(known) else PATIENCE
 
     def add(self, number: int, placed: Placed, is_end: bool = False) -> None:
         """A packet of a channel is there; behind its end nothing is waited for."""
@@ -67,7 +72,7 @@ class Merging:
             return None
         turn = min(turns)
         channel = self.channels[turn.channel]
-        if not is_whole and now - channel.pieces[0].came < PATIENCE and self.may_be_overtaken(turn):
+        if not is_whole and now - channel.pieces[0].came < self.patience and self.may_be_overtaken(turn):
             return None
         piece = channel.pieces.popleft()
         channel.last = turn._replace(counter=piece.last_counter())

@@ -132,7 +132,7 @@ class Recording(Growing):
         self.stream.set_clock(clock_of(known, self.asked))
         if not self.known.has_ended:
             self.expected = {**dict.fromkeys(known.interfaces, 0), **set_networks(known)}
-            self.merging.expect(self.expected)
+            self.merging.expect(self.expected, known.spans)
 
     def setup(self) -> Setup:
         """What its setup record says by now."""

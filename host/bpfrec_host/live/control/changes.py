@@ -69,12 +69,11 @@ def may_bring_lines() -> bool:
 
 
 class Change(NamedTuple):
-    """A line that the recorder has and hasn't answered: the copy of the listing that it names, its channel, whether live
-    gave it itself, the filter's name, who asked, and the filter's words, where it has some."""
+    """A line that the recorder has and hasn't answered: the copy of the listing that it names, its channel, the filter's
+    name, who asked, and the filter's words, where it has some."""
 
     channel: int
     copy: Optional[Path]
-    is_own: bool = False
     name: str = ""
     asker: Asker = None
     words: str = ""

@@ -8,6 +8,7 @@ from collections import deque
 from typing import Callable, NamedTuple, Optional, Sequence
 
 from bpfrec_host.formats.answers import Answer
+from bpfrec_host.formats.limits import MAX_VERSIONS
 from bpfrec_host.live.arguments import Arguments
 from bpfrec_host.live.control.asking import Asker, answer
 from bpfrec_host.live.control.changes import MAX_WAITING, Change, Changes, Held, Input
@@ -17,8 +18,10 @@ from bpfrec_host.live.loop import Loop
 from bpfrec_host.live.recorder import Recorder
 from bpfrec_host.live.status import Terminal
 
-# So many lines a recorder has at once at most: less than are left of a channel's filters when a next recording begins.
+# So many lines a recorder has at once at most. From this version of a channel's filter on the next recording begins,
+# where one may follow, so that none of them is refused.
 MOST_UNANSWERED = 128
+LAST_VERSION = MAX_VERSIONS - 1 - MOST_UNANSWERED
 # So many lines wait for a recorder until no further line is read; marks don't wait behind them.
 MOST_HELD = 16
 # So many filters are made at once at most, each by a program.
@@ -55,9 +58,9 @@ class ControlLines:
         self.held: deque[Held] = deque()
 
     def is_open(self) -> bool:
-        """Whether a line may come still: from standard input, by the socket, or from live itself."""
+        """Whether a line may come still: from standard input or by the socket."""
         may_come = self.input.descriptor is not None or bool(self.input.buffer.lines) or self.socket is not None
-        return may_come or bool(self.held) or self.given.flush is not None
+        return may_come or bool(self.held)
 
     def read(self) -> None:
         """Takes lines that were read, for a moment, and has more read where all were taken."""
@@ -220,17 +223,15 @@ class ControlLines:
             self.socket.close()
             self.socket = None
 
-    def told(self, recorder: Recorder, line: str, changed: Callable[[Change, Answer], None]) -> Optional[str]:
-        """How a line of the recorder is told: an answer with the recording, where another one may follow; None where it
-        isn't told. `changed` is called with each change that was answered, and its answer."""
+    def told(self, recorder: Recorder, line: str, changed: Callable[[Change, Answer], None]) -> str:
+        """How a line of the recorder is told: an answer with the recording, where another one may follow. `changed` is
+        called with each change that was answered, and its answer."""
         found = Answer.of(line)
         if not found or not recorder.lines.unanswered:
             return line
         change = recorder.lines.unanswered.pop(0)
         self.changes.answered(change, found.is_installed())
         changed(change, found)
-        if change.is_own:
-            return None
         told = f"{line} in {recorder.about.out}" if found.is_installed() and self.given.is_rotating() else line
         answer(change.asker, told, found.is_installed())
         return told

@@ -9,7 +9,6 @@ from __future__ import annotations
 from collections.abc import Iterator
 from typing import NamedTuple, Optional
 
-from bpfrec_host.formats.limits import MAX_VERSIONS
 from bpfrec_host.live.status.view import ChannelView, View, lost
 
 ALARM, WARNING = "alarm", "warning"
@@ -28,8 +27,6 @@ COUNTS_SECONDS = 5
 # A filter keeps nothing where so many seconds and offered frames went by without a kept one in the recording, and so
 # many times the bytes in which a packet is full, by what the filter has kept so far; once where it has kept nothing.
 KEEPS_NOTHING_SECONDS, KEEPS_NOTHING_FRAMES, KEEPS_NOTHING_TIMES = 60, 100, 3
-# A recording has room for so many more filters of a channel.
-FILTERS_LEFT = MAX_VERSIONS // 4
 # A disk that is full in so many seconds, at the rate of the last minute.
 DISK_SECONDS = 600
 # A disk with fewer bytes than this is as good as full, whatever the rate.
@@ -133,9 +130,6 @@ def of_channel(channel: ChannelView, state: str, limit: int) -> Iterator[Alarm]:
     if state == "ended" or channel.has_ended:
         return
     yield from of_link(channel)
-    left = channel.filters_left()
-    if left <= FILTERS_LEFT:
-        yield of(channel, "filters", ALARM, f"{left} filters left", f"there is room for {left} more filters")
     if channel.interface is None:
         return
     yield from of_pipe(channel)

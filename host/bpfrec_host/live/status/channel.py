@@ -22,8 +22,7 @@ class Channel:
     def __init__(self, channel: int, interface: Optional[str], now: float) -> None:
         self.channel, self.interface = channel, interface
         self.filter = FilterView(ALL, 0)
-        self.version = self.same_since = self.met_since = 0
-        self.met_program, self.has_ended = b"", False
+        self.version, self.has_ended = 0, False
         # The last counts, and those of the last second's end; moments of the last counts, frame and loss.
         self.counts: Optional[Counts] = None
         self.counts_before = NOTHING
@@ -50,8 +49,7 @@ class Channel:
     def begin(self, interface: Optional[str], name: str) -> None:
         """A recording begins, with the filter of this name."""
         self.interface, self.filter = interface, self.filter._replace(name=name)
-        self.version = self.same_since = self.met_since = 0
-        self.met_program, self.has_ended = b"", False
+        self.version, self.has_ended = 0, False
 
     def count(self, counts: Counts, now: float) -> None:
         """Takes what was counted since the run began; a count that goes back is taken as it is."""
@@ -76,20 +74,9 @@ class Channel:
         self.interruptions += away is not None
         self.away, self.why, self.linked_at = away is not None, away or self.why, now
 
-    def install(self, version: int, name: Optional[str]) -> None:
-        """The filter is this version now, of this name; without one it is the program of the version before."""
-        if name is not None:
-            self.same_since, self.filter = version, FilterView(name, self.filter.changes + 1)
-        self.version = version
-
-    def meet(self, version: int, program: bytes) -> None:
-        """The recording has this version, by which some frame was met; `program` stands for its instructions. That it
-        is the program of the version before is known best from the recording."""
-        if program != self.met_program:
-            self.met_since = version
-        self.met_program = program
-        if version >= self.version:
-            self.version, self.same_since = version, self.met_since
+    def install(self, version: int, name: str) -> None:
+        """The filter is this version now, of this name."""
+        self.version, self.filter = version, FilterView(name, self.filter.changes + 1)
 
     def keep(self, frames: int, size: int, now: float) -> None:
         """The recording has a packet of so many frames more."""
@@ -115,7 +102,7 @@ class Channel:
             missed=max(counts.missed - before.missed, 0),
             skipped=max(counts.skipped - before.skipped, 0),
             waited=max(counts.waited - before.waited, 0),
-            version=self.same_since,
+            version=self.version,
             age=since(self.frame_at, now),
         )
         # What was lost and waited is told once, in the last of them.
@@ -153,7 +140,6 @@ class Channel:
             channel=self.channel,
             interface=self.interface,
             version=self.version,
-            same_since=self.same_since,
             counts=self.counts,
             counts_age=since(self.counted_at, now),
             frame_age=since(self.frame_at, now),

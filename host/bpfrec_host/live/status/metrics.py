@@ -18,7 +18,6 @@ ALARMS = (
     "clock",
     "damaged",
     "disk",
-    "filters",
     "keeps_nothing",
     "lost",
     "no_counts",
@@ -88,7 +87,6 @@ CHANNEL_METRICS = (
     Metric(
         "filter_changes_total", COUNTER, "Changes of the filter in this run.", lambda channel: channel.filter.changes
     ),
-    Metric("filters_left", GAUGE, "Versions that it has room for.", lambda channel: channel.filters_left()),
     Metric("last_frame_age_seconds", GAUGE, "How long ago the last frame came.", lambda channel: channel.frame_age),
 )
 

@@ -3,14 +3,13 @@ nobody sets. What is kept doesn't grow with the run."""
 
 from __future__ import annotations
 
-import hashlib
 from collections import deque
 from collections.abc import Iterable, Sequence
 from math import floor
 from typing import Optional
 
 from bpfrec_host.formats.answers import Report
-from bpfrec_host.formats.ch11 import End, Program
+from bpfrec_host.formats.ch11 import End
 from bpfrec_host.formats.clock_state import ClockState
 from bpfrec_host.live.ports import Counts, Marked, Setup
 from bpfrec_host.live.status.channel import Channel, since
@@ -105,9 +104,8 @@ class Model:
             if channel.interface == interface:
                 channel.link(away, now)
 
-    def filter_changed(self, channel: int, version: int, name: Optional[str]) -> None:
-        """A channel's filter is this version in the recording that goes on, of this name; without one it is the program
-        of the version before."""
+    def filter_changed(self, channel: int, version: int, name: str) -> None:
+        """A channel's filter is this version in the recording that goes on, of this name."""
         if channel in self.channels:
             self.channels[channel].install(version, name)
 
@@ -126,14 +124,12 @@ class Model:
             self.take(piece, number == self.current, now)
 
     def take(self, told: Told, is_current: bool, now: float) -> None:
-        """Takes what a packet tells: of a recording that others follow its programs are the past."""
+        """Takes what a packet tells."""
         found = self.channels.get(told.channel) if told else None
         if not told or not found:
             return
         if isinstance(told, Kept):
             found.keep(told.frames, told.bytes, now)
-        elif isinstance(told, Program) and is_current:
-            found.meet(told.version, hashlib.sha256(told.insns).digest())
         elif isinstance(told, End) and is_current:
             found.has_ended = True
 

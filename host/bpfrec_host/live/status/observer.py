@@ -75,9 +75,8 @@ class Status(Observer):
         """An interface brings no frames from now on, for this reason, or by None it does again."""
         self.model.linked(interface, away, now)
 
-    def filter_changed(self, channel: int, version: int, name: Optional[str]) -> None:
-        """A line changed a filter of the recording that goes on, to one of this name; None says that it was given the
-        program that it had, as to close a packet."""
+    def filter_changed(self, channel: int, version: int, name: str) -> None:
+        """A line changed a filter of the recording that goes on, to one of this name."""
         self.model.filter_changed(channel, version, name)
 
     def marked(self, mark: Marked, now: float) -> None:

@@ -10,7 +10,6 @@ from typing import NamedTuple, Optional
 
 from bpfrec_host.formats.answers import Verdict
 from bpfrec_host.formats.clock_state import ClockState
-from bpfrec_host.formats.limits import MAX_VERSIONS
 from bpfrec_host.live.ports import Counts
 
 # How many seconds of its past a channel keeps.
@@ -60,14 +59,13 @@ class LinkView(NamedTuple):
 
 class ChannelView(NamedTuple):
     """A channel. `interface` is None where its feed is a file or a pipe, of which nobody counts what is offered.
-    `version` is the last version of its filter in this recording, and `same_since` the first of the versions that ended
-    with it and are the same program. `kept` frames and bytes are those of the run that are in recordings; `seconds` is
-    for how long the channel has been recorded, and `has_ended` whether the recording has the record of its end."""
+    `version` is the last version of its filter in this recording. `kept` frames and bytes are those of the run that are
+    in recordings; `seconds` is for how long the channel has been recorded, and `has_ended` whether the recording has the
+    record of its end."""
 
     channel: int
     interface: Optional[str]
     version: int
-    same_since: int
     counts: Optional[Counts]
     counts_age: Optional[float]
     frame_age: Optional[float]
@@ -80,10 +78,6 @@ class ChannelView(NamedTuple):
     history: tuple[Second, ...]
     filter: FilterView = FilterView("all", 0)
     link: LinkView = LinkView()
-
-    def filters_left(self) -> int:
-        """For how many more versions of the filter the recording has room."""
-        return MAX_VERSIONS - 1 - self.version
 
 
 class RecordingView(NamedTuple):
