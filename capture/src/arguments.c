@@ -32,8 +32,7 @@ enum {
     BUFFER,
     DIRECTION,
     PREFILTER,
-    JUDGE,
-    KEPT,
+    SPAN,
     NO_PROMISCUOUS,
     CLOCK,
     CHECK_SEQUENCE,
@@ -53,8 +52,7 @@ static const struct option OPTIONS[] = {
     {"buffer", required_argument, NULL, BUFFER},
     {"direction", required_argument, NULL, DIRECTION},
     {"prefilter", required_argument, NULL, PREFILTER},
-    {"judge", required_argument, NULL, JUDGE},
-    {"kept", required_argument, NULL, KEPT},
+    {"span", required_argument, NULL, SPAN},
     {"no-promiscuous", no_argument, NULL, NO_PROMISCUOUS},
     {"clock", required_argument, NULL, CLOCK},
     {"check-sequence", required_argument, NULL, CHECK_SEQUENCE},
@@ -92,18 +90,27 @@ static const char *taken_by(int option) {
     case PARENT:
         return "the number of a process";
     case PREFILTER:
-    case JUDGE:
         return "INTERFACE=LISTING";
+    case SPAN:
+        return "INTERFACE=TICKS, of 100 ns, 1 to 281474976710655";
     default:
         return NULL;
     }
 }
 
+static const int64_t MOST_SPAN = ((int64_t)1 << COUNTER_BITS) - 1;
+
 /* Reads a number in a range; whether it is one. */
-static bool number_of(const char *text, int least, int most, int *number) {
+static bool wide_number_of(const char *text, int64_t least, int64_t most, int64_t *number) {
     char *end;
-    long value = strtol(text, &end, 10);
-    if (*text < '0' || *text > '9' || *end != 0 || value < least || value > most)
+    *number = strtoll(text, &end, 10);
+    return *text >= '0' && *text <= '9' && *end == 0 && *number >= least && *number <= most;
+}
+
+/* The same of one that is an int. */
+static bool number_of(const char *text, int least, int most, int *number) {
+    int64_t value;
+    if (!wide_number_of(text, least, most, &value))
         return false;
     *number = (int)value;
     return true;
@@ -127,13 +134,18 @@ static bool choice_of(const char *text, const char *const *choices, int *choice)
     return false;
 }
 
-/* Takes INTERFACE=LISTING apart, for when its route is known. Whether it is one. */
-static bool take_listing(int option, char *given, struct arguments *arguments) {
-    char *sign = strchr(given, '=');
-    if (sign == NULL || sign == given || sign[1] == 0)
+/* Takes INTERFACE=LISTING or INTERFACE=TICKS apart, for when its route is known. Whether it is one. */
+static bool take_given(int option, char *text, struct arguments *arguments) {
+    char *sign = strchr(text, '=');
+    struct given given = {.interface = text};
+    if (sign == NULL || sign == text || sign[1] == 0)
+        return false;
+    if (option == PREFILTER)
+        given.prefilter = sign + 1;
+    else if (!wide_number_of(sign + 1, 1, MOST_SPAN, &given.span))
         return false;
     *sign = 0;
-    arguments->listings[arguments->listing_count++] = (struct given_listing){given, sign + 1, option == JUDGE};
+    arguments->given[arguments->given_count++] = given;
     return true;
 }
 
@@ -142,8 +154,6 @@ static bool take_any(int option, const char *value, struct arguments *arguments)
     arguments->is_promiscuous &= option != NO_PROMISCUOUS;
     arguments->is_strict |= option == STRICT;
     arguments->is_quiet |= option == QUIET;
-    if (option == KEPT)
-        arguments->kept = value;
     if (option == EVENTS)
         arguments->events = value;
     return true;
@@ -181,8 +191,8 @@ static bool take_option(int option, char *value, struct arguments *arguments) {
     case PARENT:
         return number_of(value, 1, INT_MAX, &arguments->parent);
     case PREFILTER:
-    case JUDGE:
-        return take_listing(option, value, arguments);
+    case SPAN:
+        return take_given(option, value, arguments);
     default:
         return take_any(option, value, arguments);
     }
@@ -213,28 +223,29 @@ static int take_route(char *given, struct arguments *arguments) {
     return 0;
 }
 
-/* Gives each route of an interface a listing. Whether there is one. */
-static bool place_listing(const struct given_listing *listing, struct arguments *arguments) {
+/* Gives each route of an interface what was given of it. Whether there is one. */
+static bool place(const struct given *given, struct arguments *arguments) {
     bool is_placed = false;
     for (int at = 0; at < arguments->count && !arguments->are_files; at++) {
         struct route *route = &arguments->routes[at];
-        if (strcmp(route->from, listing->interface) != 0)
+        if (strcmp(route->from, given->interface) != 0)
             continue;
-        *(listing->is_judge ? &route->judge : &route->prefilter) = listing->path;
+        if (given->prefilter != NULL)
+            route->prefilter = given->prefilter;
+        else
+            route->span = given->span;
         is_placed = true;
     }
     return is_placed;
 }
 
-/* 0, or the status where a listing is of no route. */
-static int place_listings(struct arguments *arguments) {
-    for (int i = 0; i < arguments->listing_count; i++) {
-        const struct given_listing *listing = &arguments->listings[i];
-        if (!place_listing(listing, arguments))
-            return wrong(listing->is_judge ? "--judge of what isn't captured: "
-                                           : "--prefilter of what isn't captured: ",
-                         listing->interface);
-    }
+/* 0, or the status where something was given of no route. */
+static int place_all(struct arguments *arguments) {
+    for (const struct given *given = arguments->given; given < arguments->given + arguments->given_count; given++)
+        if (!place(given, arguments))
+            return wrong(given->prefilter != NULL ? "--prefilter of what isn't captured: "
+                                                  : "--span of what isn't captured: ",
+                         given->interface);
     return 0;
 }
 
@@ -244,7 +255,7 @@ static int read_routes(int count, char **given, struct arguments *arguments) {
         status = take_route(given[i], arguments);
     if (status == 0 && arguments->count == 0)
         return wrong("nothing to capture", "");
-    return status == 0 ? place_listings(arguments) : status;
+    return status == 0 ? place_all(arguments) : status;
 }
 
 /* The kernel's buffer for each of so many interfaces, in MiB, where no other is given. */
@@ -270,7 +281,7 @@ static int read_options(int argc, char **argv, struct arguments *arguments, bool
             *is_done = true;
             return show(option == HELP ? USAGE : "capture " VERSION "\n");
         }
-        if (option == '?' || arguments->routes == NULL || arguments->listings == NULL)
+        if (option == '?' || arguments->routes == NULL || arguments->given == NULL)
             return wrong("the arguments are wrong", "");
         arguments->are_files |= option == 'r';
         if (option == ORIGIN)
@@ -307,7 +318,7 @@ int read_arguments(int argc, char **argv, struct arguments *arguments, bool *is_
     *arguments = (struct arguments){.interface = EVERY_INTERFACE, .is_promiscuous = true};
     *is_done = false;
     arguments->routes = calloc((size_t)argc, sizeof *arguments->routes);
-    arguments->listings = calloc((size_t)argc, sizeof *arguments->listings);
+    arguments->given = calloc((size_t)argc, sizeof *arguments->given);
     int status = read_options(argc, argv, arguments, is_done, &origin);
     if (status != 0 || *is_done)
         return status;

@@ -5,22 +5,23 @@
 #include "moment.h"
 
 #include <stdbool.h>
+#include <stdint.h>
 
 enum direction { BOTH_DIRECTIONS, INWARD, OUTWARD };
 enum check_sequences { AS_THE_ADAPTER_SAYS, GIVEN, MISSING };
 
-/* Where frames come from and where they go to; the listing of a program by which the kernel drops some before, and of
- * one by which those are counted that the recorder keeps; NULL where there is none. */
+/* Where frames come from and where they go to. */
 struct route {
     char *from;
     char *to;
-    const char *prefilter, *judge;
+    const char *prefilter; /* the listing of a program by which the kernel drops some before; NULL without one */
+    int64_t span;          /* of the channel that gets them, in ticks; 0 where it has none */
 };
 
-/* A listing for an interface, as it was given. */
-struct given_listing {
-    const char *interface, *path;
-    bool is_judge;
+/* What is given of an interface: a prefilter, or where that is NULL a span. */
+struct given {
+    const char *interface, *prefilter;
+    int64_t span;
 };
 
 struct arguments {
@@ -35,14 +36,13 @@ struct arguments {
     int parent;         /* the process whose end ends the run too; 0 where there is none */
     int counts;         /* the descriptor on which counts are written; 0 where there is none */
     const char *events; /* the file in which the facts of the run are noted; NULL where there is none */
-    const char *kept;   /* the file that has how many frames listings kept; NULL where there is none */
     enum direction direction;
     enum check_sequences check_sequences;
     struct origin origin;
     struct route *routes;
     int count;
-    struct given_listing *listings;
-    int listing_count;
+    struct given *given;
+    int given_count;
 };
 
 /* Reads the arguments. 0, or the status with which to end: 0 is for help too, so `is_done` says which. */

@@ -114,9 +114,13 @@ void follow_clock(void) {
 
 /* ---- what is reported */
 
+nanoseconds moment_of(int64_t steady) {
+    return (nanoseconds)steady + first_ahead;
+}
+
 /* The counter at a moment of the clock that runs on. */
 static uint64_t counter_of(int64_t steady) {
-    return counter_at((nanoseconds)steady + first_ahead, &origin);
+    return counter_at(moment_of(steady), &origin);
 }
 
 uint64_t counter_now(void) {

@@ -31,6 +31,9 @@ nanoseconds steady_moment(struct frame_clock *clock, nanoseconds stamp);
 /* Notes that no frame of an interface waits that came before a moment of the clock that runs on. */
 void note_none_before(struct frame_clock *clock, int64_t moment);
 
+/* The moment, as a frame has it that comes then, of one of the clock that runs on. */
+nanoseconds moment_of(int64_t steady);
+
 /* The counter of a frame that came now. */
 uint64_t counter_now(void);
 

@@ -145,13 +145,12 @@ static void put_record(struct feed *feed, uint64_t counter, const struct capture
         memset(frame + captured->len, 0, bare - captured->len);
         put_check_sequence(frame + bare, check_sequence(frame, bare));
     }
-    if (feed->judge != NULL)
-        judge_frame(feed->judge, frame, len - CHECK_SEQUENCE_LEN);
     put_head(record, counter, marks, len);
     feed->len += RECORD_HEAD_LEN + len;
     feed->frames++;
     feed->waiting++;
     feed->frame_bytes += len;
+    feed->counter = counter;
 }
 
 bool put_frame(struct feed *feed, uint64_t counter, const struct captured *captured) {
@@ -167,6 +166,15 @@ bool put_frame(struct feed *feed, uint64_t counter, const struct captured *captu
     }
     put_record(feed, counter, captured, len);
     return goes_on;
+}
+
+bool write_mark(struct feed *feed, uint64_t counter) {
+    unsigned char mark[RECORD_HEAD_LEN];
+    bool goes_on = flush_feed(feed), is_ahead = ((counter - feed->counter) >> (COUNTER_BITS - 1) & 1) == 0;
+    if (!goes_on || !is_ahead)
+        return goes_on;
+    put_head(mark, counter, 0, 0);
+    return write_at_once(&feed->output, mark, sizeof mark);
 }
 
 uint64_t take_lost(struct feed *feed) {

@@ -2,7 +2,6 @@
 #ifndef FEED_H
 #define FEED_H
 
-#include "judge.h"
 #include "output.h"
 #include "output_thread.h"
 
@@ -15,7 +14,6 @@ enum { MARK_CHECK_SEQUENCE = 1, MARK_OTHER_FAULT = 2 };
 struct feed {
     struct output output;
     struct output_thread writer; /* where it is started, it writes */
-    struct judge *judge;         /* of its frames; NULL where they aren't judged */
     unsigned char *bytes;
     size_t len, room;
     int64_t since; /* when the first of the waiting bytes came */
@@ -24,6 +22,7 @@ struct feed {
     uint64_t skipped; /* frames that no feed takes */
     uint64_t lost;    /* frames for which there was no room once the output had failed */
     uint64_t waiting; /* of the frames, those that no output has taken whole */
+    uint64_t counter; /* of the last frame */
 };
 
 /* A frame as it was captured. */
@@ -45,6 +44,11 @@ void write_beside(struct feed *feed);
  * where it came without, marked where that is wrong. A frame that was cut short, or has a length that no feed takes,
  * is counted as skipped. Whether the feed is still open: else the frame waits, or where it can't it is lost. */
 bool put_frame(struct feed *feed, uint64_t counter, const struct captured *captured);
+
+/* Writes what waits, and a time mark: the record of a counter below which no frame comes any more. It is left out where
+ * a pipe has no room for it, and where it is below the last frame's counter: it would be a turn of the counters later.
+ * Whether the feed is still open. */
+bool write_mark(struct feed *feed, uint64_t counter);
 
 /* How many frames were lost since this was asked. */
 uint64_t take_lost(struct feed *feed);

@@ -12,12 +12,9 @@
 
 enum {
     /* How long a wait may take before a switch of the feed is seen, and before one is tried again. */
-    MOST_PAUSE_MS = 100,
+    MOST_PAUSE_MS = 125,
     SWITCH_PAUSE_MS = 2,
 };
-
-/* By then the kernel has handed over the frames that wait in a block. */
-static const int64_t LAST_BLOCK = 50 * (int64_t)NANOSECONDS_PER_MS;
 
 /* Why an interface brings no frames, as it is noted. */
 static const char DOWN[] = "down", UNPLUGGED[] = "no carrier", GONE[] = "gone", UNREAD[] = "unread",
@@ -57,7 +54,9 @@ static void take_frame(unsigned char *user, const struct pcap_pkthdr *head, cons
         interface->is_scale_unknown = false;
         show_scale(interface->name, &scale);
     }
-    if (!interface->arguments->uses_adapter_clock)
+    if (interface->arguments->uses_adapter_clock)
+        interface->clock.last = moment;
+    else
         moment = steady_moment(&interface->clock, moment);
     put_frame(&interface->feed, counter_at(moment, &interface->arguments->origin), &captured);
 }
@@ -97,21 +96,6 @@ static void look_at_interface(struct interface *interface) {
     interface->is_down = true;
     log_line("%s: it %s, and is recorded on once it %s", interface->name, away == DOWN ? "is down" : "has no carrier",
              away == DOWN ? "is up" : "has one");
-}
-
-/* Waits a moment for an interface that is gone. Whether the run goes on. */
-static bool wait_until_back(struct interface *interface) {
-    struct pollfd stop = {.fd = stop_fd};
-    if (!flush_feed(&interface->feed) || is_stopping())
-        return false;
-    report_in_time(&interface->counts);
-    poll(&stop, 1, interface->feed.switched != switches_asked() ? SWITCH_PAUSE_MS : MOST_PAUSE_MS);
-    if (is_interface_up(interface->name) && open_again(interface)) {
-        interface->is_gone = false;
-        log_line("%s: it is back", interface->name);
-        note_link(&interface->counts, NULL);
-    }
-    return true;
 }
 
 /* What is done while no frames are taken: the pipe is full, or has no reader. */
@@ -185,18 +169,57 @@ static bool wait_for_next_feed(struct interface *interface) {
 
 /* ---- turns */
 
-/* How long to wait for frames, in milliseconds. */
-static int pause_of(const struct interface *interface) {
-    int64_t left = (interface->counts.next_report - steady_now()) / 1000000 + 1;
+/* How long to wait for frames, in milliseconds: until the next report or time mark at most. */
+static int pause_of(const struct interface *interface, int64_t now) {
+    int64_t left = MOST_PAUSE_MS * (int64_t)NANOSECONDS_PER_MS;
     if (interface->feed.switched != switches_asked())
         return SWITCH_PAUSE_MS;
-    if (!are_reported(&interface->counts) || left > MOST_PAUSE_MS)
-        return MOST_PAUSE_MS;
-    return left > 0 ? (int)left : 0;
+    if (are_reported(&interface->counts) && interface->counts.next_report - now < left)
+        left = interface->counts.next_report - now;
+    if (interface->marks.between > 0 && interface->marks.next - now < left)
+        left = interface->marks.next - now;
+    return left > 0 ? (int)((left + NANOSECONDS_PER_MS - 1) / NANOSECONDS_PER_MS) : 0;
 }
 
-/* Waits for frames or for the end of the run. */
-static void wait_for_frames(struct interface *interface) {
+/* Whether it is time to look whether an interface is up, or back. */
+static bool is_look_due(struct interface *interface) {
+    int64_t now = steady_now();
+    if (now < interface->next_look)
+        return false;
+    interface->next_look = now + MOST_PAUSE_MS * (int64_t)NANOSECONDS_PER_MS;
+    return true;
+}
+
+/* Writes a time mark where one is due, after both rings were looked at from a moment on and had no frame, or while the
+ * interface is gone. Whether the feed is still open. */
+static bool mark_time(struct interface *interface, int64_t looked) {
+    bool is_adapters = interface->arguments->uses_adapter_clock;
+    if (!is_mark_due(&interface->marks, looked) || is_held(interface->feed.switched) ||
+        (is_adapters && interface->marks.taken == 0))
+        return true;
+    int64_t steady = none_before(&interface->rings, looked);
+    nanoseconds moment = is_adapters ? adapter_moment(&interface->marks, steady) : moment_of(steady);
+    return write_mark(&interface->feed, counter_at(moment, &interface->arguments->origin));
+}
+
+/* Waits a moment for an interface that is gone. Whether the run goes on. */
+static bool wait_until_back(struct interface *interface) {
+    struct pollfd stop = {.fd = stop_fd};
+    int64_t now = steady_now();
+    if (!flush_feed(&interface->feed) || is_stopping() || !mark_time(interface, now))
+        return false;
+    report_in_time(&interface->counts);
+    poll(&stop, 1, pause_of(interface, now));
+    if (is_look_due(interface) && is_interface_up(interface->name) && open_again(interface)) {
+        interface->is_gone = false;
+        log_line("%s: it is back", interface->name);
+        note_link(&interface->counts, NULL);
+    }
+    return true;
+}
+
+/* Waits for frames or for the end of the run. Whether the feed is still open. */
+static bool wait_for_frames(struct interface *interface) {
     struct rings *rings = &interface->rings;
     enum { IN_USE, OTHER, STOP, WAITS };
     struct pollfd waits[WAITS] = {
@@ -206,25 +229,28 @@ static void wait_for_frames(struct interface *interface) {
     };
     note_all_written(&interface->feed.output);
     int64_t begin = steady_now();
-    int ready = poll(waits, WAITS, pause_of(interface));
+    int pause = pause_of(interface, begin);
+    follow_last(&interface->marks, interface->clock.last, begin);
+    int ready = poll(waits, WAITS, pause);
+    /* After a wait to its end both rings were looked at once more. */
+    bool goes_on = ready != 0 || mark_time(interface, begin + pause * (int64_t)NANOSECONDS_PER_MS);
     /* Where it took time no frame was there at its beginning. */
     if (ready == 0 || (interface->is_scale_unknown && steady_now() - begin >= NANOSECONDS_PER_MS))
         note_none_before(&interface->clock, begin - LAST_BLOCK);
     /* libpcap says nothing of an interface that is only down, and the kernel nothing of one that goes once it is. */
-    if ((waits[IN_USE].revents & (POLLERR | POLLHUP)) != 0 || ready == 0)
+    if ((waits[IN_USE].revents & (POLLERR | POLLHUP)) != 0 || (ready == 0 && is_look_due(interface)))
         look_at_interface(interface);
     else if ((waits[OTHER].revents & (POLLERR | POLLHUP)) != 0)
         forget_fault(other_ring(rings));
     else if (waits[IN_USE].revents == 0 && waits[OTHER].revents != 0)
         exchange_rings(rings, take_frame, interface);
+    return goes_on;
 }
 
 /* Takes what the kernel has. Whether there is more to come. */
 static bool turn(struct interface *interface) {
     struct rings *rings = &interface->rings;
     follow_switches(interface);
-    if (interface->feed.judge != NULL)
-        follow_listing(interface->feed.judge);
     if (is_held(interface->feed.switched))
         return false;
     if (interface->is_gone)
@@ -240,11 +266,7 @@ static bool turn(struct interface *interface) {
         return flush_old(&interface->feed);
     if (count < 0)
         look_at_interface(interface);
-    if (!flush_feed(&interface->feed))
-        return false;
-    if (!interface->is_gone)
-        wait_for_frames(interface);
-    return true;
+    return flush_feed(&interface->feed) && (interface->is_gone || wait_for_frames(interface));
 }
 
 /* Says why a feed is open no more, and accounts for the frames that it has not taken: those of a reader that left were

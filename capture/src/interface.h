@@ -7,6 +7,7 @@
 #include "clock.h"
 #include "counts.h"
 #include "feed.h"
+#include "marks.h"
 #include "moment.h"
 #include "rings.h"
 
@@ -27,7 +28,9 @@ struct interface {
     struct frame_clock clock;
     struct feed feed;
     struct counts counts;
-    bool is_down; /* or has no carrier */
+    struct marks marks;
+    int64_t next_look; /* whether it is up, or back */
+    bool is_down;      /* or has no carrier */
     bool is_gone;
 };
 

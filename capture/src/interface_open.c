@@ -171,6 +171,7 @@ bool open_interface(struct interface *interface, const struct route *route, cons
         .route = route,
         .arguments = arguments,
         .feed = {.output.fd = -1},
+        .marks = marks_of(route->span),
         .counts = {.interface = route->from,
                    .feed = &interface->feed,
                    .rings = &interface->rings,

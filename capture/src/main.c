@@ -8,7 +8,6 @@
 #include "convert.h"
 #include "events.h"
 #include "interface.h"
-#include "kept.h"
 #include "log.h"
 #include "privileges.h"
 #include "signals.h"
@@ -130,17 +129,15 @@ static bool report_all_lost(const struct work *works, const struct arguments *ar
     return has_lost;
 }
 
-/* What goes beside the threads: the clock that may be set, counters that begin at 0 again, and what is kept. */
+/* What goes beside the threads: the clock that may be set, and counters that begin at 0 again. */
 static void follow_settings(void) {
     follow_clock();
     report_settings(false);
-    write_kept(false);
 }
 
 /* The same where an adapter's clock stamps frames. */
 static void follow_counters(void) {
     report_settings(false);
-    write_kept(false);
 }
 
 /* Says why nothing can be begun: NOT_BEGUN. */
@@ -202,11 +199,8 @@ static void follow_parent(pid_t parent) {
 static bool begin_live(struct work *works, const struct arguments *arguments) {
     for (int i = 0; i < arguments->count; i++)
         log_opened(&works[i].interface);
-    if (!drop_privileges(arguments) || (arguments->events != NULL && !open_events(arguments->events)) ||
-        !open_kept(arguments))
+    if (!drop_privileges(arguments) || (arguments->events != NULL && !open_events(arguments->events)))
         return false;
-    for (int i = 0; i < arguments->count; i++)
-        works[i].interface.feed.judge = judge_of(i);
     follow_parent(arguments->parent);
     limit_writing(arguments);
     forbid_other_calls();
@@ -220,7 +214,6 @@ static int run_live(struct work *works, const struct arguments *arguments) {
         return NOT_BEGUN;
     int status = run_all(works, arguments->count, arguments->uses_adapter_clock ? follow_counters : follow_settings);
     report_settings(true);
-    write_kept(true);
     bool has_lost = report_all_lost(works, arguments);
     return status == WELL && has_lost && arguments->is_strict ? LOST : status;
 }
@@ -266,6 +259,6 @@ int main(int argc, char **argv) {
     status = works != NULL ? run_arguments(works, &arguments) : not_begun("no room", ENOMEM);
     free(works);
     free(arguments.routes);
-    free(arguments.listings);
+    free(arguments.given);
     return status;
 }

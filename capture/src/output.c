@@ -96,22 +96,34 @@ static void wait_for_room(struct output *output) {
         output->while_waiting(output->listener);
 }
 
+/* Writes what goes out at once. How many bytes; none where there is no room, or the output is no more open. */
+static size_t write_some(struct output *output, const unsigned char *bytes, size_t len) {
+    ssize_t count;
+    do
+        count = write(output->fd, bytes, len);
+    while (count < 0 && errno == EINTR);
+    if (count < 0 && errno == EPIPE)
+        ended(output, OUTPUT_LEFT, 0);
+    else if (count < 0 && errno != EAGAIN)
+        fail_output(output, errno);
+    output->taken += count > 0 ? (uint64_t)count : 0;
+    return count > 0 ? (size_t)count : 0;
+}
+
 bool write_all(struct output *output, const unsigned char *bytes, size_t len) {
     while (is_open(output) && len > 0) {
-        ssize_t count = write(output->fd, bytes, len);
-        if (count >= 0) {
-            bytes += count;
-            len -= (size_t)count;
-            output->taken += (uint64_t)count;
-        } else if (errno == EAGAIN) {
+        size_t count = write_some(output, bytes, len);
+        bytes += count;
+        len -= count;
+        if (count == 0 && is_open(output))
             wait_for_room(output);
-        } else if (errno == EPIPE) {
-            ended(output, OUTPUT_LEFT, 0);
-        } else if (errno != EINTR) {
-            fail_output(output, errno);
-        }
     }
     return is_open(output);
+}
+
+bool write_at_once(struct output *output, const unsigned char *bytes, size_t len) {
+    size_t count = write_some(output, bytes, len);
+    return count > 0 ? write_all(output, bytes + count, len - count) : is_open(output);
 }
 
 /* ---- what the path names later */

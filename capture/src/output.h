@@ -43,6 +43,9 @@ void note_all_written(struct output *output);
 /* Writes all the bytes. Whether it is still open. */
 bool write_all(struct output *output, const unsigned char *bytes, size_t len);
 
+/* The same of bytes that a pipe takes at once, or none of them where it has no room. */
+bool write_at_once(struct output *output, const unsigned char *bytes, size_t len);
+
 enum switching {
     SWITCHED,
     SWITCH_LATER,  /* a pipe has no reader yet */

@@ -18,9 +18,6 @@ enum {
     BLOCK_MS = 5,
 };
 
-/* By then the kernel has handed over a last block, also a kernel that counts in hundredths of a second. */
-static const int64_t LAST_BLOCK = 50 * (int64_t)NANOSECONDS_PER_MS;
-
 /* How much of a memory the quiet ring has. */
 static int quiet_len(int len) {
     int least = len / LEAST_PART, most = len / MOST_PART;
@@ -75,13 +72,17 @@ static unsigned count_given(const struct ring *ring) {
     return pcap_stats(ring->pcap, &now) == 0 ? now.ps_recv - now.ps_drop : ring->taken;
 }
 
+bool has_waiting(const struct ring *ring) {
+    return count_given(ring) != ring->taken;
+}
+
 void take_rest(struct ring *ring, pcap_handler take, void *user) {
     int64_t end = steady_now() + LAST_BLOCK;
     bool has_all;
     int count;
     do {
         count = take_frames(ring, take, user);
-        has_all = ring->kind == QUIET_RING || count_given(ring) == ring->taken || steady_now() > end;
+        has_all = ring->kind == QUIET_RING || !has_waiting(ring) || steady_now() > end;
         if (count <= 0 && !has_all)
             nanosleep(&(struct timespec){0, NANOSECONDS_PER_MS}, NULL);
     } while (count > 0 || !has_all);

@@ -2,6 +2,8 @@
 #ifndef RING_H
 #define RING_H
 
+#include "moment.h"
+
 #include <pcap/pcap.h>
 #include <stdbool.h>
 
@@ -12,6 +14,9 @@ enum ring_kind {
 };
 
 enum { FRAMES_A_TURN = 512 };
+
+/* By then the kernel has handed over a last block, also a kernel that counts in hundredths of a second. */
+static const int64_t LAST_BLOCK = 50 * (int64_t)NANOSECONDS_PER_MS;
 
 struct ring {
     pcap_t *pcap; /* NULL once it is closed */
@@ -40,6 +45,9 @@ int take_frames(struct ring *ring, pcap_handler take, void *user);
 
 /* Takes all frames of a ring that gets no more, for which none is on its way; also those of a block that isn't full. */
 void take_rest(struct ring *ring, pcap_handler take, void *user);
+
+/* Whether the kernel has put frames into it that weren't taken, as into a block that isn't full. */
+bool has_waiting(const struct ring *ring);
 
 /* Forgets that the interface failed, where this ring was told of it too. */
 void forget_fault(const struct ring *ring);

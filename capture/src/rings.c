@@ -10,6 +10,10 @@
 enum { BURST_FRAMES = 64, QUIET_FRAMES = 100, GROUP_TYPE_SHIFT = 16 };
 static const int64_t BURST_TIME = 16 * (int64_t)NANOSECONDS_PER_MS, QUIET_TIME = 100 * (int64_t)NANOSECONDS_PER_MS;
 
+/* By then the kernel has put a frame into a ring that it has stamped. In between lies a processor's queue at most,
+ * which a task empties where it is long: it waits for its turn, for some milliseconds. */
+static const int64_t LAST_FRAME = 20 * (int64_t)NANOSECONDS_PER_MS;
+
 /* ---- the group */
 
 /* Puts a ring into a group. Whether it could. */
@@ -123,6 +127,12 @@ void take_all_rest(struct rings *rings, pcap_handler take, void *user) {
     fill(rings, rings->filled);
     take_rest(ring_in_use(rings), take, user);
     take_rest(other_ring(rings), take, user);
+}
+
+int64_t none_before(const struct rings *rings, int64_t looked) {
+    const struct ring *burst = &rings->each[BURST_RING];
+    /* A frame in the quiet ring is seen at once. The kernel counts those that it puts into a block. */
+    return looked - (burst->pcap != NULL && has_waiting(burst) ? LAST_BLOCK : LAST_FRAME);
 }
 
 void close_rings(struct rings *rings) {

@@ -46,6 +46,9 @@ void exchange_rings(struct rings *rings, pcap_handler take, void *user);
 /* Shuts both rings and takes all that is in them. */
 void take_all_rest(struct rings *rings, pcap_handler take, void *user);
 
+/* The moment before which no frame comes of them any more, where both were looked at from a moment on and had none. */
+int64_t none_before(const struct rings *rings, int64_t looked);
+
 void close_rings(struct rings *rings);
 
 #endif

@@ -25,7 +25,6 @@ static const char *const ALLOWED[] = {
     "read",
     "readv",
     "write",
-    "pwrite64",
     "recvfrom",
     /* feeds that are opened and exchanged, listings, and what the kernel says of an interface (open, stat, statx) */
     "open",

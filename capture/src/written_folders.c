@@ -128,8 +128,6 @@ static void allow_all(int ruleset, const struct arguments *arguments, const stru
             allow_path(ruleset, arguments->routes[at].to, refused);
     if (arguments->events != NULL)
         allow_path(ruleset, arguments->events, refused);
-    if (arguments->kept != NULL)
-        allow_path(ruleset, arguments->kept, refused);
     /* It is opened anew where it is a pipe. */
     allow_file(ruleset, STDOUT_FILENO, refused);
 }

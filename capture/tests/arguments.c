@@ -4,6 +4,7 @@
 #include "arguments.h"
 #include "log.h"
 
+#include <inttypes.h>
 #include <stdio.h>
 #include <stdlib.h>
 #include <time.h>
@@ -31,11 +32,11 @@ static void print_arguments(const struct arguments *given) {
     printf("files %d\nbuffer %d\ninterface %d\n", given->are_files, given->buffer_mib, given->interface);
     printf("promiscuous %d\nquiet %d\nstrict %d\n", given->is_promiscuous, given->is_quiet, given->is_strict);
     printf("adapter %d\nhold %d\nparent %d\n", given->uses_adapter_clock, given->hold_seconds, given->parent);
-    printf("events %s\ncounts %d\nkept %s\n", text_of(given->events), given->counts, text_of(given->kept));
+    printf("events %s\ncounts %d\n", text_of(given->events), given->counts);
     printf("direction %d\ncheck %d\n", given->direction, given->check_sequences);
     printf("origin %s\n", given->origin.is_first_frame ? "first" : origin);
     for (const struct route *at = given->routes; at < given->routes + given->count; at++)
-        printf("route %s %s %s %s\n", at->from, at->to, text_of(at->prefilter), text_of(at->judge));
+        printf("route %s %s %s %" PRId64 "\n", at->from, at->to, text_of(at->prefilter), at->span);
 }
 
 int main(int argc, char **argv) {

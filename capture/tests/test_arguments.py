@@ -13,8 +13,10 @@ from support import outcome
 NOW = 1_764_590_400
 HINT = ": capture --help has its arguments\n"
 LINE_LEN = 4096
+MOST_SPAN = 2**48 - 1
+TICKS = f"TICKS, of 100 ns, 1 to {MOST_SPAN}"
 DEFAULTS = f"""files 0|buffer 256|interface -1|promiscuous 1|quiet 0|strict 0|adapter 0|hold 0|parent 0|events -|counts 0\
-|kept -|direction 0|check 0|origin {NOW}.000000000"""
+|direction 0|check 0|origin {NOW}.000000000"""
 
 
 class Arguments:
@@ -112,7 +114,7 @@ def test_counts_take_a_descriptor_that_was_given_open_for_writing_and_let_no_wri
         os.close(end)
 
 
-@pytest.mark.parametrize("word", ["--quiet", "--strict", "--no-promiscuous", "--events=a=b", "--kept=file"])
+@pytest.mark.parametrize("word", ["--quiet", "--strict", "--no-promiscuous", "--events=a=b"])
 def test_a_flag_or_a_file_changes_that_alone_before_and_behind_the_routes(arguments: Arguments, word: str) -> None:
     name, _, value = word.removeprefix("--").removeprefix("no-").partition("=")
     wanted = {**arguments.read("eth0=pipe"), name: value or str(int("no-" not in word))}
@@ -138,25 +140,35 @@ def test_an_origin_is_a_time_that_of_interfaces_does_not_lie_ahead_nor_is_the_fi
 
 
 def test_a_route_has_two_ends_an_interface_up_to_the_first_sign_and_a_file_to_the_last(arguments: Arguments) -> None:
-    assert arguments.routes("eth0=a=b", "eth1=-") == ["eth0 a=b - -", "eth1 - - -"]
-    assert arguments.routes("-r", "a=b=c", "-r-=-") == ["a=b c - -", "- - - -"]
+    assert arguments.routes("eth0=a=b", "eth1=-") == ["eth0 a=b - 0", "eth1 - - 0"]
+    assert arguments.routes("-r", "a=b=c", "-r-=-") == ["a=b c - 0", "- - - 0"]
     for word in ("eth0", "=pipe", "eth0=", "=", ""):
         assert arguments.refusal(word) == f"no INTERFACE=PIPE: {word}{HINT}"
         assert arguments.refusal("-r", word) == f"no FILE=FEED: {word}{HINT}"
     assert arguments.refusal() == arguments.refusal("--quiet") == f"nothing to capture{HINT}"
 
 
-def test_a_listing_goes_to_each_route_of_its_interface_and_the_last_one_counts(arguments: Arguments) -> None:
-    listings = ["--judge", "eth1=old", "--judge", "eth1=a=b", "--prefilter", "eth0=p", "--judge", "eth0=j"]
-    assert arguments.routes(*listings, "eth0=x", "eth1=y", "eth0=z") == ["eth0 x p j", "eth1 y - a=b", "eth0 z p j"]
+def test_what_is_given_of_an_interface_goes_to_each_of_its_routes_and_the_last_counts(arguments: Arguments) -> None:
+    given = ["--span", "eth0=1", "--prefilter", "eth1=old", "--prefilter", "eth1=a=b", "--span", f"eth0={MOST_SPAN}"]
+    wanted = [f"eth0 x - {MOST_SPAN}", "eth1 y a=b 0", f"eth0 z - {MOST_SPAN}"]
+    assert arguments.routes(*given, "eth0=x", "eth1=y", "eth0=z") == wanted
 
 
-@pytest.mark.parametrize("option", ["--judge", "--prefilter"])
-def test_a_listing_of_no_interface_that_is_captured_is_refused(arguments: Arguments, option: str) -> None:
+@pytest.mark.parametrize("option, says", [("--prefilter", "LISTING"), ("--span", TICKS)], ids=["prefilter", "span"])
+def test_what_is_given_of_no_interface_that_is_captured_is_refused(
+    arguments: Arguments, option: str, says: str
+) -> None:
     for routes in (["eth0=pipe"], ["-r", "eth1=feed"]):
-        assert arguments.refusal(option, "eth1=x", *routes) == f"{option} of what isn't captured: eth1{HINT}"
-    for word in ("eth0", "eth0=", "=x", "", "="):
-        assert arguments.refusal(option, word, "eth0=pipe").endswith(": INTERFACE=LISTING\n")
+        assert arguments.refusal(option, "eth1=1", *routes) == f"{option} of what isn't captured: eth1{HINT}"
+    for word in ("eth0", "eth0=", "=1", "", "="):
+        assert arguments.refusal(option, word, "eth0=pipe") == f"{option} {word}: INTERFACE={says}\n"
+
+
+@pytest.mark.parametrize(
+    "ticks", ["0", str(2**48), str(2**64 + 1), "-1", "+1", " 1", "1 ", "1.0", "0x1", "1s", "a=1"]
+)
+def test_a_span_is_1_to_the_most_ticks_of_a_counter(arguments: Arguments, ticks: str) -> None:
+    assert arguments.refusal("--span", f"eth0={ticks}", "eth0=pipe") == f"--span eth0={ticks}: INTERFACE={TICKS}\n"
 
 
 def test_an_unknown_option_or_one_without_its_value_is_refused(arguments: Arguments) -> None:
@@ -166,7 +178,7 @@ def test_an_unknown_option_or_one_without_its_value_is_refused(arguments: Argume
 
 
 def test_help_with_each_option_and_the_version_are_printed_whatever_else_is_there(arguments: Arguments) -> None:
-    others = ["origin", "prefilter", "kept", "judge", "no-promiscuous", "quiet", "strict", "events", "counts"]
+    others = ["origin", "prefilter", "span", "no-promiscuous", "quiet", "strict", "events", "counts"]
     parts = ["usage: capture [OPTION..] INTERFACE=PIPE..\n", *(f"\n  --{it} " for it in [*NUMBERS, *WORDS, *others])]
     for count in (0, 1):
         given = ["nothing"] * count

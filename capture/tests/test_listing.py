@@ -20,7 +20,7 @@ LEGAL = {*LOADS, *OPERATIONS, 0x02, 0x03, 0x05, *range(0x15, 0x4E, 8), 0x06, 0x1
 
 
 class Unit(Script):
-    PROGRAM = "kept"
+    PROGRAM = "listing"
 
     def read(self, text: str) -> str:
         """What is read of a listing, in its own form without a comma at its end, or why it is refused."""

@@ -29,7 +29,7 @@ from support import (
 WANTED = {"bin/bpfrec": "make build", "bin/capture": "make build", "ip": "iproute2", "cc": "gcc"}
 pytestmark = [pytest.mark.timed, pytest.mark.usefixtures("namespace")]
 # What a capture calls while interfaces go down, leave and come back, and feeds and listings are exchanged.
-CALLED = """poll read write pwrite64 recvfrom openat close newfstatat dup fcntl pipe2 ftruncate uname bind getsockname
+CALLED = """poll read write recvfrom openat close newfstatat dup fcntl pipe2 ftruncate uname bind getsockname
     getsockopt setsockopt eventfd2 capget capset futex set_robust_list rseq munmap mremap madvise brk rt_sigprocmask
     rt_sigaction exit exit_group""".split()
 # The same with certain arguments alone, of which others are tried by name.
@@ -120,12 +120,12 @@ def test_nothing_is_written_but_below_the_folders_of_feeds(work: Path, tried_cal
 
 def test_feeds_events_and_counts_are_written_in_several_folders(work: Path) -> None:
     """Also after an interface was away, and once a link to a folder leads to the next one, as live turns it."""
-    folders = [work / name for name in ("top/1", "top/2", "facts", "counts")]
+    folders = [work / name for name in ("top/1", "top/2", "facts")]
     for folder in folders:
         folder.mkdir(parents=True)
     (work / "top/now").symlink_to("1")
     first, second = (Reader(pipe_at(it, "rx0.pipe")) for it in folders[:2])
-    words = ["--events", work / "facts/events", "--kept", work / "counts/kept", "--hold", 3]
+    words = ["--events", work / "facts/events", "--hold", 3]
     routes = [f"rx0={work}/top/now/rx0.pipe", f"rx1={work}/rx1.feed"]
     with open(work / "json", "w") as file:
         descriptor = file.fileno()
@@ -151,10 +151,7 @@ def test_feeds_events_and_counts_are_written_in_several_folders(work: Path) -> N
         status == 0 and (numbers(first.all()), numbers(second.all())) == (list(range(10)), list(range(10, 20))),
         told,
     )
-    judge(
-        "facts and counts too",
-        (work / "facts/events").stat().st_size > 0 and len((work / "counts/kept").read_text()) == 42,
-    )
+    judge("facts too", (work / "facts/events").stat().st_size > 0)
     judge("also those of a file that was open", '{"counts": "rx0", ' in (work / "json").read_text())
 
 

@@ -31,7 +31,7 @@ FUZZ_SECONDS = int(os.environ.get("FUZZ_SECONDS", "60"))
 TRIALS = ROOT / "dev/trials"
 # Of the trials those that lead the capture everywhere.
 FILES = [
-    *(f"capture/test_{it}.py" for it in ("bursts", "faults", "frames", "kept", "times")),
+    *(f"capture/test_{it}.py" for it in ("bursts", "faults", "frames", "marks", "times")),
     *(f"live/test_{it}.py" for it in ("losses", "prefilter", "private", "recordings", "rotation")),
     *(f"tools/test_{it}.py" for it in ("convert", "convert_ends", "convert_pcapng")),
 ]
