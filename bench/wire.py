@@ -1,7 +1,7 @@
 #!/usr/bin/env python3
 """Times recordings from an interface beside dumpcap and tcpdump, and feeds that are made of a capture file.
 
-usage: bench/wire.py [--frames N] [--rate N] [--most N] [--part wire|files|syncs|follow|publish] [--before CHECKOUT]
+usage: bench/wire.py [--frames N] [--rate N] [--most N] [--part wire|files|syncs|spans|follow|publish] [--before CHECKOUT]
 
 It makes a network namespace with a pair of virtual interfaces, sends frames of 64, 300 and 1,500 bytes into
 one of them as fast as bin/send_frames can, and records what the other receives: by host/bin/live, with a filter
@@ -10,7 +10,7 @@ that keeps all and one that keeps a 32nd, which the kernel runs too with --prefi
 buffer. Then it makes a feed of a capture of as many frames, by host/bin/convert and by `capture -r`.
 
 With --part syncs it records by host/bin/live alone, forced to the disk each second (the default), and only at the end
-(`--sync 0`, told as before), in turn: what the syncs cost.
+(`--sync 0`, told as before), in turn: what the syncs cost. With --part spans the same of spans.
 With --part follow it records by host/bin/live alone (told as before) and with host/bin/follow beside it, in turn: what
 the live view costs the recorder. `--rate` has frames sent at that rate. With --part publish it does so with --publish.
 
@@ -33,6 +33,7 @@ import subprocess
 import sys
 import tempfile
 import time
+from functools import partial
 from pathlib import Path
 from typing import NamedTuple
 
@@ -238,14 +239,11 @@ def tell_ratios(length: int, found: dict[Key, Ratios]) -> None:
         )
 
 
-def with_and_without_syncs(work: Path, buffer: int) -> Commands:
-    """Recordings by host/bin/live that are forced to the disk each second, and only at their end."""
-    listing = work / "all"
-    listing.write_text(FILTERS["all"])
-    (work / "all.toml").write_text(f'[[channel]]\nid = 1\nfilter = "{listing}"\n')
-    words = ["--quiet", "--buffer", buffer, work / "all.toml", work / "out", "rx0=1"]
+def with_and_without(option: str, work: Path, buffer: int) -> Commands:
+    """Recordings by host/bin/live with the usual value of an option, and without."""
+    words = ["--quiet", "--buffer", buffer, work / "out", "rx0=1"]
     return {
-        ("host/bin/live, before", "all"): Recorder([LIVE, "--sync", "0", *words], "origin"),
+        ("host/bin/live, before", "all"): Recorder([LIVE, option, "0", *words], "origin"),
         ("host/bin/live", "all"): Recorder([LIVE, *words], "origin"),
     }
 
@@ -269,7 +267,12 @@ def with_and_without_publisher(work: Path, buffer: int) -> Commands:
 
 
 # What host/bin/live is timed with and without, in turn.
-IN_TURN = {"syncs": with_and_without_syncs, "follow": with_and_without_follower, "publish": with_and_without_publisher}
+IN_TURN = {
+    "syncs": partial(with_and_without, "--sync"),
+    "spans": partial(with_and_without, "--span"),
+    "follow": with_and_without_follower,
+    "publish": with_and_without_publisher,
+}
 
 
 def time_wire(work: Path, words: argparse.Namespace, made: Commands) -> None:
@@ -358,7 +361,7 @@ def main() -> int:
     parser.add_argument("--frames", type=int, default=1_000_000)
     parser.add_argument("--least", type=int, default=6, help="rounds, at least (6)")
     parser.add_argument("--most", type=int, default=30, help="rounds, at most (30)")
-    parser.add_argument("--part", choices=["wire", "files", "syncs", "follow", "publish"])
+    parser.add_argument("--part", choices=["wire", "files", *IN_TURN])
     parser.add_argument("--rate", type=int, default=0, help="frames a second, in place of as many as can be sent")
     parser.add_argument("--buffer", type=int, default=BUFFER_MIB, help="MiB of the kernel's buffer for each program")
     parser.add_argument(
