@@ -264,7 +264,6 @@ PRIORITIES = {
         "live: warning: channel 3 (eth2): its pipe was full for 100 ms of the last 10 s",
         "live: clock: not synchronised",
         "live: clock: nobody says whether it is synchronised",
-        "live: channel 1 has room for 255 more filters in this recording",
         "live: next: recordings follow one another with --every or --size alone",
         "live: 7 lines were left out: standard error had no room",
         "live: eth0 LOST 1 dropped 0 skipped",
