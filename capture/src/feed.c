@@ -173,6 +173,7 @@ bool write_mark(struct feed *feed, uint64_t counter) {
     bool goes_on = flush_feed(feed), is_ahead = ((counter - feed->counter) >> (COUNTER_BITS - 1) & 1) == 0;
     if (!goes_on || !is_ahead)
         return goes_on;
+    feed->counter = counter;
     put_head(mark, counter, 0, 0);
     return write_at_once(&feed->output, mark, sizeof mark);
 }

@@ -22,7 +22,7 @@ struct feed {
     uint64_t skipped; /* frames that no feed takes */
     uint64_t lost;    /* frames for which there was no room once the output had failed */
     uint64_t waiting; /* of the frames, those that no output has taken whole */
-    uint64_t counter; /* of the last frame */
+    uint64_t counter; /* of the last frame or mark */
 };
 
 /* A frame as it was captured. */
@@ -46,7 +46,7 @@ void write_beside(struct feed *feed);
 bool put_frame(struct feed *feed, uint64_t counter, const struct captured *captured);
 
 /* Writes what waits, and a time mark: the record of a counter below which no frame comes any more. It is left out where
- * a pipe has no room for it, and where it is below the last frame's counter: it would be a turn of the counters later.
+ * a pipe has no room for it, and where it is below the counter of the last record, as if counters had turned since.
  * Whether the feed is still open. */
 bool write_mark(struct feed *feed, uint64_t counter);
 

@@ -42,6 +42,8 @@ static void answer(const char *call) {
         printf("%d", open_feed(&feed, strdup(next_word())));
     else if (is(call, "frame"))
         put_drawn();
+    else if (is(call, "mark"))
+        printf("%d", write_mark(&feed, (uint64_t)next_number()));
     else if (is(call, "flush"))
         printf("%d", flush_feed(&feed));
     else if (is(call, "old"))

@@ -109,6 +109,8 @@ static void answer(const char *call) {
         exchange_rings(&rings, print_number, NULL);
     } else if (is(call, "end")) {
         take_all_rest(&rings, print_number, NULL);
+    } else if (is(call, "way")) {
+        printf("%" PRId64, steady - none_before(&rings, steady));
     } else if (is(call, "shut")) {
         printf("%d %d", played[QUIET_RING].is_shut, played[BURST_RING].is_shut);
     } else if (is(call, "where")) {

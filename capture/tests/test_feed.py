@@ -100,6 +100,51 @@ def test_frames_that_a_full_disk_does_not_take_are_not_the_feeds(unit: Unit) -> 
     assert unit.take_unwritten() == len(put) and unit.counts() == [0, 0, 0] and unit.take_unwritten() == 0
 
 
+MARK = "060504030201 00 0000"
+
+
+def test_a_time_mark_is_written_at_once_behind_what_waits_and_is_in_no_count(unit: Unit) -> None:
+    unit.open()
+    unit.put(60, 7)
+    assert unit.ask("mark", 0x0102_0304_0506) == unit.ask("mark", 0x0102_0304_0506) == "1"
+    assert unit.path.read_bytes()[HEAD_LEN + 64 :] == bytes.fromhex(MARK * 2)
+    assert unit.counts() == [1, 64, 0] and unit.take_unwritten() == 0 and unit.counts() == [1, 64, 0]
+
+
+@pytest.mark.parametrize("last", [0, 7, 2**47, 2**48 - 1], ids=str)
+def test_a_time_mark_below_the_last_record_is_left_out_also_where_counters_turn(unit: Unit, last: int) -> None:
+    """A frame that was skipped has no counter."""
+    unit.open()
+    unit.put(60, last)
+    unit.put(0, last + 2**46)
+    steps = [-1, -1_000, -(2**47), 0, 1, 0, 1_000, 999, 2**47 + 1_000, 2**47 + 999]
+    marks = [(last + it) % 2**48 for it in steps]
+    assert [unit.ask("mark", it) for it in marks] == ["1"] * len(marks)
+    assert [it.counter for it in unit.records()[1:]] == [marks[at] for at in (3, 4, 6, 9)]
+
+
+def test_a_time_mark_that_a_full_pipe_has_no_room_for_is_left_out(unit: Unit) -> None:
+    pipe = os.open(pipe_at(unit.work, unit.path.name), os.O_RDONLY | os.O_NONBLOCK)
+    room = fcntl.fcntl(pipe, SET_PIPE_SIZE, 1)
+    unit.open()
+    unit.put(room - HEAD_LEN, has_fcs=True)
+    assert unit.ask("flush") == "1"
+    # A mark that waited would find that its reader has left.
+    leaving = threading.Timer(0.2, os.close, [pipe])
+    leaving.start()
+    assert unit.ask("mark", 9) == "1"
+    leaving.join()
+    assert unit.ask("mark", 9) == "0" and unit.ask("fault") == "its reader has left"
+
+
+def test_a_time_mark_for_a_reader_who_left_is_not_of_the_next_feed(unit: Unit) -> None:
+    count, taken = fill(unit, 64)
+    assert unit.ask("mark", 2**40) == "0"
+    unit.path.unlink()
+    assert unit.ask("switch") == "0"
+    assert [it.counter for it in unit.records()] == list(range(taken, count)) and unit.counts()[0] == count
+
+
 def leave_once_full(pipe: int, room: int) -> None:
     """As a reader does who reads nothing."""
     wait_for("it is", lambda: int.from_bytes(fcntl.ioctl(pipe, termios.FIONREAD, bytes(4)), sys.byteorder) >= room)

@@ -40,6 +40,10 @@ class Unit(Script):
         in_use, filled = map(int, self.ask("where").split())
         return in_use, filled
 
+    def on_its_way(self) -> int:
+        """For how long a frame may be that isn't seen yet."""
+        return int(self.ask("way"))
+
     def burst(self) -> None:
         """Many frames come."""
         self.turn(BURST_FRAMES, 0)
@@ -125,6 +129,23 @@ def test_rings_that_the_kernel_exchanged_are_exchanged_back(unit: Unit) -> None:
     found += unit.turn(20, QUIET_TIME) + unit.turn(20, QUIET_TIME)
     assert unit.where() == (QUIET, QUIET)
     assert found == list(range(unit.count))
+
+
+def test_a_frame_may_be_on_its_way_for_20_ms_and_for_50_ms_where_a_block_has_some(unit: Unit) -> None:
+    """Frames that the kernel dropped are in no block; those of a block may be there while the quiet ring is in use."""
+    unit.begin()
+    unit.come(1)
+    assert unit.on_its_way() == 20 * MILLISECOND
+    unit.burst()
+    unit.ask("drop", BURST)
+    assert unit.on_its_way() == 20 * MILLISECOND
+    unit.come(1)
+    assert unit.on_its_way() == 50 * MILLISECOND
+    unit.turn(0, QUIET_TIME)
+    assert unit.where() == (QUIET, QUIET) and unit.on_its_way() == 20 * MILLISECOND
+    unit.ask("down")
+    unit.come(1)
+    assert unit.on_its_way() == 50 * MILLISECOND
 
 
 @pytest.mark.parametrize("is_burst", [False, True], ids=["quiet", "burst"])
