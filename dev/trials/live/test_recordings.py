@@ -216,7 +216,7 @@ VALUES = [
     ("--hold", "61", "0 to 60 seconds"),
     ("--parent", "0", "the number of a process"),
     ("--prefilter", "rx0", "INTERFACE=LISTING"),
-    ("--judge", "=x", "INTERFACE=LISTING"),
+    ("--span", "rx0=0", "INTERFACE=TICKS, of 100 ns, 1 to 281474976710655"),
 ]
 
 
