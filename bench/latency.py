@@ -27,6 +27,7 @@ import tempfile
 import threading
 import time
 from bisect import bisect_right
+from collections.abc import Sequence
 from contextlib import ExitStack, suppress
 from pathlib import Path
 
@@ -110,13 +111,13 @@ def synced(notes: Path) -> float:
     return float(found[-1]) if found else 0.0
 
 
-def begin(work: Path, *words: object, program: list[object] | None = None) -> Running:
-    """Records rx0 into a file, and what else the words say."""
+def begin(work: Path, *words: object, program: Sequence[object] = (LIVE,), ways: Sequence[str] = ("rx0",)) -> Running:
+    """Records interfaces into a file."""
     out = work / "out.ch11"
     for path in work.glob("out.ch11*"):
         path.unlink()
     (work / "private").mkdir(exist_ok=True)
-    running = Running(work, *(program or [LIVE]), "--quiet", "--no-audit", *words, out, "rx0", adds={RUN: str(out)})
+    running = Running(work, *program, "--quiet", "--no-audit", *words, out, *ways, adds={RUN: str(out)})
     running.wait_until_told("capture: origin")
     time.sleep(BEGINNING)
     return running
@@ -152,7 +153,7 @@ def in_danger(work: Path, words: list[str], rate: int | None, seconds: float) ->
 def shown(work: Path, rate: int | None, seconds: float) -> list[float]:
     """After how many seconds tshark prints each frame."""
     running = begin(work, *SEEN)
-    line = f"{FOLLOW} {work / 'out.ch11'} | tshark -l -n -i - -T fields -e frame.number"
+    line = f"{FOLLOW} {work / 'out.ch11'} | tshark -l -n -r - -T fields -e frame.number"
     shark = subprocess.Popen(["bash", "-c", line], stdout=subprocess.PIPE, stderr=subprocess.DEVNULL)
     came: list[float] = []
     reader = threading.Thread(target=lambda: came.extend(time.monotonic() for _ in shark.stdout or ()), daemon=True)
@@ -177,10 +178,10 @@ class Timed(Station):
         self.came += [time.monotonic()] * datagram.count(HEAD)
 
 
-def sent(work: Path, rate: int | None, seconds: float, *others: str) -> list[float]:
-    """After how many seconds each frame comes to a receiver, beside other interfaces."""
+def sent(work: Path, rate: int | None, seconds: float, *ways: str) -> list[float]:
+    """After how many seconds each frame comes to a receiver, of the first of these interfaces."""
     station = Timed()
-    running = begin(work, *SEEN, "--publish", f"{station.address},datagram=32000", *others)
+    running = begin(work, *SEEN, "--publish", f"{station.address},datagram=32000", ways=ways)
     time.sleep(BEGINNING)
     sender = Sender(rate, seconds)
     sender.join()
@@ -224,12 +225,12 @@ def tell_disk(work: Path, seconds: float) -> bool:
 
 
 def tell_seen(work: Path, name: str, seconds: float) -> bool:
-    ways: dict[str, list[str]] = {"one channel": []} | ({"two, one silent": ["rx1"]} if name == "sent" else {})
+    ways = {"one": ["rx0"]} | ({"two, one silent": ["rx0", "rx1"]} if name == "sent" else {})
     print("| Frames | Channels | Half, s | 99 of 100 | All | Goal |\n|---|---|---|---|---|---|")
     is_met = True
     for rate in RATES:
-        for channels, others in ways.items():
-            found = shown(work, rate, seconds) if name == "shown" else sent(work, rate, seconds, *others)
+        for channels, names in ways.items():
+            found = shown(work, rate, seconds) if name == "shown" else sent(work, rate, seconds, *names)
             hundredths = statistics.quantiles(found, n=100, method="inclusive")
             is_met &= max(found) <= SEEN_GOAL
             cells = f"{hundredths[49]:.3f} | {hundredths[98]:.3f} | {max(found):.3f} | {SEEN_GOAL}"
@@ -242,7 +243,7 @@ def tell_idle(work: Path) -> bool:
     make_many_pairs("tx1", "rx1", CHANNELS - 1)
     out = work / "out.ch11"
     for words in (["--span", "0"], USUAL, SEEN):
-        running = begin(work, *words, "--buffer", "1", *(f"rx1{it}" for it in range(CHANNELS - 1)))
+        running = begin(work, *words, "--buffer", "1", ways=["rx0", *(f"rx1{it}" for it in range(CHANNELS - 1))])
         time.sleep(3 * BEGINNING)
         before, size = processor_of(out), out.stat().st_size
         time.sleep(IDLE_SECONDS)

@@ -353,6 +353,29 @@ def test_a_channel_that_nobody_expected_gets_a_setup_record_that_has_it() -> Non
     judge("with its name and its network", b"ENAM-4-1:eth3;" in parts[3].data and b"ENBR-4-1:7;" in parts[3].data)
 
 
+@pytest.mark.parametrize(
+    "clock_name, spans, age",
+    [("host", [500_000] * 2, 2.0), ("adapter", [500_000] * 2, 0.0), ("host", [500_000, 0], 0.0)],
+    ids=["host", "adapter", "one without span"],
+)
+def test_a_frame_is_as_old_as_the_hosts_clock_says(work: Path, clock_name: str, spans: list[int], age: float) -> None:
+    """By which it waits for other channels; where nobody knows, from when its packet is seen."""
+    made = DrawnRecording()
+    made.add_program(5, 0, 0, drawn_insns(random.Random(1)))
+    made.add_frames(5, [(8 * 10**7, 0, 60)])
+    path = work / "flight.ch11"
+    path.write_bytes(bytes(made.data))
+    setup = Setup((Origin(0, time.time_ns() - 10 * SECOND),), channels={5: ("eth0", 0), 6: ("eth1", 0)})
+    told = [{"channel": channel, "span": span} for channel, span in zip((5, 6), spans)]
+    write_facts(path, setup, "recording", clock=clock_name, spans=told)
+    recording = Recording(str(path), lambda _: None, Asked(), lambda _: None)
+    recording.begin(False, lambda: False)
+    recording.read_on()
+    (found,) = [time.monotonic() - it.came for it in recording.merging.channels[5].waiting][1:]
+    recording.close()
+    judge(f"{age} s", age <= found < age + 0.5, found)
+
+
 def test_network_identifiers_are_those_of_frames_or_of_the_settings(work: Path) -> None:
     made = DrawnRecording()
     made.add_program(5, 0, 0, drawn_insns(random.Random(1)))

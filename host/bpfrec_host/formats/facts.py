@@ -91,6 +91,7 @@ class Facts:
         self.origins = origins_in(told.get("origins"))
         # Facts of before scales were noted don't say which time an adapter's clock ran.
         lack = any("scale" not in it for it in told["origins"])
+        self.is_by_host = told.get("clock") == "host"
         self.is_scale_unsaid = told.get("clock") == "adapter" and lack
         self.losses = losses_in(told.get("losses"))
         self.interruptions = interruptions_in(told.get("interruptions"))

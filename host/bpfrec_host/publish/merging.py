@@ -11,8 +11,9 @@ from typing import Callable, Iterable, Mapping, NamedTuple, Optional
 from bpfrec_host.formats.limits import TICKS_A_SECOND
 from bpfrec_host.publish.pieces import Piece
 
-# For how many seconds a piece waits for a channel that is behind, at most. Where all have spans, for so many times the
-# longest, since a channel may be silent for a quarter of it until its capture says so, and so many seconds more.
+# For how many seconds a piece waits for a channel that is behind, from when its packet was seen. Where all have spans,
+# from when its frame came: for so many times the longest, since a capture says four times a span that nothing came, and
+# so many seconds more.
 PATIENCE, SPANS, SLACK = 1.0, 1.25, 0.1
 
 
@@ -49,14 +50,16 @@ class Merging:
     def __init__(self, load: Callable[[Placed], list[Piece]]) -> None:
         self.load = load
         self.channels: dict[int, Channel] = {}
-        self.patience = PATIENCE
+        self.patience, self.have_spans = PATIENCE, False
 
     def expect(self, numbers: Iterable[int], spans: Mapping[int, int]) -> None:
         """These channels may have pieces, which are waited for as their spans say, in ticks."""
         for number in numbers:
             self.channels.setdefault(number, Channel())
         known = [spans.get(it, 0) for it in self.channels]
-        self.patience = min(PATIENCE, SPANS * max(known) / TICKS_A_SECOND + SLACK) if known and all(known) else PATIENCE
+        wait = SPANS * max(known, default=0) / TICKS_A_SECOND + SLACK
+        self.have_spans = all(known) and wait < PATIENCE
+        self.patience = wait if self.have_spans else PATIENCE
 
     def add(self, number: int, placed: Placed, is_end: bool = False) -> None:
         """A packet of a channel is there; behind its end nothing is waited for."""

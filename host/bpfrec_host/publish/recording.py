@@ -17,6 +17,7 @@ from bpfrec_host.formats.limits import (
     ETHERNET_DATA,
     FRAME_HEADER_LEN,
     HEADER_LEN,
+    NANOSECONDS_A_SECOND,
     TICKS_A_SECOND,
 )
 from bpfrec_host.live.names import facts_path
@@ -113,10 +114,16 @@ class Recording(Growing):
 
     def place(self, channel: int, front: Front, is_end: bool) -> None:
         """Keeps the place of a packet, behind the channel's program that was left out."""
-        now = time.monotonic()
+        came = time.monotonic() - (self.age_of(front.header.counter) if self.merging.have_spans else 0)
         if channel in self.hidden:
-            self.merging.add(channel, Placed(self.hidden.pop(channel), now, front.header.counter))
-        self.merging.add(channel, Placed(front.at, now), is_end)
+            self.merging.add(channel, Placed(self.hidden.pop(channel), came, front.header.counter))
+        self.merging.add(channel, Placed(front.at, came), is_end)
+
+    def age_of(self, counter: int) -> float:
+        """How many seconds ago a frame came; 0 where it isn't known, as by an adapter's clock."""
+        known = self.known.facts if self.known else None
+        moment = known.moment_of(counter) if known and known.is_by_host else None
+        return 0.0 if moment is None else max(0.0, (time.time_ns() - moment) / NANOSECONDS_A_SECOND)
 
     def channels(self) -> dict[int, int]:
         """The channels that it names by now, or will by its facts, with their network identifiers."""
