@@ -13,9 +13,23 @@ import time
 from pathlib import Path
 
 import pytest
-from clock import TOLD, Clock, Sender, judge_frames, judge_steps, origins_told, steps_told
+from clock import TOLD, Clock, Sender, judge_frames, judge_steps, origins_told, preloaded, steps_told
 from frames import records
-from support import CAPTURE, MILLISECOND, SECOND, SECONDS, Running, judge, judge_quietly, pipe_at, wait_for
+from namespace import send_numbered
+from support import (
+    CAPTURE,
+    MILLISECOND,
+    SECOND,
+    SECONDS,
+    Reader,
+    Running,
+    judge,
+    judge_quietly,
+    origin_told,
+    pipe_at,
+    wait_for,
+)
+from time_marks import begin, frames_of, judge_ended, judge_moments, judge_order, marks_of
 
 WANTED = {
     "bin/bpfrec": "make build",
@@ -27,6 +41,7 @@ WANTED = {
 pytestmark = [pytest.mark.timed, pytest.mark.usefixtures("namespace")]
 STEP = -3600 * SECOND
 PPM = 500
+ADAPTER_AHEAD = 37
 # What a step has at least that is told by itself.
 LEAST_STEP = SECOND // 2000
 
@@ -158,3 +173,39 @@ def test_a_clock_that_gains_is_followed_in_steps(work: Path) -> None:
         abs(gained - sum(steps)) < MILLISECOND and len(steps) <= gained // LEAST_STEP + 1,
         (gained, steps),
     )
+
+
+# ---- time marks
+
+
+@pytest.mark.parametrize("step", [-3_600 * SECOND, 3_600 * SECOND, -10 * MILLISECOND], ids=str)
+def test_a_clock_that_is_set_moves_no_mark(work: Path, step: int) -> None:
+    clock, sender, reader = Clock(work), Sender(), Reader(pipe_at(work, "one.pipe"))
+    running = begin(work, "--quiet", adds=clock.adds)
+    before = time.time_ns()
+    sender.send(20)
+    clock.set_by(step)
+    time.sleep(0.4)
+    sender.send(20)
+    time.sleep(0.2)
+    judge_moments(marks_of(bytes(reader.data)), origin_told(running.told()), before)
+    judge_ended(running)
+    judge_order(reader.all())
+    judge("each frame is there", len(frames_of(reader.all())) == 40)
+
+
+def test_by_an_adapters_clock_marks_go_on_from_the_last_frame(work: Path) -> None:
+    """Before the first there are none."""
+    adds = {"LD_PRELOAD": str(preloaded()), "ADAPTER_AHEAD": str(ADAPTER_AHEAD)}
+    reader = Reader(pipe_at(work, "one.pipe"))
+    running = begin(work, "--quiet", "--clock", "adapter", adds=adds)
+    time.sleep(0.3)
+    judge("there are no marks before the first frame", bytes(reader.data) == b"")
+    before = time.time_ns()
+    for number in range(10):
+        send_numbered("tx0", number, number + 1)
+        time.sleep(0.07)
+    time.sleep(0.5)
+    judge_moments(marks_of(bytes(reader.data)), origin_told(running.told()), before, ADAPTER_AHEAD * SECOND)
+    judge_ended(running)
+    judge_order(reader.all())

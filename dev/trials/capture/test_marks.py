@@ -11,17 +11,14 @@ from pathlib import Path
 
 import pytest
 from accounts import judge_fed
-from clock import Clock, Sender, preloaded
-from frames import Record, numbers_in, records
+from frames import numbers_in, records
 from namespace import make_pair, send_numbered, set_link, take_away
 from recorder import begin as begin_recorder
 from support import (
     BPFREC,
-    CAPTURE,
     MILLISECOND,
     SECOND,
     Reader,
-    Running,
     judge,
     judge_quietly,
     origin_told,
@@ -30,55 +27,12 @@ from support import (
     run,
     wait_for,
 )
+from time_marks import SPAN, TICK, begin, frames_of, gaps_of, judge_ended, judge_moments, judge_order, marks_of
 
-WANTED = {
-    "bin/bpfrec": "make build",
-    "bin/capture": "make build",
-    "ip": "iproute2",
-    "cc": "gcc",
-    "pcap-config": "libpcap-dev",
-}
+WANTED = {"bin/bpfrec": "make build", "bin/capture": "make build", "ip": "iproute2"}
 pytestmark = [pytest.mark.timed, pytest.mark.usefixtures("namespace")]
-TICK = 100
-# A span in ticks, of 50 ms, and how long one may take from its moment to the feed, on a machine with other work.
-SPAN, LATE = 500_000, 300 * MILLISECOND
 LEAST_BETWEEN = 5 * MILLISECOND // TICK
 SHORTEST, LONG = 1, 5_000_000
-ADAPTER_AHEAD = 37
-
-
-def begin(work: Path, *words: object, span: int = SPAN, pipe: str = "one.pipe", **more: dict) -> Running:
-    """Captures rx0 into a pipe, with a span of so many ticks."""
-    running = Running(work, CAPTURE, "--span", f"rx0={span}", *words, f"rx0={work / pipe}", **more)
-    running.wait_until_told("origin")
-    return running
-
-
-def marks_of(feed: bytes) -> list[int]:
-    return [it.counter for it in records(feed) if not it.frame]
-
-
-def frames_of(feed: bytes) -> list[Record]:
-    return [it for it in records(feed) if it.frame]
-
-
-def gaps_of(counters: list[int]) -> list[int]:
-    return [after - before for before, after in zip(counters, counters[1:])]
-
-
-def judge_ended(running: Running, status: int = 0) -> str:
-    """Ends it well; what it told."""
-    running.interrupt()
-    judge_quietly("it ends well", running.ended()[0] == status, running.told())
-    return running.told()
-
-
-def judge_order(feed: bytes) -> None:
-    """No frame has a counter below that of a mark ahead of it, nor a mark one below that of a frame ahead of it."""
-    found = records(feed)
-    latest = list(accumulate((it.counter for it in found), max))
-    ahead = [(at, high - it.counter) for at, (it, high) in enumerate(zip(found, latest)) if it.counter < high]
-    judge(f"none of {len(marks_of(feed))} marks is ahead of a later frame", not ahead, ahead[:20])
 
 
 # ---- how often
@@ -144,48 +98,6 @@ def test_no_mark_is_ahead_of_a_frame_that_comes_later(work: Path, seed: int) -> 
     judge("each frame is there once, in order", numbers_in([frames_of(reader.all())]) == list(range(sent)))
     judge_order(reader.all())
     judge("there are marks between", len(marks_of(reader.all())) > 100, len(marks_of(reader.all())))
-
-
-def judge_moments(found: list[int], origin: int, begin_at: int, ahead: int = 0) -> None:
-    """Marks go on with the real time until now, from a moment on, by a clock that is ahead of it."""
-    moments = [origin + it * TICK - ahead for it in found]
-    gaps = gaps_of([begin_at, *moments, time.time_ns()])
-    judge("marks go on with the real time", max(gaps) < LATE and moments[-1] < time.time_ns(), sorted(gaps)[-5:])
-
-
-@pytest.mark.parametrize("step", [-3_600 * SECOND, 3_600 * SECOND, -10 * MILLISECOND], ids=str)
-def test_a_clock_that_is_set_moves_no_mark(work: Path, step: int) -> None:
-    clock, sender, reader = Clock(work), Sender(), Reader(pipe_at(work, "one.pipe"))
-    running = begin(work, "--quiet", adds=clock.adds)
-    before = time.time_ns()
-    sender.send(20)
-    clock.set_by(step)
-    time.sleep(0.4)
-    sender.send(20)
-    time.sleep(0.2)
-    origin = origin_told(running.told())
-    judge_moments(marks_of(bytes(reader.data)), origin, before)
-    judge_ended(running)
-    judge_order(reader.all())
-    judge("each frame is there", len(frames_of(reader.all())) == 40)
-
-
-def test_by_an_adapters_clock_marks_go_on_from_the_last_frame(work: Path) -> None:
-    """Before the first there are none."""
-    adds = {"LD_PRELOAD": str(preloaded()), "ADAPTER_AHEAD": str(ADAPTER_AHEAD)}
-    reader = Reader(pipe_at(work, "one.pipe"))
-    running = begin(work, "--quiet", "--clock", "adapter", adds=adds)
-    time.sleep(0.3)
-    judge("there are no marks before the first frame", bytes(reader.data) == b"")
-    before = time.time_ns()
-    for number in range(10):
-        send_numbered("tx0", number, number + 1)
-        time.sleep(0.07)
-    time.sleep(0.5)
-    origin = origin_told(running.told())
-    judge_moments(marks_of(bytes(reader.data)), origin, before, ADAPTER_AHEAD * SECOND)
-    judge_ended(running)
-    judge_order(reader.all())
 
 
 # ---- other feeds, and interfaces that go

@@ -110,7 +110,8 @@ def test_two_interfaces_leave_no_report_of_threads(
     """Two interfaces that go over to other feeds, under the thread sanitizer."""
     pipes = [pipe_at(work, name) for name in ("0.pipe", "1.pipe")]
     readers = [Reader(it) for it in pipes]
-    running = Running(work, of_threads, *(f"rx{at}={it}" for at, it in enumerate(pipes)), adds=reporting_to(reports))
+    ways = [f"rx{at}={it}" for at, it in enumerate(pipes)]
+    running = Running(work, of_threads, "--span", "rx0=1", *ways, adds=reporting_to(reports))
     running.wait_until_told("origin")
     for turn in range(SWITCHES):
         send_together(200 * turn, 200)
