@@ -253,6 +253,13 @@ def tell_idle(work: Path) -> bool:
     return True
 
 
+def tell(part: str, work: Path, seconds: float) -> bool:
+    """Prints the table of a part: whether its goals are met."""
+    if part == "disk":
+        return tell_disk(work, seconds)
+    return tell_idle(work) if part == "idle" else tell_seen(work, part, seconds)
+
+
 def main() -> int:
     parser = argparse.ArgumentParser(description=__doc__, formatter_class=argparse.RawDescriptionHelpFormatter)
     parser.add_argument("--part", choices=["disk", "shown", "sent", "idle"], action="append")
@@ -265,8 +272,7 @@ def main() -> int:
         make_pair(0)
         make_pair(1)
         work = Path(stack.enter_context(tempfile.TemporaryDirectory()))
-        ways = {"disk": lambda: tell_disk(work, given.seconds), "idle": lambda: tell_idle(work)}
-        found = [ways[it]() if it in ways else tell_seen(work, it, given.seconds) for it in parts]
+        found = [tell(it, work, given.seconds) for it in parts]
     print(f"\nLoad: {os.getloadavg()[0]:.1f} on {os.cpu_count()} processors")
     return 0 if all(found) else 1
 

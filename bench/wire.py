@@ -33,6 +33,7 @@ import subprocess
 import sys
 import tempfile
 import time
+from collections.abc import Callable
 from functools import partial
 from pathlib import Path
 from typing import NamedTuple
@@ -267,7 +268,7 @@ def with_and_without_publisher(work: Path, buffer: int) -> Commands:
 
 
 # What host/bin/live is timed with and without, in turn.
-IN_TURN = {
+IN_TURN: dict[str, Callable[[Path, int], Commands]] = {
     "syncs": partial(with_and_without, "--sync"),
     "spans": partial(with_and_without, "--span"),
     "follow": with_and_without_follower,
