@@ -56,6 +56,17 @@ def test_a_span_of_settings_goes_ahead_of_the_option(settings: Path, work: Path,
     judge("the capture gets those that are some", folder.span_arguments() == wanted, folder.span_arguments())
 
 
+def test_channels_of_one_interface_share_its_marks(settings: Path, work: Path) -> None:
+    """As often as the shortest span asks for; one without a span takes them too, and closes no packet by them."""
+    folder = made("--span", 0, settings, work / "o.ch11", "rx0=1", "rx0=2", "rx1=3")
+    judge("once for an interface", folder.span_arguments() == ["--span", "rx0=70"], folder.span_arguments())
+    found = spans_for_the_recorder(folder, work)
+    judge("each takes the marks that it gets", found == [2**48 - 1, 70, 0, None, 90], found)
+    judge("and is said to have none", folder.spans[1] == 0)
+    both = made("--span", "5us", settings, work / "o.ch11", "rx0=1", "rx0=2").span_arguments()
+    judge("the shortest", both == ["--span", "rx0=50"], both)
+
+
 def test_a_span_of_settings_that_is_none_is_refused_by_its_channel(settings: Path, work: Path) -> None:
     text = settings.read_text()
     for value, why in [

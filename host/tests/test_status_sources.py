@@ -57,7 +57,7 @@ VIEW = View(
     uptime=71.5,
     recording=RecordingView(3, "f.ch11", 72.5, 301, 302.0, 303, "a fault"),
     disk=DiskView(304, 305.0),
-    sync=SyncView(2.0, 3.5, 306),
+    sync=SyncView(0.02, 3.5, 306),
     channels=(CHANNEL,),
     recordings=(EndedView(2, "e.ch11", 307, 3, "yes other 0"),),
     audits=Audits(308, 309, 310),
@@ -84,7 +84,7 @@ STATUS: dict[str, Any] = {
         "fault": "a fault",
     },
     "disk": {"free": 304, "seconds_left": 305},
-    "sync": {"interval": 2.0, "age": 3.5},
+    "sync": {"interval": 0.02, "age": 3.5},
     "clock": {"is_synchronised": True, "maximum_error": 0.000125, "source": "chrony (a)", "required": 0.25},
     "channels": [
         {

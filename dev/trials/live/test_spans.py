@@ -91,6 +91,18 @@ def test_frames_of_a_channel_that_falls_silent_are_written(work: Path, words: li
     judge("the facts say it", facts_of(out)["spans"] == [{"channel": 1, "span": span}], facts_of(out)["spans"])
 
 
+def test_a_channel_without_a_span_takes_the_marks_of_another_one(work: Path) -> None:
+    """Of the same interface, and is written at its end."""
+    out = work / "both.ch11"
+    settings = write_settings(work, f'id = 1\nfilter = "{work}/all"', f'id = 2\nfilter = "{work}/all"\nspan = 0')
+    running = begin(work, out, "--quiet", settings=settings, ways=["rx0=1", "rx0=2"])
+    send_numbered("tx0", 0, 10)
+    time.sleep(1.5)
+    judge("one is in the file", (in_file(out, 1), in_file(out, 2)) == (10, 0))
+    printed = end(running)
+    judge("and both at the end", printed.count(" kept 10 SourceEnd\n") == 2, printed)
+
+
 def test_two_changes_are_two_versions(work: Path) -> None:
     """However often packets are closed between."""
     running = begin(work, work / "changed.ch11", "--quiet", "--span", "100ms")

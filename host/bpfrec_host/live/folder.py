@@ -21,7 +21,7 @@ import secrets
 from pathlib import Path
 from typing import Any, BinaryIO, Optional
 
-from bpfrec_host.formats.limits import MAX_LISTING_LEN
+from bpfrec_host.formats.limits import MAX_COUNTER, MAX_LISTING_LEN
 from bpfrec_host.formats.listing import listing_in
 from bpfrec_host.formats.settings import NoReader, NoToml, Settings, settings_of
 from bpfrec_host.formats.settings_text import text_of
@@ -30,7 +30,7 @@ from bpfrec_host.live.arguments import Arguments
 from bpfrec_host.live.expressions import gives_filter, listing_in_words, listing_of, name_of, settings_text, words_in
 from bpfrec_host.live.names import Refusal
 from bpfrec_host.live.operands import Route
-from bpfrec_host.live.spans import spans_of
+from bpfrec_host.live.spans import shortest_of, spans_of
 
 # What the private folders of runs are called.
 NAME = re.compile(r"bpfrec\.[0-9a-f]{16}")
@@ -210,14 +210,17 @@ class Folder:
             return table
         path = self.filter_of(named, table.get("filter"))
         changed = table if path is None else {**table, "filter": path}
-        if not any(it.channel == named for it in self.routes):
+        interface = next((it.interface for it in self.routes if it.channel == named), None)
+        if interface is None:
             return changed
-        return {**changed, "feed": f"{made}/{named}.pipe", "span": self.spans[named]}
+        # A channel without one gets the marks of another one of its interface, for which it must have a span.
+        span = self.spans[named] or (MAX_COUNTER if interface in shortest_of(self.routes, self.spans) else 0)
+        return {**changed, "feed": f"{made}/{named}.pipe", "span": span}
 
     def span_arguments(self) -> list[str]:
         """The capture's arguments by which it says in feeds how time goes by."""
-        spans = [(it.interface, self.spans.get(it.channel, 0)) for it in self.routes]
-        return [word for interface, span in spans if span for word in ("--span", f"{interface}={span}")]
+        spans = shortest_of(self.routes, self.spans)
+        return [word for interface, span in spans.items() for word in ("--span", f"{interface}={span}")]
 
     # ---- filters
 
