@@ -6,6 +6,7 @@ import random
 import re
 import signal
 import time
+from functools import partial
 from itertools import accumulate
 from pathlib import Path
 
@@ -69,7 +70,7 @@ def test_an_interface_without_frames_wakes_for_its_marks_alone(work: Path) -> No
     before, marks = waits_of(thread), len(marks_of(bytes(reader.data)))
     time.sleep(3)
     waits, came = waits_of(thread) - before, len(marks_of(bytes(reader.data))) - marks
-    judge("a wait for each mark", waits <= came + 2 and 20 <= came <= 25, (waits, came))
+    judge(f"{waits} waits for {came} marks in three seconds", waits <= came + 2 and 20 <= came <= 25)
     judge_ended(running)
 
 
@@ -144,9 +145,9 @@ def test_marks_go_on_while_an_interface_is_down_or_gone_and_once_it_is_back(work
     running = begin(work, "--quiet", span=SHORTEST)
     before, number = time.time_ns(), 0
     for away, back in (
-        (lambda: set_link("rx0", "down"), lambda: set_link("rx0", "up")),
-        (lambda: set_link("tx0", "down"), lambda: set_link("tx0", "up")),
-        (lambda: take_away("rx0"), lambda: make_pair(0)),
+        (partial(set_link, "rx0", "down"), partial(set_link, "rx0", "up")),
+        (partial(set_link, "tx0", "down"), partial(set_link, "tx0", "up")),
+        (partial(take_away, "rx0"), partial(make_pair, 0)),
     ):
         for count in (1, 300):
             send_numbered("tx0", number, number + count)

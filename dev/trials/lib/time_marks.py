@@ -3,7 +3,6 @@
 from __future__ import annotations
 
 import time
-from itertools import accumulate
 from pathlib import Path
 
 from frames import Record, records
@@ -42,10 +41,8 @@ def judge_ended(running: Running) -> str:
 
 def judge_order(feed: bytes) -> None:
     """No frame has a counter below that of a mark ahead of it, nor a mark one below that of a frame ahead of it."""
-    found = records(feed)
-    latest = list(accumulate((it.counter for it in found), max))
-    ahead = [(at, high - it.counter) for at, (it, high) in enumerate(zip(found, latest)) if it.counter < high]
-    judge(f"none of {len(marks_of(feed))} marks is ahead of a later frame", not ahead, ahead[:20])
+    backwards = [it for it in gaps_of([it.counter for it in records(feed)]) if it < 0]
+    judge(f"none of {len(marks_of(feed))} marks is ahead of a later frame", not backwards, backwards[:20])
 
 
 def judge_moments(found: list[int], origin: int, begin_at: int, ahead: int = 0) -> None:
