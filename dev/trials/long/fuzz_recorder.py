@@ -59,8 +59,7 @@ def feeds(run: Run, draw: Random, corpus: Corpus) -> None:
     if audited.status != 0:
         raise Wrong(f"a recording isn't approved: {audited.output}")
     head = [f"recorder {limit} 4096 {version}", f"channel 7 {net} {speed} {most} {listing.decode()}"]
-    head += [f"span 7 {span}"] * (span > 0)
-    if simulated(run, head, taken, recorded.output) != recording:
+    if simulated(run, head + [f"span 7 {span}"] * (span > 0), taken, recorded.output) != recording:
         raise Wrong("record and simulate wrote other bytes")
 
 
