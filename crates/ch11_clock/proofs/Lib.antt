@@ -1,5 +1,6 @@
 pub mod YearBounds
 pub mod OneCivilTime
+pub mod TimesRead
 pub mod TickOrder
 pub mod PointSteps
 pub mod FirstMoments

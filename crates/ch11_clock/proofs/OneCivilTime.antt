@@ -21,7 +21,7 @@ made year month day hour minute second hundredth = record {
   hundredth = hundredth;
 }
 
-same_parts : (time other : CivilTime) → time.year ≡ other.year → time.month ≡ other.month → time.day ≡ other.day → time.hour ≡ other.hour
+pub same_parts : (time other : CivilTime) → time.year ≡ other.year → time.month ≡ other.month → time.day ≡ other.day → time.hour ≡ other.hour
     → time.minute ≡ other.minute → time.second ≡ other.second → time.hundredth ≡ other.hundredth → time ≡ other
 same_parts time other year month day hour minute second hundredth =
     let same : made time.year time.month time.day time.hour time.minute time.second time.hundredth

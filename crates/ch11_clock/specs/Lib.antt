@@ -5,4 +5,5 @@ pub mod TimePoints
 pub mod TimeDistances
 pub mod CivilTime
 pub mod TimeBody
+pub mod TimeRead
 pub mod OriginText

@@ -4,6 +4,7 @@ ghost use Rattle.ch11_clock.specs.declared.origin.Origin.{Origin};
 ghost use Rattle.ch11_clock.specs.declared.civil.CivilTime.{CivilTime};
 ghost use Rattle.ch11_clock.specs.CivilTime.{IsCivilTime, IsTimeOf};
 ghost use Rattle.ch11_clock.specs.TimeBody.{time_bytes};
+ghost use Rattle.ch11_clock.specs.TimeRead.{SaysCivilTime};
 ghost use Rattle.ch11_clock.specs.Clock.{started, held_origins, clock_time, IsClock};
 ghost use Rattle.ch11_clock.specs.OriginText.{origin_said, SaysOrigin};
 ghost use Rattle.ch11_clock.specs.TimePoints.{IsTimePoint, AgreesWithClock};
@@ -17,6 +18,12 @@ pub fn a_time_packet_says_one_time()
     ensures body { (time other : CivilTime) (source also : Bool) → IsCivilTime time
         → IsCivilTime other → time_bytes source time ≡ time_bytes also other
         → (time ≡ other) × (source ≡ also) }
+{}
+
+/// Law: a reader that takes the body of a time packet apart finds the time that it was made of, and its source.
+pub fn a_time_packet_is_read_back()
+    ensures { (is_external : Bool) (time : CivilTime) → IsCivilTime time
+        → SaysCivilTime (time_bytes is_external time) is_external time }
 {}
 
 /// Law: a text is read as the origin that it says, so it says one at most.

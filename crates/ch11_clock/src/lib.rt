@@ -18,8 +18,8 @@ pub use body::{TIME_BODY_LEN, time_body};
 pub use civil::{CivilTime, MAX_MOMENT, MIN_MOMENT, civil_time};
 pub use clock::Clock;
 pub use laws::{
-    a_time_packet_says_one_time, an_origin_is_read_as_it_is_said, counters_lie_near_a_time_point,
-    held_origins_are_the_clock, time_points_have_the_clocks_time,
+    a_time_packet_is_read_back, a_time_packet_says_one_time, an_origin_is_read_as_it_is_said,
+    counters_lie_near_a_time_point, held_origins_are_the_clock, time_points_have_the_clocks_time,
 };
 pub use origin::Origin;
 pub use origin_text::read_origin;

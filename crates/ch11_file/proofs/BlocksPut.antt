@@ -1,5 +1,5 @@
 -- Packets that hold something go out: those that the index names, nodes, and roots.
-use Rattle.std.proofs.Common.{ℕ, ◌+◌, ◌≡◌, ◌<◌, List, length, take, Option, None, refl, sym, subst, ap, ◌∙◌}
+use Rattle.std.proofs.Common.{ℕ, ◌+◌, ◌≡◌, ◌≤◌, ◌<◌, List, length, take, Option, None, refl, sym, subst, ap, ◌∙◌}
 use Rattle.std.specs.Prelude.{◌^◌, ◌%◌, slice_index, slice_set}
 use Rattle.std.specs.Io.KnownBytes.{Appends}
 use Rattle.ch11_packet.specs.Header.{IsHeader}
@@ -9,7 +9,8 @@ use Rattle.ch11_index.specs.declared.index.IndexPacket.TheVariants.{Node, Root}
 use Rattle.ch11_index.specs.FileIndex.{IndexState, after_packet, after_node, after_root, last_entry, due}
 use Rattle.ch11_index.specs.IndexBytes.{node_bytes, root_bytes}
 use Rattle.ch11_file.specs.declared.kind.BlockKind.{BlockKind}
-use Rattle.ch11_file.specs.declared.kind.BlockKind.TheVariants.{Index}
+use Rattle.ch11_file.specs.declared.kind.BlockKind.TheVariants.{Setup, Index}
+use Rattle.ch11_file.specs.declared.limits.TheConstants.{MAX_SETUP_LEN}
 use Rattle.ch11_file.specs.declared.setup.FileSetup.{FileSetup}
 use Rattle.ch11_file.specs.FileBlocks.{FileBlock, BlockContent, block_of, block_header, block_packet, block_len, block_body, kind_of, named_of}
 use Rattle.ch11_file.specs.FileBlocks.BlockContent.{SetupBlock, TimeBlock, PieceBlock, NodeBlock, RootBlock}
@@ -48,6 +49,21 @@ is_of_block sent setup content kind channel counter body is header =
     let o3 = subst (λ (n : ℕ). IsOfBlock sent setup content (kind_of content) n counter body) (sym is.channel_is) o2 in
     subst (λ (k : BlockKind). IsOfBlock sent setup content k channel counter body) (sym is.kind_is) o3
 
+-- a setup record isn't too long
+abbrev pub SetupFits : BlockKind → (len : ℕ) → Type 0
+SetupFits kind len = kind ≡ Setup → len ≤ MAX_SETUP_LEN
+
+setup_fits : (sent : SentState) (setup : FileSetup) (content : BlockContent) (kind : BlockKind) (channel counter : ℕ) (body : List ℕ)
+    → IsContent setup content kind channel body → IsOfBlock sent setup content kind channel counter body
+    → SetupFits kind (written_len WithSum (length body)) → SetupFits (kind_of content) (block_len (block_sent sent setup content counter))
+setup_fits sent setup content kind channel counter body is of fits = λ e. subst (λ n. n ≤ MAX_SETUP_LEN) of.len (fits (is.kind_is ∙ e))
+
+no_setup : (kind : BlockKind) (len : ℕ) → kind ≡ Index → SetupFits kind len
+no_setup kind len is e = absurd (differ (sym is ∙ e))
+  where
+    differ : Index ≡ Setup → ⊥
+    differ same = cc
+
 -- ---- it goes out whole
 
 record IsNoted (mid new : SentState) (kind : BlockKind) (len place : ℕ) : Type 0 where
@@ -58,10 +74,10 @@ record IsNoted (mid new : SentState) (kind : BlockKind) (len place : ℕ) : Type
 whole_out : (facts : FileFacts) (before held now : Option (List ℕ)) (old mid new : SentState) (merge next : MergeState) (kind : BlockKind)
     (channel counter : ℕ) (body : List ℕ) (len : ℕ) (content : BlockContent) → HasSent facts before held old merge
     → IsContent facts.setup content kind channel body → WritesWhole old kind channel counter body held now len mid
-    → IsNoted mid new kind len old.index.place
+    → SetupFits kind (written_len WithSum (length body)) → IsNoted mid new kind len old.index.place
     → BlockGoesNext facts (file_state old.index merge) content (block_sent old facts.setup content counter) (file_state new.index next)
     → HasSent facts before now new next
-whole_out facts before held now old mid new merge next kind channel counter body len content sent is wrote noted goes =
+whole_out facts before held now old mid new merge next kind channel counter body len content sent is wrote fits noted goes =
     let b = block_sent old facts.setup content counter in
     let of = is_of_block old facts.setup content kind channel counter body is wrote.header in
     let len_is : len ≡ block_len b = wrote.len_is ∙ of.len in
@@ -70,7 +86,12 @@ whole_out facts before held now old mid new merge next kind channel counter body
     ap (λ (s : SentState). s.numbers) wrote.new_is in
     let counts_are : mid.counts ≡ old.counts = ap (λ (s : SentState). s.counts) wrote.new_is in
     sent_more facts before held now old new merge next b sent
-    (record { channel = refl; header = of.header; goes = goes })
+    (record {
+      channel = refl;
+      header = of.header;
+      setup_fits = setup_fits old facts.setup content kind channel counter body is of fits;
+      goes = goes;
+    })
     (record {
       sequence = refl;
       fits = of.fits;
@@ -84,12 +105,20 @@ whole_out facts before held now old mid new merge next kind channel counter body
 part_out : (facts : FileFacts) (before held now : Option (List ℕ)) (old : SentState) (new : FileState) (merge : MergeState) (kind : BlockKind)
     (channel counter : ℕ) (body : List ℕ) (content : BlockContent) → HasSent facts before held old merge
     → IsContent facts.setup content kind channel body → WritesPart old kind channel counter body held now
+    → SetupFits kind (written_len WithSum (length body))
     → BlockGoesNext facts (file_state old.index merge) content (block_sent old facts.setup content counter) new
     → HoldsFront facts before now
-part_out facts before held now old new merge kind channel counter body content sent is wrote goes =
+part_out facts before held now old new merge kind channel counter body content sent is wrote fits goes =
     let b = block_sent old facts.setup content counter in
     let of = is_of_block old facts.setup content kind channel counter body is wrote.header in
-    part_more facts before held now old new merge b wrote.len sent (record { channel = refl; header = of.header; goes = goes }) refl of.fits
+    part_more facts before held now old new merge b wrote.len sent
+    (record {
+      channel = refl;
+      header = of.header;
+      setup_fits = setup_fits old facts.setup content kind channel counter body is of fits;
+      goes = goes;
+    })
+    refl of.fits
     (subst (λ l. Appends held now (take wrote.len l)) of.bytes wrote.grows)
 
 -- ---- a packet that the index names
@@ -108,9 +137,10 @@ pub put_whole : (facts : FileFacts) (before held now : Option (List ℕ)) (old m
     (channel counter : ℕ) (body : List ℕ) (len : ℕ) (content : BlockContent) → HasSent facts before held old merge
     → IsContent facts.setup content kind channel body → due old.index ≡ None
     → ContentGoesNext facts old.index.greatest merge content counter next → WritesWhole old kind channel counter body held now len mid
+    → SetupFits kind (written_len WithSum (length body))
     → new ≡ sent_state mid.numbers (after_packet mid.index (named_with kind channel counter len)) (counts_behind mid.counts kind len)
     → HasSent facts before now new next
-put_whole facts before held now old mid new merge next kind channel counter body len content sent is none goes wrote noted =
+put_whole facts before held now old mid new merge next kind channel counter body len content sent is none goes wrote fits noted =
     let b = block_sent old facts.setup content counter in
     let of = is_of_block old facts.setup content kind channel counter body is wrote.header in
     let index_was : mid.index ≡ old.index = ap (λ (s : SentState). s.index) wrote.new_is in
@@ -119,7 +149,7 @@ put_whole facts before held now old mid new merge next kind channel counter body
     let packet_is : named_with kind channel counter len ≡ named_of b =
     ap (λ k. named_with k channel counter len) is.kind_is ∙ ap (λ n. named_with (kind_of content) n counter len) is.channel_is
     ∙ ap (λ n. named_with (kind_of content) (block_channel facts.setup content) counter n) (wrote.len_is ∙ of.len) in
-    whole_out facts before held now old mid new merge next kind channel counter body len content sent is wrote
+    whole_out facts before held now old mid new merge next kind channel counter body len content sent is wrote fits
     (record {
       numbers = ap (λ (s : SentState). s.numbers) noted;
       counts = ap (λ (s : SentState). s.counts) noted;
@@ -132,10 +162,10 @@ pub put_part : (facts : FileFacts) (before held now : Option (List ℕ)) (old : 
     (channel counter : ℕ) (body : List ℕ) (content : BlockContent) → HasSent facts before held old merge
     → IsContent facts.setup content kind channel body → due old.index ≡ None
     → ContentGoesNext facts old.index.greatest merge content counter next → WritesPart old kind channel counter body held now
-    → HoldsFront facts before now
-put_part facts before held now old merge next kind channel counter body content sent is none goes wrote =
+    → SetupFits kind (written_len WithSum (length body)) → HoldsFront facts before now
+put_part facts before held now old merge next kind channel counter body content sent is none goes wrote fits =
     let b = block_sent old facts.setup content counter in
-    part_out facts before held now old (file_state (after_packet old.index (named_of b)) next) merge kind channel counter body content sent is wrote
+    part_out facts before held now old (file_state (after_packet old.index (named_of b)) next) merge kind channel counter body content sent is wrote fits
     (named_goes facts (file_state old.index merge) (file_state (after_packet old.index (named_of b)) next) content (block_channel facts.setup content)
     (slice_index old.numbers (block_channel facts.setup content)) counter none goes refl)
 
@@ -157,7 +187,7 @@ node_whole facts before held now old mid new merge kind channel counter body len
     let of = is_of_block old facts.setup content kind channel counter body is wrote.header in
     let index_was : mid.index ≡ old.index = ap (λ (s : SentState). s.index) wrote.new_is in
     let index_is : new.index ≡ after_node old.index len = ap (λ (s : SentState). s.index) noted ∙ ap (λ i. after_node i len) index_was in
-    whole_out facts before held now old mid new merge merge kind channel counter body len content sent is wrote
+    whole_out facts before held now old mid new merge merge kind channel counter body len content sent is wrote (no_setup kind _ k)
     (record {
       numbers = ap (λ (s : SentState). s.numbers) noted;
       counts = ap (λ (s : SentState). s.counts) noted ∙ ap (λ k2. counts_behind mid.counts k2 len) (sym k);
@@ -177,7 +207,7 @@ pub node_part : (facts : FileFacts) (before held now : Option (List ℕ)) (old :
 node_part facts before held now old merge kind channel counter body sent due_is k c g b wrote =
     let content = NodeBlock old.index.packets in
     part_out facts before held now old (file_state (after_node old.index (block_len (block_sent old facts.setup content counter))) merge) merge kind channel
-    counter body content sent (node_content facts.setup old kind channel body k c b) wrote
+    counter body content sent (node_content facts.setup old kind channel body k c b) wrote (no_setup kind _ k)
     (record { is_due = due_is; entries_are = refl; counter_is = g; new_is = refl })
 
 root_content : (setup : FileSetup) (s : SentState) (kind : BlockKind) (channel : ℕ) (body : List ℕ) → kind ≡ Index → channel ≡ 0
@@ -196,7 +226,7 @@ root_whole facts before held now old mid new merge kind channel counter body len
     let of = is_of_block old facts.setup content kind channel counter body is wrote.header in
     let index_was : mid.index ≡ old.index = ap (λ (s : SentState). s.index) wrote.new_is in
     let index_is : new.index ≡ after_root old.index len = ap (λ (s : SentState). s.index) noted ∙ ap (λ i. after_root i len) index_was in
-    whole_out facts before held now old mid new merge merge kind channel counter body len content sent is wrote
+    whole_out facts before held now old mid new merge merge kind channel counter body len content sent is wrote (no_setup kind _ k)
     (record {
       numbers = ap (λ (s : SentState). s.numbers) noted;
       counts = ap (λ (s : SentState). s.counts) noted ∙ ap (λ k2. counts_behind mid.counts k2 len) (sym k);
@@ -217,5 +247,5 @@ pub root_part : (facts : FileFacts) (before held now : Option (List ℕ)) (old :
 root_part facts before held now old merge kind channel counter body sent due_is k c g b wrote =
     let content = RootBlock old.index.nodes (last_entry old.index) in
     part_out facts before held now old (file_state (after_root old.index (block_len (block_sent old facts.setup content counter))) merge) merge kind channel
-    counter body content sent (root_content facts.setup old kind channel body k c b) wrote
+    counter body content sent (root_content facts.setup old kind channel body k c b) wrote (no_setup kind _ k)
     (record { is_due = due_is; nodes_are = refl; last_is = refl; counter_is = g; new_is = refl })

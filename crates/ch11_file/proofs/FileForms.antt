@@ -1,5 +1,5 @@
 -- The form of a whole file's packets, and their sequence numbers.
-use Rattle.std.proofs.Common.{ℕ, ◌+◌, ◌≡◌, List, [], ◌∷◌, ◌++◌, refl, sym, subst, ap, ◌∙◌, arith, append_assoc, append-nil}
+use Rattle.std.proofs.Common.{ℕ, ◌+◌, ◌≡◌, ◌≤◌, List, [], ◌∷◌, ◌++◌, refl, sym, subst, ap, ◌∙◌, arith, append_assoc, append-nil}
 use Rattle.std.specs.Prelude.{◌%◌, ◌==◌, if◌then◌else◌}
 use Rattle.std.specs.List.{AllByRecursion}
 use Rattle.std.proofs.lemmas.Bool.{eq-eqb}
@@ -9,7 +9,9 @@ use Rattle.ch11_packet.specs.Packet.{packet_trailer}
 use Rattle.ch11_packet.specs.Profiles.Profile.{WithSum}
 use Rattle.ch11_packet.proofs.Lengths.{length-packet}
 use Rattle.ch11_packet.proofs.Summed.{written_sum}
-use Rattle.ch11_file.specs.FileBlocks.{FileBlock, block_packet, block_header, block_body, blocks_on}
+use Rattle.ch11_file.specs.declared.kind.BlockKind.TheVariants.{Setup}
+use Rattle.ch11_file.specs.declared.limits.TheConstants.{MAX_SETUP_LEN}
+use Rattle.ch11_file.specs.FileBlocks.{FileBlock, block_packet, block_header, block_body, block_len, blocks_on, kind_of}
 use Rattle.ch11_file.specs.WholeFile.{FileFacts, FileState, AreNumbered, GoOut, IsWholeFile}
 use Rattle.ch11_file.specs.FilesRead.{BeginAtZero, IsValidPacket, RiseByOne}
 
@@ -31,6 +33,15 @@ all_formed facts old new (b ∷ blocks) go = (well_formed b go.1.header, all_for
 
 pub file_formed : (facts : FileFacts) (blocks : List FileBlock) → IsWholeFile facts blocks → AllByRecursion IsValidPacket blocks
 file_formed facts blocks (end, begins, over) = all_formed facts _ end blocks begins.go
+
+setups_fit : (facts : FileFacts) (old new : FileState) (blocks : List FileBlock) → GoOut facts old blocks new
+    → AllByRecursion (λ (b : FileBlock). kind_of b.content ≡ Setup → block_len b ≤ MAX_SETUP_LEN) blocks
+setups_fit facts old new [] go = tt
+setups_fit facts old new (b ∷ blocks) go = (go.1.setup_fits, setups_fit facts go.0 new blocks go.2)
+
+pub setup_short : (facts : FileFacts) (blocks : List FileBlock) → IsWholeFile facts blocks
+    → AllByRecursion (λ (b : FileBlock). kind_of b.content ≡ Setup → block_len b ≤ MAX_SETUP_LEN) blocks
+setup_short facts blocks (end, begins, over) = setups_fit facts _ end blocks begins.go
 
 -- ---- sequence numbers
 

@@ -19,7 +19,7 @@ use Rattle.ch11_file.specs.Sending.{index_next}
 
 -- ---- lengths
 
-rows_len : {X : Type 0} (row : X → List ℕ) (len : ℕ) → ((x : X) → length (row x) ≡ len) → (xs : List X)
+pub rows_len : {X : Type 0} (row : X → List ℕ) (len : ℕ) → ((x : X) → length (row x) ≡ len) → (xs : List X)
     → length (flat_map row xs) ≡ length xs * len
 rows_len row len each [] = omega arith
 rows_len row len each (x ∷ xs) =

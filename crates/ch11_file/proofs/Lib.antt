@@ -7,5 +7,6 @@ pub mod NextBlocks
 pub mod FileFronts
 pub mod FileMerges
 pub mod FileForms
+pub mod BodiesFound
 pub mod FileOrders
 pub mod FileDistances

@@ -7,3 +7,4 @@ pub mod WholeFile
 pub mod FileEnds
 pub mod Sending
 pub mod FilesRead
+pub mod BodiesSaid

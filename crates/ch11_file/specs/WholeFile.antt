@@ -1,5 +1,5 @@
 -- Which packets a whole Chapter 11 file has, in order: what may go out next, and what is left behind it.
-use Rattle.std.specs.Prelude.{ℕ, ◌+◌, ◌%◌, ◌<◌, ◌≡◌, ◌⊎◌, Bool, List, [], ◌∷◌, ◌++◌, ℤ, None, Some}
+use Rattle.std.specs.Prelude.{ℕ, ◌+◌, ◌%◌, ◌<◌, ◌≤◌, ◌≡◌, ◌⊎◌, Bool, List, [], ◌∷◌, ◌++◌, ℤ, None, Some}
 use Rattle.ch11_index.specs.declared.entry.NodeEntry.{NodeEntry}
 use Rattle.ch11_index.specs.declared.entry.RootEntry.{RootEntry}
 use Rattle.ch11_packet.specs.Header.{IsHeader}
@@ -17,9 +17,10 @@ use Rattle.ch11_merge.specs.declared.source.Head.{Head}
 use Rattle.ch11_merge.specs.declared.source.Head.TheVariants.{At, Uncounted, End}
 use Rattle.ch11_merge.specs.Merging.{FilePiece, ChannelLeft, head_of, head_of_piece, TimeIsNext, PieceIsNext, NothingLeft}
 use Rattle.ch11_merge.specs.Merging.FilePiece.{OfFrames, OfRecord}
-use Rattle.ch11_file.specs.declared.limits.TheConstants.{MAX_TICKS_BACK, MAX_TICKS_AHEAD}
+use Rattle.ch11_file.specs.declared.limits.TheConstants.{MAX_TICKS_BACK, MAX_TICKS_AHEAD, MAX_SETUP_LEN}
+use Rattle.ch11_file.specs.declared.kind.BlockKind.TheVariants.{Setup as SetupKind}
 use Rattle.ch11_file.specs.declared.setup.FileSetup.{FileSetup}
-use Rattle.ch11_file.specs.FileBlocks.{BlockContent, FileBlock, block_header, block_len, named_of, blocks_on}
+use Rattle.ch11_file.specs.FileBlocks.{BlockContent, FileBlock, kind_of, block_header, block_len, named_of, blocks_on}
 use Rattle.ch11_file.specs.FileBlocks.BlockContent.{SetupBlock, TimeBlock, PieceBlock, NodeBlock, RootBlock}
 use Rattle.ch11_file.specs.FileTimes.{IsFirstTime, IsNextTick}
 
@@ -209,10 +210,11 @@ BlockGoesNext facts old (PieceBlock channel piece) b new =
 BlockGoesNext facts old (NodeBlock entries) b new = NodeGoesNext old entries b new
 BlockGoesNext facts old (RootBlock nodes last) b new = RootGoesNext old nodes last b new
 
--- this packet goes out next, with a valid header on its channel
+-- this packet goes out next, with a valid header on its channel; that of a setup record isn't too long
 pub record GoesNext (facts : FileFacts) (old : FileState) (b : FileBlock) (new : FileState) : Type 0 where
   pub channel : b.channel ≡ block_channel facts.setup b.content
   pub header : IsHeader (block_header b)
+  pub setup_fits : kind_of b.content ≡ SetupKind → block_len b ≤ MAX_SETUP_LEN
   pub goes : BlockGoesNext facts old b.content b new
 
 -- these packets go out, one after the other

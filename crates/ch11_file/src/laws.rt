@@ -1,6 +1,6 @@
 //! Laws of a whole file, with nothing to run.
 
-ghost use Rattle.std.specs.Prelude.{ℕ, ◌≡◌, ◌≢◌, ◌<◌, ◌≤◌, ◌^◌, true, List, [], ◌∷◌, ◌++◌, None, Some, codes, decimal, length, map, slice_get, All};
+ghost use Rattle.std.specs.Prelude.{ℕ, ◌≡◌, ◌≢◌, ◌<◌, ◌≤◌, ◌^◌, true, List, [], ◌∷◌, ◌++◌, None, Some, length, map, slice_get, All};
 ghost use Rattle.std.specs.List.{AllByRecursion, flat_map};
 ghost use Rattle.ch11_packet.specs.Frames.{data_len};
 ghost use Rattle.ch11_packet.specs.FramesRead.{ReadFrameData, IsReadFrame, SpellsBody};
@@ -13,7 +13,9 @@ ghost use Rattle.ch11_index.specs.FileIndex.{IsIndexed, empty_index};
 ghost use Rattle.ch11_index.specs.IndexRead.{AreChained, AreWithin, EndsWithRoot};
 ghost use Rattle.ch11_index.specs.IndexRead.{named_in, nodes_from, packets_from, rooted_in};
 ghost use Rattle.ch11_file.specs.CopiedFrames.{frames_body};
-ghost use Rattle.ch11_file.specs.FileBlocks.{FileBlock, block_len, block_packet, item_of, merged_in};
+ghost use Rattle.ch11_file.specs.declared.kind.BlockKind.TheVariants.{Setup};
+ghost use Rattle.ch11_file.specs.BodiesSaid.{SaysContent};
+ghost use Rattle.ch11_file.specs.FileBlocks.{FileBlock, block_len, block_packet, file_bytes, item_of, kind_of, merged_in};
 ghost use Rattle.ch11_file.specs.WholeFile.{FileFacts, IsWholeFile, setup_at, setup_text};
 ghost use Rattle.ch11_file.specs.FilesRead.{BeginAtZero, BeginsWithSetup, IsValidPacket, NeverFarBehind, RiseByOne};
 ghost use Rattle.ch11_file.specs.FilesRead.{LieBehindFurtherTimes, LieNearTheirTimes, TellsClock};
@@ -22,7 +24,7 @@ ghost use Rattle.ch11_file.specs.declared.setup.FileSetup.{FileSetup};
 ghost use Rattle.ch11_clock.specs.declared.civil.CivilTime.{CivilTime};
 ghost use Rattle.ch11_setup.specs.Attributes.{HoldsAttributes};
 ghost use Rattle.ch11_setup.specs.Setups.{IsSetup, given_attributes, setup_attributes};
-ghost use Rattle.ch11_setup.specs.Sources.{HasNoneOf, channel_numbers, channel_types, source_channels, source_types};
+ghost use Rattle.ch11_setup.specs.Sources.{NamesNoSource, SaysSources};
 ghost use Rattle.ch11_clock.specs.Clock.{IsClock};
 
 use crate::limits::{MAX_SETUP_LEN, MAX_TICKS_AHEAD, MAX_TICKS_BACK};
@@ -107,11 +109,14 @@ pub fn packets_lie_near_their_times()
     counters_lie_near_a_time_point();
 }
 
-/// Law: each packet of a whole file has a valid header with its length, and a right data checksum, and the
-/// sequence numbers of a channel begin at 0 and rise by one, modulo 256.
+/// Law: each packet of a whole file has a valid header with its length, and a right data checksum; that of a
+/// setup record isn't too long; and the sequence numbers of a channel begin at 0 and rise by one, modulo 256.
 pub fn a_whole_file_is_well_formed()
     ensures packets { (facts : FileFacts) (blocks : List FileBlock) → IsWholeFile facts blocks
         → AllByRecursion IsValidPacket blocks }
+    ensures setup { (facts : FileFacts) (blocks : List FileBlock) → IsWholeFile facts blocks
+        → AllByRecursion (λ (b : FileBlock). kind_of b.content ≡ Setup → block_len b ≤ MAX_SETUP_LEN)
+        blocks }
     ensures first { (facts : FileFacts) (blocks : List FileBlock) → IsWholeFile facts blocks
         → BeginAtZero blocks }
     ensures further { (facts : FileFacts) (blocks : List FileBlock) → IsWholeFile facts blocks
@@ -145,23 +150,27 @@ pub fn a_whole_file_begins_with_its_setup()
 
 /// Law: a reader that ends a name at its first colon, and a value at its first semicolon, finds the attributes
 /// of the setup record in its text; and its data sources are the time channel and the channels, each with its
-/// type, where a user adds none.
+/// number, its type and its names, where a user names none.
 #[tactic(auto, unfolding(crate::specs::WholeFile::setup_text))]
 pub fn the_setup_of_a_whole_file_is_read_back()
     ensures found { (setup : FileSetup) (time : CivilTime) → IsSetup (setup_at setup time)
         → HoldsAttributes (setup_text setup time) (setup_attributes (setup_at setup time)) }
-    ensures channels { (setup : FileSetup) (time : CivilTime)
-        → HasNoneOf (codes "R-1\\TK1-") (given_attributes setup.attributes.now)
-        → source_channels (setup_attributes (setup_at setup time))
-        ≡ decimal setup.time_channel ∷ channel_numbers setup.channels.now }
-    ensures types { (setup : FileSetup) (time : CivilTime)
-        → HasNoneOf (codes "R-1\\CDT-") (given_attributes setup.attributes.now)
-        → source_types (setup_attributes (setup_at setup time))
-        ≡ codes "TIMEIN" ∷ channel_types setup.channels.now }
+    ensures sources { (setup : FileSetup) (time : CivilTime)
+        → NamesNoSource (given_attributes setup.attributes.now)
+        → SaysSources (setup_at setup time) (setup_attributes (setup_at setup time)) }
 {
     a_setup_record_is_read_back();
     a_setup_record_names_the_channels();
 }
+
+/// Law: of a whole file of less than 2^64 bytes a reader that takes bodies apart finds what they were made of:
+/// the text of the setup record, the time of each time packet with its source, and the entries of each node and
+/// each root of the index.
+pub fn bodies_of_a_whole_file_are_read_back()
+    ensures { (facts : FileFacts) (blocks : List FileBlock) → IsWholeFile facts blocks
+        → length (file_bytes blocks) < 2 ^ 64
+        → AllByRecursion (λ (b : FileBlock). SaysContent b.content) blocks }
+{}
 
 /// Law: a header may lie a second behind one ahead of it, in ticks of 100 ns, and a piece a week ahead of all of
 /// them; the packet of a setup record has at most 128 MiB.

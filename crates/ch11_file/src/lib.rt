@@ -27,8 +27,9 @@ pub use file::write_file;
 pub use laws::{
     a_frame_that_goes_on_fits, a_whole_file_begins_with_its_setup,
     a_whole_file_has_no_other_channel, a_whole_file_is_indexed, a_whole_file_is_well_formed,
-    a_whole_file_keeps_each_channel, copied_frames_are_read_back, headers_never_lie_far_behind,
-    packets_lie_near_their_times, the_limits_of_a_file, the_setup_of_a_whole_file_is_read_back,
+    a_whole_file_keeps_each_channel, bodies_of_a_whole_file_are_read_back,
+    copied_frames_are_read_back, headers_never_lie_far_behind, packets_lie_near_their_times,
+    the_limits_of_a_file, the_setup_of_a_whole_file_is_read_back,
     times_of_a_whole_file_are_the_clocks, times_of_a_whole_file_stand_ahead,
     times_of_a_whole_file_stand_late,
 };

@@ -40,7 +40,8 @@ impl Sent {
     ghost use Rattle.ch11_index.specs.declared.index.TheConstants.{MOST_NAMED};
     ghost use Rattle.ch11_index.specs.declared.index.IndexPacket.TheVariants.{Node, Root};
     ghost use Rattle.ch11_index.specs.FileIndex.{due, due_at_end, after_packet, after_node, after_root};
-    ghost use Rattle.ch11_file.specs.declared.kind.BlockKind.TheVariants.{Frames, Index as IndexKind};
+    ghost use Rattle.ch11_file.specs.declared.limits.TheConstants.{MAX_SETUP_LEN};
+    ghost use Rattle.ch11_file.specs.declared.kind.BlockKind.TheVariants.{Frames, Setup as SetupKind, Index as IndexKind};
     ghost use Rattle.ch11_file.specs.FileBlocks.{BlockContent};
     ghost use Rattle.ch11_file.specs.WholeFile.{FileFacts, MergeState, ContentGoesNext, IndexIsDue, IsMerged};
     ghost use Rattle.ch11_file.specs.FileEnds.{HoldsFront};
@@ -93,6 +94,8 @@ impl Sent {
         requires fits { written_len WithSum (length body.now) < 2 ^ 32 }
         requires frames { head.kind ≡ Frames
             → written_len WithSum (length body.now) ≤ MAX_ETHERNET_PACKET_LEN }
+        requires setup { head.kind ≡ SetupKind
+            → written_len WithSum (length body.now) ≤ MAX_SETUP_LEN }
         ensures sent { (facts : FileFacts) (before : Option (List ℕ)) (merge next : MergeState)
             (content : BlockContent)
             → HasSent facts before (W.contents out.old) self.old merge

@@ -9,4 +9,4 @@ mod laws;
 
 pub use entry::{NodeEntry, RootEntry};
 pub use index::{FilePacket, Index, IndexPacket, MOST_NAMED};
-pub use laws::{an_index_names_all, the_limits_of_an_index};
+pub use laws::{an_index_is_read_back, an_index_names_all, the_limits_of_an_index};

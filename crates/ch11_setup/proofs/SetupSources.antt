@@ -1,79 +1,91 @@
 -- The data sources that a reader of a setup record finds.
-use Rattle.std.proofs.Common.{ℕ, ◌+◌, ◌≡◌, ◌⊎◌, inl, inr, Bool, true, false, cond, List, [], ◌∷◌, ◌++◌, map, filter, refl, sym, ap, subst, ◌∙◌, codes}
-use Rattle.std.proofs.Common.{decimal}
-use Rattle.std.proofs.lemmas.Bool.{cases_Bool}
+use Rattle.std.proofs.Common.{ℕ, ◌+◌, ◌≡◌, Bool, false, List, [], ◌∷◌, ◌++◌, map, filter, drop, length, refl, ap, ◌∙◌, codes, cond}
+use Rattle.std.proofs.Common.{decimal, append-nil}
+use Rattle.std.proofs.lemmas.List.{map-append}
+use Rattle.std.proofs.lemmas.List.Elements.{filter-append}
 use Rattle.ch11_setup.specs.declared.setup.Setup.{Setup}
 use Rattle.ch11_setup.specs.declared.setup.SetupChannel.{SetupChannel}
 use Rattle.ch11_setup.specs.Attributes.{AttributeData}
 use Rattle.ch11_setup.specs.Names.{cleaned, source_name}
 use Rattle.ch11_setup.specs.Lines.{time_attributes, channel_attributes, comment_attribute}
 use Rattle.ch11_setup.specs.Setups.{channels_attributes, given_attributes, recording_attributes, source_attributes, setup_attributes}
-use Rattle.ch11_setup.specs.Sources.{has_front, values_of, HasNoneOf, source_channels, source_types, channel_numbers, channel_types}
+use Rattle.ch11_setup.specs.Sources.{begins_so, is_named_so, values_behind, values_named, HasNoneOf, first_network, said_of_each, SaysSources, NamesNoSource}
 
-values_append : (front : List ℕ) (attributes others : List AttributeData)
-    → values_of front (attributes ++ others) ≡ values_of front attributes ++ values_of front others
-values_append front [] others = refl
-values_append front (attribute ∷ attributes) others = by_case (cases_Bool (has_front front attribute.name)) (values_append front attributes others)
-  where
-    values : Bool → List AttributeData → List (List ℕ)
-    values has rest =
-        map (λ a. a.value) (cond has (attribute ∷ filter (λ a. has_front front a.name) rest) (filter (λ a. has_front front a.name) rest))
+-- ---- attributes that are picked
 
-    by_case : (has_front front attribute.name ≡ true) ⊎ (has_front front attribute.name ≡ false)
-        → values_of front (attributes ++ others) ≡ values_of front attributes ++ values_of front others
-        → values_of front (attribute ∷ attributes ++ others) ≡ values_of front (attribute ∷ attributes) ++ values_of front others
-    by_case (inl e) rest =
-        subst (λ b. values b (attributes ++ others) ≡ values b attributes ++ values_of front others) (sym e) (ap (λ l. attribute.value ∷ l) rest)
-    by_case (inr e) rest = subst (λ b. values b (attributes ++ others) ≡ values b attributes ++ values_of front others) (sym e) rest
+module _ {V : Type 0} (is_one : AttributeData → Bool) (value : AttributeData → V) where
+  abbrev picked : List AttributeData → List V
+  picked attributes = map value (filter is_one attributes)
 
-values_none : (front : List ℕ) (attributes : List AttributeData) → HasNoneOf front attributes → values_of front attributes ≡ []
-values_none front [] none = refl
-values_none front (attribute ∷ attributes) none =
-    ap (λ b. map (λ a. a.value) (cond b (attribute ∷ filter (λ a. has_front front a.name) attributes) (filter (λ a. has_front front a.name) attributes)))
-    none.0
-    ∙ values_none front attributes none.1
+  picked_append : (attributes others : List AttributeData) → picked (attributes ++ others) ≡ picked attributes ++ picked others
+  picked_append attributes others =
+      ap (map value) (filter-append is_one attributes others) ∙ map-append value (filter is_one attributes) (filter is_one others)
 
-channels_numbers : (n : ℕ) (channels : List SetupChannel) → source_channels (channels_attributes n channels) ≡ channel_numbers channels
-channels_numbers n [] = refl
-channels_numbers n (channel ∷ channels) =
-    let here = channel_attributes n channel.id channel.net (source_name channel.name.now channel.id) (cleaned channel.name.now) in
-    values_append (codes "R-1\\TK1-") here (channels_attributes (n + 1) channels)
-    ∙ ap (λ l. decimal channel.id ∷ l) (channels_numbers (n + 1) channels)
+  picked_none : (attributes : List AttributeData) → HasNoneOf is_one attributes → picked attributes ≡ []
+  picked_none [] none = refl
+  picked_none (attribute ∷ attributes) none =
+      ap (λ b. map value (cond b (attribute ∷ filter is_one attributes) (filter is_one attributes))) none.0 ∙ picked_none attributes none.1
 
-channels_types : (n : ℕ) (channels : List SetupChannel) → source_types (channels_attributes n channels) ≡ channel_types channels
-channels_types n [] = refl
-channels_types n (channel ∷ channels) =
-    let here = channel_attributes n channel.id channel.net (source_name channel.name.now channel.id) (cleaned channel.name.now) in
-    values_append (codes "R-1\\CDT-") here (channels_attributes (n + 1) channels)
-    ∙ ap (λ l. codes "ETHIN" ∷ l) (channels_types (n + 1) channels)
+  -- of all attributes these are picked: some of the recording's, some of the time channel's, and of each channel's
+  of_all : (setup : Setup) (first time : List V) (each : List V) → picked (recording_attributes setup) ≡ first
+      → picked (time_attributes setup.time_channel setup.is_external) ≡ time → picked (channels_attributes 2 setup.channels.now) ≡ each
+      → is_one comment_attribute ≡ false → HasNoneOf is_one (given_attributes setup.attributes.now)
+      → picked (setup_attributes setup) ≡ first ++ (time ++ each)
+  of_all setup first time each in_recording in_time in_each comment none =
+      let given = given_attributes setup.attributes.now in
+      let sources = source_attributes setup in
+      let last : picked (comment_attribute ∷ given) ≡ [] = picked_none (comment_attribute ∷ given) (comment, none) in
+      let of_sources : picked sources ≡ time ++ each =
+      picked_append (time_attributes setup.time_channel setup.is_external) (channels_attributes 2 setup.channels.now)
+      ∙ ap (λ l. l ++ picked (channels_attributes 2 setup.channels.now)) in_time ∙ ap (λ l. time ++ l) in_each in
+      picked_append (recording_attributes setup) (sources ++ (comment_attribute ∷ given))
+      ∙ ap (λ l. l ++ picked (sources ++ (comment_attribute ∷ given))) in_recording
+      ∙ ap (λ l. first ++ l) (picked_append sources (comment_attribute ∷ given) ∙ ap (λ l. picked sources ++ l) last
+      ∙ append-nil (picked sources) ∙ of_sources)
 
-append_nothing : {A : Type 0} (xs : List A) → xs ++ [] ≡ xs
-append_nothing [] = refl
-append_nothing (x ∷ xs) = ap (λ l. x ∷ l) (append_nothing xs)
+-- ---- channels
 
--- of all attributes, those of the data sources alone have such a name
-of_sources : (front : List ℕ) (setup : Setup) → values_of front (recording_attributes setup) ≡ []
-    → values_of front (comment_attribute ∷ given_attributes setup.attributes.now) ≡ values_of front (given_attributes setup.attributes.now)
-    → HasNoneOf front (given_attributes setup.attributes.now)
-    → values_of front (setup_attributes setup)
-    ≡ values_of front (time_attributes setup.time_channel setup.is_external) ++ values_of front (channels_attributes 2 setup.channels.now)
-of_sources front setup ahead comment none =
-    let given = given_attributes setup.attributes.now in
-    let time = time_attributes setup.time_channel setup.is_external in
-    let channels = channels_attributes 2 setup.channels.now in
-    values_append front (recording_attributes setup) (source_attributes setup ++ (comment_attribute ∷ given))
-    ∙ ap (λ l. l ++ values_of front (source_attributes setup ++ (comment_attribute ∷ given))) ahead
-    ∙ values_append front (source_attributes setup) (comment_attribute ∷ given)
-    ∙ ap (λ l. values_of front (source_attributes setup) ++ l) (comment ∙ values_none front given none)
-    ∙ append_nothing (values_of front (source_attributes setup))
-    ∙ values_append front time channels
+abbrev here : (n : ℕ) → SetupChannel → List AttributeData
+here n channel = channel_attributes n channel.id channel.net (source_name channel.name.now channel.id) (cleaned channel.name.now)
 
-pub sources_found : (setup : Setup) → HasNoneOf (codes "R-1\\TK1-") (given_attributes setup.attributes.now)
-    → source_channels (setup_attributes setup) ≡ decimal setup.time_channel ∷ channel_numbers setup.channels.now
-sources_found setup none =
-    of_sources (codes "R-1\\TK1-") setup refl refl none ∙ ap (λ l. decimal setup.time_channel ∷ l) (channels_numbers 2 setup.channels.now)
+module _ (is_one : AttributeData → Bool) (value : AttributeData → List ℕ × List ℕ) (number : ℕ → List ℕ) (said : SetupChannel → List ℕ)
+    (at_each : (n : ℕ) (channel : SetupChannel) → picked is_one value (here n channel) ≡ (number n, said channel) ∷ []) where
+  each_said : (n : ℕ) (channels : List SetupChannel) → picked is_one value (channels_attributes n channels) ≡ said_of_each number said n channels
+  each_said n [] = refl
+  each_said n (channel ∷ channels) =
+      picked_append is_one value (here n channel) (channels_attributes (n + 1) channels)
+      ∙ ap (λ l. l ++ picked is_one value (channels_attributes (n + 1) channels)) (at_each n channel)
+      ∙ ap (λ l. (number n, said channel) ∷ l) (each_said (n + 1) channels)
 
-pub types_found : (setup : Setup) → HasNoneOf (codes "R-1\\CDT-") (given_attributes setup.attributes.now)
-    → source_types (setup_attributes setup) ≡ codes "TIMEIN" ∷ channel_types setup.channels.now
-types_found setup none =
-    of_sources (codes "R-1\\CDT-") setup refl refl none ∙ ap (λ l. codes "TIMEIN" ∷ l) (channels_types 2 setup.channels.now)
+none_counted : (n : ℕ) (channels : List SetupChannel) → values_named (codes "R-1\\N") (channels_attributes n channels) ≡ []
+none_counted n [] = refl
+none_counted n (channel ∷ channels) =
+    picked_append (is_named_so (codes "R-1\\N")) (λ a. a.value) (here n channel) (channels_attributes (n + 1) channels)
+    ∙ none_counted (n + 1) channels
+
+-- ---- the sources
+
+abbrev behind : (front : List ℕ) → AttributeData → List ℕ × List ℕ
+behind front a = (drop (length front) a.name, a.value)
+
+pub sources_said : (setup : Setup) → NamesNoSource (given_attributes setup.attributes.now) → SaysSources setup (setup_attributes setup)
+sources_said setup none =
+    let channels = setup.channels.now in record {
+      count = of_all (is_named_so (codes "R-1\\N")) (λ a. a.value) setup (decimal (length channels + 1) ∷ []) [] []
+          refl refl (none_counted 2 channels) refl none.count;
+      numbers = of_all (begins_so (codes "R-1\\TK1-")) (behind (codes "R-1\\TK1-")) setup [] ((codes "1", decimal setup.time_channel) ∷ [])
+          (said_of_each decimal (λ c. decimal c.id) 2 channels) refl refl
+          (each_said _ _ decimal (λ c. decimal c.id) (λ n c. refl) 2 channels) refl none.numbers;
+      types = of_all (begins_so (codes "R-1\\CDT-")) (behind (codes "R-1\\CDT-")) setup [] ((codes "1", codes "TIMEIN") ∷ [])
+          (said_of_each decimal (λ c. codes "ETHIN") 2 channels) refl refl
+          (each_said _ _ decimal (λ c. codes "ETHIN") (λ n c. refl) 2 channels) refl none.types;
+      names = of_all (begins_so (codes "R-1\\DSI-")) (behind (codes "R-1\\DSI-")) setup [] ((codes "1", codes "TIME") ∷ [])
+          (said_of_each decimal (λ c. source_name c.name.now c.id) 2 channels) refl refl
+          (each_said _ _ decimal (λ c. source_name c.name.now c.id) (λ n c. refl) 2 channels) refl none.names;
+      networks = of_all (begins_so (codes "R-1\\ENBR-")) (behind (codes "R-1\\ENBR-")) setup [] []
+          (said_of_each first_network (λ c. decimal c.net) 2 channels) refl refl
+          (each_said _ _ first_network (λ c. decimal c.net) (λ n c. refl) 2 channels) refl none.networks;
+      network_names = of_all (begins_so (codes "R-1\\ENAM-")) (behind (codes "R-1\\ENAM-")) setup [] []
+          (said_of_each first_network (λ c. cleaned c.name.now) 2 channels) refl refl
+          (each_said _ _ first_network (λ c. cleaned c.name.now) (λ n c. refl) 2 channels) refl none.network_names;
+    }

@@ -1,11 +1,11 @@
 //! Laws of setup records, with nothing to run.
-ghost use Rattle.std.specs.Prelude.{◌≡◌, ◌<◌, ◌≤◌, ◌∷◌, ℕ, List, true, length, codes, decimal};
+ghost use Rattle.std.specs.Prelude.{◌≡◌, ◌<◌, ◌≤◌, ℕ, List, true, length};
 ghost use Rattle.std.specs.List.{AllByRecursion};
 ghost use Rattle.ch11_setup.specs.declared.setup.Setup.{Setup};
 ghost use Rattle.ch11_setup.specs.Attributes.{AttributeData, attributes_text, HoldsAttributes};
 ghost use Rattle.ch11_setup.specs.Names.{cleaned, is_plain};
 ghost use Rattle.ch11_setup.specs.Setups.{setup_attributes, given_attributes, IsSetup};
-ghost use Rattle.ch11_setup.specs.Sources.{HasNoneOf, source_channels, source_types, channel_numbers, channel_types};
+ghost use Rattle.ch11_setup.specs.Sources.{NamesNoSource, SaysSources};
 
 /// Law: a reader that ends a name at its first colon, and a value at its first semicolon, finds the
 /// attributes of a setup record in order, and no others; a text holds one list of them at most.
@@ -16,17 +16,11 @@ pub fn a_setup_record_is_read_back()
         → HoldsAttributes text attributes → HoldsAttributes text others → attributes ≡ others }
 {}
 
-/// Law: the data sources of a setup record are the time channel and the recording's channels, each
-/// once and in order, and each with its type, where a user adds none.
+/// Law: the data sources of a setup record are the time channel and the recording's channels, each once and in
+/// order, and each with its number, its type and its names, where a user names none.
 pub fn a_setup_record_names_the_channels()
-    ensures numbers { (setup : Setup)
-        → HasNoneOf (codes "R-1\\TK1-") (given_attributes setup.attributes.now)
-        → source_channels (setup_attributes setup)
-        ≡ decimal setup.time_channel ∷ channel_numbers setup.channels.now }
-    ensures types { (setup : Setup)
-        → HasNoneOf (codes "R-1\\CDT-") (given_attributes setup.attributes.now)
-        → source_types (setup_attributes setup)
-        ≡ codes "TIMEIN" ∷ channel_types setup.channels.now }
+    ensures { (setup : Setup) → NamesNoSource (given_attributes setup.attributes.now)
+        → SaysSources setup (setup_attributes setup) }
 {}
 
 /// Law: a name has 1 to 32 characters, which are printable ASCII and end nothing in an attribute.

@@ -6,3 +6,4 @@ pub mod SetupRead
 pub mod ReservedRead
 pub mod AddedRead
 pub mod FileRead
+pub mod SourcesSaid

@@ -1,14 +1,18 @@
 //! Laws of settings and of a file's setup, which run nothing.
 
-ghost use Rattle.std.specs.Prelude.{ℕ, ◌≡◌, ◌↔◌, List, Ok, Err, true};
+ghost use Rattle.std.specs.Prelude.{ℕ, ◌≡◌, ◌↔◌, List, Ok, Err, true, map};
 ghost use Rattle.ch11_setup.specs.declared.setup.Setup.{Setup};
-ghost use Rattle.ch11_setup.specs.Setups.{IsSetup};
+ghost use Rattle.ch11_setup.specs.Attributes.{AreAttributes};
+ghost use Rattle.ch11_setup.specs.Setups.{IsSetup, given_attribute, setup_attributes};
+ghost use Rattle.ch11_setup.specs.Sources.{SaysSources};
 ghost use Rattle.std.specs.List.{AllByRecursion};
 ghost use Rattle.rec_words.specs.SetupFile.{FileData, setup_file, CanBeAdded};
 ghost use Rattle.rec_words.specs.SetupFormat.{IsFileOf};
 ghost use Rattle.rec_words.specs.ReservedNames.{is_reserved, IsReserved, own_attributes, AreReserved};
 ghost use Rattle.rec_words.specs.Format.{AreSettingsOf, IsFaultOfText};
 ghost use Rattle.rec_words.specs.Settings.{Fault, SettingsData, settings};
+
+use ch11_setup::a_setup_record_names_the_channels;
 
 /// Law: a text has these settings exactly where it is a document in which each key means something
 /// and has what it may have, `channel` is 1 to 64 tables, each of them sets its channel, and no two
@@ -35,6 +39,19 @@ pub fn added_attributes_are_attributes()
     ensures { (text : List ℕ) (file : FileData) → setup_file text ≡ Ok file
         → AllByRecursion CanBeAdded file.attributes }
 {}
+
+/// Law: a setup record that adds what a text says says exactly its channels: a reader finds the time channel and
+/// the channels that were passed, each with its number, its type and its names, and no others.
+pub fn a_setup_record_says_exactly_its_channels()
+    ensures given { (text : List ℕ) (file : FileData) (setup : Setup) → setup_file text ≡ Ok file
+        → map given_attribute setup.attributes.now ≡ file.attributes
+        → AreAttributes (map given_attribute setup.attributes.now) }
+    ensures sources { (text : List ℕ) (file : FileData) (setup : Setup) → setup_file text ≡ Ok file
+        → map given_attribute setup.attributes.now ≡ file.attributes
+        → SaysSources setup (setup_attributes setup) }
+{
+    a_setup_record_names_the_channels();
+}
 
 /// Law: where a text says something of a file, it is a document in which each key means something;
 /// what is said is what its keys are set to, or their defaults, each table says what it may, and no

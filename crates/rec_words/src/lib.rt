@@ -11,8 +11,9 @@ mod words;
 
 pub use command_line::VERSION;
 pub use laws::{
-    a_setup_is_what_its_text_says, a_setup_record_writes_reserved_names,
-    added_attributes_are_attributes, settings_are_those_of_the_format,
+    a_setup_is_what_its_text_says, a_setup_record_says_exactly_its_channels,
+    a_setup_record_writes_reserved_names, added_attributes_are_attributes,
+    settings_are_those_of_the_format,
 };
 pub use settings::{ChannelSettings, Settings, SettingsFault, settings_of};
 pub use setup_file::{AddedAttribute, ChannelSetup, FileSettings, SetupFault, setup_of};

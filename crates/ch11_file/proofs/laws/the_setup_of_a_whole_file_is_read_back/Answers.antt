@@ -5,6 +5,5 @@ pub returns : goal.returns
 unfolding setup_text
 returns c = record {
   found = λ setup time is. c.a_setup_record_is_read_back.ensures.found (setup_at setup time) is;
-  channels = λ setup time none. c.a_setup_record_names_the_channels.ensures.numbers (setup_at setup time) none;
-  types = λ setup time none. c.a_setup_record_names_the_channels.ensures.types (setup_at setup time) none;
+  sources = λ setup time none. c.a_setup_record_names_the_channels.ensures (setup_at setup time) none;
 }

@@ -16,7 +16,7 @@ returns-in_err-len-clause-sent g c = λ facts before merge next content sent is 
     rw p.1 (put_part facts before _ _ c.put_index.new.self merge next c.args.head.kind c.args.head.channel c.args.head.counter c.args.body.now content
     (c.in_ok-put_index.ensures.sent facts before merge sent (λ e. absurd (false≢true e))) is c.in_ok-put_index.ensures.none_due
     (subst (λ (n : ℕ). ContentGoesNext facts n merge content c.args.head.counter next) (sym c.in_ok-put_index.ensures.grows.greatest) goes)
-    c.in_err-len.ensures.part)
+    c.in_err-len.ensures.part c.requires.setup)
 
 pub returns-clause-sent : goal.returns-clause-sent
 returns-clause-sent g c = λ facts before merge next content sent is goes.
@@ -24,4 +24,4 @@ returns-clause-sent g c = λ facts before merge next content sent is goes.
     c.args.body.now c.in_ok-len.len content
     (c.in_ok-put_index.ensures.sent facts before merge sent (λ e. absurd (false≢true e))) is c.in_ok-put_index.ensures.none_due
     (subst (λ (n : ℕ). ContentGoesNext facts n merge content c.args.head.counter next) (sym c.in_ok-put_index.ensures.grows.greatest) goes)
-    c.in_ok-len.ensures.whole c.note.ensures
+    c.in_ok-len.ensures.whole c.requires.setup c.note.ensures
