@@ -1,6 +1,6 @@
 //! Reading at a place of an open file, which several readers share.
 
-ghost use Rattle.std.specs.Prelude.{◌≡◌};
+ghost use Rattle.std.specs.Prelude.{◌≡◌, drop};
 
 use std::fs::File;
 use std::io::{self, ErrorKind, Read};
@@ -28,6 +28,29 @@ impl PlacedRead for File {
 
     fn read_at(&self, buf: &mut [u8], at: u64) -> io::Result<usize> {
         FileExt::read_at(self, buf, at)
+    }
+}
+
+/// Bytes in memory, which say what they are.
+impl PlacedRead for &[u8] {
+    ghost use Rattle.std.specs.Prelude.{Some};
+
+    ghost held = { λ bytes. Some bytes.now };
+
+    fn read_at(&self, buf: &mut [u8], at: u64) -> io::Result<usize> {
+        let mut rest = behind(self, at);
+        rest.read(buf)
+    }
+}
+
+/// The bytes from a place on: none where it lies behind them.
+fn behind(bytes: &[u8], at: u64) -> &[u8]
+    ensures { result.now ≡ drop at bytes.now }
+{
+    if at < bytes.len() as u64 {
+        &bytes[at as usize..]
+    } else {
+        &[]
     }
 }
 

@@ -2,3 +2,12 @@ pub mod WholeFiles
 pub mod FreeChannels
 pub mod ChannelsApart
 pub mod FramesHeld
+pub mod PiecesOut
+pub mod ReadPieces
+pub mod KeptChannels
+pub mod FilesReadBack
+pub mod ToldChannels
+pub mod PassingChannels
+pub mod FaultsFound
+pub mod FoundChannels
+pub mod OneFile

@@ -2,3 +2,4 @@ pub mod Ends
 pub mod NamedChannels
 pub mod WholeRecordings
 pub mod WholeFrames
+pub mod FilesFound

@@ -1,0 +1,253 @@
+-- The pieces of packets that are read, and their parts: frames that are short, and records.
+use Rattle.std.proofs.Common.{ℕ, ◌+◌, ◌≡◌, ◌≢◌, ◌≤◌, ◌<◌, ◌⊎◌, inl, inr, List, [], ◌∷◌, ◌++◌, map, Option, None, Some, refl, sym, subst, ap, arith}
+use Rattle.std.specs.Prelude.{Bool, true, false, ◌==◌, nat_lt, nat_le, if◌then◌else◌}
+use Rattle.std.specs.List.{AllByRecursion}
+use Rattle.std.proofs.lemmas.Bool.{cases_Bool, eqb-true, eqb-false}
+use Rattle.std.proofs.lemmas.Bool.Decides.{nat_tests}
+use Rattle.ch11_packet.specs.declared.class.What.{What}
+use Rattle.ch11_packet.specs.declared.class.What.TheVariants.{Frames as HoldsFrames, Program, End, Other}
+use Rattle.ch11_packet.specs.Header.{HeaderData}
+use Rattle.ch11_packet.specs.Classes.{HasClass, data_in, said_frames}
+use Rattle.ch11_packet.specs.FramesRead.{ReadFrameData, IsReadFrame, BeginsFrames}
+use Rattle.ch11_packet.specs.RecordsRead.{RecordData, SpellsRecord}
+use Rattle.ch11_packet.specs.RecordsRead.RecordData.{OfProgram, OfEnd}
+use Rattle.ch11_packet.proofs.Classing.{said_by_body}
+use Rattle.ch11_merge.specs.declared.piece.PieceSoFar.{PieceSoFar}
+use Rattle.ch11_merge.specs.declared.piece.TheConstants.{PIECE_TICKS}
+use Rattle.ch11_merge.specs.Pieces.{begun, with_frame, goes_on, joined_frames}
+use Rattle.ch11_merge.specs.Parts.{cut_behind, frames_pieces, frames_of_piece}
+use Rattle.ch11_merge.specs.Short.{NeverFall, LieWithin, FitPacket, IsShortPiece, frames_len}
+use Rattle.ch11_merge.specs.Merging.{FilePiece, head_of_piece, is_due, frames_before, frames_from, piece_of, part_before, part_from}
+use Rattle.ch11_merge.specs.Merging.FilePiece.{OfFrames, OfRecord}
+use Rattle.ch11_merge.proofs.Cutting.{pieces_cut}
+use Rattle.ch11_merge.proofs.ShortPieces.{pieces_short}
+use Rattle.rec_reader.specs.Packets.{PacketData, BeginsPackets}
+use Rattle.rec_reader.specs.Reading.{Reads}
+use Rattle.rec_pieces.specs.declared.entry.PieceKind.TheVariants.{Record, Uncounted}
+use Rattle.rec_pieces.specs.Entries.{named_by, pieces_named, pieces_of, pieces_of_channel, pieces_of_packet}
+use Rattle.rec_whole.proofs.PiecesOut.{IsOfParts, all_append}
+
+-- ---- what is read
+
+-- frames of a channel from 1 on
+pub record AreReadFrames (channel : ℕ) (frames : List ReadFrameData) : Type 0 where
+  pub named : channel ≢ 0
+  pub each : AllByRecursion IsReadFrame frames
+  pub short : IsShortPiece frames
+
+abbrev pub record_channel : RecordData → ℕ
+record_channel (OfProgram channel version first insns) = channel
+record_channel (OfEnd end) = end.channel
+
+-- the counter of a record in a packet with this counter
+abbrev pub record_counter : RecordData → (own : ℕ) → Option ℕ
+record_counter (OfProgram channel version first insns) own = Some own
+record_counter (OfEnd end) own = if end.offered == 0 then None else Some own
+
+pub record IsReadRecord (channel : ℕ) (counter : Option ℕ) (body : List ℕ) : Type 0 where
+  pub said : RecordData
+  pub spells : SpellsRecord said body
+  pub named : record_channel said ≡ channel
+  pub own : ℕ
+  pub counted : counter ≡ record_counter said own
+
+abbrev pub IsReadPiece : (channel : ℕ) → FilePiece → Type 0
+IsReadPiece channel (OfFrames frames) = AreReadFrames channel frames
+IsReadPiece channel (OfRecord counter body) = IsReadRecord channel counter body
+
+-- ---- parts of short frames
+
+within_more : (a b : ℕ) (frames : List ReadFrameData) → a ≤ b → LieWithin a frames → LieWithin b frames
+within_more a b [] less within = tt
+within_more a b (f ∷ fs) less within = (let first = within.0 in omega (arith, less, first), within_more a b fs less within.1)
+
+short_tail : (f g : ReadFrameData) (gs : List ReadFrameData) → IsShortPiece (f ∷ g ∷ gs) → IsShortPiece (g ∷ gs)
+short_tail f g gs short = (
+  short.0.1,
+  within_more f.counter g.counter gs short.0.0 short.1.1,
+  elim short.2 as (λ _. (gs ≡ []) ⊎ FitPacket (g ∷ gs)) [
+    | inl none ↦ none_follow none
+    | inr fit ↦ inr (omega (arith, fit))
+  ],
+)
+  where
+    none_follow : g ∷ gs ≡ [] → (gs ≡ []) ⊎ FitPacket (g ∷ gs)
+    none_follow none = cc
+
+len_before : (tick : ℕ) (frames : List ReadFrameData) → frames_len (frames_before tick frames) ≤ frames_len frames
+len_before tick [] = omega arith
+len_before tick (f ∷ fs) = elim (cases_Bool (nat_lt f.counter tick)) as (λ _. frames_len (frames_before tick (f ∷ fs)) ≤ frames_len (f ∷ fs)) [
+  | inl on ↦ rw on (let rest = len_before tick fs in omega (arith, rest))
+  | inr off ↦ rw off (omega arith)
+]
+
+fall_before : (tick last : ℕ) (frames : List ReadFrameData) → NeverFall last frames → NeverFall last (frames_before tick frames)
+fall_before tick last [] fall = tt
+fall_before tick last (f ∷ fs) fall = elim (cases_Bool (nat_lt f.counter tick)) as (λ _. NeverFall last (frames_before tick (f ∷ fs))) [
+  | inl on ↦ rw on (fall.0, fall_before tick f.counter fs fall.1)
+  | inr off ↦ rw off tt
+]
+
+all_before : (P : ReadFrameData → Type 0) (tick : ℕ) (frames : List ReadFrameData) → AllByRecursion P frames → AllByRecursion P (frames_before tick frames)
+all_before P tick [] all = tt
+all_before P tick (f ∷ fs) all = elim (cases_Bool (nat_lt f.counter tick)) as (λ _. AllByRecursion P (frames_before tick (f ∷ fs))) [
+  | inl on ↦ rw on (all.0, all_before P tick fs all.1)
+  | inr off ↦ rw off tt
+]
+
+short_front : (tick : ℕ) (f : ReadFrameData) (fs : List ReadFrameData) → IsShortPiece (f ∷ fs) → IsShortPiece (f ∷ frames_before tick fs)
+short_front tick f fs short = (
+  fall_before tick f.counter fs short.0,
+  all_before (λ (g : ReadFrameData). g.counter < f.counter + PIECE_TICKS) tick fs short.1,
+  elim short.2 as (λ _. (frames_before tick fs ≡ []) ⊎ FitPacket (f ∷ frames_before tick fs)) [
+    | inl none ↦ inl (ap (frames_before tick) none)
+    | inr fit ↦ inr (let less = len_before tick fs in omega (arith, fit, less))
+  ],
+)
+
+early_first : (tick counter : ℕ) → nat_le tick counter ≡ false → nat_lt counter tick ≡ true
+early_first tick counter early = grind (arith, nat_tests)
+
+front_read : (channel tick : ℕ) (f : ReadFrameData) (fs : List ReadFrameData) → nat_lt f.counter tick ≡ true → AreReadFrames channel (f ∷ fs)
+    → AreReadFrames channel (frames_before tick (f ∷ fs))
+front_read channel tick f fs on read =
+    rw on (record {
+      named = read.named;
+      each = (read.each.0, all_before IsReadFrame tick fs read.each.1);
+      short = short_front tick f fs read.short;
+    })
+
+tail_read : (channel : ℕ) (f g : ReadFrameData) (gs : List ReadFrameData) → AreReadFrames channel (f ∷ g ∷ gs) → AreReadFrames channel (g ∷ gs)
+tail_read channel f g gs read = record { named = read.named; each = read.each.1; short = short_tail f g gs read.short }
+
+rest_read : (channel tick : ℕ) (f : ReadFrameData) (fs : List ReadFrameData) → AreReadFrames channel (f ∷ fs)
+    → AllByRecursion (IsReadPiece channel) (piece_of (frames_from tick (f ∷ fs)))
+rest_read channel tick f [] read =
+    elim (cases_Bool (nat_lt f.counter tick)) as (λ _. AllByRecursion (IsReadPiece channel) (piece_of (frames_from tick (f ∷ [])))) [
+      | inl on ↦ rw on tt
+      | inr off ↦ rw off (read, tt)
+    ]
+rest_read channel tick f (g ∷ gs) read =
+    elim (cases_Bool (nat_lt f.counter tick)) as (λ _. AllByRecursion (IsReadPiece channel) (piece_of (frames_from tick (f ∷ g ∷ gs)))) [
+      | inl on ↦ rw on (rest_read channel tick g gs (tail_read channel f g gs read))
+      | inr off ↦ rw off (read, tt)
+    ]
+
+part_read : (channel tick : ℕ) (piece : FilePiece) → is_due tick (head_of_piece piece) ≡ false → IsReadPiece channel piece
+    → IsReadPiece channel (part_before tick piece)
+part_read channel tick (OfFrames []) early read = absurd read.short
+part_read channel tick (OfFrames (f ∷ fs)) early read = front_read channel tick f fs (early_first tick f.counter early) read
+part_read channel tick (OfRecord counter body) early read = read
+
+stays_read : (channel tick : ℕ) (piece : FilePiece) → IsReadPiece channel piece → AllByRecursion (IsReadPiece channel) (part_from tick piece)
+stays_read channel tick (OfFrames []) read = absurd read.short
+stays_read channel tick (OfFrames (f ∷ fs)) read = rest_read channel tick f fs read
+stays_read channel tick (OfRecord counter body) read = tt
+
+pub parts_read : IsOfParts IsReadPiece
+parts_read = record { before = part_read; behind = stays_read }
+
+-- ---- the pieces of frames
+
+abbrev pub IsOfFrames : FilePiece → Type 0
+IsOfFrames (OfFrames frames) = Unit {0}
+IsOfFrames (OfRecord counter body) = ⊥
+
+frames_behind : (piece : PieceSoFar) (frames : List ReadFrameData) → AllByRecursion IsOfFrames (cut_behind piece frames).1
+frames_behind piece [] = tt
+frames_behind piece (f ∷ fs) = elim (cases_Bool (goes_on piece f)) as (λ _. AllByRecursion IsOfFrames (cut_behind piece (f ∷ fs)).1) [
+  | inl on ↦ rw on (frames_behind (with_frame piece f) fs)
+  | inr off ↦ rw off (tt, frames_behind (begun f) fs)
+]
+
+pub all_of_frames : (frames : List ReadFrameData) → AllByRecursion IsOfFrames (frames_pieces frames)
+all_of_frames [] = tt
+all_of_frames (f ∷ fs) = (tt, frames_behind (begun f) fs)
+
+all_front : {X : Type 0} (P : X → Type 0) (xs ys : List X) → AllByRecursion P (xs ++ ys) → AllByRecursion P xs
+all_front P [] ys all = tt
+all_front P (x ∷ xs) ys all = (all.0, all_front P xs ys all.1)
+
+all_back : {X : Type 0} (P : X → Type 0) (xs ys : List X) → AllByRecursion P (xs ++ ys) → AllByRecursion P ys
+all_back P [] ys all = all
+all_back P (x ∷ xs) ys all = all_back P xs ys all.1
+
+each_read : (channel : ℕ) (pieces : List FilePiece) → channel ≢ 0 → AllByRecursion IsOfFrames pieces
+    → AllByRecursion IsShortPiece (map frames_of_piece pieces) → AllByRecursion IsReadFrame (joined_frames (map frames_of_piece pieces))
+    → AllByRecursion (IsReadPiece channel) pieces
+each_read channel [] named of short each = tt
+each_read channel (OfFrames fs ∷ ps) named of short each = (
+  record { named = named; each = all_front IsReadFrame fs (joined_frames (map frames_of_piece ps)) each; short = short.0 },
+  each_read channel ps named of.1 short.1 (all_back IsReadFrame fs (joined_frames (map frames_of_piece ps)) each),
+)
+each_read channel (OfRecord counter body ∷ ps) named of short each = absurd of.0
+
+frames_read : (channel : ℕ) (frames : List ReadFrameData) → channel ≢ 0 → AllByRecursion IsReadFrame frames
+    → AllByRecursion (IsReadPiece channel) (frames_pieces frames)
+frames_read channel frames named each =
+    let cut = pieces_cut frames in
+    each_read channel (frames_pieces frames) named (all_of_frames frames) (pieces_short frames (map frames_of_piece (frames_pieces frames)) cut)
+    (subst (AllByRecursion IsReadFrame) (sym cut.whole) each)
+
+-- ---- the pieces of packets
+
+spelled_frames : (frames : List ReadFrameData) (bytes rest : List ℕ) → BeginsFrames frames bytes rest → AllByRecursion IsReadFrame frames
+spelled_frames [] bytes rest begins = tt
+spelled_frames (f ∷ fs) bytes rest begins = (begins.1.spelled.in_range, spelled_frames fs begins.0 rest begins.2)
+
+where_so : (P : FilePiece → Type 0) (is : Bool) (pieces : List FilePiece) → (is ≡ true → AllByRecursion P pieces)
+    → AllByRecursion P (if is then pieces else [])
+where_so P true pieces all = all refl
+where_so P false pieces all = tt
+
+pub end_counted : (is : Bool) (counter : ℕ) (bytes : List ℕ)
+    → pieces_of (if is then Uncounted else Record) counter bytes ≡ OfRecord (if is then None else Some counter) bytes ∷ []
+end_counted true counter bytes = refl
+end_counted false counter bytes = refl
+
+class_read : (header : HeaderData) (bytes : List ℕ) (what : What) (channel counter : ℕ) → HasClass header bytes what
+    → AllByRecursion (IsReadPiece channel) (pieces_named channel (named_by header.channel what) counter bytes)
+class_read header bytes (HoldsFrames count) channel counter has = elim (cases_Bool (header.channel == 0)) as (λ _.
+    AllByRecursion (IsReadPiece channel) (pieces_named channel (named_by header.channel (HoldsFrames count)) counter bytes)) [
+      | inl none ↦ rw none tt
+      | inr some ↦ rw some (where_so (IsReadPiece channel) (header.channel == channel) (frames_pieces (said_frames bytes)) (λ same.
+          frames_read channel (said_frames bytes)
+          (subst (λ n. n ≢ 0) (eqb-true header.channel channel same) (eqb-false header.channel 0 some))
+          (subst (AllByRecursion IsReadFrame) (sym (said_by_body has.1 bytes has.2)) (spelled_frames has.1 has.2.rest [] has.2.held))))
+    ]
+class_read header bytes (Program named version first count) channel counter has =
+    where_so (IsReadPiece channel) (named == channel) (OfRecord (Some counter) bytes ∷ []) (λ same. (
+      record {
+        said = OfProgram named version first has.1;
+        spells = has.2;
+        named = eqb-true named channel same;
+        own = counter;
+        counted = refl;
+      },
+      tt,
+    ))
+class_read header bytes (End named offered kept) channel counter has =
+    where_so (IsReadPiece channel) (named == channel) (pieces_of (if offered == 0 then Uncounted else Record) counter bytes) (λ same.
+    subst (AllByRecursion (IsReadPiece channel)) (sym (end_counted (offered == 0) counter bytes)) (
+      record {
+        said = OfEnd (record { channel = named; offered = offered; kept = kept });
+        spells = has.1;
+        named = eqb-true named channel same;
+        own = counter;
+        counted = refl;
+      },
+      tt,
+    ))
+class_read header bytes Other channel counter has = tt
+
+packets_read : (channel at : ℕ) (packets : List PacketData) (bytes rest : List ℕ) → BeginsPackets at packets bytes rest
+    → AllByRecursion (IsReadPiece channel) (pieces_of_channel channel packets)
+packets_read channel at [] bytes rest begins = tt
+packets_read channel at (p ∷ ps) bytes rest begins =
+    all_append (IsReadPiece channel) (pieces_of_packet channel p) (pieces_of_channel channel ps)
+    (class_read p.header (data_in p.header p.body) p.what channel p.header.counter begins.1.spelled.holds.class)
+    (packets_read channel (at + p.header.packet_len) ps begins.0 rest begins.2)
+
+pub pieces_read : (bytes : List ℕ) (packets : List PacketData) → Reads bytes packets None → (channel : ℕ)
+    → AllByRecursion (IsReadPiece channel) (pieces_of_channel channel packets)
+pieces_read bytes packets reads channel = packets_read channel 0 packets bytes reads.rest reads.held

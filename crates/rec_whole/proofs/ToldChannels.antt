@@ -1,0 +1,321 @@
+-- What packets say of a channel, frame by frame, is what they hold of it.
+use Rattle.std.proofs.Common.{ℕ, ◌+◌, ◌≡◌, ◌≢◌, inl, inr, List, [], ◌∷◌, ◌++◌, map, length, drop, Option, None, Some, refl, sym, subst, ap, ◌∙◌}
+use Rattle.std.specs.Prelude.{Bool, true, false, ◌==◌, if◌then◌else◌}
+use Rattle.std.specs.List.{AllZip, flat_map}
+use Rattle.std.proofs.lemmas.Bool.{cases_Bool, eqb-true, ne_eqb}
+use Rattle.std.proofs.lemmas.Grind.{flat_map-append}
+use Rattle.bpf_insn.specs.declared.insn.Insn.{Insn}
+use Rattle.ch11_packet.specs.declared.records.TheConstants.{PROGRAM_HEAD_LEN}
+use Rattle.ch11_packet.specs.declared.class.What.{What}
+use Rattle.ch11_packet.specs.declared.class.What.TheVariants.{Frames as HoldsFrames, Program, End, Other}
+use Rattle.ch11_packet.specs.Header.{HeaderData}
+use Rattle.ch11_packet.specs.Classes.{HasClass, data_in, said_frames}
+use Rattle.ch11_packet.specs.FramesRead.{ReadFrameData}
+use Rattle.ch11_packet.specs.Records.{EndData}
+use Rattle.ch11_packet.specs.RecordsRead.{SpellsRecord, stored_insns}
+use Rattle.ch11_packet.specs.RecordsRead.RecordData.{OfProgram as Program_, OfEnd as End_}
+use Rattle.ch11_packet.proofs.ReadRecords.{one_record}
+use Rattle.ch11_merge.specs.Kept.{Held, held_in}
+use Rattle.ch11_merge.specs.Kept.Held.{HeldFrame, HeldRecord}
+use Rattle.ch11_merge.specs.Merging.FilePiece.{OfRecord}
+use Rattle.ch11_merge.specs.Parts.{frames_pieces}
+use Rattle.rec_reader.specs.declared.audits.channel.ChannelProgram.{ChannelProgram}
+use Rattle.rec_reader.specs.declared.audits.channel.ChannelEnd.{ChannelEnd}
+use Rattle.rec_reader.specs.Packets.{PacketData, BeginsPackets}
+use Rattle.rec_reader.specs.ChannelFrames.{channel_frames, frames_held}
+use Rattle.rec_reader.specs.Channels.{Saying, saying_in, saying_of, program_said, programs_of, end_said, ends_of, stored_program}
+use Rattle.rec_reader.specs.Channels.Saying.{OfFrames, OfProgram, OfEnd}
+use Rattle.rec_pieces.specs.Entries.{named_by, pieces_named, pieces_of_channel, pieces_of_packet}
+use Rattle.rec_whole.specs.WholeFrames.{held_in_packets}
+use Rattle.rec_whole.proofs.ReadPieces.{end_counted}
+use Rattle.rec_whole.proofs.FilesReadBack.{held_pieces}
+
+-- ---- what is told of a channel
+
+-- a frame, a program or an end
+pub data Told : Type 0 where
+  ToldFrame : ReadFrameData → Told
+  ToldProgram : ChannelProgram → Told
+  ToldEnd : ChannelEnd → Told
+
+abbrev pub told_by : Saying → List Told
+told_by (OfFrames frames) = map ToldFrame frames
+told_by (OfProgram program) = ToldProgram program ∷ []
+told_by (OfEnd end) = ToldEnd end ∷ []
+
+abbrev pub told_in : (channel : ℕ) → Option (ℕ × Saying) → List Told
+told_in channel None = []
+told_in channel (Some (named, saying)) = if named == channel then told_by saying else []
+
+abbrev pub told_of : (channel : ℕ) → List PacketData → List Told
+told_of channel packets = flat_map (λ (p : PacketData). told_in channel (saying_of p)) packets
+
+-- what is held says this
+abbrev SaysTold : Held → Told → Type 0
+SaysTold (HeldFrame frame) (ToldFrame other) = other ≡ frame
+SaysTold (HeldFrame frame) (ToldProgram program) = ⊥
+SaysTold (HeldFrame frame) (ToldEnd end) = ⊥
+SaysTold (HeldRecord counter body) (ToldFrame other) = ⊥
+SaysTold (HeldRecord counter body) (ToldProgram program) =
+    (named : ℕ) × (insns : List Insn) × SpellsRecord (Program_ named program.version program.first insns) body
+    × (program.insns ≡ stored_insns (length insns) (drop PROGRAM_HEAD_LEN body))
+SaysTold (HeldRecord counter body) (ToldEnd end) =
+    (named : ℕ) × SpellsRecord (End_ (record { channel = named; offered = end.offered; kept = end.kept })) body
+
+-- ---- one thing is said
+
+made_program : (version first : ℕ) → List Insn → ChannelProgram
+made_program version first insns = record { version = version; first = first; insns = insns }
+
+same_program : (p q : ChannelProgram) → p.version ≡ q.version → p.first ≡ q.first → p.insns ≡ q.insns → p ≡ q
+unfolding made_program
+same_program p q v f i =
+    ap (λ n. made_program n p.first p.insns) v ∙ ap (λ n. made_program q.version n p.insns) f ∙ ap (made_program q.version q.first) i
+
+made_end : (offered kept : ℕ) → ChannelEnd
+made_end offered kept = record { offered = offered; kept = kept }
+
+same_end : (p q : ChannelEnd) → p.offered ≡ q.offered → p.kept ≡ q.kept → p ≡ q
+unfolding made_end
+same_end p q o k = ap (λ n. made_end n p.kept) o ∙ ap (made_end q.offered) k
+
+program_parts : (a b v w f g : ℕ) (i j : List Insn) → Program_ a v f i ≡ Program_ b w g j → (v ≡ w) × (f ≡ g) × (i ≡ j)
+program_parts a b v w f g i j e =
+    let x : v ≡ w = cc in
+    let y : f ≡ g = cc in
+    let z : i ≡ j = cc in
+    (x, y, z)
+
+end_parts : (d e : EndData) → End_ d ≡ End_ e → d ≡ e
+end_parts d e same = cc
+
+no_end : (a v f : ℕ) (i : List Insn) (e : EndData) → Program_ a v f i ≡ End_ e → ⊥
+no_end a v f i e same = cc
+
+one_program : (a b : ChannelProgram) (body : List ℕ) (m n : ℕ) (i j : List Insn) → SpellsRecord (Program_ m a.version a.first i) body
+    → SpellsRecord (Program_ n b.version b.first j) body → a.insns ≡ stored_insns (length i) (drop PROGRAM_HEAD_LEN body)
+    → b.insns ≡ stored_insns (length j) (drop PROGRAM_HEAD_LEN body) → a ≡ b
+one_program a b body m n i j p q x y =
+    let same = program_parts m n a.version b.version a.first b.first i j
+    (one_record (Program_ m a.version a.first i) (Program_ n b.version b.first j) body p q) in
+    same_program a b same.0 same.1 (x ∙ ap (λ (l : List Insn). stored_insns (length l) (drop PROGRAM_HEAD_LEN body)) same.2 ∙ sym y)
+
+abbrev end_data : (channel : ℕ) → ChannelEnd → EndData
+end_data channel end = record { channel = channel; offered = end.offered; kept = end.kept }
+
+one_end : (a b : ChannelEnd) (body : List ℕ) (m n : ℕ) → SpellsRecord (End_ (end_data m a)) body → SpellsRecord (End_ (end_data n b)) body → a ≡ b
+one_end a b body m n p q =
+    let same = end_parts (end_data m a) (end_data n b) (one_record (End_ (end_data m a)) (End_ (end_data n b)) body p q) in
+    same_end a b (ap (λ (d : EndData). d.offered) same) (ap (λ (d : EndData). d.kept) same)
+
+one_told : (h : Held) (t u : Told) → SaysTold h t → SaysTold h u → t ≡ u
+one_told (HeldFrame frame) (ToldFrame a) (ToldFrame b) p q = ap ToldFrame (p ∙ sym q)
+one_told (HeldFrame frame) (ToldFrame a) (ToldProgram b) p q = absurd q
+one_told (HeldFrame frame) (ToldFrame a) (ToldEnd b) p q = absurd q
+one_told (HeldFrame frame) (ToldProgram a) u p q = absurd p
+one_told (HeldFrame frame) (ToldEnd a) u p q = absurd p
+one_told (HeldRecord counter body) (ToldFrame a) u p q = absurd p
+one_told (HeldRecord counter body) (ToldProgram a) (ToldFrame b) p q = absurd q
+one_told (HeldRecord counter body) (ToldProgram a) (ToldProgram b) p q = ap ToldProgram (one_program a b body p.0 q.0 p.1 q.1 p.2 q.2 p.3 q.3)
+one_told (HeldRecord counter body) (ToldProgram a) (ToldEnd b) p q =
+    absurd (no_end p.0 a.version a.first p.1 (end_data q.0 b)
+    (one_record (Program_ p.0 a.version a.first p.1) (End_ (end_data q.0 b)) body p.2 q.1))
+one_told (HeldRecord counter body) (ToldEnd a) (ToldFrame b) p q = absurd q
+one_told (HeldRecord counter body) (ToldEnd a) (ToldProgram b) p q =
+    absurd (no_end q.0 b.version b.first q.1 (end_data p.0 a)
+    (one_record (Program_ q.0 b.version b.first q.1) (End_ (end_data p.0 a)) body q.2 p.1))
+one_told (HeldRecord counter body) (ToldEnd a) (ToldEnd b) p q = ap ToldEnd (one_end a b body p.0 q.0 p.1 q.1)
+
+all_told : (hs : List Held) (ts us : List Told) → AllZip SaysTold hs ts → AllZip SaysTold hs us → ts ≡ us
+all_told [] [] [] p q = refl
+all_told [] [] (u ∷ us) p q = absurd q
+all_told [] (t ∷ ts) us p q = absurd p
+all_told (h ∷ hs) [] us p q = absurd p
+all_told (h ∷ hs) (t ∷ ts) [] p q = absurd q
+all_told (h ∷ hs) (t ∷ ts) (u ∷ us) p q = ap (λ x. x ∷ ts) (one_told h t u p.0 q.0) ∙ ap (λ l. u ∷ l) (all_told hs ts us p.1 q.1)
+
+zip_append : (hs is : List Held) (ts us : List Told) → AllZip SaysTold hs ts → AllZip SaysTold is us → AllZip SaysTold (hs ++ is) (ts ++ us)
+zip_append [] is [] us p q = q
+zip_append [] is (t ∷ ts) us p q = absurd p
+zip_append (h ∷ hs) is [] us p q = absurd p
+zip_append (h ∷ hs) is (t ∷ ts) us p q = (p.0, zip_append hs is ts us p.1 q)
+
+-- ---- a packet says what it holds
+
+zip_frames : (frames : List ReadFrameData) → AllZip SaysTold (map HeldFrame frames) (map ToldFrame frames)
+zip_frames [] = tt
+zip_frames (f ∷ fs) = (refl, zip_frames fs)
+
+zip_where : (is : Bool) (frames : List ReadFrameData)
+    → AllZip SaysTold (flat_map held_in (if is then frames_pieces frames else [])) (if is then map ToldFrame frames else [])
+zip_where true frames = subst (λ hs. AllZip SaysTold hs (map ToldFrame frames)) (sym (held_pieces frames)) (zip_frames frames)
+zip_where false frames = tt
+
+zip_record : (is : Bool) (counter : Option ℕ) (body : List ℕ) (told : Told) → SaysTold (HeldRecord counter body) told
+    → AllZip SaysTold (flat_map held_in (if is then OfRecord counter body ∷ [] else [])) (if is then told ∷ [] else [])
+zip_record true counter body told says = (says, tt)
+zip_record false counter body told says = tt
+
+of_other_channel : (own channel : ℕ) (frames : List ReadFrameData) → channel ≢ 0 → (own == 0) ≡ true
+    → AllZip SaysTold [] (if own == channel then map ToldFrame frames else [])
+of_other_channel own channel frames some none =
+    rw (ne_eqb own channel (λ e. some (sym e ∙ eqb-true own 0 none))) tt
+
+class_told : (channel own counter : ℕ) (header : HeaderData) (what : What) (bytes : List ℕ) → channel ≢ 0 → HasClass header bytes what
+    → AllZip SaysTold (flat_map held_in (pieces_named channel (named_by own what) counter bytes)) (told_in channel (saying_in own what bytes))
+class_told channel own counter header (HoldsFrames count) bytes some has = elim (cases_Bool (own == 0)) as (λ _.
+    AllZip SaysTold (flat_map held_in (pieces_named channel (named_by own (HoldsFrames count)) counter bytes))
+    (if own == channel then map ToldFrame (said_frames bytes) else [])) [
+      | inl none ↦ rw none (of_other_channel own channel (said_frames bytes) some none)
+      | inr more ↦ rw more (zip_where (own == channel) (said_frames bytes))
+    ]
+class_told channel own counter header (Program named version first count) bytes some has =
+    zip_record (named == channel) (Some counter) bytes (ToldProgram (stored_program version first count bytes))
+    (named, has.1, has.2, ap (λ n. stored_insns n (drop PROGRAM_HEAD_LEN bytes)) (sym has.3))
+class_told channel own counter header (End named offered kept) bytes some has =
+    subst (λ ps. AllZip SaysTold (flat_map held_in (if named == channel then ps else []))
+    (if named == channel then ToldEnd (record { offered = offered; kept = kept }) ∷ [] else [])) (sym (end_counted (offered == 0) counter bytes))
+    (zip_record (named == channel) (if offered == 0 then None else Some counter) bytes (ToldEnd (record { offered = offered; kept = kept })) (named, has.1))
+class_told channel own counter header Other bytes some has = tt
+
+packets_tell : (channel at : ℕ) (packets : List PacketData) (bytes rest : List ℕ) → channel ≢ 0 → BeginsPackets at packets bytes rest
+    → AllZip SaysTold (held_in_packets channel packets) (told_of channel packets)
+packets_tell channel at [] bytes rest some begins = tt
+packets_tell channel at (p ∷ ps) bytes rest some begins =
+    subst (λ hs. AllZip SaysTold hs (told_of channel (p ∷ ps))) (sym (flat_map-append held_in (pieces_of_packet channel p) (pieces_of_channel channel ps)))
+    (zip_append (flat_map held_in (pieces_of_packet channel p)) (held_in_packets channel ps) (told_in channel (saying_of p)) (told_of channel ps)
+    (class_told channel p.header.channel p.header.counter p.header p.what (data_in p.header p.body) some begins.1.spelled.holds.class)
+    (packets_tell channel (at + p.header.packet_len) ps begins.0 rest some begins.2))
+
+-- packets that hold the same of a channel say the same of it
+pub same_told : (channel : ℕ) (ps qs : List PacketData) (bytes others rest more : List ℕ) → channel ≢ 0 → BeginsPackets 0 ps bytes rest
+    → BeginsPackets 0 qs others more → held_in_packets channel qs ≡ held_in_packets channel ps → told_of channel qs ≡ told_of channel ps
+same_told channel ps qs bytes others rest more some a b same =
+    all_told (held_in_packets channel ps) (told_of channel qs) (told_of channel ps)
+    (subst (λ hs. AllZip SaysTold hs (told_of channel qs)) same (packets_tell channel 0 qs others more some b))
+    (packets_tell channel 0 ps bytes rest some a)
+
+-- ---- programs, ends and frames of what is told
+
+abbrev frame_told : Told → List ReadFrameData
+frame_told (ToldFrame frame) = frame ∷ []
+frame_told (ToldProgram program) = []
+frame_told (ToldEnd end) = []
+
+abbrev pub program_told : Told → List ChannelProgram
+program_told (ToldFrame frame) = []
+program_told (ToldProgram program) = program ∷ []
+program_told (ToldEnd end) = []
+
+abbrev pub end_told : Told → List ChannelEnd
+end_told (ToldFrame frame) = []
+end_told (ToldProgram program) = []
+end_told (ToldEnd end) = end ∷ []
+
+only_frames : (frames : List ReadFrameData) → flat_map frame_told (map ToldFrame frames) ≡ frames
+only_frames [] = refl
+only_frames (f ∷ fs) = ap (λ l. f ∷ l) (only_frames fs)
+
+no_programs : (frames : List ReadFrameData) → flat_map program_told (map ToldFrame frames) ≡ []
+no_programs [] = refl
+no_programs (f ∷ fs) = no_programs fs
+
+no_ends : (frames : List ReadFrameData) → flat_map end_told (map ToldFrame frames) ≡ []
+no_ends [] = refl
+no_ends (f ∷ fs) = no_ends fs
+
+frames_by : (channel own : ℕ) (what : What) (bytes : List ℕ)
+    → (if own == channel then frames_held what bytes else []) ≡ flat_map frame_told (told_in channel (saying_in own what bytes))
+frames_by channel own (HoldsFrames count) bytes = here (own == channel)
+  where
+    here : (is : Bool) → (if is then said_frames bytes else []) ≡ flat_map frame_told (if is then map ToldFrame (said_frames bytes) else [])
+    here true = sym (only_frames (said_frames bytes))
+    here false = refl
+frames_by channel own (Program named version first count) bytes = here (own == channel) (named == channel)
+  where
+    here : (is at : Bool) → ◌≡◌ {A = List ReadFrameData} (if is then [] else [])
+        (flat_map frame_told (if at then ToldProgram (stored_program version first count bytes) ∷ [] else []))
+    here true true = refl
+    here true false = refl
+    here false true = refl
+    here false false = refl
+frames_by channel own (End named offered kept) bytes = here (own == channel) (named == channel)
+  where
+    here : (is at : Bool) → ◌≡◌ {A = List ReadFrameData} (if is then [] else [])
+        (flat_map frame_told (if at then ToldEnd (record { offered = offered; kept = kept }) ∷ [] else []))
+    here true true = refl
+    here true false = refl
+    here false true = refl
+    here false false = refl
+frames_by channel own Other bytes = here (own == channel)
+  where
+    here : (is : Bool) → ◌≡◌ {A = List ReadFrameData} (if is then [] else []) []
+    here true = refl
+    here false = refl
+
+pub programs_by : (channel : ℕ) (said : Option (ℕ × Saying)) → program_said channel said ≡ flat_map program_told (told_in channel said)
+programs_by channel None = refl
+programs_by channel (Some (named, OfFrames frames)) = here (named == channel)
+  where
+    here : (is : Bool) → [] ≡ flat_map program_told (if is then map ToldFrame frames else [])
+    here true = sym (no_programs frames)
+    here false = refl
+programs_by channel (Some (named, OfProgram program)) = here (named == channel)
+  where
+    here : (is : Bool) → (if is then program ∷ [] else []) ≡ flat_map program_told (if is then ToldProgram program ∷ [] else [])
+    here true = refl
+    here false = refl
+programs_by channel (Some (named, OfEnd end)) = here (named == channel)
+  where
+    here : (is : Bool) → [] ≡ flat_map program_told (if is then ToldEnd end ∷ [] else [])
+    here true = refl
+    here false = refl
+
+pub ends_by : (channel : ℕ) (said : Option (ℕ × Saying)) → end_said channel said ≡ flat_map end_told (told_in channel said)
+ends_by channel None = refl
+ends_by channel (Some (named, OfFrames frames)) = here (named == channel)
+  where
+    here : (is : Bool) → [] ≡ flat_map end_told (if is then map ToldFrame frames else [])
+    here true = sym (no_ends frames)
+    here false = refl
+ends_by channel (Some (named, OfProgram program)) = here (named == channel)
+  where
+    here : (is : Bool) → [] ≡ flat_map end_told (if is then ToldProgram program ∷ [] else [])
+    here true = refl
+    here false = refl
+ends_by channel (Some (named, OfEnd end)) = here (named == channel)
+  where
+    here : (is : Bool) → (if is then end ∷ [] else []) ≡ flat_map end_told (if is then ToldEnd end ∷ [] else [])
+    here true = refl
+    here false = refl
+
+pub frames_of_told : (channel : ℕ) (packets : List PacketData) → channel_frames channel packets ≡ flat_map frame_told (told_of channel packets)
+frames_of_told channel [] = refl
+frames_of_told channel (p ∷ ps) =
+    ap (λ l. l ++ channel_frames channel ps) (frames_by channel p.header.channel p.what (data_in p.header p.body))
+    ∙ ap (λ l. flat_map frame_told (told_in channel (saying_of p)) ++ l) (frames_of_told channel ps)
+    ∙ sym (flat_map-append frame_told (told_in channel (saying_of p)) (told_of channel ps))
+
+pub programs_of_told : (channel : ℕ) (packets : List PacketData) → programs_of channel packets ≡ flat_map program_told (told_of channel packets)
+programs_of_told channel [] = refl
+programs_of_told channel (p ∷ ps) =
+    ap (λ l. l ++ programs_of channel ps) (programs_by channel (saying_of p))
+    ∙ ap (λ l. flat_map program_told (told_in channel (saying_of p)) ++ l) (programs_of_told channel ps)
+    ∙ sym (flat_map-append program_told (told_in channel (saying_of p)) (told_of channel ps))
+
+pub ends_of_told : (channel : ℕ) (packets : List PacketData) → ends_of channel packets ≡ flat_map end_told (told_of channel packets)
+ends_of_told channel [] = refl
+ends_of_told channel (p ∷ ps) =
+    ap (λ l. l ++ ends_of channel ps) (ends_by channel (saying_of p))
+    ∙ ap (λ l. flat_map end_told (told_in channel (saying_of p)) ++ l) (ends_of_told channel ps)
+    ∙ sym (flat_map-append end_told (told_in channel (saying_of p)) (told_of channel ps))
+
+-- so they have the same frames, programs and ends of a channel of which they say the same
+pub same_frames : (channel : ℕ) (ps qs : List PacketData) → told_of channel qs ≡ told_of channel ps → channel_frames channel qs ≡ channel_frames channel ps
+same_frames channel ps qs same = frames_of_told channel qs ∙ ap (flat_map frame_told) same ∙ sym (frames_of_told channel ps)
+
+pub same_programs : (channel : ℕ) (ps qs : List PacketData) → told_of channel qs ≡ told_of channel ps → programs_of channel qs ≡ programs_of channel ps
+same_programs channel ps qs same = programs_of_told channel qs ∙ ap (flat_map program_told) same ∙ sym (programs_of_told channel ps)
+
+pub same_ends : (channel : ℕ) (ps qs : List PacketData) → told_of channel qs ≡ told_of channel ps → ends_of channel qs ≡ ends_of channel ps
+same_ends channel ps qs same = ends_of_told channel qs ∙ ap (flat_map end_told) same ∙ sym (ends_of_told channel ps)
