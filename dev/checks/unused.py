@@ -37,7 +37,7 @@ OTHER_LINES = ("use ", "pub use ", "pub mod ", "mod ", "infix", "--")
 GOALS = ("Answers", "Invariants", "Proof", "Checks")
 CALL = re.compile(r"^ *pub (?:const )?fn (\w+)")
 # Libraries that are there for tests and pages alone.
-FOR_TESTS = {"test_samples", "test_callers"}
+FOR_TESTS = {"test_samples", "test_callers", "test_whole"}
 # Libraries that stand ahead of the commands that will call them.
 AHEAD: set[str] = set()
 # Public calls that the program makes no use of, and what they are there for.

@@ -6,10 +6,11 @@ use ch11_packet::{COMPUTER_GENERATED_DATA, ETHERNET_DATA, Header, end_body, pack
 use ch11_setup::SetupChannel;
 use rec_pieces::*;
 use rec_reader::Reader;
+use rec_whole::FileNames;
 use sha2::{Digest, Sha256};
 use std::alloc::Global;
 use std::io;
-use std::io::{ErrorKind, Read, Write};
+use std::io::{ErrorKind, Write};
 use std::test::Fail;
 use test_samples::{CHECKED, all_bytes, assert_same, joined_bytes};
 
@@ -37,24 +38,6 @@ const ROOM: usize = 1 << 20;
 const LAST_MOMENT: &str = "64060588799.99";
 
 const MOMENT_BEHIND: &str = "64060588800";
-
-/// A file in memory.
-#[derive(Drop)]
-struct Held<'a> {
-    bytes: &'a [u8],
-}
-
-impl PlacedRead for Held<'_> {
-    ghost use Rattle.std.specs.Prelude.{None};
-
-    ghost held = { λ _. None };
-
-    fn read_at(&self, buf: &mut [u8], at: u64) -> io::Result<usize> {
-        let start = self.bytes.len().min(at as usize);
-        let mut rest = &self.bytes[start..];
-        rest.read(buf)
-    }
-}
 
 /// An output that fails once it has some bytes.
 #[derive(Drop)]
@@ -125,8 +108,7 @@ fn file_of(
     let Ok(listing) = list_recording(alloc, &mut reader) else {
         return Err("a recording".into());
     };
-    let file = Held { bytes: recording };
-    let mut sources = channel_sources(alloc, &file, &listing)?;
+    let mut sources = channel_sources(alloc, &recording, &listing)?;
     let channels = channels_of(alloc, &listing)?;
     let setup = setup_of(channels.as_slice());
     let least = listing.least().unwrap_or(0);
@@ -247,6 +229,27 @@ fn the_example_is_a_whole_file(rt: HostRuntime) -> Result<(), Fail> {
     }
     let sum = all_bytes(alloc, WHOLE_SHA256)?;
     assert!(rt; Sha256::digest(bytes.as_slice()).as_slice() == sum.as_slice());
+    Ok(())
+}
+
+#[test]
+fn a_recording_in_memory_has_that_file(rt: HostRuntime) -> Result<(), Fail> {
+    let alloc = rt.alloc();
+    let recording = joined_bytes(alloc, &CHECKED)?;
+    let clock = clock_of(alloc, ORIGIN)?;
+    let names = FileNames {
+        host: "bpfrec",
+        program: "bpfrec",
+        is_external: false,
+        channels: &[],
+        attributes: &[],
+    };
+    let Ok(file) = test_whole::whole_file_of(alloc, recording.as_slice(), &names, &clock, MOST)
+    else {
+        return Err("a whole file".into());
+    };
+    let sum = all_bytes(alloc, WHOLE_SHA256)?;
+    assert!(rt; Sha256::digest(file.as_slice()).as_slice() == sum.as_slice());
     Ok(())
 }
 
