@@ -1,1 +1,3 @@
 pub mod CountsLines
+pub mod ByteSums
+pub mod WholeFiles

@@ -5,13 +5,13 @@ ghost use Rattle.std.specs.Io.KnownBytes.{Appends};
 ghost use Rattle.cli_chapter11.specs.CountsLines.{counts_line};
 
 use crate::files::{listing_of, open_recording, setup_in};
-use crate::writing::{WholeFile, write_twice};
-use ch11_clock::Clock;
+use crate::uncreated::Uncreated;
+use crate::writing::{WholeFile, WriteEnd, judged_then_written};
 use ch11_file::FileCounts;
-use cli_streams::{CommandEnding, Inputs, LockFile, print_line};
+use cli_streams::{CommandEnding, Inputs, LockFile, OutputFile, buffered_output, print_line};
 use rec_pieces::PlacedRead;
 use std::alloc::Global;
-use std::io::Write;
+use std::io::{BufWriter, Write};
 use std::rt::Files;
 
 /// `chapter11 RECORDING SETUP OUT`: writes the whole Chapter 11 file of a recording into OUT, forces it to
@@ -35,16 +35,62 @@ where
     inputs.add(&file)?;
     let settings = setup_in(rt, &mut inputs, setup, out)?;
     let listing = listing_of(alloc, recording, &file)?;
-    let clock = Clock::new(alloc, settings.origins.as_slice())?;
     let whole = WholeFile {
-        recording,
         file: &file,
         listing: &listing,
         settings: &settings,
-        clock: &clock,
     };
-    let counts = write_twice(rt, &inputs, &whole, out)?;
+    let mut named = NamedOut {
+        rt,
+        inputs: &inputs,
+        out,
+    };
+    let (counts, written) = match judged_then_written(alloc, &whole, &mut named) {
+        Ok(written) => written,
+        Err(end) => return Err(ending_of(end, recording, out)),
+    };
+    written.get_ref().keep(out)?;
     print_counts(alloc, output, counts)
+}
+
+/// How the command ends where OUT isn't written.
+fn ending_of<'a>(
+    end: WriteEnd<CommandEnding<'a>>,
+    recording: &'a str,
+    out: &'a str,
+) -> CommandEnding<'a> {
+    match end {
+        WriteEnd::Refused(refusal) => CommandEnding::Whole(refusal),
+        WriteEnd::Recording => CommandEnding::File(recording),
+        WriteEnd::Uncreated(ending) => ending,
+        WriteEnd::Output => CommandEnding::File(out),
+        WriteEnd::Memory => CommandEnding::Memory,
+    }
+}
+
+/// The OUT that the words name.
+#[derive(Drop)]
+struct NamedOut<'a, 'i, R> {
+    rt: &'i R,
+    inputs: &'i Inputs,
+    out: &'a str,
+}
+
+impl<'a, 'i, R: AllocGlobal + Files> Uncreated for NamedOut<'a, 'i, R>
+where
+    R::File: LockFile,
+{
+    ghost use Rattle.std.specs.Prelude.{None};
+
+    type File = OutputFile<R::File>;
+
+    type Fault = CommandEnding<'a>;
+
+    ghost held = { λ _. None };
+
+    fn create(&mut self) -> Result<BufWriter<OutputFile<R::File>>, CommandEnding<'a>> {
+        buffered_output(self.rt, self.inputs, self.out)
+    }
 }
 
 /// Prints how many packets of each kind a file has, and how many bytes.

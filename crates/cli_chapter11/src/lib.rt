@@ -5,6 +5,8 @@ mod channels;
 mod command;
 mod discard;
 mod files;
+mod summed;
+mod uncreated;
 mod writing;
 
 pub use command::write_chapter11;

@@ -1,95 +1,154 @@
 //! A whole file, written once into nothing and then into its file.
 
+ghost use Rattle.std.specs.Prelude.{ℕ, ◌≡◌, ◌≢◌, List, None, Some, Err, IfOk, [], MatchResult};
+ghost use Rattle.std.specs.Io.Buffered.{writer_buffer, writer_contents};
+ghost use Rattle.rec_reader.specs.Packets.{PacketData};
+ghost use Rattle.rec_reader.specs.Reading.{Reads};
+ghost use Rattle.rec_pieces.specs.PieceListings.{ListsPackets};
+ghost use Rattle.rec_whole.specs.declared.refusal.WholeEnd.TheVariants.{Refused as IsRefused};
+ghost use Rattle.cli_chapter11.specs.declared.writing.WriteEnd.TheVariants.{Refused};
+ghost use Rattle.cli_chapter11.specs.WholeFiles.{FailsBySetup, WritesBySetup};
+
 use crate::channels::{attributes_of, channels_of};
 use crate::discard::Discard;
+use crate::summed::{ByteSums, Summed};
+use crate::uncreated::Uncreated;
 use ch11_clock::Clock;
 use ch11_file::FileCounts;
 use ch11_index::MOST_NAMED;
-use cli_streams::{CommandEnding, Inputs, LockFile, buffered_output};
 use rec_pieces::{PieceListing, PlacedRead};
-use rec_whole::{FileNames, WholeEnd, write_whole_file};
+use rec_whole::{FileNames, WholeEnd, WholeRefusal, write_whole_file};
 use rec_words::FileSettings;
 use std::alloc::Global;
-use std::io::Write;
-use std::rt::Files;
+use std::io::{BufWriter, Write};
 
 /// What a whole file is made of.
 #[derive(Drop)]
-pub(crate) struct WholeFile<'a, 'f, F> {
-    /// The path of the recording.
-    pub recording: &'a str,
+pub(crate) struct WholeFile<'f, F> {
     /// The recording's file.
     pub file: &'f F,
     /// Its packets.
     pub listing: &'f PieceListing,
     /// What SETUP says.
     pub settings: &'f FileSettings,
-    /// The clock that SETUP says.
-    pub clock: &'f Clock,
 }
 
-/// Writes a whole file: first into nothing, and if it can be, into OUT, and forces that to its disk. A
-/// recording that isn't what it was by then is the file's fault; then some of OUT may be there.
-pub(crate) fn write_twice<'a, R: AllocGlobal + Files>(
-    rt: &R,
-    inputs: &Inputs,
-    whole: &WholeFile<'a, '_, R::File>,
-    out: &'a str,
-) -> Result<FileCounts, CommandEnding<'a>>
-where
-    R::File: LockFile + PlacedRead,
+/// What a pass over a recording saw: how many packets its whole file has, and the sums of its bytes.
+#[derive(Clone, Copy, Debug, PartialEq, Eq)]
+struct Seen {
+    counts: FileCounts,
+    sums: ByteSums,
+}
+
+/// Why OUT isn't written, or not whole.
+#[derive(Drop)]
+pub(crate) enum WriteEnd<E> {
+    /// The recording can't be a whole file.
+    Refused(WholeRefusal),
+    /// The recording can't be read, or is another one at the second time.
+    Recording,
+    /// OUT can't be created.
+    Uncreated(E),
+    /// OUT can't be written.
+    Output,
+    /// Out of memory.
+    Memory,
+}
+
+/// Writes a whole file: first into nothing, and if it can be, into OUT, which is created then. So there is no OUT of
+/// a recording that is refused. Where the second pass sees another recording than the first, that is the file's
+/// fault; then some of OUT may be there.
+pub(crate) fn judged_then_written<F: PlacedRead, O: Uncreated>(
+    alloc: Global,
+    whole: &WholeFile<'_, F>,
+    out: &mut O,
+) -> Result<(FileCounts, BufWriter<O::File>), WriteEnd<O::Fault>>
+    ensures unchanged { (refusal : WholeRefusal) → result ≡ Err (Refused refusal) → out.new ≡ out.old }
+    ensures refused { (refusal : WholeRefusal) → result ≡ Err (Refused refusal)
+        → (bytes : List ℕ) (packets : List PacketData) → F.held whole.now.file.now ≡ Some bytes
+        → Reads bytes packets None → ListsPackets packets whole.now.listing.now
+        → FailsBySetup whole.now.settings.now packets None None (IsRefused refusal) }
+    ensures written { IfOk result (λ written. (bytes : List ℕ) (packets : List PacketData)
+        → F.held whole.now.file.now ≡ Some bytes → Reads bytes packets None
+        → ListsPackets packets whole.now.listing.now
+        → WritesBySetup whole.now.settings.now packets (O.held out.old)
+        (writer_contents O.File.contents written.1) written.0) }
+    ensures flushed { IfOk result (λ written. writer_buffer written.1 ≡ []) }
 {
-    let alloc = rt.alloc();
-    let judged = match write_once(alloc, whole, &mut Discard)? {
-        Ok(counts) => counts,
-        Err(end) => return Err(ending_of(end, whole.recording, out)),
+    let judged = match write_once(alloc, whole, Discard) {
+        Ok((seen, _)) => seen,
+        Err(WholeEnd::Refused(refusal)) => return Err(WriteEnd::Refused(refusal)),
+        Err(end) => return Err(again(end)),
     };
-    let mut output = buffered_output(rt, inputs, out)?;
-    let written = match write_once(alloc, whole, &mut output)? {
-        Ok(counts) => counts,
-        Err(WholeEnd::Refused(_)) => return Err(CommandEnding::File(whole.recording)),
-        Err(end) => return Err(ending_of(end, whole.recording, out)),
+    let output = match out.create() {
+        Ok(output) => output,
+        Err(fault) => return Err(WriteEnd::Uncreated(fault)),
+    };
+    let (written, mut output) = match write_once(alloc, whole, output) {
+        Ok(written) => written,
+        Err(end) => return Err(again(end)),
     };
     if written != judged {
-        return Err(CommandEnding::File(whole.recording));
+        return Err(WriteEnd::Recording);
     }
-    output.flush().map_err(|_| CommandEnding::File(out))?;
-    output.get_ref().keep(out)?;
-    Ok(written)
+    match output.flush() {
+        Ok(()) => Ok((written.counts, output)),
+        Err(_) => Err(WriteEnd::Output),
+    }
 }
 
-/// Writes a whole file into an output.
-fn write_once<'a, F: PlacedRead, W: Write>(
+/// Writes a whole file into an output by what SETUP says, and gives what it saw, and the output.
+fn write_once<F: PlacedRead, W: Write + Drop>(
     alloc: Global,
-    whole: &WholeFile<'_, '_, F>,
-    output: &mut W,
-) -> Result<Result<FileCounts, WholeEnd>, CommandEnding<'a>> {
-    let channels = channels_of(alloc, whole.settings)?;
-    let attributes = attributes_of(alloc, whole.settings)?;
+    whole: &WholeFile<'_, F>,
+    output: W,
+) -> Result<(Seen, W), WholeEnd>
+    ensures { (bytes : List ℕ) (packets : List PacketData) → F.held whole.now.file.now ≡ Some bytes
+        → Reads bytes packets None → ListsPackets packets whole.now.listing.now
+        → MatchResult result
+        (λ wrote. WritesBySetup whole.now.settings.now packets (W.contents output)
+        (W.contents wrote.1) wrote.0.counts)
+        (λ end. (last : W) × FailsBySetup whole.now.settings.now packets (W.contents output)
+        (W.contents last) end) }
+{
+    let settings = whole.settings;
+    let channels = channels_of(alloc, settings.channels.as_slice())?;
+    let attributes = attributes_of(alloc, settings.attributes.as_slice())?;
+    let clock = Clock::new(alloc, settings.origins.as_slice())?;
     let names = FileNames {
-        host: whole.settings.host.as_str(),
-        program: whole.settings.program.as_str(),
-        is_external: whole.settings.is_external,
+        host: settings.host.as_str(),
+        program: settings.program.as_str(),
+        is_external: settings.is_external,
         channels: channels.as_slice(),
         attributes: attributes.as_slice(),
     };
-    Ok(write_whole_file(
+    let mut summed = Summed {
+        out: output,
+        sums: ByteSums::NONE,
+    };
+    let written = write_whole_file(
         alloc,
         whole.file,
         whole.listing,
         &names,
-        whole.clock,
+        &clock,
         MOST_NAMED,
-        output,
-    ))
+        &mut summed,
+    );
+    let Summed { out, sums } = summed;
+    match written {
+        Ok(counts) => Ok((Seen { counts, sums }, out)),
+        Err(end) => Err(end),
+    }
 }
 
-/// What the end of a whole file comes to.
-fn ending_of<'a>(end: WholeEnd, recording: &'a str, out: &'a str) -> CommandEnding<'a> {
+/// What the end of a pass comes to; a recording that is refused by the second alone is another one.
+fn again<E>(end: WholeEnd) -> WriteEnd<E>
+    ensures { (refusal : WholeRefusal) → result ≢ Refused refusal }
+{
     match end {
-        WholeEnd::Refused(refusal) => CommandEnding::Whole(refusal),
-        WholeEnd::Recording => CommandEnding::File(recording),
-        WholeEnd::Output => CommandEnding::File(out),
-        WholeEnd::Memory => CommandEnding::Memory,
+        WholeEnd::Refused(_) | WholeEnd::Recording => WriteEnd::Recording,
+        WholeEnd::Output => WriteEnd::Output,
+        WholeEnd::Memory => WriteEnd::Memory,
     }
 }
