@@ -3,6 +3,8 @@
 import os
 import resource
 import signal
+import subprocess
+import time
 from pathlib import Path
 
 import pytest
@@ -222,3 +224,28 @@ def test_devices_as_out(work: Path) -> None:
     recording, setup = write_inputs(work, SAMPLES[1].read_bytes(), LEAST)
     judge("/dev/null", outcome(BPFREC, "chapter11", recording, setup, "/dev/null").returncode == 0)
     judge("/dev/full", outcome(BPFREC, "chapter11", recording, setup, "/dev/full").stderr == "file /dev/full\n")
+
+
+def opens(process: int) -> bool:
+    """Whether a process waits for the reader of a pipe that it opens."""
+    return Path(f"/proc/{process}/wchan").read_text() == "wait_for_partner"
+
+
+def test_a_recording_that_is_exchanged_between_two_looks(work: Path) -> None:
+    """The first pass has ended where OUT is opened: a pipe, whose writer waits for a reader. The file of the
+    second would have the same counts, since only the bytes of a frame are others."""
+    data = SAMPLES[0].read_bytes()
+    recording, setup = write_inputs(work, data, LEAST)
+    out = work / "out.pipe"
+    os.mkfifo(out)
+    with subprocess.Popen([BPFREC, "chapter11", recording, setup, out], stdout=-1, stderr=-1, text=True) as process:
+        end = time.monotonic() + 20
+        while not opens(process.pid) and time.monotonic() < end:
+            time.sleep(0.01)
+        other = data.replace(bytes.fromhex("a1b2c3d4"), bytes.fromhex("b1a2c3d4"))
+        recording.write_bytes(other)
+        with open(out, "rb") as reader:
+            reader.read()
+        said = process.communicate(timeout=20)
+    judge("other bytes of a frame", other != data)
+    judge("is told", (process.returncode, *said) == (3, "", f"file {recording}\n"), said)
