@@ -1,7 +1,7 @@
 #!/usr/bin/env python3
 """Counts the processor instructions that a frame of 64 bytes takes, of which a filter keeps a 32nd, by callgrind.
 
-usage: bench/instructions.py [BPFREC [RECORD_FEED]]
+usage: bench/instructions.py [--span TICKS] [BPFREC [RECORD_FEED]]
 
 It records two feeds of different lengths by `bpfrec record`, and by plain C on libpcap (bench/record_feed.c), and
 prints the difference a frame, so that starts and ends don't count; no other work changes it. It needs Debian's
@@ -41,6 +41,7 @@ def a_frame(work: Path, program: str, words: argparse.Namespace) -> float:
     for count in (SHORT, LONG):
         feed = work / f"{count}.feed"
         settings = write_settings(work / f"{count}.toml", [feed], [work / "port"])
+        settings.write_text(f"{settings.read_text()}span = {words.span}\n")
         record: list[object] = [words.bpfrec, "record", settings, work / "out"]
         spent.append(counted(work, record if program == "bpfrec" else [words.c, work / "port", feed, work / "out"]))
     return (spent[1] - spent[0]) / (LONG - SHORT)
@@ -48,6 +49,7 @@ def a_frame(work: Path, program: str, words: argparse.Namespace) -> float:
 
 def main() -> int:
     parser = argparse.ArgumentParser(description=__doc__, formatter_class=argparse.RawDescriptionHelpFormatter)
+    parser.add_argument("--span", type=int, default=0, help="the span of the channel, in ticks (none)")
     parser.add_argument("bpfrec", nargs="?", default=ROOT / "bin/bpfrec", metavar="BPFREC")
     parser.add_argument("c", nargs="?", default=ROOT / "bin/record_feed", metavar="RECORD_FEED")
     words = parser.parse_args()
