@@ -30,7 +30,7 @@ class Played:
 
     def load(self, placed: Placed) -> list[Piece]:
         self.loaded += 1
-        return [Piece(it, placed.came, record=b"x") for it in self.packets[placed.at]]
+        return [Piece(it, placed.seen, record=b"x") for it in self.packets[placed.at]]
 
     def add(self, channel: int, came: float, *counters: Optional[int], is_end: bool = False) -> None:
         self.packets.append(list(counters))
@@ -79,6 +79,21 @@ def test_it_waits_as_long_as_spans_say_where_all_have_some(spans: dict[int, int]
     played.add(1, 100.0, 10)
     judge("not sooner", played.all(100.0 + least) == [])
     judge("and no longer", played.all(100.0 + most) == [(1, 10)])
+
+
+def test_each_piece_of_a_packet_waits_from_when_its_own_frame_came() -> None:
+    """As far as the age of the packet's first one is known, and not longer than from when the packet was seen."""
+    body = body_in(body_of([(9_000_000 + ticks, 0, bytes(18)) for ticks in (0, 2_000_000, 2_500_000, 6_000_000)]))
+    assert body
+
+    def came(age: float) -> list[float]:
+        first, second, *others = pieces_of(body, 100.0, age)
+        rest = second.rest(2)
+        assert rest
+        return [it.came() for it in (first, second, rest, *others)]
+
+    judge("of an age that is known", came(0.5) == pytest.approx([99.5, 99.7, 99.75, 100.0]), came(0.5))
+    judge("and of none", came(0.0) == [100.0] * 4)
 
 
 def test_a_channel_that_has_come_further_is_not_waited_for() -> None:

@@ -371,7 +371,8 @@ def test_a_frame_is_as_old_as_the_hosts_clock_says(work: Path, clock_name: str, 
     recording = Recording(str(path), lambda _: None, Asked(), lambda _: None)
     recording.begin(False, lambda: False)
     recording.read_on()
-    (found,) = [time.monotonic() - it.came for it in recording.merging.channels[5].waiting][1:]
+    frames = recording.load(recording.merging.channels[5].waiting[1])
+    (found,) = [time.monotonic() - it.came() for it in frames]
     recording.close()
     judge(f"{age} s", age <= found < age + 0.5, found)
 

@@ -26,12 +26,13 @@ class Turn(NamedTuple):
 
 
 class Placed(NamedTuple):
-    """A packet of a channel that waits in its file: its place, when it was seen, and the counter that it gets, where that
-    isn't its own."""
+    """A packet of a channel that waits in its file: its place, when it was seen, the counter that it gets, where that
+    isn't its own, and how many seconds ago its first frame had come."""
 
     at: int
-    came: float
+    seen: float
     counter: Optional[int] = None
+    age: float = 0.0
 
 
 class Channel:
@@ -75,7 +76,7 @@ class Merging:
             return None
         turn = min(turns)
         channel = self.channels[turn.channel]
-        if not is_whole and now - channel.pieces[0].came < self.patience and self.may_be_overtaken(turn):
+        if not is_whole and now - channel.pieces[0].came() < self.patience and self.may_be_overtaken(turn):
             return None
         piece = channel.pieces.popleft()
         channel.last = turn._replace(counter=piece.last_counter())

@@ -14,6 +14,7 @@ from bpfrec_host.formats.limits import (
     HEADER_LEN,
     MAX_COUNTER,
     MAX_ETHERNET_PACKET_LEN,
+    TICKS_A_SECOND,
 )
 
 # How many ticks a piece spans at most.
@@ -36,14 +37,20 @@ class Body(NamedTuple):
 
 class Piece(NamedTuple):
     """Frames of a body from one up to another, or a record. A record without a counter has that of what is ahead of
-    it. `came` says when its packet was seen."""
+    it. `seen` says when its packet was seen, and `age` how many seconds ago the packet's first frame had come then."""
 
     counter: Optional[int]
-    came: float
+    seen: float
     body: Optional[Body] = None
     begin: int = 0
     end: int = 0
     record: bytes = b""
+    age: float = 0.0
+
+    def came(self) -> float:
+        """When its first frame came, as far as that is known, and else when its packet was seen."""
+        later = ((self.counter or 0) - self.body.counters[0]) / TICKS_A_SECOND if self.body else 0.0
+        return self.seen - max(0.0, self.age - max(0.0, later))
 
     def last_counter(self) -> int:
         """The counter of its last frame, or of the record; 0 where that has none."""
@@ -114,10 +121,11 @@ def cleaned(body: Body) -> Body:
     return Body(bytes(data), counters, body.places)
 
 
-def pieces_of(body: Body, came: float) -> list[Piece]:
+def pieces_of(body: Body, seen: float, age: float = 0.0) -> list[Piece]:
     """The pieces of a packet of frames, but for time packets."""
     begins = begins_of(body)
-    return [Piece(body.counters[it], came, body, it, end) for it, end in zip(begins, [*begins[1:], len(body.counters)])]
+    ends = [*begins[1:], len(body.counters)]
+    return [Piece(body.counters[it], seen, body, it, end, age=age) for it, end in zip(begins, ends)]
 
 
 def begins_of(body: Body) -> list[int]:

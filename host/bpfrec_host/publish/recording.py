@@ -114,10 +114,11 @@ class Recording(Growing):
 
     def place(self, channel: int, front: Front, is_end: bool) -> None:
         """Keeps the place of a packet, behind the channel's program that was left out."""
-        came = time.monotonic() - (self.age_of(front.header.counter) if self.merging.have_spans else 0)
+        seen, counter = time.monotonic(), front.header.counter
+        age = self.age_of(counter) if self.merging.have_spans else 0.0
         if channel in self.hidden:
-            self.merging.add(channel, Placed(self.hidden.pop(channel), came, front.header.counter))
-        self.merging.add(channel, Placed(front.at, came), is_end)
+            self.merging.add(channel, Placed(self.hidden.pop(channel), seen, counter, age))
+        self.merging.add(channel, Placed(front.at, seen, age=age), is_end)
 
     def age_of(self, counter: int) -> float:
         """How many seconds ago a frame came; 0 where it isn't known, as by an adapter's clock."""
@@ -169,13 +170,13 @@ class Recording(Growing):
         if body is None:
             self.others += 1
             return []
-        return pieces_of(body, placed.came)
+        return pieces_of(body, placed.seen, placed.age)
 
     def record_piece(self, header: Header, data: bytes, placed: Placed) -> Piece:
         """The piece of a record. An end that was offered no frame has no counter."""
         counter = header.counter if placed.counter is None else placed.counter
         is_empty = data[KIND] == END_KIND and not any(data[OFFERED])
-        return Piece(None if is_empty else counter, placed.came, record=data)
+        return Piece(None if is_empty else counter, placed.seen, record=data, age=placed.age)
 
     def fail(self, fault: str) -> list[Piece]:
         """Says what is wrong with a packet, of which nothing is published."""
