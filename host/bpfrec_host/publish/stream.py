@@ -55,9 +55,9 @@ class Stream:
 
     def put(self, channel: int, piece: Piece) -> Optional[Piece]:
         """Puts out a piece of a channel: what is left of it behind the next time packet."""
-        counter = self.packets.greatest if piece.counter is None else piece.counter
         if self.setup is None:
-            self.begin(counter)
+            self.begin(piece.counter or 0)
+        counter = self.packets.greatest if piece.counter is None else piece.counter
         self.late += piece.counter is not None and counter < self.latest
         self.latest = max(self.latest, piece.counter or 0)
         if counter > self.packets.greatest + MOST_GAP:
