@@ -23,6 +23,7 @@ FILES = {
     "frame.feed": ARP_RECORD + ARP_RECORD[:-1],
     "length.feed": ARP_RECORD + bytes.fromhex("100000000000 04 1100"),
     "marks.feed": ARP_RECORD + bytes.fromhex("100000000000 04 1200"),
+    "time.feed": ARP_RECORD + bytes.fromhex("100000000000 00 0000") + ARP_RECORD,
 }
 
 HEAD = "[[channel]]\nid = 1\n"
@@ -180,9 +181,11 @@ FILE_CASES = [
             ("frame.feed", "SourceFault Truncated: feed frame.feed at byte 27, after 1 frames"),
             ("length.feed", "SourceFault Length: feed length.feed at byte 27, after 1 frames"),
             ("marks.feed", "SourceFault Marks: feed marks.feed at byte 27, after 1 frames"),
+            ("time.feed", "SourceFault Length: feed time.feed at byte 27, after 1 frames"),
         ]
     ),
     Case("a cut feed of which fewer frames are taken", HEAD + 'feed = "head.feed"\n' + FILTER + "max = 1\n", []),
+    Case("a feed with a time mark, of a channel with a span", HEAD + 'feed = "time.feed"\n' + FILTER + "span = 1\n", []),
     Case("an empty feed", HEAD + 'feed = "empty.feed"\n' + FILTER, []),
     Case(
         "all of a channel",

@@ -32,8 +32,9 @@ OUT begins with the first setup record that comes, and what came ahead of it is 
 are left out. Of a further recording of a run a further file is made, as flight_00002.ch10. An OUT that exists is refused
 unless --force is given; `-` is standard output, which gets all recordings.
 
-OUT is a whole Chapter 11 file but for its index, which isn't sent: check_ch10 says so, and nothing else where nothing is
-missing. bpfrec audit and bpfrec extract answer as for the recording.
+OUT is a whole Chapter 11 file but for its index, which isn't sent: check_ch10 says so. Where nothing is missing it says
+else what was sent late alone, as the end of a channel that fell silent. bpfrec audit and bpfrec extract answer as for the
+recording.
 """
 MORE = """\
 It ends by Ctrl-C, TERM, --for or --idle, and prints
