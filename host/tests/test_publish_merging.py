@@ -83,10 +83,11 @@ def test_it_waits_as_long_as_spans_say_where_all_have_some(spans: dict[int, int]
 
 def test_each_piece_of_a_packet_waits_from_when_its_own_frame_came() -> None:
     """As far as the age of the packet's first one is known, and not longer than from when the packet was seen."""
-    body = body_in(body_of([(9_000_000 + ticks, 0, bytes(18)) for ticks in (0, 2_000_000, 2_500_000, 6_000_000)]))
-    assert body
+    data = body_of([(9_000_000 + ticks, 0, bytes(18)) for ticks in (0, 2_000_000, 2_500_000, 6_000_000)])
 
     def came(age: float) -> list[float]:
+        body = body_in(data)
+        assert body
         first, second, *others = pieces_of(body, 100.0, age)
         rest = second.rest(2)
         assert rest

@@ -185,7 +185,9 @@ FILE_CASES = [
         ]
     ),
     Case("a cut feed of which fewer frames are taken", HEAD + 'feed = "head.feed"\n' + FILTER + "max = 1\n", []),
-    Case("a feed with a time mark, of a channel with a span", HEAD + 'feed = "time.feed"\n' + FILTER + "span = 1\n", []),
+    Case(
+        "a feed with a time mark, of a channel with a span", HEAD + 'feed = "time.feed"\n' + FILTER + "span = 1\n", []
+    ),
     Case("an empty feed", HEAD + 'feed = "empty.feed"\n' + FILTER, []),
     Case(
         "all of a channel",
