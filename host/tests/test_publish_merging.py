@@ -8,11 +8,16 @@ from typing import Optional
 
 import pytest
 from bpfrec_host.formats.ch11.body import BadBody
+from bpfrec_host.publish.clock import Clock, Origin
 from bpfrec_host.publish.merging import Merging, Placed
 from bpfrec_host.publish.pieces import Piece, begins_of, body_in, pieces_of
+from bpfrec_host.publish.setup_record import Setup, Source
 from bpfrec_host.publish.sources import moment_in
-from frames import body_of
+from bpfrec_host.publish.stream import Stream
+from frames import COMPUTER, body_of
 from support import judge, judge_quietly
+from whole_file import SETUP, TIME
+from whole_file_parts import parts_of
 
 WANTED: dict[str, str] = {}
 SEEDS = range(60)
@@ -132,6 +137,16 @@ def test_what_has_no_counter_stands_last() -> None:
     played.add(1, 100.0, None, is_end=True)
     played.add(2, 100.0, 7, 8, is_end=True)
     judge("behind all", played.all(100.0) == [(2, 7), (2, 8), (1, None)])
+
+
+def test_the_ends_of_a_recording_of_nothing_have_the_counter_of_its_time_packet() -> None:
+    data = bytearray()
+    stream = Stream(data.extend, lambda: Setup("h", "p", False, (), {1: Source(), 2: Source()}))
+    stream.set_clock(Clock([Origin(0, 4_000_000)]))
+    for channel in (1, 2):
+        stream.put(channel, Piece(None, 0.0, record=bytes(28)))
+    found = [(it.kind, it.counter) for it in parts_of(bytes(data))]
+    judge("as in a whole file", found == [(kind, 60_000) for kind in (SETUP, TIME, COMPUTER, COMPUTER)], found)
 
 
 def test_of_a_whole_recording_one_packet_of_a_channel_is_held() -> None:

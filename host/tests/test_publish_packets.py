@@ -340,14 +340,6 @@ def test_in_a_silence_the_setup_record_goes_out_each_ten_seconds() -> None:
     judge("with the same text", played.parts()[3].data == played.parts()[0].data)
 
 
-def test_a_recording_of_nothing_has_its_ends_at_the_counter_of_its_time_packet() -> None:
-    played = Played(Origin(0, 4_000_000))
-    played.put(1, None)
-    played.put(2, None)
-    found = [(it.kind, it.counter) for it in played.parts()]
-    judge("as in a whole file", found == [(SETUP, 60_000), (TIME, 60_000), (0, 60_000), (0, 60_000)], found)
-
-
 def test_a_channel_that_nobody_expected_gets_a_setup_record_that_has_it() -> None:
     played = Played(Origin(0, ORIGIN))
     played.put(1, 5)
