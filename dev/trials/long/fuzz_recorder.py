@@ -103,7 +103,7 @@ def scripts(run: Run, draw: Random, corpus: Corpus) -> None:
             [
                 "recorder 16424 2 8",
                 f"channel 1 0 0 9 {program}",
-                *draw.choice([[], ["span 1 4"]]),
+                *["span 1 4"] * draw.randrange(2),
                 *draw.choices(events, [9, 3, 6, 6, 1, 1, 0.1, 3], k=draw.randrange(60)),
             ]
         ).encode()

@@ -92,10 +92,12 @@ def test_a_header_is_judged_once_in_each_damaged_place(monkeypatch: pytest.Monke
     """So eight megabytes of headers, each a damaged place, take seconds."""
     (work / "headers.ch11").write_bytes((header(FRAMES, 28, 0) + bytes(4)) * 1_000)
     judged: list[bytes] = []
-    monkeypatch.setattr(
-        "bpfrec_host.formats.ch11.held.header_or_fault",
-        lambda head: judged.append(head) or ch11.packet.header_or_fault(head),
-    )
+
+    def counted(head: bytes) -> object:
+        judged.append(head)
+        return ch11.packet.header_or_fault(head)
+
+    monkeypatch.setattr("bpfrec_host.formats.ch11.held.header_or_fault", counted)
     with open(work / "headers.ch11", "rb") as file:
         places = list(ch11.Reader(file).pieces())
     judge("each is a damaged place", len(places) == 1_000, len(places))
