@@ -2,6 +2,7 @@
 
 use crate::changes::LineControl;
 use crate::fault::output_fault;
+use crate::files::NamedFiles;
 use crate::jobs::jobs_of;
 use crate::report::print_report;
 use cli_record_streams::{AnnouncedOutput, Retried, read_settings};
@@ -38,7 +39,14 @@ where
     let mut inputs = Inputs::new(rt.alloc());
     let wanted = read_settings(rt, settings, &mut inputs)?;
     let (ring, version) = (wanted.ring, wanted.version);
-    let jobs = jobs_of(rt, wanted.limit, wanted.channels, &mut inputs)?;
+    let files = NamedFiles { rt };
+    let jobs = jobs_of(
+        rt.alloc(),
+        &files,
+        wanted.limit,
+        wanted.channels,
+        &mut inputs,
+    )?;
     if !jobs_ok(jobs.as_slice()) {
         return Err(CommandEnding::Settings(SettingsFault::Channels));
     }

@@ -1,45 +1,54 @@
 //! What is to be recorded, by the settings.
 
 ghost use Rattle.std.specs.Prelude.{◌≡◌, map, IfOk};
-ghost use Rattle.cli_record.specs.Jobs.{asked_numbers, job_numbers, numbers_of_jobs};
+ghost use Rattle.std.specs.List.{AllZip};
+ghost use Rattle.cli_record.specs.Jobs.{IsJobOf, asked_numbers, job_numbers, numbers_of_jobs};
 
+use crate::files::ChannelFiles;
 use ch11_packet::Limit;
-use cli_record_streams::{Source, open_feed, read_filter};
-use cli_streams::{CommandEnding, Inputs};
+use cli_streams::Inputs;
 use rec_lane::LaneSpec;
 use rec_run::Job;
-use rec_words::{ChannelSettings, Settings};
-use std::rt::Files;
+use rec_words::ChannelSettings;
+use std::alloc::{AllocError, Global};
 use std::sync::Arc;
 
 /// The jobs of the channels: for each its filter is read, and then its feed opened. What was opened
 /// is added to the inputs.
-pub(crate) fn jobs_of<'a, R: AllocGlobal + Files>(
-    rt: &R,
+pub(crate) fn jobs_of<C: ChannelFiles>(
+    alloc: Global,
+    files: &C,
     limit: Limit,
     channels: Vec<ChannelSettings>,
     inputs: &mut Inputs,
-) -> Result<Vec<Job<Source<R::File>>>, CommandEnding<'a>>
+) -> Result<Vec<Job<C::Feed>>, C::Fault>
     ensures asked { IfOk result (λ jobs.
         numbers_of_jobs jobs.items ≡ map (asked_numbers limit) channels.items) }
+    ensures named { IfOk result (λ jobs. AllZip (IsJobOf C.listed C.fed C.Feed.left files.now)
+        channels.items jobs.items) }
 {
-    let mut jobs = Vec::with_capacity(rt.alloc(), channels.len())?;
-    let mut feeds = Inputs::new(rt.alloc());
+    let mut jobs = Vec::with_capacity(alloc, channels.len())?;
+    let mut feeds = Inputs::new(alloc);
     'channels: for channel in channels {
-        jobs.push(job_of(rt, limit, channel, inputs, &mut feeds)?)?;
+        let job = job_of(alloc, files, limit, channel, inputs, &mut feeds)?;
+        if let Err(failed) = jobs.push(job) {
+            return Err(AllocError::from(failed).into());
+        }
     }
     Ok(jobs)
 }
 
 /// The job of a channel.
-fn job_of<'a, R: AllocGlobal + Files>(
-    rt: &R,
+fn job_of<C: ChannelFiles>(
+    alloc: Global,
+    files: &C,
     limit: Limit,
     channel: ChannelSettings,
     inputs: &mut Inputs,
     feeds: &mut Inputs,
-) -> Result<Job<Source<R::File>>, CommandEnding<'a>>
+) -> Result<Job<C::Feed>, C::Fault>
     ensures asked { IfOk result (λ job. job_numbers job ≡ asked_numbers limit channel) }
+    ensures named { IfOk result (IsJobOf C.listed C.fed C.Feed.left files.now channel) }
 {
     let ChannelSettings {
         id,
@@ -51,7 +60,7 @@ fn job_of<'a, R: AllocGlobal + Files>(
         span,
         ..
     } = channel;
-    let program = Arc::new(rt.alloc(), read_filter(rt, filter, inputs)?)?;
+    let program = Arc::new(alloc, files.filter(filter, inputs)?)?;
     Ok(Job {
         spec: LaneSpec {
             channel: id,
@@ -62,6 +71,6 @@ fn job_of<'a, R: AllocGlobal + Files>(
         },
         program,
         max,
-        source: open_feed(rt, feed, max, span != 0, inputs, feeds)?,
+        source: files.feed(feed, max, span != 0, inputs, feeds)?,
     })
 }

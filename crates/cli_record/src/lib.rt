@@ -4,6 +4,7 @@
 mod changes;
 mod command;
 mod fault;
+mod files;
 mod jobs;
 mod report;
 
