@@ -46,12 +46,7 @@ pub fn simulate_script<'a, R: AllocGlobal + Files, I: Read, O: Write>(
     let alloc = rt.alloc();
     let text = text_in(rt, file, MAX_TEXT, input)?;
     let lines = lines_of(alloc, text.as_str())?;
-    let Some((first, rest)) = lines.as_slice().split_first() else {
-        return Err(CommandEnding::Script(0));
-    };
-    let Some(recorder) = recorder_in(first.text) else {
-        return Err(CommandEnding::Script(first.number));
-    };
+    let (recorder, rest) = recorder_of(lines.as_slice())?;
     let (channels, rest) = split_lines(rest, CHANNEL);
     let Recorder {
         limit,
@@ -77,6 +72,19 @@ pub fn simulate_script<'a, R: AllocGlobal + Files, I: Read, O: Write>(
         print_line(output, &mut answer, built)?;
     }
     Ok(())
+}
+
+/// What the first line sets for all channels, and the other lines.
+fn recorder_of<'l, 's>(
+    lines: &'l [ScriptLine<'s>],
+) -> Result<(Recorder, &'l [ScriptLine<'s>]), CommandEnding<'static>> {
+    let Some((first, rest)) = lines.split_first() else {
+        return Err(CommandEnding::Script(0));
+    };
+    match recorder_in(first.text) {
+        Some(recorder) => Ok((recorder, rest)),
+        None => Err(CommandEnding::Script(first.number)),
+    }
 }
 
 /// The lines of a text that aren't empty.
