@@ -1,6 +1,6 @@
 //! The command that exports a recording.
 
-ghost use Rattle.std.specs.Prelude.{ℕ, ◌≡◌, ◌≤◌, ◌^◌, ◌<◌, List, [], codes, length, IfErr, IfOk, IfSome, MatchOption, OnOk};
+ghost use Rattle.std.specs.Prelude.{ℕ, ◌≡◌, ◌≢◌, ◌≤◌, ◌^◌, ◌<◌, List, [], codes, length, IfErr, IfOk, IfSome, MatchOption, OnOk};
 ghost use Rattle.std.specs.Io.Buffered.{writer_buffer, writer_contents};
 ghost use Rattle.rec_reader.specs.Readers.{HasRead};
 ghost use Rattle.rec_export.specs.Exported.{IsExported, StopsExport};
@@ -37,6 +37,7 @@ where
     ensures streamed { file.now ≡ codes "-" → out.now ≡ codes "-"
         → StreamsExport origin.entry (I.remaining input.old)
         (O.contents output.old) (O.contents output.new) result }
+    ensures unwritten { out.now ≢ codes "-" → output.new ≡ output.old }
 {
     let origin = origin_in(rt.alloc(), origin)?;
     let mut inputs = Inputs::new(rt.alloc());
@@ -69,6 +70,7 @@ where
     ensures part { out.now ≡ codes "-" → IfErr result (λ ending. IfReading ending (λ end.
         IfSome (I.remaining input) (λ recording. length recording < 2 ^ 64
         → StopsExport origin recording end (O.contents output.old) (O.contents output.new)))) }
+    ensures unwritten { out.now ≢ codes "-" → output.new ≡ output.old }
 {
     let alloc = rt.alloc();
     if out == STREAM {
