@@ -1,3 +1,3 @@
 pub mod CountsLines
-pub mod ByteSums
+pub mod ByteSum
 pub mod WholeFiles

@@ -1,43 +1,38 @@
 //! An output that sums up what went out to it.
 
 ghost use Rattle.std.specs.Prelude.{◌≡◌};
-ghost use Rattle.cli_chapter11.specs.ByteSums.{sums_behind};
+ghost use Rattle.cli_chapter11.specs.ByteSum.{sum_behind};
 
 use std::io::{self, Write};
 
-/// Sums of bytes, by which two passes over a recording are compared: that of all bytes, and that of the sums behind
-/// each of them, modulo 2^64. So bytes that change their places are seen too.
+/// The sum of bytes, modulo 2^64, by which two passes over a recording are compared. The bytes of a file have the
+/// sums of its packets too, so words that change their places are seen.
 #[derive(Clone, Copy, Debug, PartialEq, Eq)]
-pub(crate) struct ByteSums {
-    pub bytes: u64,
-    pub sums: u64,
+pub(crate) struct ByteSum {
+    pub sum: u64,
 }
 
-impl ByteSums {
-    /// Those of no bytes.
-    pub(crate) const NONE: ByteSums = ByteSums { bytes: 0, sums: 0 };
+impl ByteSum {
+    /// That of no bytes.
+    pub(crate) const NONE: ByteSum = ByteSum { sum: 0 };
 
-    /// Those with further bytes.
-    fn with(self, bytes: &[u8]) -> ByteSums
-        ensures { result ≡ sums_behind self bytes.now }
+    /// That with further bytes.
+    fn with(self, bytes: &[u8]) -> ByteSum
+        ensures { result.sum ≡ sum_behind self.sum bytes.now }
     {
-        let mut sums = self;
+        let mut sum = self.sum;
         'bytes: for byte in bytes {
-            let all = sums.bytes.wrapping_add(*byte as u64);
-            sums = ByteSums {
-                bytes: all,
-                sums: sums.sums.wrapping_add(all),
-            };
+            sum = sum.wrapping_add(*byte as u64);
         }
-        sums
+        ByteSum { sum }
     }
 }
 
-/// An output, and the sums of what went out to it.
+/// An output, and the sum of what went out to it.
 #[derive(Drop)]
 pub(crate) struct Summed<W: Drop> {
     pub out: W,
-    pub sums: ByteSums,
+    pub sum: ByteSum,
 }
 
 impl<W: Write + Drop> Write for Summed<W> {
@@ -45,7 +40,7 @@ impl<W: Write + Drop> Write for Summed<W> {
 
     fn write(&mut self, buf: &[u8]) -> io::Result<usize> {
         let count = self.out.write(buf)?;
-        self.sums = self.sums.with(&buf[..count]);
+        self.sum = self.sum.with(&buf[..count]);
         Ok(count)
     }
 

@@ -11,7 +11,7 @@ ghost use Rattle.cli_chapter11.specs.WholeFiles.{FailsBySetup, WritesBySetup};
 
 use crate::channels::{attributes_of, channels_of};
 use crate::discard::Discard;
-use crate::summed::{ByteSums, Summed};
+use crate::summed::{ByteSum, Summed};
 use crate::uncreated::Uncreated;
 use ch11_clock::Clock;
 use ch11_file::FileCounts;
@@ -33,11 +33,11 @@ pub(crate) struct WholeFile<'f, F> {
     pub settings: &'f FileSettings,
 }
 
-/// What a pass over a recording saw: how many packets its whole file has, and the sums of its bytes.
+/// What a pass over a recording saw: how many packets its whole file has, and the sum of its bytes.
 #[derive(Clone, Copy, Debug, PartialEq, Eq)]
 struct Seen {
     counts: FileCounts,
-    sums: ByteSums,
+    sum: ByteSum,
 }
 
 /// Why OUT isn't written, or not whole.
@@ -124,7 +124,7 @@ fn write_once<F: PlacedRead, W: Write + Drop>(
     };
     let mut summed = Summed {
         out: output,
-        sums: ByteSums::NONE,
+        sum: ByteSum::NONE,
     };
     let written = write_whole_file(
         alloc,
@@ -135,9 +135,9 @@ fn write_once<F: PlacedRead, W: Write + Drop>(
         MOST_NAMED,
         &mut summed,
     );
-    let Summed { out, sums } = summed;
+    let Summed { out, sum } = summed;
     match written {
-        Ok(counts) => Ok((Seen { counts, sums }, out)),
+        Ok(counts) => Ok((Seen { counts, sum }, out)),
         Err(end) => Err(end),
     }
 }
