@@ -1,21 +1,25 @@
 //! A caller of `ch11_merge`, as its page has it.
 
-use ch11_merge::{FramesSource, MergedChannel, MergedChannels, PieceFault, Placed, next_placed};
-use ch11_packet::ReadFrame;
+use ch11_merge::{MergedChannel, MergedChannels, PieceFault, PieceSource, Placed, next_placed};
 use std::alloc::Global;
 
-/// Takes what comes first of the frames of two channels, where the first time packet that may go out has
-/// this tick.
-pub fn first_of_two<'a>(
+/// Takes what comes first of two channels, 1 and 2, where the first time packet that may go out has this
+/// tick.
+pub fn first_of_two<S: PieceSource + Drop>(
     alloc: Global,
-    frames: [&'a [ReadFrame<'a>]; 2],
+    one: S,
+    two: S,
     tick: u64,
-) -> Result<Option<Placed<&'a [ReadFrame<'a>]>>, PieceFault> {
-    let [one, two] = frames;
+) -> Result<Option<Placed<S::Piece>>, PieceFault> {
     let mut channels = Vec::new(alloc);
-    for (channel, frames) in [(1, one), (2, two)] {
-        let source = FramesSource::new(frames);
-        channels.push(MergedChannel { channel, source })?;
-    }
-    next_placed(&mut MergedChannels::new(alloc, channels)?, tick)
+    channels.push(MergedChannel {
+        channel: 1,
+        source: one,
+    })?;
+    channels.push(MergedChannel {
+        channel: 2,
+        source: two,
+    })?;
+    let mut merged = MergedChannels::new(alloc, channels)?;
+    next_placed(&mut merged, tick)
 }
