@@ -5,8 +5,8 @@ ghost use Rattle.cli_chapter11.specs.ByteSum.{sum_behind};
 
 use std::io::{self, Write};
 
-/// The sum of bytes, modulo 2^64, by which two passes over a recording are compared. The bytes of a file have the
-/// sums of its packets too, so words that change their places are seen.
+/// The sum of bytes, modulo 2^64, by which two passes over a recording are compared. It doesn't say where they
+/// stand.
 #[derive(Clone, Copy, Debug, PartialEq, Eq)]
 pub(crate) struct ByteSum {
     pub sum: u64,

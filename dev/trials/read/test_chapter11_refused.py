@@ -242,7 +242,7 @@ def test_a_recording_that_is_exchanged_between_two_looks(work: Path) -> None:
         end = time.monotonic() + 20
         while not opens(process.pid) and time.monotonic() < end:
             time.sleep(0.01)
-        other = data.replace(bytes.fromhex("a1b2c3d4"), bytes.fromhex("b1a2c3d4"))
+        other = data.replace(bytes.fromhex("a1b2c3d4"), bytes.fromhex("a2b2c3d4"))
         recording.write_bytes(other)
         with open(out, "rb") as reader:
             reader.read()
